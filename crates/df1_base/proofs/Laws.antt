@@ -1,0 +1,107 @@
+-- Calls one after another.
+use Rattle.std.proofs.Common.{◌≡◌, List, [], ◌++◌, ℕ, Option, None, Some, refl, ap, sym, ◌∙◌, arith, append_assoc, append-nil, take, drop, length, ◌-◌, ◌+◌, ◌≤◌, map, take-append-drop}
+use Rattle.std.proofs.lemmas.List.{map-append, take_rest, take_at, drop-drop, length-take-le}
+use Rattle.std.specs.Io.KnownBytes.{prepend_known, append_known}
+use Rattle.df1_base.specs.Outside.{Took, Put, Wrote, WrotePart}
+
+pub prepend_known-nil : (known : Option (List ℕ)) → prepend_known [] known ≡ known
+prepend_known-nil None = refl
+prepend_known-nil (Some xs) = refl
+
+pub append_known-nil : (known : Option (List ℕ)) → append_known known [] ≡ known
+append_known-nil None = refl
+append_known-nil (Some xs) = ap Some (append-nil xs)
+
+pub prepend_known-append : (xs ys : List ℕ) (known : Option (List ℕ)) → prepend_known (xs ++ ys) known ≡ prepend_known xs (prepend_known ys known)
+prepend_known-append xs ys None = refl
+prepend_known-append xs ys (Some zs) = ap Some (append_assoc xs ys zs)
+
+pub append_known-append : (known : Option (List ℕ)) (xs ys : List ℕ) → append_known known (xs ++ ys) ≡ append_known (append_known known xs) ys
+append_known-append None xs ys = refl
+append_known-append (Some zs) xs ys = ap Some (sym (append_assoc zs xs ys))
+
+-- one read after another
+pub took_more : (a b c : Option (List ℕ)) (xs ys : List ℕ) → Took a b xs → Took b c ys → Took a c (xs ++ ys)
+took_more a b c xs ys first second = first ∙ ap (prepend_known xs) second ∙ sym (prepend_known-append xs ys c)
+
+-- nothing is written yet
+pub wrote_none : (a : Option (List ℕ)) (text : List ℕ) → Wrote a a text text
+wrote_none a text = record { part = []; text_is = refl; put = sym (append_known-nil a) }
+
+-- all is written
+pub wrote_all : (a b : Option (List ℕ)) (text : List ℕ) → Wrote a b text [] → Put a b text
+wrote_all a b text w = w.put ∙ ap (append_known a) (sym (w.text_is ∙ append-nil w.part))
+
+-- one write after another
+pub wrote_more : (a b c : Option (List ℕ)) (text rest : List ℕ) (n : ℕ) → Wrote a b text rest → Put b c (take n rest) → Wrote a c text (drop n rest)
+wrote_more a b c text rest n w put = record {
+  part = w.part ++ take n rest;
+  text_is = grind (arith, append_assoc, take-append-drop n rest);
+  put = put ∙ ap (λ k. append_known k (take n rest)) w.put ∙ sym (append_known-append a w.part (take n rest));
+}
+
+-- the same, as a loop over `&rest[n..]` says it
+pub wrote_rest : (a b c : Option (List ℕ)) (text rest : List ℕ) (n : ℕ) → Wrote a b text rest → Put b c (take n rest) → Wrote a c text (take (length rest - n) (drop n rest))
+wrote_rest a b c text rest n w put = rw (take_rest rest n) (wrote_more a b c text rest n w put)
+
+-- all of one text, and then what there is of the next
+pub put_wrote : (a b c : Option (List ℕ)) (text more rest : List ℕ) → Put a b text → Wrote b c more rest → Wrote a c (text ++ more) rest
+put_wrote a b c text more rest put w = record {
+  part = text ++ w.part;
+  text_is = ap (λ k. text ++ k) w.text_is ∙ sym (append_assoc text w.part rest);
+  put = w.put ∙ ap (λ k. append_known k w.part) put ∙ sym (append_known-append a text w.part);
+}
+
+-- what is put is written
+pub wrote_put : (a b : Option (List ℕ)) (text : List ℕ) → Put a b text → Wrote a b text []
+wrote_put a b text put = record { part = text; text_is = sym (append-nil text); put = put }
+
+-- a part of a text is one of each longer text
+pub part_of_more : (a b : Option (List ℕ)) (text more : List ℕ) → WrotePart a b text → WrotePart a b (text ++ more)
+part_of_more a b text more (rest, w) = (
+  rest ++ more,
+  record {
+    part = w.part;
+    text_is = ap (λ k. k ++ more) w.text_is ∙ append_assoc w.part rest more;
+    put = w.put;
+  },
+)
+
+-- a read from the middle of a list
+pub took_from : (items into given : List ℕ) (at n : ℕ) → n ≤ length (drop at items) → given ≡ take n (drop at items) → drop at items ≡ take n (given ++ drop n into) ++ drop (at + n) items
+took_from items into given at n le is =
+    let size : length given ≡ n = grind (arith, length-take-le) in
+    let front : take n (given ++ drop n into) ≡ given = take_at given (drop n into) n size in
+    let back : drop n (drop at items) ≡ drop (at + n) items = drop-drop n at items in
+    rw (front, is, ← back, take-append-drop) refl
+
+-- what was left of one text, and more, goes on
+pub wrote_on : (a b c : Option (List ℕ)) (text rest more rest' : List ℕ) → Wrote a b text rest → Wrote b c (rest ++ more) rest' → Wrote a c (text ++ more) rest'
+wrote_on a b c text rest more rest' w v = record {
+  part = w.part ++ v.part;
+  text_is = ap (λ k. k ++ more) w.text_is ∙ append_assoc w.part rest more ∙ ap (λ k. w.part ++ k) v.text_is ∙ sym (append_assoc w.part v.part rest');
+  put = v.put ∙ ap (λ k. append_known k v.part) w.put ∙ sym (append_known-append a w.part v.part);
+}
+
+pub part_on : (a b c : Option (List ℕ)) (text rest more : List ℕ) → Wrote a b text rest → WrotePart b c (rest ++ more) → WrotePart a c (text ++ more)
+part_on a b c text rest more w (left, v) = (left, wrote_on a b c text rest more left w v)
+
+-- what was left of the text goes on
+pub put_rest : (a b c : Option (List ℕ)) (text rest : List ℕ) → Wrote a b text rest → Put b c rest → Put a c text
+put_rest a b c text rest w put = put ∙ ap (λ k. append_known k rest) w.put ∙ sym (append_known-append a w.part rest) ∙ ap (append_known a) (sym w.text_is)
+
+pub part_rest : (a b c : Option (List ℕ)) (text rest : List ℕ) → Wrote a b text rest → WrotePart b c rest → WrotePart a c text
+part_rest a b c text rest w (left, v) = (
+  left,
+  record {
+    part = w.part ++ v.part;
+    text_is = w.text_is ∙ ap (λ k. w.part ++ k) v.text_is ∙ sym (append_assoc w.part v.part left);
+    put = v.put ∙ ap (λ k. append_known k v.part) w.put ∙ sym (append_known-append a w.part v.part);
+  },
+)
+
+-- a part of what the first items make is one of what all make
+pub part_of_map : (f : ℕ → ℕ) (a b : Option (List ℕ)) (n : ℕ) (xs : List ℕ) → WrotePart a b (map f (take n xs)) → WrotePart a b (map f xs)
+part_of_map f a b n xs w =
+    let e : map f (take n xs) ++ map f (drop n xs) ≡ map f xs = sym (map-append f (take n xs) (drop n xs)) ∙ ap (map f) (take-append-drop n xs) in
+    rw (← e) (part_of_more a b (map f (take n xs)) (map f (drop n xs)) w)

@@ -1,0 +1,19 @@
+//! What every layer of `df1` stands on: sources of bytes and sinks for them with counted faults, their forms in
+//! memory and over std, a buffer in front of a sink, and the types that several layers share.
+#![tactic(auto)]
+
+mod buffer;
+mod bytes_in;
+mod bytes_out;
+mod file_type;
+mod outside;
+mod standard;
+mod whole;
+
+pub use buffer::Buffer;
+pub use bytes_in::BytesIn;
+pub use bytes_out::BytesOut;
+pub use file_type::FileType;
+pub use outside::{Failed, NoMemory, Sink, Source};
+pub use standard::{StdIn, StdOut};
+pub use whole::{ReadFault, read_all, write_all};

@@ -1,0 +1,66 @@
+//! The outside as every layer sees it: where bytes come from and where they go, each with a count of its faults.
+ghost use Rattle.std.specs.Prelude.{◌≡◌, ◌<◌, ◌≤◌, List, ℕ, Option, length, take, IfOk, OnErr};
+ghost use Rattle.df1_base.specs.Outside.{Rose, Took, Put, IsAtEnd};
+
+use std::alloc::{AllocError, AllocFailed};
+use thiserror::Error;
+
+/// A source or a sink has failed, and its count of faults rose.
+#[derive(Clone, Copy, Debug, PartialEq, Eq, Error)]
+#[error("a source or a sink failed")]
+pub struct Failed;
+
+/// There is no memory left.
+#[derive(Clone, Copy, Debug, PartialEq, Eq, Error)]
+#[error("no memory")]
+pub struct NoMemory;
+
+impl From<AllocError> for NoMemory {
+    fn from(_: AllocError) -> Self {
+        NoMemory
+    }
+}
+
+impl<T: Drop> From<AllocFailed<T>> for NoMemory {
+    fn from(_: AllocFailed<T>) -> Self {
+        NoMemory
+    }
+}
+
+/// Where bytes come from.
+pub trait Source {
+    /// The bytes that are left, where the source tells them.
+    ghost left: { Self → Option (List ℕ) };
+
+    /// How often it has failed.
+    ghost faults: { Self → ℕ };
+
+    /// Moves the next bytes to the front of `into`, and answers how many: 0 for an `into` that isn't empty only at the
+    /// end of the input. `Failed` comes only where the count of faults rose, and then nothing was taken.
+    fn read(&mut self, into: &mut [u8]) -> Result<usize, Failed>
+        ensures bound { IfOk result (λ count. count ≤ length into.new) }
+        ensures took { IfOk result (λ count. Took (left self.old) (left self.new) (take count into.new)) }
+        ensures end { IfOk result (λ count. count ≡ 0 → 0 < length into.new → IsAtEnd (left self.new)) }
+        ensures failed { OnErr result (left self.new ≡ left self.old) }
+        ensures later { faults self.old ≤ faults self.new }
+        ensures cause { OnErr result (Rose (faults self.old) (faults self.new)) };
+}
+
+/// Where bytes go.
+pub trait Sink {
+    /// The bytes that it holds, where the sink tells them.
+    ghost held: { Self → Option (List ℕ) };
+
+    /// How often it has failed.
+    ghost faults: { Self → ℕ };
+
+    /// Takes bytes from the front of `from`, at least one where there is one, and answers how many. `Failed` comes only
+    /// where the count of faults rose, and then nothing was taken.
+    fn write(&mut self, from: &[u8]) -> Result<usize, Failed>
+        ensures bound { IfOk result (λ count. count ≤ length from.now) }
+        ensures some { IfOk result (λ count. 0 < length from.now → 0 < count) }
+        ensures put { IfOk result (λ count. Put (held self.old) (held self.new) (take count from.now)) }
+        ensures failed { OnErr result (held self.new ≡ held self.old) }
+        ensures later { faults self.old ≤ faults self.new }
+        ensures cause { OnErr result (Rose (faults self.old) (faults self.new)) };
+}
