@@ -5,11 +5,14 @@ ghost use Rattle.pccc_envelope.specs.Envelope.{spelling, envelope_of, reply_form
 
 use arrayvec::ArrayVec;
 
-/// How many bytes an envelope has.
-const LENGTH: usize = 6;
+/// The place of SRC in a body.
+pub(crate) const SRC: usize = 1;
 
 /// The place of CMD in a body.
-const CMD: usize = 2;
+pub(crate) const CMD: usize = 2;
+
+/// The place of TNS in a body, whose high byte follows the low one.
+pub(crate) const TNS: usize = 4;
 
 /// Bit 6 of CMD, set in a reply.
 const REPLY: u8 = 0x40;
@@ -36,16 +39,16 @@ pub fn read_envelope(body: &[u8]) -> Option<Envelope>
     ensures spelled { IfSome result (λ e. take 6 body.now ≡ spelling e) }
     ensures read_back { (e : Envelope) (rest : List ℕ) → body.now ≡ spelling e ++ rest → result ≡ Some e }
 {
-    if body.len() < LENGTH {
-        return None;
+    match body {
+        [dst, src, cmd, sts, low, high, ..] => Some(Envelope {
+            dst: *dst,
+            src: *src,
+            cmd: *cmd,
+            sts: *sts,
+            tns: u16::from_le_bytes([*low, *high]),
+        }),
+        _ => None,
     }
-    Some(Envelope {
-        dst: body[0],
-        src: body[1],
-        cmd: body[CMD],
-        sts: body[3],
-        tns: u16::from_le_bytes([body[4], body[5]]),
-    })
 }
 
 /// Replaces `into` by the six bytes of the envelope.

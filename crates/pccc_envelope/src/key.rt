@@ -2,6 +2,8 @@
 ghost use Rattle.std.specs.Prelude.{◌≡◌, ◌≤◌, length};
 ghost use Rattle.pccc_envelope.specs.Envelope.{key_of};
 
+use crate::envelope::{CMD, SRC, TNS};
+
 /// What tells a message from the others of its line: who sent it, its command and its transaction number
 /// (manual topic: full-duplex protocol, duplicate detection).
 #[derive(Clone, Copy, Debug, PartialEq, Eq)]
@@ -20,8 +22,8 @@ pub fn key_of(body: &[u8]) -> Key
     ensures { result ≡ key_of body.now }
 {
     Key {
-        src: body[1],
-        cmd: body[2],
-        tns: u16::from_le_bytes([body[4], body[5]]),
+        src: body[SRC],
+        cmd: body[CMD],
+        tns: u16::from_le_bytes([body[TNS], body[TNS + 1]]),
     }
 }
