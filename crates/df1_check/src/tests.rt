@@ -1,0 +1,27 @@
+use super::*;
+
+#[test]
+fn checks_of_known_bytes(rt: HostRuntime) {
+    let message = [0x08, 0x09, 0x06, 0x00, 0x02, 0x04, 0x03];
+    assert_eq!(rt; bcc(&message), 0xE0);
+    assert_eq!(rt; bcc(&[]), 0);
+    assert_eq!(rt; crc(b"123456789"), 0xBB3D);
+    assert_eq!(rt;
+        crc(&[0x08, 0x09, 0x06, 0x00, 0x02, 0x04, 0x03, 0x03]),
+        0x4898
+    );
+}
+
+#[test]
+fn running_checks_of_known_bytes(rt: HostRuntime) {
+    let mut block = Running::new(Check::Bcc);
+    for b in [0x08, 0x09, 0x06, 0x00, 0x02, 0x04, 0x03] {
+        block.step(b);
+    }
+    assert_eq!(rt; block.value(), 0xE0);
+    let mut cyclic = Running::new(Check::Crc);
+    for b in b"123456789" {
+        cyclic.step(*b);
+    }
+    assert_eq!(rt; cyclic.value(), 0xBB3D);
+}

@@ -1,0 +1,5 @@
+pub mod LineLemmas
+pub mod SpellingLemmas
+pub mod GatheredLemmas
+pub mod GrammarLemmas
+pub mod FrameLemmas

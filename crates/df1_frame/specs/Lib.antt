@@ -1,0 +1,9 @@
+pub mod Line
+pub mod Spelling
+pub mod Units
+pub mod Grammar
+pub mod Gathered
+pub mod Standing
+pub mod Step
+pub mod View
+pub mod Framing

@@ -1,0 +1,247 @@
+//! A decoder of a full-duplex line: bytes go in one by one, and at each it says what is heard.
+
+ghost use Rattle.std.specs.Prelude.{◌≡◌, ◌≤◌, ℕ, List, [], ◌∷◌, ◌++◌, length, Option, Some};
+ghost use Rattle.df1_check.specs.declared.Check.{Check as CheckKind};
+ghost use Rattle.df1_frame.specs.declared.heard.Heard.{Heard as Told};
+ghost use Rattle.df1_frame.specs.Line.{ReadOff, answers, last_heard};
+ghost use Rattle.df1_frame.specs.Grammar.{full_duplex};
+ghost use Rattle.df1_frame.specs.Gathered.{verdict};
+ghost use Rattle.df1_frame.specs.Standing.{AfterDle, Inside, InsideDle, AtCheck, decoding, held as held_of, held_at, lent, lent_at, is_inside, has_begun};
+ghost use Rattle.df1_frame.specs.Step.{left_by, next, outside_next, step};
+ghost use Rattle.df1_frame.specs.View.{standing_of};
+
+use crate::gathered::Gathered;
+use crate::heard::{response, stray_pair};
+use crate::{DLE, ETX, Heard, STX};
+use df1_check::Check;
+use std::marker::Model;
+
+/// Where in an item the bytes so far end.
+#[derive(Clone, Copy)]
+enum Place {
+    /// Outside a frame.
+    Outside,
+    /// Directly after a frame whose body is lent.
+    Ended,
+    /// After a DLE outside a frame.
+    AfterDle,
+    /// Inside a frame.
+    Inside,
+    /// After a DLE inside a frame.
+    InsideDle,
+    /// After DLE ETX.
+    AtCheck,
+    /// After the first byte of a CRC.
+    AtSecondCheck(u8),
+}
+
+/// Takes a line's bytes one by one, and says what is heard at each. It has room for a body of N bytes.
+///
+/// Each call takes constant time, but that a frame's begin blanks what was held of the body before.
+#[derive(Drop)]
+pub struct Decoder<const N: usize> {
+    check: Check,
+    place: Place,
+    gathered: Gathered<N>,
+}
+
+impl<const N: usize> Model for Decoder<N> {
+    ghost use Rattle.df1_frame.specs.Standing.{Decoding};
+
+    ghost Value = { Decoding };
+
+    ghost use Rattle.df1_frame.specs.View.{standing_of};
+
+    ghost view = { λ d. record { check = d.check; standing = standing_of d.place d.gathered } };
+}
+
+impl<const N: usize> Decoder<N> {
+    /// A decoder that has taken no byte, of a line with this check.
+    pub fn new(check: Check) -> Self
+        requires { N ≤ 4096 }
+        ensures { ReadOff (full_duplex check N) [] (decoding check N) result }
+    {
+        Decoder {
+            check,
+            place: Place::Outside,
+            gathered: Gathered::new(check),
+        }
+    }
+
+    /// Takes a byte, and says what is heard at it: None exactly where nothing is.
+    pub fn feed(&mut self, b: u8) -> Option<Heard>
+        ensures stands { (check : CheckKind) (bytes : List ℕ) → ReadOff (full_duplex check N) bytes (decoding check N) self.old
+            → ReadOff (full_duplex check N) (bytes ++ b ∷ []) (decoding check N) self.new }
+        ensures heard { (check : CheckKind) (bytes : List ℕ) → ReadOff (full_duplex check N) bytes (decoding check N) self.old
+            → ReadOff (full_duplex check N) (bytes ++ b ∷ []) (last_heard (full_duplex check N)) result }
+        ensures answers { (check : CheckKind) (bytes : List ℕ) (so_far : List (Option Told)) → ReadOff (full_duplex check N) bytes (decoding check N) self.old
+            → ReadOff (full_duplex check N) bytes (answers (full_duplex check N)) so_far
+            → ReadOff (full_duplex check N) (bytes ++ b ∷ []) (answers (full_duplex check N)) (so_far ++ result ∷ []) }
+        ensures value { self.new ≡ (next N self.old b).0 }
+        ensures answer { result ≡ (next N self.old b).1 }
+    {
+        self.advance(b)
+    }
+
+    fn advance(&mut self, b: u8) -> Option<Heard>
+        ensures value { self.new ≡ (next N self.old b).0 }
+        ensures answer { result ≡ (next N self.old b).1 }
+    {
+        let (place, heard) = step(self.place, &mut self.gathered, self.check, b);
+        self.place = place;
+        heard
+    }
+
+    /// The body of a Good, Short or BadCheck that was heard at the last byte fed; empty after every other byte.
+    pub fn body(&self) -> &[u8]
+        ensures lent { (check : CheckKind) (bytes : List ℕ) → ReadOff (full_duplex check N) bytes (decoding check N) self.now
+            → ReadOff (full_duplex check N) bytes (lent check N) result.now }
+        ensures value { result.now ≡ lent_at self.now.standing }
+        ensures fits { length result.now ≤ N }
+    {
+        match self.place {
+            Place::Ended => self.gathered.bytes(),
+            _ => &[],
+        }
+    }
+
+    /// How many bytes are held, at most N, of a body that is being read or that is lent.
+    pub fn held(&self) -> usize
+        ensures held { (check : CheckKind) (bytes : List ℕ) → ReadOff (full_duplex check N) bytes (decoding check N) self.now
+            → ReadOff (full_duplex check N) bytes (held_of check N) result }
+        ensures value { result ≡ held_at self.now.standing }
+        ensures most { result ≤ N }
+    {
+        match self.place {
+            Place::Outside | Place::AfterDle => 0,
+            _ => self.gathered.bytes().len(),
+        }
+    }
+
+    /// Whether a frame is begun and not ended.
+    pub fn inside(&self) -> bool
+        ensures inside { (check : CheckKind) (bytes : List ℕ) → ReadOff (full_duplex check N) bytes (decoding check N) self.now
+            → ReadOff (full_duplex check N) bytes has_begun result }
+        ensures value { result ≡ is_inside self.now.standing }
+    {
+        self.is_inside()
+    }
+
+    fn is_inside(&self) -> bool
+        ensures { result ≡ is_inside self.now.standing }
+    {
+        match self.place {
+            Place::Outside | Place::Ended | Place::AfterDle => false,
+            Place::Inside | Place::InsideDle => true,
+            Place::AtCheck | Place::AtSecondCheck(_) => true,
+        }
+    }
+}
+
+/// What a byte leads to, and what is heard at it.
+fn step<const N: usize>(
+    place: Place,
+    gathered: &mut Gathered<N>,
+    check: Check,
+    b: u8,
+) -> (Place, Option<Heard>)
+    ensures { (standing_of result.0 gathered.new, result.1) ≡ step check N (standing_of place gathered.old) b }
+{
+    match place {
+        Place::Outside | Place::Ended => outside(gathered, b),
+        Place::AfterDle => pair_outside(gathered, check, b),
+        Place::Inside => inside(gathered, b),
+        Place::InsideDle => pair_inside(gathered, check, b),
+        Place::AtCheck => first_check(gathered, check, b),
+        Place::AtSecondCheck(first) => end(gathered, check, &[first, b]),
+    }
+}
+
+fn outside<const N: usize>(gathered: &Gathered<N>, b: u8) -> (Place, Option<Heard>)
+    ensures { (standing_of result.0 gathered.now, result.1) ≡ outside_next b }
+{
+    if b == DLE {
+        (Place::AfterDle, None)
+    } else {
+        (Place::Outside, Some(Heard::Stray(b)))
+    }
+}
+
+fn pair_outside<const N: usize>(
+    gathered: &mut Gathered<N>,
+    check: Check,
+    b: u8,
+) -> (Place, Option<Heard>)
+    ensures { (standing_of result.0 gathered.new, result.1) ≡ step check N AfterDle b }
+{
+    if b == STX {
+        gathered.clear(check);
+        (Place::Inside, None)
+    } else {
+        (Place::Outside, Some(stray_pair(b)))
+    }
+}
+
+fn inside<const N: usize>(gathered: &mut Gathered<N>, b: u8) -> (Place, Option<Heard>)
+    ensures { (check : CheckKind) → (standing_of result.0 gathered.new, result.1) ≡ step check N (Inside gathered.old) b }
+{
+    if b == DLE {
+        (Place::InsideDle, None)
+    } else {
+        gathered.gather(b);
+        (Place::Inside, None)
+    }
+}
+
+fn pair_inside<const N: usize>(
+    gathered: &mut Gathered<N>,
+    check: Check,
+    b: u8,
+) -> (Place, Option<Heard>)
+    ensures { (standing_of result.0 gathered.new, result.1) ≡ step check N (InsideDle gathered.old) b }
+{
+    match b {
+        STX => {
+            gathered.clear(check);
+            (Place::Inside, Some(Heard::Restart))
+        }
+        ETX => {
+            gathered.close(check);
+            (Place::AtCheck, None)
+        }
+        DLE => {
+            gathered.gather(b);
+            (Place::Inside, None)
+        }
+        _ => match response(b) {
+            Some(heard) => (Place::Inside, Some(heard)),
+            None => (Place::Outside, Some(Heard::Broken(b))),
+        },
+    }
+}
+
+fn first_check<const N: usize>(
+    gathered: &Gathered<N>,
+    check: Check,
+    b: u8,
+) -> (Place, Option<Heard>)
+    ensures { (standing_of result.0 gathered.now, result.1) ≡ step check N (AtCheck gathered.now []) b }
+{
+    match check {
+        Check::Bcc => end(gathered, check, &[b]),
+        Check::Crc => (Place::AtSecondCheck(b), None),
+    }
+}
+
+/// After the last of the check bytes.
+fn end<const N: usize>(gathered: &Gathered<N>, check: Check, bytes: &[u8]) -> (Place, Option<Heard>)
+    ensures place { standing_of result.0 gathered.now ≡ left_by gathered.now }
+    ensures heard { result.1 ≡ Some (verdict check gathered.now bytes.now) }
+{
+    let heard = Some(gathered.verdict(check, bytes));
+    if gathered.is_long() {
+        (Place::Outside, heard)
+    } else {
+        (Place::Ended, heard)
+    }
+}

@@ -1,0 +1,163 @@
+//! The units in which a frame is given, so that responses can be put between them.
+
+ghost use Rattle.std.specs.Prelude.{◌≡◌, ◌≤◌, ℕ, List, [], length, drop, slice_get, IsTrue, ◌↔◌};
+ghost use Rattle.df1_check.specs.Checks.{taken};
+ghost use Rattle.df1_frame.specs.Spelling.{check_of};
+ghost use Rattle.df1_frame.specs.Units.{body_unit, pair_unit, units};
+
+use crate::{DLE, ETX, STX};
+use arrayvec::ArrayVec;
+use df1_check::{Check, Running};
+use std::marker::Model;
+
+const MOST_BODY: usize = 250;
+
+/// One or two bytes of a frame that nothing may stand between.
+#[derive(Clone, Copy, Debug, PartialEq, Eq)]
+pub struct Unit {
+    pub first: u8,
+    pub second: Option<u8>,
+    /// A response may follow: true for the pair DLE STX, and for each byte of the body.
+    pub gap: bool,
+    /// The unit is the frame's last.
+    pub last: bool,
+}
+
+/// What of a frame is given next.
+#[derive(Clone, Copy)]
+enum Part {
+    /// DLE STX.
+    Opening,
+    /// The body from this place on, and then DLE ETX.
+    Body(usize),
+    /// The check bytes from this place on.
+    Check(usize),
+}
+
+/// A frame without responses, under way. Contracts see the list of the units that are still to be given.
+#[derive(Drop)]
+pub struct Framer {
+    part: Part,
+    body: ArrayVec<u8, MOST_BODY>,
+    check: ArrayVec<u8, 2>,
+}
+
+impl Model for Framer {
+    ghost use Rattle.std.specs.Prelude.{List};
+    ghost use Rattle.df1_frame.specs.declared.framer.Unit.{Unit as Given};
+
+    ghost Value = { List Given };
+
+    ghost use Rattle.df1_frame.specs.Framing.{units_left};
+
+    ghost view = { λ f. units_left f.part f.body.items f.check.items };
+}
+
+impl Framer {
+    /// Begins the frame of a body of at most 250 bytes.
+    pub fn start(body: &[u8], check: Check) -> Framer
+        requires { length body.now ≤ 250 }
+        ensures { result ≡ units check body.now }
+    {
+        let mut kept = ArrayVec::new();
+        let mut running = Running::new(check);
+        for b in body {
+            kept.push(*b);
+            running.step(*b);
+        }
+        Framer {
+            part: Part::Opening,
+            body: kept,
+            check: check_bytes(check, running),
+        }
+    }
+
+    /// Gives the next unit: None exactly where none is left.
+    pub fn next_unit(&mut self) -> Option<Unit>
+        ensures given { result ≡ slice_get self.old 0 }
+        ensures left { self.new ≡ drop 1 self.old }
+    {
+        match self.part {
+            Part::Opening => {
+                self.part = Part::Body(0);
+                Some(pair(STX, true))
+            }
+            Part::Body(at) => match self.body.as_slice().get(at) {
+                Some(b) => {
+                    self.part = Part::Body(at + 1);
+                    Some(body_unit(*b))
+                }
+                None => {
+                    self.part = Part::Check(0);
+                    Some(pair(ETX, false))
+                }
+            },
+            Part::Check(at) => {
+                let b = *self.check.as_slice().get(at)?;
+                self.part = Part::Check(at + 1);
+                Some(Unit {
+                    first: b,
+                    second: None,
+                    gap: false,
+                    last: at + 1 == self.check.len(),
+                })
+            }
+        }
+    }
+
+    /// Whether no unit is left.
+    pub fn done(&self) -> bool
+        ensures { IsTrue result ↔ (self.now ≡ []) }
+    {
+        match self.part {
+            Part::Opening => false,
+            Part::Body(_) => false,
+            Part::Check(at) => self.check.len() <= at,
+        }
+    }
+}
+
+fn pair(code: u8, gap: bool) -> Unit
+    ensures { result ≡ pair_unit code gap }
+{
+    Unit {
+        first: DLE,
+        second: Some(code),
+        gap,
+        last: false,
+    }
+}
+
+/// A byte of the body, with a DLE doubled.
+fn body_unit(b: u8) -> Unit
+    ensures { result ≡ body_unit b }
+{
+    if b == DLE {
+        pair(DLE, true)
+    } else {
+        Unit {
+            first: b,
+            second: None,
+            gap: true,
+            last: false,
+        }
+    }
+}
+
+/// The check bytes of the body that was taken: the CRC covers the ETX too, and goes low byte first.
+#[tactic(auto, unfolding(crate::specs::Spelling::check_bytes))]
+fn check_bytes(check: Check, mut running: Running) -> ArrayVec<u8, 2>
+    ensures { (body : List ℕ) → running ≡ taken check body → result.items ≡ check_of check body }
+{
+    let mut bytes = ArrayVec::new();
+    match check {
+        Check::Bcc => bytes.push((running.value() % 256) as u8),
+        Check::Crc => {
+            running.step(ETX);
+            let value = running.value();
+            bytes.push((value % 256) as u8);
+            bytes.push((value / 256) as u8);
+        }
+    }
+    bytes
+}

@@ -1,0 +1,114 @@
+//! What is gathered of a frame's body while it comes.
+
+ghost use Rattle.std.specs.Prelude.{◌≡◌, ◌≤◌, length};
+ghost use Rattle.df1_check.specs.Checks.{check_value};
+ghost use Rattle.df1_frame.specs.Spelling.{check_bytes, same};
+ghost use Rattle.df1_frame.specs.Gathered.{nothing_gathered, gather, close as closed, verdict as verdict_of};
+
+use crate::{ETX, Heard, LEAST_BODY};
+use arrayvec::ArrayVec;
+use df1_check::{Check, Running};
+use std::marker::Model;
+
+/// The first N bytes of a body, whether more came, and the check of all so far.
+#[derive(Drop)]
+pub(crate) struct Gathered<const N: usize> {
+    bytes: ArrayVec<u8, N>,
+    long: bool,
+    running: Running,
+}
+
+impl<const N: usize> Model for Gathered<N> {
+    ghost use Rattle.df1_frame.specs.Gathered.{Gathered as SoFar};
+
+    ghost Value = { SoFar };
+
+    ghost view = { λ g. record { bytes = g.bytes.items; long = g.long; running = g.running } };
+}
+
+impl<const N: usize> Gathered<N> {
+    pub fn new(check: Check) -> Self
+        requires { N ≤ 4096 }
+        ensures { result ≡ nothing_gathered check }
+    {
+        Gathered {
+            bytes: ArrayVec::new(),
+            long: false,
+            running: Running::new(check),
+        }
+    }
+
+    pub fn clear(&mut self, check: Check)
+        ensures { self.new ≡ nothing_gathered check }
+    {
+        self.bytes.clear();
+        self.long = false;
+        self.running = Running::new(check);
+    }
+
+    pub fn gather(&mut self, b: u8)
+        ensures { self.new ≡ gather N self.old b }
+    {
+        self.running.step(b);
+        if self.bytes.is_full() {
+            self.long = true;
+        } else {
+            self.bytes.push(b);
+        }
+    }
+
+    /// Ends the body. The CRC covers the ETX.
+    pub fn close(&mut self, check: Check)
+        ensures { self.new ≡ closed check self.old }
+    {
+        match check {
+            Check::Bcc => {}
+            Check::Crc => self.running.step(ETX),
+        }
+    }
+
+    pub fn is_long(&self) -> bool
+        ensures { result ≡ self.now.long }
+    {
+        self.long
+    }
+
+    pub fn bytes(&self) -> &[u8]
+        ensures value { result.now ≡ self.now.bytes }
+        ensures fits { length result.now ≤ N }
+    {
+        self.bytes.as_slice()
+    }
+
+    /// What is heard at the end of the frame with these check bytes.
+    pub fn verdict(&self, check: Check, bytes: &[u8]) -> Heard
+        ensures { result ≡ verdict_of check self.now bytes.now }
+    {
+        if self.long {
+            Heard::Long
+        } else if !is_check(check, self.running.value(), bytes) {
+            Heard::BadCheck
+        } else if self.bytes.len() < LEAST_BODY {
+            Heard::Short
+        } else {
+            Heard::Good
+        }
+    }
+}
+
+/// Whether these are the check bytes of the value.
+#[tactic(auto, unfolding(crate::specs::Spelling::check_bytes))]
+fn is_check(check: Check, value: u16, bytes: &[u8]) -> bool
+    ensures { result ≡ same bytes.now (check_bytes check value) }
+{
+    match check {
+        Check::Bcc => match bytes {
+            [only] => u16::from(*only) == value,
+            _ => false,
+        },
+        Check::Crc => match bytes {
+            [low, high] => u16::from(*low) == value % 256 && u16::from(*high) == value / 256,
+            _ => false,
+        },
+    }
+}

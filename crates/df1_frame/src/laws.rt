@@ -1,0 +1,58 @@
+//! What holds of every list of bytes on a full-duplex line, and of frames in it. The functions do nothing.
+
+ghost use Rattle.std.specs.Prelude.{◌≡◌, ◌≢◌, ◌≤◌, ℕ, List, [], ◌∷◌, ◌++◌, length, Option, Some, None};
+ghost use Rattle.df1_frame.specs.declared.heard.Heard.{Heard};
+ghost use Rattle.df1_frame.specs.declared.heard.Heard.TheVariants as heard;
+ghost use Rattle.df1_frame.specs.Line.{Splits, ReadOff, answers, last_heard};
+ghost use Rattle.df1_frame.specs.Spelling.{Piece, Spells, pieces_of};
+ghost use Rattle.df1_frame.specs.Units.{bytes_of, units};
+ghost use Rattle.df1_frame.specs.Grammar.{Item, Front, Nothing, full_duplex, good_answers};
+ghost use Rattle.df1_frame.specs.Standing.{lent};
+
+use df1_check::Check;
+
+/// Every list of bytes splits in exactly one way, and has one answer for each byte.
+pub fn one_split(check: Check)
+    ensures exists { (N : ℕ) (bytes : List ℕ) → (items : List Item) × (front : Front) × Splits (full_duplex check N) bytes items front }
+    ensures only { (N : ℕ) (bytes : List ℕ) (items others : List Item) (front rest : Front) →
+        Splits (full_duplex check N) bytes items front → Splits (full_duplex check N) bytes others rest → (items ≡ others) × (front ≡ rest) }
+    ensures answered { (N : ℕ) (bytes : List ℕ) (items : List Item) (front : Front) →
+        Splits (full_duplex check N) bytes items front → length (answers (full_duplex check N) items front) ≡ length bytes }
+{}
+
+/// What is heard at the bytes so far stays, whatever follows, so the cut into pieces can't matter.
+pub fn heard_stays(check: Check)
+    ensures { (N : ℕ) (bytes more : List ℕ) (so_far : List (Option Heard)) → ReadOff (full_duplex check N) bytes (answers (full_duplex check N)) so_far →
+        (later : List (Option Heard)) × (length later ≡ length more) × ReadOff (full_duplex check N) (bytes ++ more) (answers (full_duplex check N)) (so_far ++ later) }
+{}
+
+/// A frame with a body of 6 to N bytes, after whole items, is heard as the responses in it, each at its second byte,
+/// and as good at its last byte, and nothing else, whatever follows. After its last byte its body is lent.
+pub fn round_trip(check: Check)
+    ensures heard { (N : ℕ) (before body bytes : List ℕ) (items : List Item) (pieces : List Piece) → Splits (full_duplex check N) before items Nothing
+        → Spells check pieces body bytes → 6 ≤ length body → length body ≤ N
+        → ReadOff (full_duplex check N) (before ++ bytes) (answers (full_duplex check N)) (answers (full_duplex check N) items Nothing ++ good_answers check pieces) }
+    ensures lent { (N : ℕ) (before body bytes : List ℕ) (items : List Item) (pieces : List Piece) → Splits (full_duplex check N) before items Nothing
+        → Spells check pieces body bytes → 6 ≤ length body → length body ≤ N
+        → ReadOff (full_duplex check N) (before ++ bytes) (lent check N) body }
+    ensures later { (N : ℕ) (before body bytes more : List ℕ) (items : List Item) (pieces : List Piece) → Splits (full_duplex check N) before items Nothing
+        → Spells check pieces body bytes → 6 ≤ length body → length body ≤ N
+        → (later : List (Option Heard)) × (length later ≡ length more)
+        × ReadOff (full_duplex check N) (before ++ bytes ++ more) (answers (full_duplex check N)) (answers (full_duplex check N) items Nothing ++ good_answers check pieces ++ later) }
+{}
+
+/// The units of a frame spell its body, without responses.
+pub fn frame_spells(check: Check)
+    ensures { (body : List ℕ) → Spells check (pieces_of body) body (bytes_of (units check body)) }
+{}
+
+/// In a frame without responses, with a body of 6 to N bytes and after whole items, nothing is heard before its last
+/// byte, and there it is good.
+pub fn whole_frame(check: Check)
+    ensures before { (N : ℕ) (before body front rest : List ℕ) (b : ℕ) (items : List Item) → Splits (full_duplex check N) before items Nothing
+        → 6 ≤ length body → length body ≤ N → front ++ b ∷ rest ≡ bytes_of (units check body) → rest ≢ []
+        → ReadOff (full_duplex check N) (before ++ front ++ b ∷ []) (last_heard (full_duplex check N)) None }
+    ensures end { (N : ℕ) (before body front : List ℕ) (b : ℕ) (items : List Item) → Splits (full_duplex check N) before items Nothing
+        → 6 ≤ length body → length body ≤ N → front ++ b ∷ [] ≡ bytes_of (units check body)
+        → ReadOff (full_duplex check N) (before ++ front ++ b ∷ []) (last_heard (full_duplex check N)) (Some heard.Good) }
+{}

@@ -1,0 +1,39 @@
+//! The full-duplex frames of a DF1 link, after the manual's full-duplex protocol.
+//!
+//! A frame is DLE STX, the body with each DLE doubled, DLE ETX, and the check: one byte (BCC) or two (CRC-16, low byte
+//! first), never doubled. The responses DLE ACK and DLE NAK may stand between DLE STX and DLE ETX, after DLE STX and
+//! after each byte of the body; they are no part of the body, and no check covers them. Every list of bytes splits in
+//! exactly one way into items (frames, broken frames, pairs and bytes outside frames) and an unfinished front of one.
+#![tactic(auto)]
+
+mod decoder;
+mod framer;
+mod gathered;
+mod heard;
+mod laws;
+
+pub use decoder::Decoder;
+pub use framer::{Framer, Unit};
+pub use heard::Heard;
+pub use laws::{frame_spells, heard_stays, one_split, round_trip, whole_frame};
+
+const DLE: u8 = 0x10;
+
+const STX: u8 = 0x02;
+
+const ETX: u8 = 0x03;
+
+const ENQ: u8 = 0x05;
+
+const ACK: u8 = 0x06;
+
+const NAK: u8 = 0x15;
+
+/// A second code that is read as NAK, and never sent.
+const SHORT_NAK: u8 = 0x0F;
+
+/// The fewest bytes of a body: an envelope without data.
+const LEAST_BODY: usize = 6;
+
+#[cfg(test)]
+mod tests;
