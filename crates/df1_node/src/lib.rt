@@ -2,8 +2,11 @@
 //! the initiator that issues commands, and the node that joins the two.
 #![tactic(auto)]
 
+mod commands;
 mod file_spec;
+mod station;
 mod tables;
 
 pub use file_spec::FileSpec;
+pub use station::Station;
 pub use tables::{MakeFault, Tables};
