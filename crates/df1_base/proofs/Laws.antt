@@ -1,6 +1,8 @@
 -- Calls one after another.
-use Rattle.std.proofs.Common.{◌≡◌, List, [], ◌++◌, ℕ, Option, None, Some, refl, ap, sym, ◌∙◌, arith, append_assoc, append-nil, take, drop, length, ◌-◌, ◌+◌, ◌≤◌, map, take-append-drop}
+use Rattle.std.proofs.Common.{◌≡◌, List, [], ◌++◌, ℕ, Bool, false, Option, None, Some, refl, subst, ap, sym, ◌∙◌, arith, append_assoc, append-nil, take, drop, length, ◌-◌, ◌+◌, ◌≤◌, map, take-append-drop}
 use Rattle.std.proofs.lemmas.List.{map-append, take_rest, take_at, drop-drop, length-take-le}
+use Rattle.std.specs.Prelude.{◌==◌}
+use Rattle.std.specs.List.{list_any}
 use Rattle.std.specs.Io.KnownBytes.{prepend_known, append_known}
 use Rattle.df1_base.specs.Outside.{Took, Put, Wrote, WrotePart}
 
@@ -105,3 +107,10 @@ pub part_of_map : (f : ℕ → ℕ) (a b : Option (List ℕ)) (n : ℕ) (xs : Li
 part_of_map f a b n xs w =
     let e : map f (take n xs) ++ map f (drop n xs) ≡ map f xs = sym (map-append f (take n xs) (drop n xs)) ∙ ap (map f) (take-append-drop n xs) in
     rw (← e) (part_of_more a b (map f (take n xs)) (map f (drop n xs)) w)
+
+-- a test of a list of calls, for a call known by another name
+pub none_among : (fail told : List ℕ) (call next : ℕ) (found : Bool) → told ≡ fail → call ≡ next → found ≡ list_any (λ (n : ℕ). n == call) told → found ≡ false → list_any (λ (n : ℕ). n == next) fail ≡ false
+none_among fail told call next found same_list same_call is otherwise =
+    let P : List ℕ → Type 0 = λ xs. list_any (λ (n : ℕ). n == call) xs ≡ false in
+    let Q : ℕ → Type 0 = λ c. list_any (λ (n : ℕ). n == c) fail ≡ false in
+    subst Q same_call (subst P same_list (sym is ∙ otherwise))

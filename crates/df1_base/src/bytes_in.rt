@@ -19,14 +19,14 @@ pub struct BytesIn {
 }
 
 impl Model for BytesIn {
-    ghost use Rattle.std.specs.Prelude.{◌≤◌, vec_len, drop};
+    ghost use Rattle.std.specs.Prelude.{◌<◌, ◌≤◌, vec_len, drop};
     ghost use Rattle.df1_base.specs.InMemory.{Giver};
 
     ghost Value = { Giver };
 
     ghost view = { λ s. record { left = drop s.at s.bytes.items; piece = s.piece; calls = s.calls; fail = s.fail.items; faults = s.faults } };
 
-    ghost invariant = { λ s. s.at ≤ vec_len s.bytes };
+    ghost invariant = { λ s. (s.at ≤ vec_len s.bytes) × (0 < s.piece) };
 }
 
 impl BytesIn {
@@ -75,7 +75,7 @@ impl Source for BytesIn {
             return Err(Failed);
         }
         let left = &self.bytes[self.at..];
-        let count = left.len().min(into.len()).min(self.piece.max(1));
+        let count = left.len().min(into.len()).min(self.piece);
         into[..count].copy_from_slice(&left[..count]);
         self.at += count;
         Ok(count)

@@ -1,5 +1,5 @@
 //! A sink in memory, which fails where it is full and at the calls that it is told to fail at.
-ghost use Rattle.std.specs.Prelude.{◌≡◌, ◌<◌, ◌≤◌, ◌↔◌, List, [], Some, ℕ, Result, min, max, length, take, IsTrue, IsErr, IfOk, OnErr};
+ghost use Rattle.std.specs.Prelude.{◌≡◌, ◌<◌, ◌≤◌, ◌↔◌, List, [], Some, ℕ, Result, min, max, length, take, IsTrue, IsErr, IfOk, OnErr, nat_lt, ◌==◌, ◌&&◌};
 ghost use Rattle.df1_base.specs.Outside.{Rose, Put};
 ghost use Rattle.df1_base.specs.InMemory.{refuses_next, taken, after_write};
 
@@ -19,14 +19,14 @@ pub struct BytesOut {
 }
 
 impl Model for BytesOut {
-    ghost use Rattle.std.specs.Prelude.{◌≤◌, vec_len, vec_capacity};
+    ghost use Rattle.std.specs.Prelude.{◌<◌, ◌≤◌, vec_len, vec_capacity};
     ghost use Rattle.df1_base.specs.InMemory.{Taker};
 
     ghost Value = { Taker };
 
     ghost view = { λ s. record { held = s.bytes.items; room = s.room; piece = s.piece; calls = s.calls; fail = s.fail.items; faults = s.faults } };
 
-    ghost invariant = { λ s. (vec_len s.bytes ≤ s.room) × (s.room ≤ vec_capacity s.bytes) };
+    ghost invariant = { λ s. (vec_len s.bytes ≤ s.room) × (s.room ≤ vec_capacity s.bytes) × (0 < s.piece) };
 }
 
 impl BytesOut {
@@ -71,12 +71,19 @@ impl Sink for BytesOut {
     {
         self.calls = self.calls.saturating_add(1);
         let room = self.room - self.bytes.len();
-        if self.fail.contains(&self.calls) || (room == 0 && !from.is_empty()) {
+        if self.fail.contains(&self.calls) || finds_no_room(room, from) {
             self.faults = self.faults.saturating_add(1);
             return Err(Failed);
         }
-        let count = from.len().min(room).min(self.piece.max(1));
+        let count = from.len().min(room).min(self.piece);
         self.bytes.extend_from_slice(&from[..count]).unwrap();
         Ok(count)
     }
+}
+
+/// Whether there is something to be taken and no room for any of it.
+fn finds_no_room(room: usize, from: &[u8]) -> bool
+    ensures { result ≡ ((room == 0) && nat_lt 0 (length from.now)) }
+{
+    room == 0 && !from.is_empty()
 }

@@ -5,15 +5,23 @@
 mod buffer;
 mod bytes_in;
 mod bytes_out;
+mod code;
 mod file_type;
+mod host;
+mod link;
 mod outside;
 mod standard;
+#[cfg(test)]
+mod tests;
 mod whole;
 
 pub use buffer::Buffer;
 pub use bytes_in::BytesIn;
 pub use bytes_out::BytesOut;
+pub use code::Code;
 pub use file_type::FileType;
+pub use host::{Did, Fate, Host, News};
+pub use link::{Act, Out, Resp, Step, Turn};
 pub use outside::{Failed, NoMemory, Sink, Source};
 pub use standard::{StdIn, StdOut};
 pub use whole::{ReadFault, read_all, write_all};

@@ -1,0 +1,3 @@
+pub mod TableFiles
+pub mod Tables
+pub mod Words

@@ -1,0 +1,2 @@
+pub mod Sender
+pub mod View
