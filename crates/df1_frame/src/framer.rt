@@ -15,7 +15,9 @@ const MOST_BODY: usize = 250;
 /// One or two bytes of a frame that nothing may stand between.
 #[derive(Clone, Copy, Debug, PartialEq, Eq)]
 pub struct Unit {
+    /// The byte, or a pair's DLE.
     pub first: u8,
+    /// The second byte of a pair.
     pub second: Option<u8>,
     /// A response may follow: true for the pair DLE STX, and for each byte of the body.
     pub gap: bool,
