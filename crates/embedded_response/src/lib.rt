@@ -11,8 +11,9 @@
 //! A newer response replaces one that still waits. NAK is given as 10 15 (manual topic: full-duplex protocol).
 #![tactic(auto)]
 
-ghost use Rattle.std.specs.Prelude.{◌≡◌, ◌≤◌, ◌↔◌, [], length, drop, slice_get, not, ◌&&◌, ◌==◌, is_none, if◌then◌else◌, IsNone, IsTrue, None, Some};
-ghost use Rattle.embedded_response.specs.Giving.{nothing, offer, forget, answer_enq, ask, unask, begin, is_begun, chosen, take, plain, unit_out, code_of};
+ghost use Rattle.std.specs.Prelude.{◌≡◌, ◌≤◌, ◌↔◌, [], length, drop, slice_get, not, ◌&&◌, ◌==◌, is_none, if◌then◌else◌, IsNone, IsSome, IsTrue, None, Some, ◌+◌};
+ghost use Rattle.df1_frame.specs.Units.{bytes_of};
+ghost use Rattle.embedded_response.specs.Giving.{Giving, bytes_left, nothing, offer, forget, answer_enq, ask, unask, begin, is_begun, chosen, take, plain, unit_out, code_of};
 ghost use Rattle.embedded_response.specs.View.{left_of};
 
 #[cfg(test)]
@@ -129,12 +130,14 @@ impl Mouth {
         is_left(&self.framer)
     }
 
-    /// Whether nothing is to be given.
+    /// Whether nothing is to be given. At most 511 bytes are.
     pub fn idle(&self) -> bool
         ensures value { result ≡ is_none (chosen self.now) }
         ensures gives { IsTrue result ↔ IsNone (take self.now).1 }
+        ensures most { bytes_left self.now ≤ 511 }
     {
-        self.second.is_none() && !is_left(&self.framer) && self.waiting.is_none() && !self.asking
+        let framed = is_left(&self.framer);
+        self.second.is_none() && !framed && self.waiting.is_none() && !self.asking
     }
 
     /// Gives the next byte: None exactly where no half-given pair, response, ENQ or frame is left.
@@ -164,9 +167,16 @@ impl Mouth {
     }
 }
 
+/// Each byte that is given leaves one fewer, and none is given exactly where none is left.
+pub fn each_take_counts()
+    ensures fewer { (g : Giving) → IsSome (take g).1 → bytes_left g ≡ bytes_left (take g).0 + 1 }
+    ensures none { (g : Giving) → IsNone (take g).1 ↔ (bytes_left g ≡ 0) }
+{}
+
 /// Whether a unit of the frame is left.
 fn is_left(framer: &Option<Framer>) -> bool
-    ensures { result ≡ not (length (left_of framer.now) == 0) }
+    ensures left { result ≡ not (length (left_of framer.now) == 0) }
+    ensures most { length (bytes_of (left_of framer.now)) ≤ 506 }
 {
     match framer {
         Some(framer) => !framer.done(),
