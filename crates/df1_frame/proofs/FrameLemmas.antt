@@ -1,5 +1,5 @@
 -- Frames without responses: their bytes, and what is heard in them.
-use Rattle.std.proofs.Common.{◌≡◌, ℕ, ◌≤◌, Bool, true, false, eqb, List, [], ◌∷◌, ◌++◌, length, Option, Some, None, refl, sym, ap, ◌∙◌, map, drop, append_assoc, arith, length-append, length-drop}
+use Rattle.std.proofs.Common.{◌≡◌, ℕ, ◌*◌, ◌≤◌, Bool, true, false, eqb, List, [], ◌∷◌, ◌++◌, length, Option, Some, None, refl, sym, ap, ◌∙◌, map, drop, append_assoc, arith, length-append, length-drop}
 use Rattle.std.specs.Prelude.{if◌then◌else◌}
 use Rattle.std.specs.List.{flat_map, AllByRecursion}
 use Rattle.std.proofs.lemmas.List.{append-nil, append_cancel_left, drop_all, length_push, nil_from_length}
@@ -10,10 +10,13 @@ use Rattle.df1_check.specs.declared.Check.TheVariants as kinds
 use Rattle.df1_frame.specs.declared.heard.Heard.{Heard}
 use Rattle.df1_frame.specs.declared.heard.Heard.TheVariants as heard
 use Rattle.df1_check.specs.Checks.{check_value}
+use Rattle.df1_frame.specs.declared.framer.Part.{Part}
+use Rattle.df1_frame.specs.declared.framer.Part.TheVariants as part
 use Rattle.df1_frame.specs.declared.framer.Unit.{Unit as Given}
 use Rattle.df1_frame.specs.Line.{Grammar, Splits, ReadOff, answers, last_of, last_heard}
 use Rattle.df1_frame.specs.Spelling.{Plain, Doubled, piece_bytes, ArePieces, IsPiece, piece_body, body_of, pieces_of, covered, check_of, check_bytes, Spells}
 use Rattle.df1_frame.specs.Units.{unit_bytes, bytes_of, pair_unit, byte_unit, body_unit, check_units, closing_units, units}
+use Rattle.df1_frame.specs.Framing.{units_left}
 use Rattle.df1_frame.specs.Grammar.{Item, Nothing, full_duplex, piece_heard, check_heard, good_answers}
 use Rattle.df1_frame.proofs.LineLemmas.{answered-on, one-answered, last_of-append, last_of-push}
 use Rattle.df1_frame.proofs.GrammarLemmas.{machine, works, good-heard}
@@ -71,6 +74,30 @@ check_units-left check at e = let none = check_units-nil (drop at check) e in om
 pub closing-some : (front : List Given) (check : List ℕ) → front ++ closing_units check ≡ [] → ⊥
 closing-some [] check e = cc
 closing-some (unit ∷ front) check e = cc
+
+-- ---- how many bytes are left
+
+byte-length : (b : ℕ) (dle : Bool) → length (unit_bytes (if dle then pair_unit 16 true else byte_unit b true false)) ≤ 2
+byte-length b true = omega arith
+byte-length b false = omega arith
+
+body-length : (body : List ℕ) → length (bytes_of (map body_unit body)) ≤ 2 * length body
+body-length [] = omega arith
+body-length (b ∷ body) =
+    let one = byte-length b (eqb b 16) in
+    let all = length-append (unit_bytes (body_unit b)) (bytes_of (map body_unit body)) in
+    omega (arith, one, all, body-length body)
+
+-- of the body from a place on, and the end
+closing-length : (body check : List ℕ) (at : ℕ) → length body ≤ 250 → length check ≤ 2 → length (bytes_of (map body_unit (drop at body) ++ closing_units check)) ≤ 504
+closing-length body check at fits end =
+    let all = flat_map-append unit_bytes (map body_unit (drop at body)) (closing_units check) in
+    rw all (omega (arith, length-append (bytes_of (map body_unit (drop at body))) (bytes_of (closing_units check)), body-length (drop at body), length-drop at body, ap length (check-bytes check)))
+
+pub left-length : (part : Part) (body check : List ℕ) → length body ≤ 250 → length check ≤ 2 → length (bytes_of (units_left part body check)) ≤ 506
+left-length part.Opening body check fits end = omega (arith, closing-length body check 0 fits end)
+left-length (part.Body at) body check fits end = omega (arith, closing-length body check at fits end)
+left-length (part.Check at) body check fits end = omega (arith, ap length (check-bytes (drop at check)), length-drop at check)
 
 -- ---- nothing is heard before the last byte
 

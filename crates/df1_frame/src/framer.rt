@@ -3,7 +3,7 @@
 ghost use Rattle.std.specs.Prelude.{◌≡◌, ◌≤◌, ℕ, List, [], length, drop, slice_get, IsTrue, ◌↔◌};
 ghost use Rattle.df1_check.specs.Checks.{taken};
 ghost use Rattle.df1_frame.specs.Spelling.{check_of};
-ghost use Rattle.df1_frame.specs.Units.{body_unit, byte_unit, pair_unit, units};
+ghost use Rattle.df1_frame.specs.Units.{body_unit, byte_unit, bytes_of, pair_unit, units};
 
 use crate::{DLE, ETX, STX};
 use arrayvec::ArrayVec;
@@ -15,7 +15,9 @@ const MOST_BODY: usize = 250;
 /// One or two bytes of a frame that nothing may stand between.
 #[derive(Clone, Copy, Debug, PartialEq, Eq)]
 pub struct Unit {
+    /// The byte, or a pair's DLE.
     pub first: u8,
+    /// The second byte of a pair.
     pub second: Option<u8>,
     /// A response may follow: true for the pair DLE STX, and for each byte of the body.
     pub gap: bool,
@@ -43,7 +45,7 @@ pub struct Framer {
 }
 
 impl Model for Framer {
-    ghost use Rattle.std.specs.Prelude.{List};
+    ghost use Rattle.std.specs.Prelude.{List, length, ◌≤◌};
     ghost use Rattle.df1_frame.specs.declared.framer.Unit.{Unit as Given};
 
     ghost Value = { List Given };
@@ -51,6 +53,8 @@ impl Model for Framer {
     ghost use Rattle.df1_frame.specs.Framing.{units_left};
 
     ghost view = { λ f. units_left f.part f.body.items f.check.items };
+
+    ghost invariant = { λ f. (length f.body.items ≤ 250) × (length f.check.items ≤ 2) };
 }
 
 impl Framer {
@@ -100,9 +104,10 @@ impl Framer {
         }
     }
 
-    /// Whether no unit is left.
+    /// Whether no unit is left. At most 506 bytes are.
     pub fn done(&self) -> bool
-        ensures { IsTrue result ↔ (self.now ≡ []) }
+        ensures done { IsTrue result ↔ (self.now ≡ []) }
+        ensures most { length (bytes_of self.now) ≤ 506 }
     {
         match self.part {
             Part::Opening => false,
@@ -148,7 +153,8 @@ fn body_unit(b: u8) -> Unit
 /// The check bytes of the body that was taken: the CRC covers the ETX too, and goes low byte first.
 #[tactic(auto, unfolding(crate::specs::Spelling::check_bytes))]
 fn check_bytes(check: Check, mut running: Running) -> ArrayVec<u8, 2>
-    ensures { (body : List ℕ) → running ≡ taken check body → result.items ≡ check_of check body }
+    ensures bytes { (body : List ℕ) → running ≡ taken check body → result.items ≡ check_of check body }
+    ensures fits { length result.items ≤ 2 }
 {
     let mut bytes = ArrayVec::new();
     match check {

@@ -1,6 +1,7 @@
 //! What holds of every list of bytes on a full-duplex line, and of frames in it. The functions do nothing.
 
 ghost use Rattle.std.specs.Prelude.{◌≡◌, ◌≢◌, ◌≤◌, ℕ, List, [], ◌∷◌, ◌++◌, length, Option, Some, None};
+ghost use Rattle.df1_check.specs.declared.Check.TheVariants as check;
 ghost use Rattle.df1_frame.specs.declared.heard.Heard.{Heard};
 ghost use Rattle.df1_frame.specs.declared.heard.Heard.TheVariants as heard;
 ghost use Rattle.df1_frame.specs.Line.{Splits, ReadOff, answers, last_heard};
@@ -39,6 +40,18 @@ pub fn round_trip(check: Check)
         → Spells check pieces body bytes → 6 ≤ length body → length body ≤ N
         → (later : List (Option Heard)) × (length later ≡ length more)
         × ReadOff (full_duplex check N) (before ++ bytes ++ more) (answers (full_duplex check N)) (answers (full_duplex check N) items Nothing ++ good_answers check pieces ++ later) }
+{}
+
+/// The manual's example with either check, and frames in which a BCC is 10 and bytes of the body are 10.
+pub fn worked_frames()
+    ensures block { bytes_of (units check.Bcc (0x08 ∷ 0x09 ∷ 0x06 ∷ 0x00 ∷ 0x02 ∷ 0x04 ∷ 0x03 ∷ [])) ≡
+        0x10 ∷ 0x02 ∷ 0x08 ∷ 0x09 ∷ 0x06 ∷ 0x00 ∷ 0x02 ∷ 0x04 ∷ 0x03 ∷ 0x10 ∷ 0x03 ∷ 0xE0 ∷ [] }
+    ensures cyclic { bytes_of (units check.Crc (0x08 ∷ 0x09 ∷ 0x06 ∷ 0x00 ∷ 0x02 ∷ 0x04 ∷ 0x03 ∷ [])) ≡
+        0x10 ∷ 0x02 ∷ 0x08 ∷ 0x09 ∷ 0x06 ∷ 0x00 ∷ 0x02 ∷ 0x04 ∷ 0x03 ∷ 0x10 ∷ 0x03 ∷ 0x98 ∷ 0x48 ∷ [] }
+    ensures check_of_16 { bytes_of (units check.Bcc (0x07 ∷ 0x00 ∷ 0x06 ∷ 0x00 ∷ 0x01 ∷ 0x00 ∷ 0x00 ∷ 0xE2 ∷ [])) ≡
+        0x10 ∷ 0x02 ∷ 0x07 ∷ 0x00 ∷ 0x06 ∷ 0x00 ∷ 0x01 ∷ 0x00 ∷ 0x00 ∷ 0xE2 ∷ 0x10 ∷ 0x03 ∷ 0x10 ∷ [] }
+    ensures body_of_16 { bytes_of (units check.Bcc (0x07 ∷ 0x00 ∷ 0x06 ∷ 0x00 ∷ 0x10 ∷ 0x00 ∷ 0x00 ∷ 0x10 ∷ [])) ≡
+        0x10 ∷ 0x02 ∷ 0x07 ∷ 0x00 ∷ 0x06 ∷ 0x00 ∷ 0x10 ∷ 0x10 ∷ 0x00 ∷ 0x00 ∷ 0x10 ∷ 0x10 ∷ 0x10 ∷ 0x03 ∷ 0xD3 ∷ [] }
 {}
 
 /// The units of a frame spell its body, without responses.

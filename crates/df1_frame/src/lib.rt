@@ -15,7 +15,7 @@ mod laws;
 pub use decoder::Decoder;
 pub use framer::{Framer, Unit};
 pub use heard::Heard;
-pub use laws::{frame_spells, heard_stays, one_split, round_trip, whole_frame};
+pub use laws::{frame_spells, heard_stays, one_split, round_trip, whole_frame, worked_frames};
 
 const DLE: u8 = 0x10;
 

@@ -1,0 +1,260 @@
+//! Which byte an end of a full-duplex link gives next, and the responses that stand inside a frame.
+//!
+//! The first of these that is there is given:
+//!
+//! 1. the second byte of a pair whose first was given;
+//! 2. inside a frame, a response that waits, where embedding is on and the last unit had a gap;
+//! 3. inside a frame, its next unit;
+//! 4. a response that waits;
+//! 5. an ENQ that is wished.
+//!
+//! A newer response replaces one that still waits. NAK is given as 10 15 (manual topic: full-duplex protocol).
+#![tactic(auto)]
+
+ghost use Rattle.std.specs.Prelude.{◌≡◌, ◌≤◌, ◌↔◌, [], length, drop, slice_get, not, ◌&&◌, ◌==◌, is_none, if◌then◌else◌, IsNone, IsSome, IsTrue, None, Some, ◌+◌};
+ghost use Rattle.df1_frame.specs.Units.{bytes_of};
+ghost use Rattle.embedded_response.specs.Giving.{Giving, bytes_left, nothing, offer, forget, answer_enq, ask, unask, begin, is_begun, chosen, take, plain, unit_out, code_of};
+ghost use Rattle.embedded_response.specs.View.{left_of};
+
+#[cfg(test)]
+mod tests;
+
+use df1_base::{Out, Resp};
+use df1_check::Check;
+use df1_frame::{Framer, Unit};
+use std::marker::Model;
+
+const DLE: u8 = 0x10;
+
+const ENQ: u8 = 0x05;
+
+const ACK: u8 = 0x06;
+
+const NAK: u8 = 0x15;
+
+/// What an end has to give, byte by byte.
+#[derive(Drop)]
+pub struct Mouth {
+    check: Check,
+    embed: bool,
+    last: Resp,
+    waiting: Option<Resp>,
+    asking: bool,
+    framer: Option<Framer>,
+    second: Option<Out>,
+    gap: bool,
+    begun: u64,
+}
+
+impl Model for Mouth {
+    ghost use Rattle.embedded_response.specs.Giving.{Giving};
+
+    ghost Value = { Giving };
+
+    ghost use Rattle.embedded_response.specs.View.{left_of};
+
+    ghost view = { λ m. record { check = m.check; embed = m.embed; last = m.last; waiting = m.waiting; asking = m.asking; left = left_of m.framer; second = m.second; gap = m.gap; begun = m.begun } };
+}
+
+impl Mouth {
+    /// A mouth with nothing to give, whose frames have this check. Where `embed` is off, responses wait for a frame's end.
+    pub fn new(check: Check, embed: bool) -> Mouth
+        ensures { result ≡ nothing check embed }
+    {
+        Mouth {
+            check,
+            embed,
+            last: Resp::Nak,
+            waiting: None,
+            asking: false,
+            framer: None,
+            second: None,
+            gap: false,
+            begun: 0,
+        }
+    }
+
+    /// Makes this the last response and the one that waits.
+    pub fn offer(&mut self, r: Resp)
+        ensures { self.new ≡ offer self.old r }
+    {
+        self.last = r;
+        self.waiting = Some(r);
+    }
+
+    /// Makes NAK the last response, and leaves what waits.
+    pub fn forget(&mut self)
+        ensures { self.new ≡ forget self.old }
+    {
+        self.last = Resp::Nak;
+    }
+
+    /// Makes the last response wait again.
+    pub fn enq(&mut self)
+        ensures { self.new ≡ answer_enq self.old }
+    {
+        self.waiting = Some(self.last);
+    }
+
+    /// Wishes for an ENQ.
+    pub fn ask(&mut self)
+        ensures { self.new ≡ ask self.old }
+    {
+        self.asking = true;
+    }
+
+    /// Drops the wish for an ENQ.
+    pub fn unask(&mut self)
+        ensures { self.new ≡ unask self.old }
+    {
+        self.asking = false;
+    }
+
+    /// Begins the frame of a body of at most 250 bytes, where no frame is begun. Its transmission has the next number;
+    /// the number stops at the last value of u64.
+    pub fn frame(&mut self, body: &[u8])
+        requires none_begun { self.old.left ≡ [] }
+        requires fits { length body.now ≤ 250 }
+        ensures { self.new ≡ begin self.old body.now }
+    {
+        self.framer = Some(Framer::start(body, self.check));
+        self.gap = false;
+        self.begun = self.begun.saturating_add(1);
+    }
+
+    /// Whether a frame is begun and not ended.
+    pub fn in_frame(&self) -> bool
+        ensures value { result ≡ is_begun self.now }
+        ensures begun { IsTrue (not result) ↔ (self.now.left ≡ []) }
+    {
+        is_left(&self.framer)
+    }
+
+    /// Whether nothing is to be given. At most 511 bytes are.
+    pub fn idle(&self) -> bool
+        ensures value { result ≡ is_none (chosen self.now) }
+        ensures gives { IsTrue result ↔ IsNone (take self.now).1 }
+        ensures most { bytes_left self.now ≤ 511 }
+    {
+        let framed = is_left(&self.framer);
+        self.second.is_none() && !framed && self.waiting.is_none() && !self.asking
+    }
+
+    /// Gives the next byte: None exactly where no half-given pair, response, ENQ or frame is left.
+    pub fn take(&mut self) -> Option<Out>
+        ensures after { self.new ≡ (take self.old).0 }
+        ensures out { result ≡ (take self.old).1 }
+    {
+        if let Some(out) = self.second.take() {
+            return Some(out);
+        }
+        let may_embed = may_embed(self.embed, self.gap, &self.framer);
+        if let Some(r) = take_if(&mut self.waiting, may_embed) {
+            return Some(begin_pair(&mut self.second, response_code(r)));
+        }
+        if let Some(unit) = next_unit(&mut self.framer) {
+            self.gap = unit.gap;
+            return Some(begin_unit(&mut self.second, unit, self.begun));
+        }
+        if let Some(r) = self.waiting.take() {
+            return Some(begin_pair(&mut self.second, response_code(r)));
+        }
+        if self.asking {
+            self.asking = false;
+            return Some(begin_pair(&mut self.second, ENQ));
+        }
+        None
+    }
+}
+
+/// Each byte that is given leaves one fewer, and none is given exactly where none is left.
+pub fn each_take_counts()
+    ensures fewer { (g : Giving) → IsSome (take g).1 → bytes_left g ≡ bytes_left (take g).0 + 1 }
+    ensures none { (g : Giving) → IsNone (take g).1 ↔ (bytes_left g ≡ 0) }
+{}
+
+/// Whether a unit of the frame is left.
+fn is_left(framer: &Option<Framer>) -> bool
+    ensures left { result ≡ not (length (left_of framer.now) == 0) }
+    ensures most { length (bytes_of (left_of framer.now)) ≤ 506 }
+{
+    match framer {
+        Some(framer) => !framer.done(),
+        None => false,
+    }
+}
+
+/// The next unit of the frame, if one is left.
+fn next_unit(framer: &mut Option<Framer>) -> Option<Unit>
+    ensures given { result ≡ slice_get (left_of framer.old) 0 }
+    ensures left { left_of framer.new ≡ drop 1 (left_of framer.old) }
+{
+    match framer {
+        Some(framer) => framer.next_unit(),
+        None => None,
+    }
+}
+
+/// Whether a response may stand here in the frame.
+fn may_embed(embed: bool, gap: bool, framer: &Option<Framer>) -> bool
+    ensures { result ≡ (embed && (gap && not (length (left_of framer.now) == 0))) }
+{
+    embed && gap && is_left(framer)
+}
+
+/// Takes the response that waits, where it may be given.
+fn take_if(waiting: &mut Option<Resp>, may: bool) -> Option<Resp>
+    ensures taken { result ≡ (if may then waiting.old else None) }
+    ensures left { waiting.new ≡ (if may then None else waiting.old) }
+{
+    if may { waiting.take() } else { None }
+}
+
+/// Gives the first byte of a pair without marks, and keeps the second.
+fn begin_pair(second: &mut Option<Out>, code: u8) -> Out
+    ensures out { result ≡ plain 16 }
+    ensures second { second.new ≡ Some (plain code) }
+{
+    *second = Some(unmarked(code));
+    unmarked(DLE)
+}
+
+/// Gives the first byte of a unit, and keeps the second of a pair.
+fn begin_unit(second: &mut Option<Out>, unit: Unit, number: u64) -> Out
+    ensures out { result ≡ (unit_out unit unit.second number).0 }
+    ensures second { second.new ≡ (unit_out unit unit.second number).1 }
+{
+    match unit.second {
+        None => {
+            *second = None;
+            Out {
+                byte: unit.first,
+                last_of: unit.last.then_some(number),
+                body_of: unit.gap.then_some(number),
+            }
+        }
+        Some(code) => {
+            *second = Some(unmarked(code));
+            unmarked(unit.first)
+        }
+    }
+}
+
+fn unmarked(byte: u8) -> Out
+    ensures { result ≡ plain byte }
+{
+    Out {
+        byte,
+        last_of: None,
+        body_of: None,
+    }
+}
+
+fn response_code(r: Resp) -> u8
+    ensures { result ≡ code_of r }
+{
+    match r {
+        Resp::Ack => ACK,
+        Resp::Nak => NAK,
+    }
+}
