@@ -1,5 +1,5 @@
 -- The full-duplex receiver: what it makes of each thing that is heard, and what it answers.
-use Rattle.std.specs.Prelude.{ℕ, Bool, List, Option, Some, None}
+use Rattle.std.specs.Prelude.{ℕ, Bool, true, false, List, Option, Some, None}
 use Rattle.std.specs.List.{fold}
 use Rattle.df1_base.specs.declared.link.Act.{Act}
 use Rattle.df1_base.specs.declared.link.Act.TheVariants as act
@@ -48,6 +48,18 @@ act_of kept h = elim h.heard [
   ]
 ]
 
+-- a frame was heard whole: it is good, and one of the acts of a good frame follows
+abbrev pub is_good : Option Heard → Bool
+is_good None = false
+is_good (Some heard.Good) = true
+is_good (Some _) = false
+
+abbrev pub is_whole : Act → Bool
+is_whole act.Accept = true
+is_whole act.Repeat = true
+is_whole act.Refuse = true
+is_whole _ = false
+
 -- the kept key changes where a message is accepted, and nowhere else
 abbrev pub kept_at : Option Key → List ℕ → Act → Option Key
 kept_at kept body act.Accept = Some (key_of body)
@@ -59,6 +71,10 @@ kept_at kept body _ = kept
 pub record ReceiverState : Type 0 where
   pub decoding : Decoding
   pub kept : Option Key
+
+-- the body that is lent
+abbrev pub body_at : ReceiverState → List ℕ
+body_at s = lent_at s.decoding.standing
 
 -- what is heard at a byte, with room for a body of N bytes, where the host has this room
 abbrev pub hearing : (List ℕ → Bool) → ℕ → ReceiverState → ℕ → Hearing

@@ -14,22 +14,24 @@
 //! full-duplex protocol).
 #![tactic(auto)]
 
-ghost use Rattle.std.specs.Prelude.{◌≡◌, ◌≤◌, ◌∷◌, ◌++◌, [], ℕ, List, Some, None, length, if◌then◌else◌};
+ghost use Rattle.std.specs.Prelude.{◌≡◌, ◌≤◌, ◌∷◌, ◌++◌, [], ℕ, List, Some, None, true, length, IsTrue};
 ghost use Rattle.df1_base.specs.Host.{IsBody};
 ghost use Rattle.df1_check.specs.declared.Check.{Check as CheckKind};
 ghost use Rattle.df1_frame.specs.Line.{ReadOff};
 ghost use Rattle.df1_frame.specs.Grammar.{full_duplex};
 ghost use Rattle.df1_frame.specs.Standing.{Outside, lent, lent_at};
 ghost use Rattle.pccc_envelope.specs.Accepted.{judged};
-ghost use Rattle.duplex_receiver.specs.Receiver.{Hearing, verdict_act, act_of, kept_at, hearing, act_at, after_byte, response_for, last_response};
-ghost use Rattle.duplex_receiver.specs.Hearing.{Stands, act_after, accepted_of, is_accept};
+ghost use Rattle.duplex_receiver.specs.Receiver.{Hearing, verdict_act, act_of, kept_at, is_good, is_whole, body_at, hearing, act_at, after_byte};
+ghost use Rattle.duplex_receiver.specs.Hearing.{Stands, act_after};
 
+mod laws;
 #[cfg(test)]
 mod tests;
 
 use df1_base::{Act, Host};
 use df1_check::Check;
 use df1_frame::{Decoder, Heard};
+pub use laws::{accepts_one_by_one, hears_what_the_grammar_answers, last_response_goes_on};
 use pccc_envelope::duplicate_filter::Filter;
 use pccc_envelope::key_of;
 use std::marker::Model;
@@ -70,6 +72,9 @@ impl<const N: usize> Receiver<N> {
     pub fn on_byte<H: Host>(&mut self, b: u8, host: &H) -> Act
         ensures state { self.new ≡ after_byte (H.room_for host.now) N self.old b }
         ensures act { result ≡ act_at (H.room_for host.now) N self.old b }
+        ensures accept_body { result ≡ Act.Accept → IsBody (body_at self.new) }
+        ensures accept_room { result ≡ Act.Accept → IsTrue (H.room_for host.now (body_at self.new)) }
+        ensures whole { is_whole result ≡ is_good (hearing (H.room_for host.now) N self.old b).heard }
         ensures stands { (check : CheckKind) (bytes : List ℕ) (before : List Hearing) → Stands check N bytes before self.old
             → Stands check N (bytes ++ b ∷ []) (before ++ hearing (H.room_for host.now) N self.old b ∷ []) self.new }
         ensures table { (check : CheckKind) (bytes : List ℕ) (before : List Hearing) → Stands check N bytes before self.old
@@ -81,7 +86,7 @@ impl<const N: usize> Receiver<N> {
 
     /// The body of the frame that was heard whole at the last byte, if one was, at most N bytes. Else it is empty.
     pub fn body(&self) -> &[u8]
-        ensures body { result.now ≡ lent_at self.now.decoding.standing }
+        ensures body { result.now ≡ body_at self.now }
         ensures fits { length result.now ≤ N }
         ensures lent { (check : CheckKind) (bytes : List ℕ) (before : List Hearing) → Stands check N bytes before self.now
             → ReadOff (full_duplex check N) bytes (lent check N) result.now }
@@ -95,6 +100,9 @@ fn act_on<H: Host>(filter: &mut Filter, heard: Option<Heard>, body: &[u8], host:
     requires { heard ≡ Some Heard.Good → IsBody body.now }
     ensures act { result ≡ act_of filter.old (record { heard = heard; body = body.now; has_room = H.room_for host.now body.now }) }
     ensures kept { filter.new ≡ kept_at filter.old body.now result }
+    ensures accept_body { result ≡ Act.Accept → IsBody body.now }
+    ensures accept_room { result ≡ Act.Accept → IsTrue (H.room_for host.now body.now) }
+    ensures whole { is_whole result ≡ is_good heard }
 {
     match heard {
         Some(Heard::Good) => judge(filter, body, host),
@@ -112,6 +120,8 @@ fn judge<H: Host>(filter: &mut Filter, body: &[u8], host: &H) -> Act
     requires { IsBody body.now }
     ensures act { result ≡ verdict_act (judged filter.old (record { body = body.now; has_room = H.room_for host.now body.now })) }
     ensures kept { filter.new ≡ kept_at filter.old body.now result }
+    ensures accept_room { result ≡ Act.Accept → IsTrue (H.room_for host.now body.now) }
+    ensures whole { is_whole result ≡ true }
 {
     let key = key_of(body);
     if filter.is_repeat(key) {
@@ -123,8 +133,3 @@ fn judge<H: Host>(filter: &mut Filter, body: &[u8], host: &H) -> Act
         Act::Refuse
     }
 }
-
-/// A law: what was accepted over a list of things heard grows by a body at each Accept, and at no other act.
-pub fn accepts_one_by_one()
-    ensures { (before : List Hearing) (h : Hearing) → accepted_of (before ++ h ∷ []) ≡ (if is_accept (act_after before h) then accepted_of before ++ h.body ∷ [] else accepted_of before) }
-{}
