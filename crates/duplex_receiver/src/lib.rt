@@ -67,8 +67,8 @@ impl<const N: usize> Receiver<N> {
         }
     }
 
-    /// Takes a byte, and says what the receiver makes of it. At Accept the host has room for the body, which is lent
-    /// until the next byte, and is to be given it.
+    /// Takes a byte, and says what the receiver makes of it, in constant time. At Accept the host has room for the body,
+    /// which is lent until the next byte; to hand it over and to answer as the table says is the end's part.
     pub fn on_byte<H: Host>(&mut self, b: u8, host: &H) -> Act
         ensures state { self.new ≡ after_byte (H.room_for host.now) N self.old b }
         ensures act { result ≡ act_at (H.room_for host.now) N self.old b }
@@ -84,7 +84,8 @@ impl<const N: usize> Receiver<N> {
         act_on(&mut self.filter, heard, self.decoder.body(), host)
     }
 
-    /// The body of the frame that was heard whole at the last byte, if one was, at most N bytes. Else it is empty.
+    /// The body of the frame that ended at the last byte, at most N bytes, whether it is good, too short or with a wrong
+    /// check; empty after every other byte.
     pub fn body(&self) -> &[u8]
         ensures body { result.now ≡ body_at self.now }
         ensures fits { length result.now ≤ N }
