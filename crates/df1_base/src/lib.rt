@@ -11,6 +11,8 @@ mod host;
 mod link;
 mod outside;
 mod standard;
+#[cfg(test)]
+mod tests;
 mod whole;
 
 pub use buffer::Buffer;

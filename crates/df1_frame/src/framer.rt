@@ -3,7 +3,7 @@
 ghost use Rattle.std.specs.Prelude.{◌≡◌, ◌≤◌, ℕ, List, [], length, drop, slice_get, IsTrue, ◌↔◌};
 ghost use Rattle.df1_check.specs.Checks.{taken};
 ghost use Rattle.df1_frame.specs.Spelling.{check_of};
-ghost use Rattle.df1_frame.specs.Units.{body_unit, pair_unit, units};
+ghost use Rattle.df1_frame.specs.Units.{body_unit, byte_unit, pair_unit, units};
 
 use crate::{DLE, ETX, STX};
 use arrayvec::ArrayVec;
@@ -95,12 +95,7 @@ impl Framer {
             Part::Check(at) => {
                 let b = *self.check.as_slice().get(at)?;
                 self.part = Part::Check(at + 1);
-                Some(Unit {
-                    first: b,
-                    second: None,
-                    gap: false,
-                    last: at + 1 == self.check.len(),
-                })
+                Some(single(b, false, at + 1 == self.check.len()))
             }
         }
     }
@@ -128,6 +123,17 @@ fn pair(code: u8, gap: bool) -> Unit
     }
 }
 
+fn single(b: u8, gap: bool, last: bool) -> Unit
+    ensures { result ≡ byte_unit b gap last }
+{
+    Unit {
+        first: b,
+        second: None,
+        gap,
+        last,
+    }
+}
+
 /// A byte of the body, with a DLE doubled.
 fn body_unit(b: u8) -> Unit
     ensures { result ≡ body_unit b }
@@ -135,12 +141,7 @@ fn body_unit(b: u8) -> Unit
     if b == DLE {
         pair(DLE, true)
     } else {
-        Unit {
-            first: b,
-            second: None,
-            gap: true,
-            last: false,
-        }
+        single(b, true, false)
     }
 }
 

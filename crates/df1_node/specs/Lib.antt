@@ -1,0 +1,4 @@
+pub mod Answer
+pub mod TableFiles
+pub mod Tables
+pub mod Words

@@ -1,0 +1,12 @@
+//! What stands behind an end of a link: the data tables of a controller, the station that executes commands on them,
+//! the initiator that issues commands, and the node that joins the two.
+#![tactic(auto)]
+
+mod commands;
+mod file_spec;
+mod station;
+mod tables;
+
+pub use file_spec::FileSpec;
+pub use station::Station;
+pub use tables::{MakeFault, Tables};

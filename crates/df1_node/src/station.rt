@@ -1,0 +1,105 @@
+//! The station: it executes the commands that come and replies to each.
+//!
+//! A reply carries its command's envelope with DST and SRC changed over, bit 6 of CMD set and STS; where STS is F0 a
+//! byte EXT STS follows; then the data (manual topics: message packets, status codes).
+ghost use Rattle.std.specs.Prelude.{◌≡◌, ◌+◌, ◌≤◌, ◌++◌, false, length, IsTrue};
+ghost use Rattle.df1_base.specs.Host.{IsBody};
+ghost use Rattle.pccc_envelope.specs.Envelope.{is_reply, reply_form, spelling};
+ghost use Rattle.df1_node.specs.Answer.{StationState, after_answer, extension_of, fits_compat, reply_to, status_of};
+
+use crate::Tables;
+use crate::commands::execute;
+use arrayvec::ArrayVec;
+use df1_base::Code;
+use pccc_envelope::{Envelope, read_envelope, reply_of, write_envelope};
+use std::marker::Model;
+
+/// How many bytes the envelope has.
+const ENVELOPE: usize = 6;
+
+/// STS: the code is in EXT STS.
+const EXTENDED_STATUS: u8 = 0xF0;
+
+/// A station: its data tables, its compatibility file and the block of its status reply.
+#[derive(Drop)]
+pub struct Station {
+    tables: Tables,
+    compat: Option<u16>,
+    block: ArrayVec<u8, 244>,
+}
+
+impl Model for Station {
+    ghost use Rattle.df1_node.specs.Answer.{StationState, station_code, fits_compat};
+    ghost use Rattle.df1_node.specs.Tables.{tables_code};
+    ghost use Rattle.df1_node.specs.contracts.file_spec.FileSpec as spec;
+    ghost use Rattle.std.specs.Prelude.{IsTrue};
+
+    ghost Value = { StationState };
+
+    ghost coded = { station_code (tables_code spec.the_row.coded) };
+
+    ghost view = { λ s. record { tables = s.tables; compat = s.compat; block = s.block.items } };
+
+    ghost invariant = { λ s. IsTrue (fits_compat s.tables.specs s.compat) };
+}
+
+impl Station {
+    /// A station with these tables. The block has at most 244 bytes, and the compatibility file, where one is given, is
+    /// a Bit or Integer file of the tables.
+    pub fn new(tables: Tables, compat: Option<u16>, block: &[u8]) -> Station
+        requires block { length block.now ≤ 244 }
+        requires compat { IsTrue (fits_compat tables.specs compat) }
+        ensures { result ≡ record { tables = tables; compat = compat; block = block.now } }
+    {
+        let mut kept = ArrayVec::new();
+        kept.try_extend_from_slice(block).unwrap();
+        Station {
+            tables,
+            compat,
+            block: kept,
+        }
+    }
+
+    /// The data tables.
+    pub fn tables(&self) -> &Tables
+        ensures { result.now ≡ self.now.tables }
+    {
+        &self.tables
+    }
+
+    /// Executes the command and replaces `into` by the body of the reply. The body has 6 to 250 bytes, and bit 6 of its
+    /// CMD is clear. A command that is refused changes nothing.
+    pub fn answer(&mut self, body: &[u8], into: &mut ArrayVec<u8, 250>)
+        requires body { IsBody body.now }
+        requires command { is_reply body.now ≡ false }
+        ensures after { self.new ≡ after_answer self.old body.now }
+        ensures reply { into.new.items ≡ reply_to self.old body.now }
+        ensures size { IsBody into.new.items }
+    {
+        let envelope = read_envelope(body).unwrap();
+        let mut reply = ArrayVec::new();
+        let code = execute(
+            &mut self.tables,
+            envelope.cmd,
+            &body[ENVELOPE..],
+            &mut reply,
+        );
+        write_reply(&envelope, code, &reply, into);
+    }
+}
+
+/// Replaces `into` by the reply to a command: its envelope with this code, and the reply's data.
+fn write_reply(command: &Envelope, code: Code, reply: &[u8], into: &mut ArrayVec<u8, 250>)
+    requires { length (extension_of code) + length reply.now ≤ 244 }
+    ensures { into.new.items ≡ spelling (reply_form command.now (status_of code)) ++ extension_of code ++ reply.now }
+{
+    match code {
+        Code::Done => write_envelope(&reply_of(command, 0), into),
+        Code::Sts(status) => write_envelope(&reply_of(command, status), into),
+        Code::Ext(extension) => {
+            write_envelope(&reply_of(command, EXTENDED_STATUS), into);
+            into.push(extension);
+        }
+    }
+    into.try_extend_from_slice(reply).unwrap();
+}
