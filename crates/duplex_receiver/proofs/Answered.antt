@@ -3,9 +3,9 @@ use Rattle.std.proofs.Common.{◌≡◌, ℕ, List, [], ◌∷◌, ◌++◌, Opt
 use Rattle.std.proofs.lemmas.List.{map-append}
 use Rattle.df1_check.specs.declared.Check.{Check}
 use Rattle.df1_frame.specs.declared.heard.Heard.{Heard}
-use Rattle.df1_frame.specs.Line.{Grammar, ReadOff, answers, last_heard}
+use Rattle.df1_frame.specs.Line.{ReadOff, answers, last_heard}
 use Rattle.df1_frame.specs.Grammar.{full_duplex}
-use Rattle.df1_frame.proofs.LineLemmas.{Machine, answers-start, answers-next, heard-next, same-split}
+use Rattle.df1_frame.proofs.LineLemmas.{answers-start, answers-next, heard-next, same-split}
 use Rattle.df1_frame.proofs.GrammarLemmas.{machine, works}
 use Rattle.df1_frame.specs.Standing.{Decoding, decoding}
 use Rattle.df1_frame.specs.Step.{next}
