@@ -1,5 +1,5 @@
 -- The receiver over the whole list of bytes so far.
-use Rattle.std.specs.Prelude.{◌≡◌, ℕ, Bool, true, false, List, [], ◌∷◌, ◌++◌, Some, None}
+use Rattle.std.specs.Prelude.{◌≡◌, ◌≢◌, ℕ, Bool, true, false, List, [], ◌∷◌, ◌++◌, Some, None}
 use Rattle.std.specs.List.{flat_map}
 use Rattle.df1_base.specs.declared.link.Act.{Act}
 use Rattle.df1_base.specs.declared.link.Act.TheVariants as act
@@ -8,6 +8,7 @@ use Rattle.df1_frame.specs.declared.heard.Heard.TheVariants as heard
 use Rattle.df1_frame.specs.Line.{ReadOff, last_heard}
 use Rattle.df1_frame.specs.Grammar.{full_duplex}
 use Rattle.df1_frame.specs.Standing.{decoding, lent}
+use Rattle.pccc_envelope.specs.Envelope.{key_of}
 use Rattle.pccc_envelope.specs.Accepted.{Offer, last_key, accepted}
 use Rattle.duplex_receiver.specs.Receiver.{Hearing, ReceiverState, offer_of, act_of}
 
@@ -45,3 +46,9 @@ pub record Stands (check : Check) (N : ℕ) (bytes : List ℕ) (hearings : List 
 abbrev pub is_accept : Act → Bool
 is_accept act.Accept = true
 is_accept _ = false
+
+-- no body has the key of the one before it
+abbrev pub KeysChange : List (List ℕ) → Type 0
+KeysChange [] = Unit {0}
+KeysChange (body ∷ []) = Unit {0}
+KeysChange (body ∷ next ∷ more) = (key_of body ≢ key_of next) × KeysChange (next ∷ more)

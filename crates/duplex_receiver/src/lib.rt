@@ -31,7 +31,9 @@ mod tests;
 use df1_base::{Act, Host};
 use df1_check::Check;
 use df1_frame::{Decoder, Heard};
-pub use laws::{accepts_one_by_one, hears_what_the_grammar_answers, last_response_goes_on};
+pub use laws::{
+    accepted_keys_change, accepts_one_by_one, hears_what_the_grammar_answers, last_response_goes_on,
+};
 use pccc_envelope::duplicate_filter::Filter;
 use pccc_envelope::key_of;
 use std::marker::Model;
