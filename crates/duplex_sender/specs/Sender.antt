@@ -55,6 +55,7 @@ on_ack s = record s {
   ];
 }
 
+-- the fate that an ACK decides: only a message that waits is delivered
 abbrev pub ack_fate : SenderState → Option Fate
 ack_fate s = elim s.activity [ Idle ↦ None | Sending body naks enqs ↦ None | Waiting body naks enqs left ↦ Some fate.Delivered ]
 
@@ -68,6 +69,7 @@ on_nak s = record s {
   ];
 }
 
+-- the fate that a NAK decides: only the last one that is counted gives the message up
 abbrev pub nak_fate : SenderState → Option Fate
 nak_fate s = elim s.activity [
   | Idle ↦ None
@@ -86,6 +88,7 @@ on_tick s = record s {
   ];
 }
 
+-- what a tick asks for: only the last tick of a wait asks, or gives the message up
 abbrev pub tick_turn : SenderState → SendTurn
 tick_turn s = elim s.activity [
   | Idle ↦ turn.Still
