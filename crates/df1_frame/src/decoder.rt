@@ -6,7 +6,7 @@ ghost use Rattle.df1_frame.specs.declared.heard.Heard.{Heard as Told};
 ghost use Rattle.df1_frame.specs.Line.{ReadOff, answers, last_heard};
 ghost use Rattle.df1_frame.specs.Grammar.{full_duplex};
 ghost use Rattle.df1_frame.specs.Gathered.{verdict};
-ghost use Rattle.df1_frame.specs.Standing.{AfterDle, Inside, InsideDle, AtCheck, decoding, held as held_of, held_at, lent, lent_at, is_inside, has_begun};
+ghost use Rattle.df1_frame.specs.Standing.{Outside, AfterDle, Inside, InsideDle, AtCheck, decoding, held as held_of, held_at, lent, lent_at, is_inside, has_begun};
 ghost use Rattle.df1_frame.specs.Step.{left_by, next, outside_next, step};
 ghost use Rattle.df1_frame.specs.View.{standing_of};
 
@@ -59,7 +59,8 @@ impl<const N: usize> Decoder<N> {
     /// A decoder that has taken no byte, of a line with this check.
     pub fn new(check: Check) -> Self
         requires { N ≤ 4096 }
-        ensures { ReadOff (full_duplex check N) [] (decoding check N) result }
+        ensures stands { ReadOff (full_duplex check N) [] (decoding check N) result }
+        ensures value { result ≡ record { check = check; standing = Outside } }
     {
         Decoder {
             check,
