@@ -46,6 +46,14 @@ is_out (Answered reply) = false
 is_out Undelivered = false
 is_out Unanswered = false
 
+-- what became of the command is known
+abbrev pub is_settled : Standing → Bool
+is_settled Waiting = false
+is_settled (Out left) = false
+is_settled (Answered reply) = true
+is_settled Undelivered = true
+is_settled Unanswered = true
+
 -- the outcome that is told
 abbrev pub told_outcome : Standing → Outcome
 told_outcome Waiting = outcome.Waiting

@@ -1,5 +1,5 @@
 -- A node: the station, the replies that wait, the commands that it issued, and what it handed out last.
-use Rattle.std.specs.Prelude.{ℕ, ◌+◌, Bool, true, List, [], ◌∷◌, ◌++◌, length, drop, nat_lt, slice_get, if◌then◌else◌, Option, refl}
+use Rattle.std.specs.Prelude.{ℕ, ◌+◌, Bool, true, List, [], ◌∷◌, ◌++◌, length, drop, is_some, nat_lt, slice_get, if◌then◌else◌, Option, refl}
 use Rattle.std.specs.Coded.{Coded, code_by, coded×, coded_list, coded_ℕ}
 use Rattle.std.specs.Option.{option_map_or, option_or}
 use Rattle.df1_base.specs.declared.host.Fate.{Fate}
@@ -41,23 +41,27 @@ did_accept node body =
 
 -- the node after a body: a command is executed at once, and its reply waits
 abbrev pub after_accept : NodeState → List ℕ → NodeState
-after_accept node body =
-    if is_reply body
-    then record node { initiator = after_reply node.initiator body }
-    else record node { station = after_answer node.station body; replies = node.replies ++ reply_to node.station body ∷ [] }
+after_accept node body = record node {
+  station = if is_reply body then node.station else after_answer node.station body;
+  replies = if is_reply body then node.replies else node.replies ++ reply_to node.station body ∷ [];
+  initiator = if is_reply body then after_reply node.initiator body else node.initiator;
+}
 
 -- what is handed out next: the oldest reply; where none waits, the next command
 abbrev pub next_body : NodeState → Option (List ℕ)
 next_body node = option_or (slice_get node.replies 0) (next_command node.initiator.issued)
 
--- the node after the next command was handed out, where there is one
-abbrev pub after_command : NodeState → NodeState
-after_command node =
-    option_map_or (λ place. record node { initiator = after_hand_out node.initiator; last = handed.Command place }) (next_place node.initiator.issued) node
+-- what that is: a reply, or the command at a place; where nothing is handed out, what was handed out before
+abbrev pub next_handed : NodeState → Handed
+next_handed node = if is_some (slice_get node.replies 0) then handed.Reply else option_map_or handed.Command (next_place node.initiator.issued) node.last
 
 -- the node after the next body was handed out
 abbrev pub after_next : NodeState → NodeState
-after_next node = option_map_or (λ reply. record node { replies = drop 1 node.replies; last = handed.Reply }) (slice_get node.replies 0) (after_command node)
+after_next node = record node {
+  replies = drop 1 node.replies;
+  initiator = if is_some (slice_get node.replies 0) then node.initiator else after_hand_out node.initiator;
+  last = next_handed node;
+}
 
 -- what is told of a body that was given up: of a command only while it is out
 abbrev pub news_of : InitiatorState → Handed → News
@@ -96,3 +100,21 @@ after_clear node = record node { replies = []; initiator = record node.initiator
 -- the node after a command was issued
 abbrev pub after_node_issue : NodeState → ℕ → List ℕ → NodeState
 after_node_issue node dst payload = record node { initiator = after_issue node.initiator dst payload }
+
+-- what may happen to a node
+pub data Step : Type 0 where
+  Issue : ℕ → List ℕ → Step
+  Accept : List ℕ → Step
+  Next : Step
+  Told : Fate → Step
+  Tick : Step
+  Clear : Step
+
+-- the node after it
+abbrev pub after : NodeState → Step → NodeState
+after node (Issue dst payload) = after_node_issue node dst payload
+after node (Accept body) = after_accept node body
+after node Next = after_next node
+after node (Told told) = after_told node told
+after node Tick = after_tick node
+after node Clear = after_clear node

@@ -7,6 +7,7 @@ mod commands;
 mod file_spec;
 mod handed;
 mod initiator;
+pub mod laws;
 mod node;
 mod outcome;
 mod station;
