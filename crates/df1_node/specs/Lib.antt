@@ -1,4 +1,7 @@
 pub mod Answer
+pub mod Commands
+pub mod Initiator
+pub mod Node
 pub mod TableFiles
 pub mod Tables
 pub mod Words

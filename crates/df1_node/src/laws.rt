@@ -1,0 +1,12 @@
+//! Laws of what a node keeps.
+ghost use Rattle.std.specs.Prelude.{◌≡◌, ℕ, List, Some, true};
+ghost use Rattle.std.specs.List.{fold};
+ghost use Rattle.df1_node.specs.Initiator.{Issued, command, is_settled};
+ghost use Rattle.df1_node.specs.Node.{NodeState, Step, after};
+
+/// A law: a command that is answered, undelivered or unanswered stays as it is, with its body, its outcome and its
+/// reply, whatever happens to the node.
+pub fn outcome_is_final()
+    ensures step { (node : NodeState) (step : Step) (n : ℕ) (c : Issued) → command node.initiator n ≡ Some c → is_settled c.standing ≡ true → command (after node step).initiator n ≡ Some c }
+    ensures run { (node : NodeState) (steps : List Step) (n : ℕ) (c : Issued) → command node.initiator n ≡ Some c → is_settled c.standing ≡ true → command (fold after node steps).initiator n ≡ Some c }
+{}

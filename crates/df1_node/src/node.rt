@@ -1,0 +1,179 @@
+//! The node: what stands behind an end. It executes the commands that come and replies to each, and issues commands of
+//! its own and takes their replies.
+ghost use Rattle.std.specs.Prelude.{◌≡◌, ◌+◌, ◌≤◌, [], length, IfOk, IfErr, OnOk, OnErr, Err, MatchOption, IsTrue};
+ghost use Rattle.df1_node.specs.Initiator.{issue_fault};
+ghost use Rattle.df1_node.specs.Node.{NodeState, after_node_issue};
+ghost use Rattle.df1_node.specs.declared.handed.Handed.TheVariants.{Nothing};
+
+use crate::handed::Handed;
+use crate::{Initiator, IssueFault, Station, Tables};
+use arrayvec::ArrayVec;
+use circular_buffer::HeapCircularBuffer;
+use df1_base::{Did, Fate, Host, News, NoMemory};
+use pccc_envelope::is_reply;
+use std::alloc::Global;
+use std::marker::Model;
+
+/// How a node is set up.
+#[derive(Clone, Copy, Debug, PartialEq, Eq)]
+pub struct NodeSetup {
+    /// The node's address, which is SRC of its commands.
+    pub node: u8,
+    /// TNS of its first command.
+    pub tns: u16,
+    /// The ticks, at least 1, that a reply may take.
+    pub reply_ticks: u32,
+    /// How many replies may wait: 2 to 64.
+    pub room: usize,
+}
+
+/// A station and an initiator behind one end.
+#[derive(Drop)]
+pub struct Node {
+    station: Station,
+    initiator: Initiator,
+    replies: HeapCircularBuffer<ArrayVec<u8, 250>>,
+    last: Handed,
+}
+
+impl Model for Node {
+    ghost use Rattle.std.specs.Prelude.{map, All};
+    ghost use Rattle.df1_base.specs.Host.{IsBody};
+    ghost use Rattle.df1_node.specs.Node.{NodeState, node_code};
+
+    ghost Value = { NodeState };
+
+    ghost use Rattle.df1_node.specs.contracts.station.Station as kept_station;
+    ghost use Rattle.df1_node.specs.contracts.initiator.Initiator as kept_initiator;
+    ghost use Rattle.df1_node.specs.contracts.handed.Handed as kept_handed;
+
+    ghost coded = { node_code kept_station.the_row.coded kept_initiator.the_row.coded kept_handed.the_row.coded };
+
+    ghost view = { λ n. record { room = n.replies.capacity; station = n.station; replies = map (λ r. r.items) n.replies.items; initiator = n.initiator; last = n.last } };
+
+    ghost invariant = { λ n. All (λ r. IsBody r.items) n.replies.items };
+}
+
+impl Node {
+    /// A node over a station, with memory for the replies that wait.
+    pub fn new(alloc: Global, setup: NodeSetup, station: Station) -> Result<Node, NoMemory>
+        requires room { (2 ≤ setup.room) × (setup.room ≤ 64) }
+        requires reply_ticks { 1 ≤ setup.reply_ticks }
+        ensures { IfOk result (λ node. node ≡ record { room = setup.room; station = station; replies = []; initiator = record { node = setup.node; tns = setup.tns; reply_ticks = setup.reply_ticks; issued = [] }; last = Nothing }) }
+    {
+        let replies = HeapCircularBuffer::with_capacity(alloc, setup.room)?;
+        Ok(Node {
+            station,
+            initiator: Initiator::new(alloc, setup.node, setup.tns, setup.reply_ticks),
+            replies,
+            last: Handed::Nothing,
+        })
+    }
+
+    /// Issues a command to a node, as `Initiator::issue` does.
+    pub fn issue(&mut self, dst: u8, payload: &[u8]) -> Result<u32, IssueFault>
+        ensures number { IfOk result (λ number. number ≡ length self.old.initiator.issued + 1) }
+        ensures ok { OnOk result (self.new ≡ after_node_issue self.old dst payload.now) }
+        ensures fault { MatchOption (issue_fault self.old.initiator payload.now) (IfErr result (λ fault. fault ≡ IssueFault.NoMemory)) (λ fault. result ≡ Err fault) }
+        ensures err { OnErr result (self.new ≡ self.old) }
+    {
+        self.initiator.issue(dst, payload)
+    }
+
+    /// The data tables of the station.
+    pub fn tables(&self) -> &Tables
+        ensures { result.now ≡ self.now.station.tables }
+    {
+        self.station.tables()
+    }
+
+    /// The initiator.
+    pub fn initiator(&self) -> &Initiator
+        ensures { result.now ≡ self.now.initiator }
+    {
+        &self.initiator
+    }
+}
+
+impl Host for Node {
+    ghost use Rattle.df1_node.specs.Node.{has_room, did_accept, after_accept, next_body, after_next, news_told, after_told, gone_unanswered, after_tick, after_clear};
+
+    ghost room_for = { has_room };
+
+    ghost did = { did_accept };
+
+    ghost after_accept = { after_accept };
+
+    ghost next_body = { next_body };
+
+    ghost after_next = { after_next };
+
+    ghost news = { news_told };
+
+    ghost after_told = { after_told };
+
+    ghost unanswered = { gone_unanswered };
+
+    ghost after_tick = { after_tick };
+
+    ghost after_clear = { after_clear };
+
+    fn has_room(&self, body: &[u8]) -> bool {
+        is_reply(body) || self.replies.len() < self.replies.capacity()
+    }
+
+    fn accept(&mut self, body: &[u8]) -> Did {
+        if is_reply(body) {
+            return match self.initiator.take_reply(body) {
+                Some(place) => Did::Answered(place as u32 + 1),
+                None => Did::Stray,
+            };
+        }
+        let mut reply = ArrayVec::new();
+        self.station.answer(body, &mut reply);
+        self.replies.try_push_back(reply).unwrap();
+        Did::Executed
+    }
+
+    fn ready(&self) -> bool {
+        !self.replies.is_empty() || self.initiator.ready()
+    }
+
+    fn next(&mut self, into: &mut ArrayVec<u8, 250>) -> bool {
+        if let Some(reply) = self.replies.pop_front() {
+            *into = reply;
+            self.last = Handed::Reply;
+            return true;
+        }
+        let Some(place) = self.initiator.hand_out(into) else {
+            return false;
+        };
+        self.last = Handed::Command(place);
+        true
+    }
+
+    fn told(&mut self, fate: Fate) -> News {
+        let last = self.last;
+        self.last = Handed::Nothing;
+        match (fate, last) {
+            (Fate::Delivered, _) | (Fate::Undelivered, Handed::Nothing) => News::Nothing,
+            (Fate::Undelivered, Handed::Reply) => News::Dropped,
+            (Fate::Undelivered, Handed::Command(place)) => {
+                if self.initiator.give_up(place) {
+                    News::Undelivered(place as u32 + 1)
+                } else {
+                    News::Nothing
+                }
+            }
+        }
+    }
+
+    fn tick(&mut self, gone: &mut ArrayVec<u32, 16>) {
+        self.initiator.tick(gone);
+    }
+
+    fn clear(&mut self) {
+        self.replies.clear();
+        self.initiator.clear();
+    }
+}

@@ -1,0 +1,49 @@
+//! What becomes of a command, and why one is not issued.
+use std::alloc::AllocFailed;
+use thiserror::Error;
+
+/// What became of a command.
+#[derive(Clone, Copy, Debug, PartialEq, Eq)]
+pub enum Outcome {
+    /// It was not handed out yet.
+    Waiting,
+    /// It was handed out, and nothing became of it yet.
+    Out,
+    /// Its reply was accepted.
+    Answered,
+    /// It was given up on its way, or dropped before it was handed out.
+    Undelivered,
+    /// No reply came in time.
+    Unanswered,
+}
+
+/// Why a command was not issued. The first that fits is told.
+#[derive(Clone, Copy, Debug, PartialEq, Eq, Error)]
+pub enum IssueFault {
+    /// The payload is empty.
+    #[error("the payload is empty")]
+    Empty,
+    /// The payload has over 245 bytes.
+    #[error("the payload has over 245 bytes")]
+    TooLong,
+    /// Bit 6 of CMD is set, so the payload is that of a reply.
+    #[error("the payload is no command")]
+    NotCommand,
+    /// 65,535 commands were issued already.
+    #[error("65535 commands were issued")]
+    Spent,
+    /// There is no memory left.
+    #[error("no memory")]
+    NoMemory,
+}
+
+impl<T: Drop> From<AllocFailed<T>> for IssueFault {
+    ghost use Rattle.std.specs.Prelude.{◌≡◌};
+    ghost use Rattle.df1_node.specs.declared.outcome.IssueFault.TheVariants.{NoMemory};
+
+    ghost from_gives = { λ _ e. e ≡ NoMemory };
+
+    fn from(_: AllocFailed<T>) -> Self {
+        IssueFault::NoMemory
+    }
+}
