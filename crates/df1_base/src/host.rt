@@ -48,18 +48,22 @@ pub trait Host {
 
     /// What the host does with an accepted body, and the host after it.
     ghost did: { Self → List ℕ → Did };
+
     ghost after_accept: { Self → List ℕ → Self };
 
     /// The message that is handed out next, if one is, and the host after that.
     ghost next_body: { Self → Option (List ℕ) };
+
     ghost after_next: { Self → Self };
 
     /// What the host answers to the fate of the message handed out last, and the host after it.
     ghost news: { Self → Fate → News };
+
     ghost after_told: { Self → Fate → Self };
 
     /// The commands that are unanswered from a tick on, in rising order, and the host after the tick.
     ghost unanswered: { Self → List ℕ };
+
     ghost after_tick: { Self → Self };
 
     /// The host after what waits was dropped.
