@@ -1,14 +1,13 @@
 -- A command whose outcome is known stays as it is.
-use Rattle.std.proofs.Common.{◌≡◌, ◌<◌, ℕ, suc, zero, ◌∙◌, Bool, Option, true, false, ◌&&◌, cond, List, [], ◌∷◌, ◌++◌, length, map, Some, None, refl, sym, ap, subst, arith, drop, get_or, slice_get, is_some, position}
+use Rattle.std.proofs.Common.{◌≡◌, ℕ, suc, zero, ◌∙◌, Bool, Option, true, false, ◌&&◌, cond, List, [], ◌∷◌, ◌++◌, map, Some, None, refl, sym, ap, get_or, slice_get, is_some, position}
 use Rattle.std.specs.Option.{option_map, option_map_or}
 use Rattle.std.specs.List.{fold, list_any}
 use Rattle.std.proofs.lemmas.List.Quantifiers.{position-Some}
-use Rattle.df1_base.specs.declared.host.Fate.{Fate}
 use Rattle.df1_base.specs.declared.host.Fate.TheVariants as fate
 use Rattle.pccc_envelope.specs.Envelope.{is_reply}
 use Rattle.df1_node.specs.declared.handed.Handed.{Handed}
 use Rattle.df1_node.specs.declared.handed.Handed.TheVariants as handed
-use Rattle.df1_node.specs.Initiator.{InitiatorState, Standing, Waiting, Out, Answered, Undelivered, Unanswered, Issued, command, is_waiting, is_out, is_settled, restated, next_place, answered_place, is_reply_to, is_out_at, ticked, cleared, all_ticked, all_cleared, after_issue, after_hand_out, after_reply, after_give_up}
+use Rattle.df1_node.specs.Initiator.{InitiatorState, Standing, Waiting, Out, Answered, Undelivered, Unanswered, Issued, command, is_waiting, is_out, is_settled, restated, answered_place, is_reply_to, is_out_at, ticked, cleared, after_hand_out, after_reply}
 use Rattle.df1_node.specs.Node.{NodeState, Step, Issue, Accept, Next, Told, Tick, Clear, after, initiator_after}
 
 not_waiting : (s : Standing) → is_settled s ≡ true → is_waiting s ≡ false
@@ -89,9 +88,9 @@ given_up : (cs : List Issued) (k p : ℕ) (c : Issued) (b : Bool) → is_out_at 
 given_up cs k p c false out e settled = e
 given_up cs k p c true out e settled =
     get-restated cs p k Undelivered (λ same.
-      let here : slice_get cs p ≡ Some c = ap (slice_get cs) same ∙ e in
-      let clash : true ≡ false = sym out ∙ ap (λ o. option_map_or (λ x. is_out x.standing) o false) here ∙ not_out c.standing settled in
-      let f : ⊥ = cc in f)
+    let here : slice_get cs p ≡ Some c = ap (slice_get cs) same ∙ e in
+    let clash : true ≡ false = sym out ∙ ap (λ o. option_map_or (λ x. is_out x.standing) o false) here ∙ not_out c.standing settled in
+    let f : ⊥ = cc in f)
     ∙ e
 
 mapped : (f : Standing → Standing) (cs : List Issued) (k : ℕ) (c : Issued) → slice_get cs k ≡ Some c → f c.standing ≡ c.standing → slice_get (map {A = Issued} (λ x. record x { standing = f x.standing }) cs) k ≡ Some c

@@ -12,6 +12,8 @@ mod node;
 mod outcome;
 mod station;
 mod tables;
+#[cfg(test)]
+mod tests;
 
 pub use file_spec::FileSpec;
 pub use initiator::Initiator;

@@ -1,5 +1,5 @@
 //! The data tables of a station: its files in the order in which they were given, and the words of each.
-ghost use Rattle.std.specs.Prelude.{◌≡◌, ◌≢◌, ◌<◌, ℕ, length, slice_get, IsTrue, OnOk, IfOk, IfErr, Some, None, position, if◌then◌else◌, ◌==◌, is_some};
+ghost use Rattle.std.specs.Prelude.{◌≡◌, ◌≢◌, ◌<◌, ℕ, length, slice_get, IsTrue, OnOk, IfOk, IfErr, MatchOption, Err, Some, None, position, if◌then◌else◌, ◌==◌, is_some};
 ghost use Rattle.std.specs.List.{list_any};
 ghost use Rattle.df1_node.specs.Tables.{fault_of, faults, file_of, fresh, has_word, with_word, word_at};
 
@@ -92,8 +92,7 @@ impl Tables {
     /// `Empty` before `Large` before `Twice`.
     pub fn new(alloc: Global, specs: &[FileSpec]) -> Result<Tables, MakeFault>
         ensures ok { IfOk result (λ tables. tables ≡ fresh specs.now) }
-        ensures valid { OnOk result (faults specs.now ≡ None) }
-        ensures err { IfErr result (λ fault. fault ≢ MakeFault.NoMemory → faults specs.now ≡ Some fault) }
+        ensures fault { MatchOption (faults specs.now) (IfErr result (λ fault. fault ≡ MakeFault.NoMemory)) (λ fault. result ≡ Err fault) }
     {
         if let Some(fault) = first_fault(specs) {
             return Err(fault);
