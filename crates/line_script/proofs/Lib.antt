@@ -1,0 +1,4 @@
+pub mod Cuts
+pub mod Forms
+pub mod Reading
+pub mod Seen
