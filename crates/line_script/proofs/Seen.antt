@@ -29,5 +29,5 @@ places_with s n words w are h = record {
   same = λ file index.
       h.0 (file, index)
       ∙ rw (is_eq-place_cmp w.file w.index file index, are.same file index, list_any-append (is_at file index) words (w ∷ []))
-        (either (eqb w.file file) (eqb w.index index) (list_any (is_at file index) words));
+      (either (eqb w.file file) (eqb w.index index) (list_any (is_at file index) words));
 }

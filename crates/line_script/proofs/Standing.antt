@@ -1,6 +1,6 @@
 -- What the lines so far say can be played.
 use Rattle.std.proofs.Common.{◌≡◌, ℕ, ◌+◌, ◌-◌, ◌<◌, ◌≤◌, Bool, true, false, cond, List, [], ◌∷◌, ◌++◌, length, find, Option, Some, None, Result, Ok, Err, refl, sym, ◌∙◌, ap, subst, arith, nat_le, nat_lt, eqb, append-nil, is_none, is_some}
-use Rattle.std.specs.Prelude.{IsTrue, ◌||◌, All, sum_by, count_by, if◌then◌else◌}
+use Rattle.std.specs.Prelude.{IsTrue, IfOk, MatchResult, ◌||◌, All, sum_by, count_by, if◌then◌else◌}
 use Rattle.std.specs.List.{list_any}
 use Rattle.std.specs.Option.{option_map_or, option_to_list}
 use Rattle.std.proofs.lemmas.Bool.{cond_both}
@@ -8,6 +8,7 @@ use Rattle.std.proofs.lemmas.Bool.Decides.{nat_tests}
 use Rattle.std.proofs.lemmas.List.Elements.{All-nil, All-push}
 use Rattle.std.proofs.lemmas.List.Sums.{sum_by-append}
 use Rattle.line_script.specs.declared.cause.Cause.{Cause}
+use Rattle.line_script.specs.declared.cause.ScriptFault.{ScriptFault}
 use Rattle.line_script.specs.declared.cause.Cause.TheVariants as cause
 use Rattle.line_script.specs.declared.script.Who.{Who}
 use Rattle.line_script.specs.declared.script.Who.TheVariants as who
@@ -27,7 +28,7 @@ use Rattle.line_script.specs.declared.reader.Stage.{Stage}
 use Rattle.line_script.specs.declared.reader.Reader.{Reader}
 use Rattle.line_script.specs.Drafts.{fresh, end_at, is_misplaced, is_missing, is_out_of_range, is_twice, is_spent, is_too_many, is_full, declared, first_of, cause_of, steps_of, stage_after, settled, counted, event_of, times_event, with_statement, unless_wrong, after_statement}
 use Rattle.line_script.specs.Lines.{TextLine, is_ended, is_passed_over, reaches_limit, is_long, content, after_form, after_words, after_line, finished, script_with, lines_from}
-use Rattle.line_script.specs.Places.{is_at}
+use Rattle.line_script.specs.Refusal.{IsRefused}
 use Rattle.line_script.specs.Playable.{IsBetween, IsPossible, IsPlayable, issues, count_of, joins}
 use Rattle.line_script.specs.ScriptText.{at_line, with_event, script_from, script_of, parts}
 use Rattle.line_script.specs.Statements.{who_of, other_end, is_payload, statement_of}
@@ -264,3 +265,8 @@ playable_from (line ∷ lines) d events number script h is =
 pub IsPlayable-script_of : (text : List ℕ) (script : Script) → script_of text ≡ Ok script → IsPlayable script
 unfolding script_of
 IsPlayable-script_of text script is = playable_from (lines_from 0 (parts text)) fresh [] 1 script stands_at_first is
+
+-- an answer with the script that the text says has one that can be played
+pub IfOk-playable : (text : List ℕ) (answer : Result Script ScriptFault) → MatchResult answer (λ script. script_of text ≡ Ok script) (λ fault. IsRefused fault (script_of text)) → IfOk answer IsPlayable
+IfOk-playable text (Ok script) h = IsPlayable-script_of text script h
+IfOk-playable text (Err fault) h = tt

@@ -2,9 +2,9 @@
 ghost use Rattle.std.specs.Prelude.{◌≡◌};
 ghost use Rattle.line_script.specs.Drafts.{cause_of as the_cause, is_misplaced as the_misplaced, is_missing as the_missing, is_out_of_range as the_range_test, is_twice as the_twice, is_spent as the_spent, is_too_many as the_too_many, declared as the_declared, is_full as the_full, steps_of as the_steps};
 
+use crate::Cause;
 use crate::reader::{Reader, Stage};
 use crate::statement::{EndName, Statement};
-use crate::Cause;
 use df1_node::FileSpec;
 
 /// The most files of an end.
@@ -37,7 +37,10 @@ impl Reader {
         ensures { result ≡ the_missing self.now statement.now }
     {
         match statement {
-            Statement::Set { end, .. } | Statement::File { end, .. } => matches!(end, EndName::Absent),
+            Statement::Set { end, .. } | Statement::File { end, .. } => matches!(
+                end,
+                EndName::Absent
+            ),
             Statement::Word { end, file, .. } => self.declared(*end, *file).is_none(),
             _ => false,
         }
@@ -51,7 +54,12 @@ impl Reader {
             Statement::Check(check) => check.is_none(),
             Statement::Set { setting, .. } => setting.is_none(),
             Statement::File { end, spec } => spec.is_none() || self.is_full(*end),
-            Statement::Word { end, file, index, .. } => match self.declared(*end, *file) {
+            Statement::Word {
+                end,
+                file,
+                index,
+                ..
+            } => match self.declared(*end, *file) {
                 Some(spec) => spec.words() <= *index,
                 None => false,
             },
@@ -144,7 +152,8 @@ pub(crate) fn steps_of(statement: &Statement) -> usize
         Statement::Issue { .. } | Statement::Alter { .. } => 1,
         Statement::Times { n: Some(n), .. } => *n as usize,
         Statement::Foreign {
-            bytes: Some(bytes), ..
+            bytes: Some(bytes),
+            ..
         } => bytes.as_slice().len(),
         _ => 0,
     }

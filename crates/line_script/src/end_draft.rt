@@ -131,7 +131,10 @@ impl EndDraft {
     pub fn has_file(&self, number: u16) -> bool
         ensures { result ≡ list_any (λ spec. spec.number == number) self.now.files }
     {
-        self.files.as_slice().iter().any(|spec| spec.number == number)
+        self.files
+            .as_slice()
+            .iter()
+            .any(|spec| spec.number == number)
     }
 
     /// The plan of the end, whose address is `standard` where no line sets it.

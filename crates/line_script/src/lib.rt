@@ -20,9 +20,7 @@ pub use cause::{Cause, LineFault, ScriptFault};
 pub use items::Items;
 pub use read::read_script;
 pub use reader::Reader;
-pub use script::{
-    Bytes, EndPlan, Ends, Event, Events, Lane, Script, Specs, Who, WordOf, Words,
-};
+pub use script::{Bytes, EndPlan, Ends, Event, Events, Lane, Script, Specs, Who, WordOf, Words};
 
 #[cfg(test)]
 mod tests;

@@ -1,5 +1,6 @@
 //! Reading a script from a whole text, line by line.
-ghost use Rattle.std.specs.Prelude.{◌≡◌, ◌==◌, ◌<◌, ◌-◌, ◌^◌, ◌∷◌, [], Ok, length, MatchResult, MatchOption, position};
+ghost use Rattle.std.specs.Prelude.{◌≡◌, ◌==◌, ◌<◌, ◌-◌, ◌^◌, ◌∷◌, [], Ok, length, IfOk, MatchResult, MatchOption, position};
+ghost use Rattle.line_script.specs.Playable.{IsPlayable};
 ghost use Rattle.line_script.specs.Lines.{after_line, last_line, text_line};
 ghost use Rattle.line_script.specs.ScriptText.{script_from, script_of, parts, with_event};
 ghost use Rattle.line_script.specs.Refusal.{IsFaulty, IsRefused, fault_at};
@@ -8,9 +9,19 @@ use crate::{Events, LineFault, Reader, Script, ScriptFault};
 use std::alloc::Global;
 
 /// Reads a script, all of the text: at most 16,777,216 bytes in lines of at most 1,024 bytes. `At` comes exactly where
-/// the text is none, with its first faulty line and the first cause that fits it.
-#[tactic(auto, unfolding(crate::specs::ScriptText::script_of))]
+/// the text is none, with its first faulty line and the first cause that fits it. A script that was read has the ends a
+/// and b, set up as data tables and an end need, events that may all happen, at most 65,535 commands of each end, and a
+/// sum of events of at most 4,000,000.
 pub fn read_script(alloc: Global, text: &[u8]) -> Result<Script, ScriptFault>
+    ensures exact { MatchResult result (λ script. script_of text.now ≡ Ok script) (λ fault. IsRefused fault (script_of text.now)) }
+    ensures playable { IfOk result IsPlayable }
+{
+    read_lines(alloc, text)
+}
+
+/// Reads all the lines of a text.
+#[tactic(auto, unfolding(crate::specs::ScriptText::script_of))]
+fn read_lines(alloc: Global, text: &[u8]) -> Result<Script, ScriptFault>
     ensures { MatchResult result (λ script. script_of text.now ≡ Ok script) (λ fault. IsRefused fault (script_of text.now)) }
 {
     let mut reader = Reader::new(alloc);
@@ -52,12 +63,7 @@ fn read_rest(
 }
 
 /// Ends a text whose next line would have this number.
-fn finish(
-    alloc: Global,
-    reader: Reader,
-    events: Events,
-    number: u32,
-) -> Result<Script, ScriptFault>
+fn finish(alloc: Global, reader: Reader, events: Events, number: u32) -> Result<Script, ScriptFault>
     ensures { MatchResult result (λ script. script_from reader events number [] ≡ Ok script)
         (λ fault. IsRefused fault (script_from reader events number [])) }
 {

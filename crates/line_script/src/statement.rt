@@ -105,7 +105,10 @@ pub(crate) enum Statement {
         n: Option<u32>,
     },
     /// The head of an end's queue is altered.
-    Alter { side: Side, mask: Option<u8> },
+    Alter {
+        side: Side,
+        mask: Option<u8>,
+    },
     /// Foreign bytes arrive, as if from an end.
     Foreign {
         side: Side,
@@ -117,10 +120,7 @@ pub(crate) enum Statement {
 
 /// What the words of a line say, if they are one of the forms.
 #[tactic(auto, unfolding(crate::specs::Statements::statement_of))]
-pub(crate) fn statement_of(
-    alloc: Global,
-    words: &[&[u8]],
-) -> Result<Option<Statement>, NoMemory>
+pub(crate) fn statement_of(alloc: Global, words: &[&[u8]]) -> Result<Option<Statement>, NoMemory>
     ensures { IfOk result (λ s. s ≡ the_statement (map (λ x. x.now) words.now)) }
 {
     match words {
@@ -165,9 +165,19 @@ fn five_words(
     ensures { result ≡ the_five verb.now end.now first.now second.now third.now }
 {
     if is(verb, "file") {
-        file_line(end_of(end), number_of(first), file_type(second), number_of(third))
+        file_line(
+            end_of(end),
+            number_of(first),
+            file_type(second),
+            number_of(third),
+        )
     } else if is(verb, "word") {
-        word_line(end_of(end), number_of(first), number_of(second), register_of(third))
+        word_line(
+            end_of(end),
+            number_of(first),
+            number_of(second),
+            register_of(third),
+        )
     } else {
         None
     }

@@ -70,10 +70,18 @@ const FAULTY: [(&str, u32, Cause); 69] = [
     ("ac 00\n", 1, Cause::Value),
     ("ai 4F00\n", 1, Cause::Value),
     ("set check bcc\nset check bcc\n", 2, Cause::Twice),
-    ("set a.node 0\nset b.node 0\nset a.node 1\n", 3, Cause::Twice),
+    (
+        "set a.node 0\nset b.node 0\nset a.node 1\n",
+        3,
+        Cause::Twice,
+    ),
     ("file b 7 89 16\nfile b 7 89 16\n", 2, Cause::Twice),
     ("file b 7 89 16\nfile b 007 89 0\n", 2, Cause::Value),
-    ("file b 7 89 16\nword b 7 0 1234\nword b 07 00 5678\n", 3, Cause::Twice),
+    (
+        "file b 7 89 16\nword b 7 0 1234\nword b 07 00 5678\n",
+        3,
+        Cause::Twice,
+    ),
     ("ak 4000000\nat\n", 2, Cause::Events),
     ("ak 3999999\nbn 1015\n", 2, Cause::Events),
     ("ak\nset mode full\nx\n", 2, Cause::Place),
@@ -155,7 +163,8 @@ fn byte_16777217_ends_the_text(rt: HostRuntime) -> Result<(), Fail> {
 
 #[test]
 fn a_script_says_what_its_lines_say(rt: HostRuntime) -> Result<(), Fail> {
-    let text = "# a script\r\nset mode full\r\n\tset check\tcrc \nset a.embed on\nset b.node 7\n set b.room 64\n\
+    let text =
+        "# a script\r\nset mode full\r\n\tset check\tcrc \nset a.embed on\nset b.node 7\n set b.room 64\n\
         file b 7 89 16\nfile b 010 89 1\nword b 7 15 12aB\nword b 10 0 fFfF\n\n\
         ai 0fAA\nbi 06\nak\nbt 03\nbd 4000\nax 2\nac 0f\nbn 1015\nend\n# more\n";
     let script = read_script(rt.alloc(), text.as_bytes())?;
@@ -164,10 +173,22 @@ fn a_script_says_what_its_lines_say(rt: HostRuntime) -> Result<(), Fail> {
     let ends = script.ends.as_slice();
     assert_eq!(rt; ends.len(), 2);
     let (a, b) = (&ends[0], &ends[1]);
-    assert_eq!(rt; (a.who, a.embed, a.node, a.tns, a.room), (Who::A, true, 0, 1, 2));
-    assert_eq!(rt; (b.who, b.embed, b.node, b.tns, b.room), (Who::B, false, 7, 1, 64));
-    assert_eq!(rt; (a.ack_ticks, a.max_naks, a.max_enqs, a.reply_ticks), (10, 3, 3, 100));
-    assert_eq!(rt; (a.max_resends, a.poll_ticks, a.max_sends, a.compat), (3, 10, 3, None));
+    assert_eq!(rt;
+        (a.who, a.embed, a.node, a.tns, a.room),
+        (Who::A, true, 0, 1, 2)
+    );
+    assert_eq!(rt;
+        (b.who, b.embed, b.node, b.tns, b.room),
+        (Who::B, false, 7, 1, 64)
+    );
+    assert_eq!(rt;
+        (a.ack_ticks, a.max_naks, a.max_enqs, a.reply_ticks),
+        (10, 3, 3, 100)
+    );
+    assert_eq!(rt;
+        (a.max_resends, a.poll_ticks, a.max_sends, a.compat),
+        (3, 10, 3, None)
+    );
     assert!(rt; a.block.as_slice().is_empty());
     assert!(rt; a.files.as_slice().is_empty());
     assert!(rt; a.words.as_slice().is_empty());
