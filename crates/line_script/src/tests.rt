@@ -116,6 +116,17 @@ fn the_first_faulty_line_is_told_with_its_first_cause(rt: HostRuntime) -> Result
 }
 
 #[test]
+fn a_fault_is_printed_with_its_line_and_cause(rt: HostRuntime) -> Result<(), Fail> {
+    let fault = ScriptFault::At {
+        line: 2,
+        cause: Cause::NoEnd,
+    };
+    let text = format!(in rt.alloc(); "{fault}")?;
+    assert_eq!(rt; text.as_str(), "line 2: open");
+    Ok(())
+}
+
+#[test]
 fn limits_hold_to_the_last_byte_command_and_event(rt: HostRuntime) -> Result<(), Fail> {
     let alloc = rt.alloc();
     let at = |line, cause| Some(ScriptFault::At { line, cause });
