@@ -1,0 +1,13 @@
+-- Lines that are none of the forms by the count of their words.
+use Rattle.std.proofs.Common.{◌≡◌, ◌≢◌, ℕ, List, [], ◌∷◌, length, None, refl}
+use Rattle.line_script.specs.Statements.{statement_of}
+
+pub no_form : (words : List (List ℕ)) → length words ≢ 1 → length words ≢ 2 → length words ≢ 3 → length words ≢ 5 → statement_of words ≡ None
+unfolding statement_of
+no_form [] one two three five = refl
+no_form (a ∷ []) one two three five = absurd (one refl)
+no_form (a ∷ b ∷ []) one two three five = absurd (two refl)
+no_form (a ∷ b ∷ c ∷ []) one two three five = absurd (three refl)
+no_form (a ∷ b ∷ c ∷ d ∷ []) one two three five = refl
+no_form (a ∷ b ∷ c ∷ d ∷ e ∷ []) one two three five = absurd (five refl)
+no_form (a ∷ b ∷ c ∷ d ∷ e ∷ f ∷ more) one two three five = refl

@@ -1,0 +1,7 @@
+pub mod Cuts
+pub mod EndStanding
+pub mod Forms
+pub mod Ranges
+pub mod Reading
+pub mod Seen
+pub mod Standing

@@ -1,0 +1,49 @@
+-- What is read so far goes on as the whole does.
+use Rattle.std.proofs.Common.{◌≡◌, ℕ, ◌+◌, ◌-◌, ◌<◌, ◌≤◌, Bool, true, false, cond, List, [], ◌∷◌, length, min, Option, Result, Ok, Err, refl, arith, eqb}
+use Rattle.std.proofs.lemmas.Grind.{common_steps}
+use Rattle.std.proofs.lemmas.Bool.Decides.{nat_tests}
+use Rattle.line_script.specs.declared.cause.Cause.{Cause}
+use Rattle.line_script.specs.declared.cause.Cause.TheVariants as cause
+use Rattle.line_script.specs.declared.cause.LineFault.{LineFault}
+use Rattle.line_script.specs.declared.cause.LineFault.TheVariants.{Faulty, NoMemory}
+use Rattle.line_script.specs.declared.reader.Reader.{Reader}
+use Rattle.line_script.specs.declared.script.Event.{Event}
+use Rattle.line_script.specs.Lines.{text_line, lines_from, last_line, after_line, after_words, reaches_limit, is_long, content}
+use Rattle.line_script.specs.Refusal.{IsFaulty, IsRefused, fault_at}
+use Rattle.line_script.specs.ScriptText.{with_event, script_from, parts}
+use Rattle.line_script.specs.Words.{words}
+use Rattle.line_script.proofs.Cuts.{split-first}
+
+-- the lines from one that was read on
+pub goes_on : (d e : Reader) (events more_events : List Event) (number start : ℕ) (bytes more : List ℕ) → with_event events (after_line d (text_line start bytes true)) ≡ Ok (e, more_events) → script_from d events number (lines_from start (bytes ∷ parts more)) ≡ script_from e more_events (number + 1) (lines_from (start + (length bytes + 1)) (parts more))
+goes_on d e events more_events number start bytes more h =
+    let cut = split-first (λ b. eqb b 10) more in
+    rw (cut.2, h) refl
+
+-- a text that is refused at a line is refused
+pub refused_at : (fault : LineFault) (d : Reader) (events : List Event) (number start : ℕ) (bytes more : List ℕ) → IsFaulty fault (with_event events (after_line d (text_line start bytes true))) → IsRefused (fault_at number fault) (script_from d events number (lines_from start (bytes ∷ parts more)))
+refused_at NoMemory d events number start bytes more h = tt
+refused_at (Faulty cause) d events number start bytes more h =
+    let cut = split-first (λ b. eqb b 10) more in
+    let err : with_event events (after_line d (text_line start bytes true)) ≡ Err cause = h in
+    rw (cut.2, err) refl
+
+-- where anything stands behind the last line feed, it is a line
+pub one_line : (start : ℕ) (rest : List ℕ) → eqb (length rest) 0 ≡ false → last_line start rest ≡ text_line start rest false ∷ []
+one_line start [] h = cc
+one_line start (byte ∷ more) h = refl
+
+-- a line with an answer is neither past the limit nor long
+short : (events : List Event) (x : Reader × List Event) (limit long : Bool) (r : Result (Reader × Option Event) Cause) → with_event events (cond limit (Err cause.Size) (cond long (Err cause.Long) r)) ≡ Ok x → (limit ≡ false) × (long ≡ false)
+short events x true long r h = cc
+short events x false true r h = cc
+short events x false false r h = (refl, refl)
+
+-- so it leaves the text within its limit
+pub stays_within : (d : Reader) (events : List Event) (x : Reader × List Event) (start : ℕ) (bytes : List ℕ) → with_event events (after_line d (text_line start bytes true)) ≡ Ok x → start ≤ 16777216 → start + (length bytes + 1) ≤ 16777216
+stays_within d events x start bytes h le =
+    let line = text_line start bytes true in
+    let tests = short events x (reaches_limit line) (is_long line) (after_words d (words (content line))) h in
+    let limit : reaches_limit (text_line start bytes true) ≡ false = tests.0 in
+    let long : is_long (text_line start bytes true) ≡ false = tests.1 in
+    grind (arith, nat_tests, common_steps)

@@ -1,0 +1,16 @@
+use Rattle.std.proofs.Common.{◌≡◌, ◌+◌, ◌≤◌, length, []}
+use Rattle.line_script.specs.Drafts.{fresh}
+use Rattle.line_script.specs.Lines.{lines_from}
+use Rattle.line_script.specs.ScriptText.{script_from, parts}
+use Rattle.line_script.proofs.read.read_lines.Given as goal
+
+-- what is read so far goes on as the whole does
+abbrev pub invariant-loop-line : goal.invariant-loop-line
+invariant-loop-line l = record {
+  same : script_from l.reader l.events l.number (lines_from l.start (parts l.rest)) ≡ script_from fresh [] 1 (lines_from 0 (parts l.fn.text));
+  numbered : l.number ≤ l.start + 1;
+  within : l.start ≤ 16777216;
+}
+
+abbrev pub decreases-loop-line : goal.decreases-loop-line
+decreases-loop-line l = length l.rest

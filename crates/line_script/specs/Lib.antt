@@ -1,0 +1,9 @@
+pub mod Drafts
+pub mod Lines
+pub mod Places
+pub mod Playable
+pub mod Plans
+pub mod Refusal
+pub mod ScriptText
+pub mod Statements
+pub mod Words

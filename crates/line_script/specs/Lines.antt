@@ -1,0 +1,93 @@
+-- The lines of a text, and what each says after those before it.
+use Rattle.std.specs.Prelude.{◌≡◌, ℕ, ◌+◌, ◌-◌, Bool, true, false, List, [], ◌∷◌, length, take, min, slice_index, Option, None, Some, unwrap_or, Result, Ok, Err, nat_le, nat_lt, ◌==◌, ◌&&◌, if◌then◌else◌}
+use Rattle.df1_check.specs.declared.Check.TheVariants.{Bcc}
+use Rattle.line_script.specs.declared.cause.Cause.{Cause}
+use Rattle.line_script.specs.declared.cause.Cause.TheVariants as cause
+use Rattle.line_script.specs.declared.script.Who.TheVariants as who
+use Rattle.line_script.specs.declared.script.Event.{Event}
+use Rattle.line_script.specs.declared.script.EndPlan.{EndPlan}
+use Rattle.line_script.specs.declared.script.Script.{Script}
+use Rattle.line_script.specs.declared.statement.Statement.{Statement}
+use Rattle.line_script.specs.declared.end_draft.EndDraft.{EndDraft}
+use Rattle.line_script.specs.declared.reader.Stage.{Stage}
+use Rattle.line_script.specs.declared.reader.Stage.TheVariants.{Ended}
+use Rattle.line_script.specs.declared.reader.Reader.{Reader}
+use Rattle.line_script.specs.Drafts.{after_statement}
+use Rattle.line_script.specs.Plans.{plan_of}
+use Rattle.line_script.specs.Statements.{statement_of}
+use Rattle.line_script.specs.Words.{words}
+
+-- a line: how many bytes of the text stand before it, its bytes without its line feed, and whether a line feed ends it
+pub record TextLine : Type 0 where
+  pub start : ℕ
+  pub bytes : List ℕ
+  pub is_ended : Bool
+
+abbrev pub text_line : ℕ → List ℕ → Bool → TextLine
+text_line start bytes is_ended = record { start = start; bytes = bytes; is_ended = is_ended }
+
+-- what stands behind the last line feed of a text, from a place of the text on: a line, if it is anything
+abbrev pub last_line : ℕ → List ℕ → List TextLine
+last_line start [] = []
+last_line start (byte ∷ more) = text_line start (byte ∷ more) false ∷ []
+
+-- the lines that these parts between line feeds are, from a place of the text on
+abbrev pub lines_from : ℕ → List (List ℕ) → List TextLine
+lines_from start [] = []
+lines_from start (bytes ∷ []) = last_line start bytes
+lines_from start (bytes ∷ next ∷ rest) = text_line start bytes true ∷ lines_from (start + (length bytes + 1)) (next ∷ rest)
+
+-- byte 16,777,217 of the text is among the first 1,025 bytes of the line, its line feed counted
+abbrev pub reaches_limit : TextLine → Bool
+reaches_limit line =
+    nat_le line.start 16777216
+    && nat_lt (16777216 - line.start) (min 1025 (length line.bytes + (if line.is_ended then 1 else 0)))
+
+-- over 1,024 bytes before the line feed or the end of the text
+abbrev pub is_long : TextLine → Bool
+is_long line = nat_lt 1024 (length line.bytes)
+
+-- the line without a carriage return before its line feed
+abbrev pub content : TextLine → List ℕ
+content line =
+    if line.is_ended && (slice_index line.bytes (length line.bytes - 1) == 13)
+    then take (length line.bytes - 1) line.bytes
+    else line.bytes
+
+-- no words, or a first word that begins with `#`
+abbrev pub is_passed_over : List (List ℕ) → Bool
+is_passed_over [] = true
+is_passed_over (first ∷ rest) = slice_index first 0 == 35
+
+abbrev pub is_ended : Stage → Bool
+is_ended Ended = true
+is_ended stage = false
+
+abbrev pub after_form : Reader → Option Statement → Result (Reader × Option Event) Cause
+after_form d None = Err cause.Form
+after_form d (Some statement) = after_statement d statement
+
+-- the words of a line after the lines before it: what is known then and its event, or the first cause that fits
+abbrev pub after_words : Reader → List (List ℕ) → Result (Reader × Option Event) Cause
+after_words d line =
+    if is_passed_over line then Ok (d, None)
+    else if is_ended d.stage then Err cause.After
+    else after_form d (statement_of line)
+
+-- a line after the lines before it
+abbrev pub after_line : Reader → TextLine → Result (Reader × Option Event) Cause
+after_line d line =
+    if reaches_limit line then Err cause.Size
+    else if is_long line then Err cause.Long
+    else after_words d (words (content line))
+
+-- the plans of the ends a and b, whose addresses are 0 and 1 where no line sets them
+abbrev pub ends : EndDraft → EndDraft → List EndPlan
+ends a b = plan_of who.A 0 a ∷ plan_of who.B 1 b ∷ []
+
+abbrev pub script_with : Reader → List Event → Script
+script_with d events = record { half = false; check = unwrap_or d.check Bcc; ends = ends d.a d.b; events = events }
+
+-- the script at the end of the text
+abbrev pub finished : Reader → List Event → Result Script Cause
+finished d events = if is_ended d.stage then Ok (script_with d events) else Err cause.NoEnd

@@ -1,0 +1,34 @@
+-- The script that a text says, or its first faulty line and the first cause that fits it.
+use Rattle.std.specs.Prelude.{ℕ, ◌+◌, List, [], ◌∷◌, ◌++◌, Option, Result, Ok, Err, ◌==◌}
+use Rattle.std.specs.List.{slice_split}
+use Rattle.std.specs.Option.{option_to_list}
+use Rattle.line_script.specs.declared.cause.Cause.{Cause}
+use Rattle.line_script.specs.declared.script.Event.{Event}
+use Rattle.line_script.specs.declared.script.Script.{Script}
+use Rattle.line_script.specs.declared.reader.Reader.{Reader}
+use Rattle.line_script.specs.Drafts.{fresh}
+use Rattle.line_script.specs.Lines.{TextLine, after_line, finished, lines_from}
+
+-- an answer, or the cause of a line with its number
+abbrev pub at_line : {T : Type 0} → ℕ → Result T Cause → (T → Result Script (ℕ × Cause)) → Result Script (ℕ × Cause)
+at_line number (Err cause) next = Err (number, cause)
+at_line number (Ok answer) next = next answer
+
+-- what is known after a line, and the events with its own
+abbrev pub with_event : List Event → Result (Reader × Option Event) Cause → Result (Reader × List Event) Cause
+with_event events (Err cause) = Err cause
+with_event events (Ok step) = Ok (step.0, events ++ option_to_list step.1)
+
+-- the script, from the lines from a number on: after what is known and the events of the lines before them
+abbrev pub script_from : Reader → List Event → ℕ → List TextLine → Result Script (ℕ × Cause)
+script_from d events number [] = at_line number (finished d events) Ok
+script_from d events number (line ∷ lines) =
+    at_line number (with_event events (after_line d line)) (λ step. script_from step.0 step.1 (number + 1) lines)
+
+-- the parts of a text between its line feeds
+abbrev pub parts : List ℕ → List (List ℕ)
+parts text = slice_split (λ byte. byte == 10) text
+
+-- the script that a text says, or the number of its first faulty line, counted from 1, and the first cause that fits it
+unfoldable pub script_of : List ℕ → Result Script (ℕ × Cause)
+script_of text = script_from fresh [] 1 (lines_from 0 (parts text))

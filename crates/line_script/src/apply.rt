@@ -1,0 +1,189 @@
+//! What a statement with nothing wrong changes, and the event that it is.
+ghost use Rattle.std.specs.Prelude.{◌≡◌, ◌∷◌, ◌++◌, [], IfOk, OnOk, Some, None, ◌-◌};
+ghost use Rattle.line_script.specs.Drafts.{with_statement as the_draft, settled, stage_after as the_stage, event_of as the_event, address_of as the_address, with_end, end_at, lane_from, times_event as the_times};
+
+use crate::causes::steps_of;
+use crate::reader::{NODE_OF_A, NODE_OF_B, Reader, Stage};
+use crate::set_line::Setting;
+use crate::statement::{EndName, Side, Statement, Verb};
+use crate::{Event, Lane, WordOf};
+use df1_base::NoMemory;
+use df1_node::FileSpec;
+
+impl Reader {
+    /// Takes a statement, and answers its event, if it is one.
+    pub(crate) fn apply(&mut self, statement: Statement) -> Result<Option<Event>, NoMemory>
+        ensures { IfOk result (λ event. the_draft self.old statement ≡ (self.new, event)) }
+    {
+        self.stage = stage_after(&statement);
+        self.events_left = self.events_left.saturating_sub(steps_of(&statement));
+        self.settle(&statement)?;
+        Ok(self.event_of(statement))
+    }
+
+    /// What a statement changes beside the stage and the sum of events.
+    fn settle(&mut self, statement: &Statement) -> Result<(), NoMemory>
+        ensures { OnOk result (self.new ≡ settled self.old statement.now) }
+    {
+        match statement {
+            Statement::Check(Some(check)) => self.check = Some(*check),
+            Statement::Set {
+                end: EndName::Known(side),
+                setting: Some(setting),
+            } => self.set(*side, *setting),
+            Statement::File {
+                end: EndName::Known(side),
+                spec: Some(spec),
+            } => self.declare(*side, *spec)?,
+            Statement::Word {
+                end: EndName::Known(side),
+                file: Some(file),
+                index,
+                value,
+            } => self.give_word(
+                *side,
+                WordOf {
+                    who: side.who(),
+                    file: *file,
+                    index: *index,
+                    value: *value,
+                },
+            )?,
+            Statement::Issue { side, .. } => self.count_command(*side),
+            _ => {}
+        }
+        Ok(())
+    }
+
+    /// Sets a setting of an end.
+    fn set(&mut self, side: Side, setting: Setting)
+        ensures { self.new ≡ settled self.old (Statement.Set (EndName.Known side) (Some setting)) }
+    {
+        match side {
+            Side::A => self.a.settings.set(setting),
+            Side::B => self.b.settings.set(setting),
+        }
+    }
+
+    /// Declares a data file of an end.
+    fn declare(&mut self, side: Side, spec: FileSpec) -> Result<(), NoMemory>
+        ensures { OnOk result (self.new ≡ settled self.old (Statement.File (EndName.Known side) (Some spec))) }
+    {
+        match side {
+            Side::A => self.a.files.push(spec),
+            Side::B => self.b.files.push(spec),
+        }
+    }
+
+    /// Gives the first value of a word of an end.
+    fn give_word(&mut self, side: Side, word: WordOf) -> Result<(), NoMemory>
+        ensures { OnOk result (self.new ≡ with_end self.old side (record (end_at self.old side) { words = (end_at self.old side).words ++ word ∷ [] })) }
+    {
+        match side {
+            Side::A => self.a.words.push(word),
+            Side::B => self.b.words.push(word),
+        }
+    }
+
+    /// Counts a command of an end.
+    fn count_command(&mut self, side: Side)
+        ensures { self.new ≡ settled self.old (Statement.Issue side None) }
+    {
+        match side {
+            Side::A => self.a.commands_left = self.a.commands_left.saturating_sub(1),
+            Side::B => self.b.commands_left = self.b.commands_left.saturating_sub(1),
+        }
+    }
+
+    /// The event that a statement is.
+    fn event_of(&self, statement: Statement) -> Option<Event>
+        ensures { result ≡ the_event self.now statement }
+    {
+        match statement {
+            Statement::Issue {
+                side,
+                payload: Some(payload),
+            } => Some(Event::Issue {
+                who: side.who(),
+                dst: self.address_of(side.other()),
+                payload,
+            }),
+            Statement::Times {
+                side,
+                verb,
+                n: Some(n),
+            } => Some(times_event(side, verb, n)),
+            Statement::Alter {
+                side,
+                mask: Some(mask),
+            } => Some(Event::Alter {
+                lane: lane_of(side),
+                mask,
+            }),
+            Statement::Foreign {
+                side,
+                bytes: Some(bytes),
+            } => Some(Event::Foreign {
+                lane: lane_of(side),
+                bytes,
+            }),
+            _ => None,
+        }
+    }
+
+    /// The address of an end.
+    fn address_of(&self, side: Side) -> u8
+        ensures { result ≡ the_address self.now side }
+    {
+        match side {
+            Side::A => self.a.node(NODE_OF_A),
+            Side::B => self.b.node(NODE_OF_B),
+        }
+    }
+}
+
+/// What may come after a statement.
+fn stage_after(statement: &Statement) -> Stage
+    ensures { result ≡ the_stage statement.now }
+{
+    match statement {
+        Statement::Mode
+        | Statement::Check(_)
+        | Statement::Set { .. }
+        | Statement::File { .. }
+        | Statement::Word { .. } => Stage::Settings,
+        Statement::Issue { .. }
+        | Statement::Times { .. }
+        | Statement::Alter { .. }
+        | Statement::Foreign { .. } => Stage::Events,
+        Statement::End => Stage::Ended,
+    }
+}
+
+/// What happens `n` times at an end, or at its queue.
+fn times_event(side: Side, verb: Verb, n: u32) -> Event
+    ensures { result ≡ the_times side verb n }
+{
+    match verb {
+        Verb::Take => Event::Take { who: side.who(), n },
+        Verb::Tick => Event::Tick { who: side.who(), n },
+        Verb::Deliver => Event::Deliver {
+            lane: lane_of(side),
+            n,
+        },
+        Verb::Lose => Event::Lose {
+            lane: lane_of(side),
+            n,
+        },
+    }
+}
+
+/// The queue of an end.
+fn lane_of(side: Side) -> Lane
+    ensures { result ≡ lane_from side }
+{
+    Lane {
+        from: side.who(),
+        to: side.other().who(),
+    }
+}

@@ -1,0 +1,89 @@
+//! Why a text is no script.
+ghost use Rattle.std.specs.Prelude.{◌≡◌};
+
+use df1_base::NoMemory;
+use std::alloc::{AllocError, AllocFailed};
+use thiserror::Error;
+
+/// What is wrong with a line. Where several fit, the first of these is told.
+#[derive(Clone, Copy, Debug, PartialEq, Eq, Error)]
+pub enum Cause {
+    /// Byte 16,777,217 of the text is among the first 1,025 bytes of the line, its line feed counted.
+    #[error("size")]
+    Size,
+    /// The line has over 1,024 bytes before its line feed or the end of the text, a carriage return counted.
+    #[error("long")]
+    Long,
+    /// The line follows `end`, and is neither blank nor a comment.
+    #[error("after")]
+    After,
+    /// The line is none of the forms.
+    #[error("form")]
+    Form,
+    /// The form may not stand here.
+    #[error("place")]
+    Place,
+    /// It names an end that full duplex hasn't, or a file that no earlier line declares.
+    #[error("missing")]
+    Missing,
+    /// A number, a word or a length is out of its range.
+    #[error("value")]
+    Value,
+    /// An earlier line gave this key, file or word.
+    #[error("twice")]
+    Twice,
+    /// It is the 65,536th command of an end.
+    #[error("spent")]
+    Spent,
+    /// The sum of events passes 4,000,000.
+    #[error("events")]
+    Events,
+    /// The text ended without `end`.
+    #[error("open")]
+    NoEnd,
+}
+
+/// Why a text is no script.
+#[derive(Clone, Copy, Debug, PartialEq, Eq, Error)]
+pub enum ScriptFault {
+    /// The first faulty line, counted from 1, and the first cause that fits it. For `NoEnd` the line is one more than
+    /// there are.
+    #[error("line {line}: {cause}")]
+    At { line: u32, cause: Cause },
+    /// There is no memory left.
+    #[error("no memory")]
+    NoMemory,
+}
+
+/// Why a line can't follow the lines before it.
+#[derive(Clone, Copy, Debug, PartialEq, Eq, Error)]
+pub enum LineFault {
+    /// The first cause that fits it.
+    #[error("{0}")]
+    Faulty(Cause),
+    /// There is no memory left.
+    #[error("no memory")]
+    NoMemory,
+}
+
+impl From<AllocError> for LineFault {
+    ghost use Rattle.std.specs.Prelude.{◌≡◌};
+    ghost use Rattle.line_script.specs.declared.cause.LineFault.TheVariants.{NoMemory};
+
+    ghost from_gives = { λ _ e. e ≡ NoMemory };
+
+    fn from(_: AllocError) -> Self {
+        LineFault::NoMemory
+    }
+}
+
+impl From<NoMemory> for LineFault {
+    ghost use Rattle.std.specs.Prelude.{◌≡◌};
+    ghost use Rattle.line_script.specs.declared.cause.LineFault.TheVariants.{NoMemory};
+
+    ghost from_gives = { λ _ e. e ≡ NoMemory };
+
+    fn from(_: NoMemory) -> Self {
+        LineFault::NoMemory
+    }
+}

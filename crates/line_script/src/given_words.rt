@@ -1,0 +1,72 @@
+//! First values of words, in the order in which they were given, and which places they have.
+ghost use Rattle.std.specs.Prelude.{◌≡◌, [], ◌∷◌, ◌++◌, OnOk, OnErr};
+ghost use Rattle.std.specs.List.{list_any};
+ghost use Rattle.line_script.specs.Places.{is_at};
+
+use crate::{Items, WordOf, Words};
+use df1_base::NoMemory;
+use std::alloc::Global;
+use std::collections::BTreeSet;
+use std::marker::Model;
+
+/// Words of one end, which contracts see as a list; a look-up of a place doesn't go over the list.
+#[derive(Drop)]
+pub(crate) struct GivenWords {
+    words: Vec<WordOf>,
+    places: BTreeSet<(u16, u32)>,
+}
+
+impl Model for GivenWords {
+    ghost use Rattle.std.specs.Prelude.{List};
+    ghost use Rattle.line_script.specs.declared.script.WordOf.{WordOf as OneWord};
+
+    ghost Value = { List OneWord };
+
+    ghost use Rattle.line_script.specs.Places.{ArePlaces};
+
+    ghost view = { λ g. g.words.items };
+
+    ghost invariant = { λ g. ArePlaces g.places g.words.items };
+}
+
+impl GivenWords {
+    /// No words.
+    pub fn new(alloc: Global) -> Self
+        ensures { result ≡ [] }
+    {
+        GivenWords {
+            words: Vec::new(alloc),
+            places: BTreeSet::new(alloc),
+        }
+    }
+
+    /// Whether a value was given for this word of this file.
+    pub fn has(&self, file: u16, index: u32) -> bool
+        ensures { result ≡ list_any (is_at file index) self.now }
+    {
+        self.places.contains(&(file, index))
+    }
+
+    /// Puts a word at the end. Where there is no memory for it, the words are unchanged.
+    pub fn push(&mut self, word: WordOf) -> Result<(), NoMemory>
+        ensures ok { OnOk result (self.new ≡ self.old ++ word ∷ []) }
+        ensures err { OnErr result (self.new ≡ self.old) }
+    {
+        self.words.push(word)?;
+        match self.places.insert((word.file, word.index)) {
+            Ok(_) => Ok(()),
+            Err(_) => {
+                self.words.pop();
+                Err(NoMemory)
+            }
+        }
+    }
+
+    /// The words as a list.
+    pub fn into_words(self) -> Words
+        ensures { result ≡ self }
+    {
+        let GivenWords { words, places: _ } = self;
+        Items::from_vec(words)
+    }
+}

@@ -1,0 +1,26 @@
+//! The script of a replay: a text of lines that sets up the two ends of a full-duplex link and then tells, event by
+//! event, what happens to each byte between them; and its exact reading, with the first faulty line and its cause.
+#![tactic(auto)]
+
+mod apply;
+mod cause;
+mod causes;
+mod end_draft;
+mod event_line;
+mod given_words;
+mod items;
+mod read;
+mod reader;
+mod script;
+mod set_line;
+mod statement;
+mod words;
+
+pub use cause::{Cause, LineFault, ScriptFault};
+pub use items::Items;
+pub use read::read_script;
+pub use reader::Reader;
+pub use script::{Bytes, EndPlan, Ends, Event, Events, Lane, Script, Specs, Who, WordOf, Words};
+
+#[cfg(test)]
+mod tests;

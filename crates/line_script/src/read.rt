@@ -1,0 +1,120 @@
+//! Reading a script from a whole text, line by line.
+ghost use Rattle.std.specs.Prelude.{◌≡◌, ◌==◌, ◌<◌, ◌-◌, ◌^◌, ◌∷◌, [], Ok, length, IfOk, MatchResult, MatchOption, position};
+ghost use Rattle.line_script.specs.Playable.{IsPlayable};
+ghost use Rattle.line_script.specs.Lines.{after_line, last_line, text_line};
+ghost use Rattle.line_script.specs.ScriptText.{script_from, script_of, parts, with_event};
+ghost use Rattle.line_script.specs.Refusal.{IsFaulty, IsRefused, fault_at};
+
+use crate::{Events, LineFault, Reader, Script, ScriptFault};
+use std::alloc::Global;
+
+/// Reads a script, all of the text: at most 16,777,216 bytes in lines of at most 1,024 bytes. `At` comes exactly where
+/// the text is none, with its first faulty line and the first cause that fits it. A script that was read has the ends a
+/// and b, set up as data tables and an end need, events that may all happen, at most 65,535 commands of each end, and a
+/// sum of events of at most 4,000,000.
+pub fn read_script(alloc: Global, text: &[u8]) -> Result<Script, ScriptFault>
+    ensures exact { MatchResult result (λ script. script_of text.now ≡ Ok script) (λ fault. IsRefused fault (script_of text.now)) }
+    ensures playable { IfOk result IsPlayable }
+{
+    read_lines(alloc, text)
+}
+
+/// Reads all the lines of a text.
+#[tactic(auto, unfolding(crate::specs::ScriptText::script_of))]
+fn read_lines(alloc: Global, text: &[u8]) -> Result<Script, ScriptFault>
+    ensures { MatchResult result (λ script. script_of text.now ≡ Ok script) (λ fault. IsRefused fault (script_of text.now)) }
+{
+    let mut reader = Reader::new(alloc);
+    let mut events = Events::new(alloc);
+    let mut rest = text;
+    let mut number = 1u32;
+    let mut start = 0;
+    while let Some((line, more)) = next_line(rest) {
+        if let Err(fault) = read_line(alloc, &mut reader, &mut events, start, line, true) {
+            return Err(at(number, fault));
+        }
+        number += 1;
+        start += line.len() + 1;
+        rest = more;
+    }
+    read_rest(alloc, reader, events, number, start, rest)
+}
+
+/// Reads what stands behind the last line feed, from byte `start` and line `number` on.
+fn read_rest(
+    alloc: Global,
+    mut reader: Reader,
+    mut events: Events,
+    number: u32,
+    start: usize,
+    rest: &[u8],
+) -> Result<Script, ScriptFault>
+    requires { number < 2 ^ 32 - 1 }
+    ensures { MatchResult result (λ script. script_from reader events number (last_line start rest.now) ≡ Ok script)
+        (λ fault. IsRefused fault (script_from reader events number (last_line start rest.now))) }
+{
+    if rest.is_empty() {
+        return finish(alloc, reader, events, number);
+    }
+    match read_line(alloc, &mut reader, &mut events, start, rest, false) {
+        Ok(()) => finish(alloc, reader, events, number + 1),
+        Err(fault) => Err(at(number, fault)),
+    }
+}
+
+/// Ends a text whose next line would have this number.
+fn finish(alloc: Global, reader: Reader, events: Events, number: u32) -> Result<Script, ScriptFault>
+    ensures { MatchResult result (λ script. script_from reader events number [] ≡ Ok script)
+        (λ fault. IsRefused fault (script_from reader events number [])) }
+{
+    match reader.finish(alloc, events) {
+        Ok(script) => Ok(script),
+        Err(fault) => Err(at(number, fault)),
+    }
+}
+
+/// Reads the next line, and keeps its event, if it is one.
+fn read_line(
+    alloc: Global,
+    reader: &mut Reader,
+    events: &mut Events,
+    start: usize,
+    line: &[u8],
+    is_ended: bool,
+) -> Result<(), LineFault>
+    ensures { MatchResult result (λ _. with_event events.old (after_line reader.old (text_line start line.now is_ended)) ≡ Ok (reader.new, events.new))
+        (λ fault. IsFaulty fault (with_event events.old (after_line reader.old (text_line start line.now is_ended)))) }
+{
+    if let Some(event) = reader.read(alloc, start, line, is_ended)? {
+        events.push(event)?;
+    }
+    Ok(())
+}
+
+/// The fault of a line, with the line's number.
+fn at(line: u32, fault: LineFault) -> ScriptFault
+    ensures { result ≡ fault_at line fault }
+{
+    match fault {
+        LineFault::Faulty(cause) => ScriptFault::At { line, cause },
+        LineFault::NoMemory => ScriptFault::NoMemory,
+    }
+}
+
+/// The line that a text begins with, if a line feed ends one, and what follows it.
+fn next_line(text: &[u8]) -> Option<(&[u8], &[u8])>
+    ensures { MatchOption result (parts text.now ≡ text.now ∷ [])
+        (λ cut. (parts text.now ≡ cut.0.now ∷ parts cut.1.now) × (length cut.1.now < length text.now)) }
+{
+    match line_end(text) {
+        Some(end) => Some((&text[..end], &text[end + 1..])),
+        None => None,
+    }
+}
+
+/// Where the first line feed stands.
+fn line_end(text: &[u8]) -> Option<usize>
+    ensures { result ≡ position (λ b. b == 10) text.now }
+{
+    text.iter().position(|b| *b == b'\n')
+}

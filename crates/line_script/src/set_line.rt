@@ -1,0 +1,155 @@
+//! The lines that begin with `set`: the mode, the check, and the settings of an end, each with the values that it may
+//! have.
+ghost use Rattle.std.specs.Prelude.{◌≡◌, ◌==◌, option_map, position};
+ghost use Rattle.line_script.specs.Statements.{set_line as the_set, end_setting as the_end_setting, set_statement as the_set_statement, setting_of as the_setting, check_of as the_check, switch_of as the_switch};
+ghost use Rattle.line_script.specs.Words.{number_of as the_number, within as the_bounded};
+
+use crate::statement::{EndName, Statement, end_of};
+use crate::words::{is, number_of, within};
+use df1_check::Check;
+
+/// The highest count of ticks.
+const TICKS: u32 = 1_000_000;
+
+/// A setting of an end, with its value.
+#[derive(Clone, Copy, Debug, PartialEq, Eq)]
+pub(crate) enum Setting {
+    Embed(bool),
+    Node(u8),
+    Tns(u16),
+    AckTicks(u32),
+    MaxNaks(u32),
+    MaxEnqs(u32),
+    ReplyTicks(u32),
+    Room(usize),
+}
+
+/// What `set` with a key and a value says, if the key is one.
+pub(crate) fn set_line(key: &[u8], value: &[u8]) -> Option<Statement>
+    ensures { result ≡ the_set key.now value.now }
+{
+    if is(key, "mode") {
+        if is(value, "full") {
+            Some(Statement::Mode)
+        } else {
+            None
+        }
+    } else if is(key, "check") {
+        Some(Statement::Check(check_of(value)))
+    } else {
+        end_setting(key, value)
+    }
+}
+
+/// The check that a word names.
+fn check_of(value: &[u8]) -> Option<Check>
+    ensures { result ≡ the_check value.now }
+{
+    if is(value, "bcc") {
+        Some(Check::Bcc)
+    } else if is(value, "crc") {
+        Some(Check::Crc)
+    } else {
+        None
+    }
+}
+
+/// A setting of an end: its key is the end, a full stop and a name.
+fn end_setting(key: &[u8], value: &[u8]) -> Option<Statement>
+    ensures { result ≡ the_end_setting key.now value.now }
+{
+    match stop_of(key) {
+        Some(stop) => {
+            let (end, name) = key.split_at(stop);
+            set_statement(end_of(end), setting_of(name, value))
+        }
+        None => None,
+    }
+}
+
+/// Where the first full stop stands.
+fn stop_of(key: &[u8]) -> Option<usize>
+    ensures { result ≡ position (λ byte. byte == 46) key.now }
+{
+    key.iter().position(|byte| *byte == b'.')
+}
+
+/// The setting of an end, where there is such an end and such a setting.
+fn set_statement(end: Option<EndName>, setting: Option<Option<Setting>>) -> Option<Statement>
+    ensures { result ≡ the_set_statement end setting }
+{
+    Some(Statement::Set {
+        end: end?,
+        setting: setting?,
+    })
+}
+
+/// The setting that a name with its full stop and a value are: None for a name that is none of the table, and None
+/// inside for a value that the table hasn't.
+fn setting_of(name: &[u8], value: &[u8]) -> Option<Option<Setting>>
+    ensures { result ≡ the_setting name.now value.now }
+{
+    if is(name, ".embed") {
+        Some(embed_of(value))
+    } else if is(name, ".node") {
+        Some(node_of(value))
+    } else if is(name, ".tns") {
+        Some(tns_of(value))
+    } else if is(name, ".ack_ticks") {
+        Some(number_in(1, TICKS, value).map(Setting::AckTicks))
+    } else if is(name, ".max_naks") {
+        Some(number_in(0, 255, value).map(Setting::MaxNaks))
+    } else if is(name, ".max_enqs") {
+        Some(number_in(0, 255, value).map(Setting::MaxEnqs))
+    } else if is(name, ".reply_ticks") {
+        Some(number_in(33, TICKS, value).map(Setting::ReplyTicks))
+    } else if is(name, ".room") {
+        Some(room_of(value))
+    } else {
+        None
+    }
+}
+
+/// A word that is a number within bounds.
+fn number_in(least: u32, most: u32, value: &[u8]) -> Option<u32>
+    ensures { result ≡ the_bounded least most (the_number value.now) }
+{
+    within(least, most, number_of(value))
+}
+
+/// `on` or `off`.
+fn embed_of(value: &[u8]) -> Option<Setting>
+    ensures { result ≡ option_map Setting.Embed (the_switch value.now) }
+{
+    if is(value, "on") {
+        Some(Setting::Embed(true))
+    } else if is(value, "off") {
+        Some(Setting::Embed(false))
+    } else {
+        None
+    }
+}
+
+/// An address of one byte.
+fn node_of(value: &[u8]) -> Option<Setting>
+    ensures { result ≡ option_map Setting.Node (the_bounded 0 255 (the_number value.now)) }
+{
+    let node = number_in(0, 255, value)?;
+    Some(Setting::Node(node as u8))
+}
+
+/// A TNS.
+fn tns_of(value: &[u8]) -> Option<Setting>
+    ensures { result ≡ option_map Setting.Tns (the_bounded 0 65535 (the_number value.now)) }
+{
+    let tns = number_in(0, 65535, value)?;
+    Some(Setting::Tns(tns as u16))
+}
+
+/// How many replies may wait.
+fn room_of(value: &[u8]) -> Option<Setting>
+    ensures { result ≡ option_map Setting.Room (the_bounded 2 64 (the_number value.now)) }
+{
+    let room = number_in(2, 64, value)?;
+    Some(Setting::Room(room as usize))
+}

@@ -1,0 +1,264 @@
+//! What one line of a script says, by the table of the forms. A value, number or length that is out of its range
+//! leaves its field None: such a line still is one of the forms.
+ghost use Rattle.std.specs.Prelude.{◌≡◌, map, IfOk, Some};
+ghost use Rattle.line_script.specs.Words.{within as the_bounded};
+ghost use Rattle.line_script.specs.Statements.{end_of as the_end, other_end, who_of, statement_of as the_statement, one_word as the_one, three_words as the_three, file_line as the_file, word_line as the_word, five_words as the_five, file_spec as the_spec, file_type as the_type};
+
+use crate::event_line::{bare_event, operand_event};
+use crate::set_line::{Setting, set_line};
+use crate::words::{is, number_of, register_of, within};
+use crate::{Bytes, Who};
+use df1_base::{FileType, NoMemory};
+use df1_check::Check;
+use df1_node::FileSpec;
+use std::alloc::Global;
+
+/// The most events that one line, and a whole script, may count.
+pub(crate) const EVENTS: u32 = 4_000_000;
+
+/// The highest file number.
+const FILE_NUMBER: u32 = 999;
+
+/// The most elements of a data file.
+const ELEMENTS: u32 = 1000;
+
+/// An end of a full-duplex link.
+#[derive(Clone, Copy, Debug, PartialEq, Eq)]
+pub(crate) enum Side {
+    A,
+    B,
+}
+
+impl Side {
+    /// The end as events name it.
+    pub fn who(self) -> Who
+        ensures { result ≡ who_of self }
+    {
+        match self {
+            Side::A => Who::A,
+            Side::B => Who::B,
+        }
+    }
+
+    /// The end at the other side of the link.
+    pub fn other(self) -> Side
+        ensures { result ≡ other_end self }
+    {
+        match self {
+            Side::A => Side::B,
+            Side::B => Side::A,
+        }
+    }
+}
+
+/// The end that a word names.
+#[derive(Clone, Copy, Debug, PartialEq, Eq)]
+pub(crate) enum EndName {
+    /// An end of a full-duplex link.
+    Known(Side),
+    /// A master or a station, which a full-duplex link hasn't.
+    Absent,
+}
+
+/// What happens a number of times.
+#[derive(Clone, Copy, Debug, PartialEq, Eq)]
+pub(crate) enum Verb {
+    Take,
+    Tick,
+    Deliver,
+    Lose,
+}
+
+/// A line that is one of the forms.
+#[derive(Drop)]
+pub(crate) enum Statement {
+    /// Full mode.
+    Mode,
+    /// Which check the line has.
+    Check(Option<Check>),
+    /// A setting of an end.
+    Set {
+        end: EndName,
+        setting: Option<Setting>,
+    },
+    /// A data file of an end.
+    File {
+        end: EndName,
+        spec: Option<FileSpec>,
+    },
+    /// The first value of a word of an end. No file has a number that is None.
+    Word {
+        end: EndName,
+        file: Option<u16>,
+        index: u32,
+        value: u16,
+    },
+    /// A command of an end.
+    Issue {
+        side: Side,
+        payload: Option<Bytes>,
+    },
+    /// What happens `n` times at an end, or at its queue.
+    Times {
+        side: Side,
+        verb: Verb,
+        n: Option<u32>,
+    },
+    /// The head of an end's queue is altered.
+    Alter {
+        side: Side,
+        mask: Option<u8>,
+    },
+    /// Foreign bytes arrive, as if from an end.
+    Foreign {
+        side: Side,
+        bytes: Option<Bytes>,
+    },
+    /// The last line.
+    End,
+}
+
+/// What the words of a line say, if they are one of the forms.
+#[tactic(auto, unfolding(crate::specs::Statements::statement_of))]
+pub(crate) fn statement_of(alloc: Global, words: &[&[u8]]) -> Result<Option<Statement>, NoMemory>
+    ensures { IfOk result (λ s. s ≡ the_statement (map (λ x. x.now) words.now)) }
+{
+    match words {
+        [word] => Ok(one_word(word)),
+        [word, operand] => operand_event(alloc, word, operand),
+        [verb, key, value] => Ok(three_words(verb, key, value)),
+        [verb, end, first, second, third] => Ok(five_words(verb, end, first, second, third)),
+        _ => Ok(None),
+    }
+}
+
+/// The forms of one word.
+fn one_word(word: &[u8]) -> Option<Statement>
+    ensures { result ≡ the_one word.now }
+{
+    if is(word, "end") {
+        Some(Statement::End)
+    } else {
+        bare_event(word)
+    }
+}
+
+/// The forms of three words.
+fn three_words(verb: &[u8], key: &[u8], value: &[u8]) -> Option<Statement>
+    ensures { result ≡ the_three verb.now key.now value.now }
+{
+    if is(verb, "set") {
+        set_line(key, value)
+    } else {
+        None
+    }
+}
+
+/// The forms of five words.
+fn five_words(
+    verb: &[u8],
+    end: &[u8],
+    first: &[u8],
+    second: &[u8],
+    third: &[u8],
+) -> Option<Statement>
+    ensures { result ≡ the_five verb.now end.now first.now second.now third.now }
+{
+    if is(verb, "file") {
+        file_line(
+            end_of(end),
+            number_of(first),
+            file_type(second),
+            number_of(third),
+        )
+    } else if is(verb, "word") {
+        word_line(
+            end_of(end),
+            number_of(first),
+            number_of(second),
+            register_of(third),
+        )
+    } else {
+        None
+    }
+}
+
+/// The line that declares a data file.
+fn file_line(
+    end: Option<EndName>,
+    number: Option<u32>,
+    kind: Option<FileType>,
+    count: Option<u32>,
+) -> Option<Statement>
+    ensures { result ≡ the_file end number kind count }
+{
+    Some(Statement::File {
+        end: end?,
+        spec: file_spec(number?, kind, count?),
+    })
+}
+
+/// The line that gives the first value of a word.
+fn word_line(
+    end: Option<EndName>,
+    number: Option<u32>,
+    index: Option<u32>,
+    value: Option<u16>,
+) -> Option<Statement>
+    ensures { result ≡ the_word end number index value }
+{
+    Some(Statement::Word {
+        end: end?,
+        file: file_number(number?),
+        index: index?,
+        value: value?,
+    })
+}
+
+/// A data file, where its number, type and count are such as a file may have.
+fn file_spec(number: u32, kind: Option<FileType>, count: u32) -> Option<FileSpec>
+    ensures { result ≡ the_spec (the_bounded 0 999 (Some number)) kind (the_bounded 1 1000 (Some count)) }
+{
+    let number = file_number(number)?;
+    let kind = kind?;
+    let count = within(1, ELEMENTS, Some(count))?;
+    Some(FileSpec {
+        number,
+        kind,
+        count: count as u16,
+    })
+}
+
+/// The number of a file, where a file may have it.
+fn file_number(number: u32) -> Option<u16>
+    ensures { result ≡ the_bounded 0 999 (Some number) }
+{
+    let number = within(0, FILE_NUMBER, Some(number))?;
+    Some(number as u16)
+}
+
+/// The type that a word names.
+fn file_type(word: &[u8]) -> Option<FileType>
+    ensures { result ≡ the_type word.now }
+{
+    if is(word, "89") {
+        Some(FileType::Integer)
+    } else {
+        None
+    }
+}
+
+/// The end that a word names, if it names one.
+pub(crate) fn end_of(word: &[u8]) -> Option<EndName>
+    ensures { result ≡ the_end word.now }
+{
+    if is(word, "a") {
+        Some(EndName::Known(Side::A))
+    } else if is(word, "b") {
+        Some(EndName::Known(Side::B))
+    } else if is(word, "m") || number_of(word).is_some() {
+        Some(EndName::Absent)
+    } else {
+        None
+    }
+}

@@ -1,0 +1,268 @@
+//! Texts with their first faulty line and its cause, and one script field by field.
+
+use crate::{Cause, Event, Lane, LineFault, Reader, ScriptFault, Who, WordOf, read_script};
+use df1_base::FileType;
+use df1_check::Check;
+use df1_node::FileSpec;
+use std::alloc::{AllocError, Global};
+use std::test::Fail;
+
+/// Faulty texts, each with its line and its cause.
+const FAULTY: [(&str, u32, Cause); 69] = [
+    ("", 1, Cause::NoEnd),
+    ("ak\n# end\n", 3, Cause::NoEnd),
+    ("ak", 2, Cause::NoEnd),
+    ("end\n\n# c\nend\n", 4, Cause::After),
+    ("end\nx", 2, Cause::After),
+    ("end\r", 1, Cause::Form),
+    ("set mode half\n", 1, Cause::Form),
+    ("station 3\n", 1, Cause::Form),
+    ("set a.compat 7\n", 1, Cause::Form),
+    ("set a.block 01\n", 1, Cause::Form),
+    ("set b.max_resends 3\n", 1, Cause::Form),
+    ("set a.embed\n", 1, Cause::Form),
+    ("set x.embed on\n", 1, Cause::Form),
+    ("file x 7 89 16\n", 1, Cause::Form),
+    ("word b 7 0 123\n", 1, Cause::Form),
+    ("mk\n", 1, Cause::Form),
+    ("md 3\n", 1, Cause::Form),
+    ("3k\n", 1, Cause::Form),
+    ("a k\n", 1, Cause::Form),
+    ("ak 0000000001\n", 1, Cause::Form),
+    ("ak x\n", 1, Cause::Form),
+    ("ai\n", 1, Cause::Form),
+    ("ai 0\n", 1, Cause::Form),
+    ("ai 0G\n", 1, Cause::Form),
+    ("ac 1\n", 1, Cause::Form),
+    ("ac 0101\n", 1, Cause::Form),
+    ("end end\n", 1, Cause::Form),
+    ("ak\nset mode full\n", 2, Cause::Place),
+    ("set mode full\nset mode full\n", 2, Cause::Place),
+    ("at\nset check crc\n", 2, Cause::Place),
+    ("at\nset a.node 7\n", 2, Cause::Place),
+    ("bd\nfile m 7 89 0\n", 2, Cause::Place),
+    ("bx\nword b 7 0 1234\n", 2, Cause::Place),
+    ("file m 7 89 16\n", 1, Cause::Missing),
+    ("file 3 1000 8A 0\n", 1, Cause::Missing),
+    ("set 012.embed on\n", 1, Cause::Missing),
+    ("set m.node 256\n", 1, Cause::Missing),
+    ("word b 7 0 1234\n", 1, Cause::Missing),
+    ("word b 1000 0 1234\n", 1, Cause::Missing),
+    ("file b 7 89 16\nword a 7 99 1234\n", 2, Cause::Missing),
+    ("set check BCC\n", 1, Cause::Value),
+    ("set a.embed yes\n", 1, Cause::Value),
+    ("set a.node 256\n", 1, Cause::Value),
+    ("set a.node 0000000001\n", 1, Cause::Value),
+    ("set a.tns 65536\n", 1, Cause::Value),
+    ("set a.ack_ticks 0\n", 1, Cause::Value),
+    ("set b.max_naks 256\n", 1, Cause::Value),
+    ("set b.max_enqs 256\n", 1, Cause::Value),
+    ("set b.reply_ticks 32\n", 1, Cause::Value),
+    ("set a.room 65\n", 1, Cause::Value),
+    ("file b 1000 89 16\n", 1, Cause::Value),
+    ("file b 7 84 16\n", 1, Cause::Value),
+    ("file b 7 089 16\n", 1, Cause::Value),
+    ("file b 7 89 0\n", 1, Cause::Value),
+    ("file b 7 89 1001\n", 1, Cause::Value),
+    ("file b 7 89 16\nword b 7 16 1234\n", 2, Cause::Value),
+    ("ak 0\n", 1, Cause::Value),
+    ("ak 4000001\n", 1, Cause::Value),
+    ("ac 00\n", 1, Cause::Value),
+    ("ai 4F00\n", 1, Cause::Value),
+    ("set check bcc\nset check bcc\n", 2, Cause::Twice),
+    (
+        "set a.node 0\nset b.node 0\nset a.node 1\n",
+        3,
+        Cause::Twice,
+    ),
+    ("file b 7 89 16\nfile b 7 89 16\n", 2, Cause::Twice),
+    ("file b 7 89 16\nfile b 007 89 0\n", 2, Cause::Value),
+    (
+        "file b 7 89 16\nword b 7 0 1234\nword b 07 00 5678\n",
+        3,
+        Cause::Twice,
+    ),
+    ("ak 4000000\nat\n", 2, Cause::Events),
+    ("ak 3999999\nbn 1015\n", 2, Cause::Events),
+    ("ak\nset mode full\nx\n", 2, Cause::Place),
+    ("x\nak\nset mode full\n", 1, Cause::Form),
+];
+
+/// What is told of a text: None where it is a script.
+fn told(alloc: Global, text: &[u8]) -> Option<ScriptFault> {
+    read_script(alloc, text).err()
+}
+
+/// A text with a part again and again before its end.
+fn repeated(alloc: Global, part: &[u8], times: usize, last: &[u8]) -> Result<Vec<u8>, AllocError> {
+    let mut text = Vec::new(alloc);
+    for _ in 0..times {
+        text.extend_from_slice(part)?;
+    }
+    text.extend_from_slice(last)?;
+    Ok(text)
+}
+
+#[test]
+fn the_first_faulty_line_is_told_with_its_first_cause(rt: HostRuntime) -> Result<(), Fail> {
+    for (text, line, cause) in FAULTY {
+        assert_eq!(rt;
+            told(rt.alloc(), text.as_bytes()),
+            Some(ScriptFault::At { line, cause }),
+            "in {text:?}"
+        );
+    }
+    Ok(())
+}
+
+#[test]
+fn a_fault_is_printed_with_its_line_and_cause(rt: HostRuntime) -> Result<(), Fail> {
+    let fault = ScriptFault::At {
+        line: 2,
+        cause: Cause::NoEnd,
+    };
+    let text = format!(in rt.alloc(); "{fault}")?;
+    assert_eq!(rt; text.as_str(), "line 2: open");
+    Ok(())
+}
+
+#[test]
+fn limits_hold_to_the_last_byte_command_and_event(rt: HostRuntime) -> Result<(), Fail> {
+    let alloc = rt.alloc();
+    let at = |line, cause| Some(ScriptFault::At { line, cause });
+    // Commands.
+    let text = repeated(alloc, b"ai 0600\n", 65_535, b"end")?;
+    assert_eq!(rt; told(alloc, &text), None);
+    let text = repeated(alloc, b"ai 0600\n", 65_536, b"end")?;
+    assert_eq!(rt; told(alloc, &text), at(65_536, Cause::Spent));
+    // The length of a line, a carriage return counted.
+    let text = repeated(alloc, b"#", 1024, b"\nend")?;
+    assert_eq!(rt; told(alloc, &text), None);
+    let text = repeated(alloc, b"#", 1024, b"\r\nend")?;
+    assert_eq!(rt; told(alloc, &text), at(1, Cause::Long));
+    // The length of a payload, and of foreign bytes.
+    let text = repeated(alloc, b"ai ", 1, &repeated(alloc, b"06", 245, b"\nend")?)?;
+    assert_eq!(rt; told(alloc, &text), None);
+    let text = repeated(alloc, b"ai ", 1, &repeated(alloc, b"06", 246, b"\nend")?)?;
+    assert_eq!(rt; told(alloc, &text), at(1, Cause::Value));
+    let text = repeated(alloc, b"an ", 1, &repeated(alloc, b"fF", 250, b"\nend")?)?;
+    assert_eq!(rt; told(alloc, &text), None);
+    let text = repeated(alloc, b"an ", 1, &repeated(alloc, b"fF", 251, b"\nend")?)?;
+    assert_eq!(rt; told(alloc, &text), at(1, Cause::Value));
+    Ok(())
+}
+
+#[test]
+fn byte_16777217_ends_the_text(rt: HostRuntime) -> Result<(), Fail> {
+    let alloc = rt.alloc();
+    let mut reader = Reader::new(alloc);
+    let size = Some(LineFault::Faulty(Cause::Size));
+    assert_eq!(rt; reader.read(alloc, 16_777_212, b"#12", true).err(), None);
+    assert_eq!(rt; reader.read(alloc, 16_777_212, b"#123", false).err(), None);
+    assert_eq!(rt; reader.read(alloc, 16_777_212, b"#123", true).err(), size);
+    assert_eq!(rt; reader.read(alloc, 16_777_216, b"", true).err(), size);
+    assert_eq!(rt; reader.read(alloc, 16_777_216, b"", false).err(), None);
+    // Of a long line the first 1,025 bytes count.
+    let long = [b'#'; 1030];
+    assert_eq!(rt; reader.read(alloc, 16_776_192, &long, true).err(), size);
+    assert_eq!(rt;
+        reader.read(alloc, 16_776_191, &long, true).err(),
+        Some(LineFault::Faulty(Cause::Long))
+    );
+    Ok(())
+}
+
+#[test]
+fn a_script_says_what_its_lines_say(rt: HostRuntime) -> Result<(), Fail> {
+    let text =
+        "# a script\r\nset mode full\r\n\tset check\tcrc \nset a.embed on\nset b.node 7\n set b.room 64\n\
+        file b 7 89 16\nfile b 010 89 1\nword b 7 15 12aB\nword b 10 0 fFfF\n\n\
+        ai 0fAA\nbi 06\nak\nbt 03\nbd 4000\nax 2\nac 0f\nbn 1015\nend\n# more\n";
+    let script = read_script(rt.alloc(), text.as_bytes())?;
+    assert!(rt; !script.half);
+    assert_eq!(rt; script.check, Check::Crc);
+    let ends = script.ends.as_slice();
+    assert_eq!(rt; ends.len(), 2);
+    let (a, b) = (&ends[0], &ends[1]);
+    assert_eq!(rt;
+        (a.who, a.embed, a.node, a.tns, a.room),
+        (Who::A, true, 0, 1, 2)
+    );
+    assert_eq!(rt;
+        (b.who, b.embed, b.node, b.tns, b.room),
+        (Who::B, false, 7, 1, 64)
+    );
+    assert_eq!(rt;
+        (a.ack_ticks, a.max_naks, a.max_enqs, a.reply_ticks),
+        (10, 3, 3, 100)
+    );
+    assert_eq!(rt;
+        (a.max_resends, a.poll_ticks, a.max_sends, a.compat),
+        (3, 10, 3, None)
+    );
+    assert!(rt; a.block.as_slice().is_empty());
+    assert!(rt; a.files.as_slice().is_empty());
+    assert!(rt; a.words.as_slice().is_empty());
+    let kind = FileType::Integer;
+    let files = [
+        FileSpec {
+            number: 7,
+            kind,
+            count: 16,
+        },
+        FileSpec {
+            number: 10,
+            kind,
+            count: 1,
+        },
+    ];
+    assert_eq!(rt; b.files.as_slice(), files.as_slice());
+    let who = Who::B;
+    let words = [
+        WordOf {
+            who,
+            file: 7,
+            index: 15,
+            value: 0x12AB,
+        },
+        WordOf {
+            who,
+            file: 10,
+            index: 0,
+            value: 0xFFFF,
+        },
+    ];
+    assert_eq!(rt; b.words.as_slice(), words.as_slice());
+    Ok(())
+}
+
+#[test]
+fn events_are_those_of_the_lines_in_their_order(rt: HostRuntime) -> Result<(), Fail> {
+    let text = "set b.node 7\nai 0fAA\nbi 06\nak\nbt 03\nbd 4000\nax 2\nac 0f\nbn 1015\nend";
+    let script = read_script(rt.alloc(), text.as_bytes())?;
+    let events = script.events.as_slice();
+    assert_eq!(rt; events.len(), 8);
+    let from_a = Lane {
+        from: Who::A,
+        to: Who::B,
+    };
+    let from_b = Lane {
+        from: Who::B,
+        to: Who::A,
+    };
+    assert!(rt;
+        matches!(&events[0], Event::Issue { who: Who::A, dst: 7, payload } if payload.as_slice() == b"\x0f\xaa".as_slice())
+    );
+    assert!(rt;
+        matches!(&events[1], Event::Issue { who: Who::B, dst: 0, payload } if payload.as_slice() == b"\x06".as_slice())
+    );
+    assert!(rt; matches!(&events[2], Event::Take { who: Who::A, n: 1 }));
+    assert!(rt; matches!(&events[3], Event::Tick { who: Who::B, n: 3 }));
+    assert!(rt; matches!(&events[4], Event::Deliver { lane, n: 4000 } if *lane == from_b));
+    assert!(rt; matches!(&events[5], Event::Lose { lane, n: 2 } if *lane == from_a));
+    assert!(rt; matches!(&events[6], Event::Alter { lane, mask: 0x0F } if *lane == from_a));
+    assert!(rt;
+        matches!(&events[7], Event::Foreign { lane, bytes } if *lane == from_b && bytes.as_slice() == b"\x10\x15".as_slice())
+    );
+    Ok(())
+}

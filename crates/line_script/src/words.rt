@@ -1,0 +1,112 @@
+//! Words of a script line, parted by blanks or tabs, and what a word means by itself: a number of 1 to 9 decimal
+//! digits, or pairs of hexadecimal digits of either case.
+ghost use Rattle.std.specs.Prelude.{◌≡◌, map, IfOk};
+ghost use Rattle.std.specs.Str.{bytes_eq};
+ghost use Rattle.hex.specs.Hex.{decode_of, decode_sized};
+ghost use Rattle.line_script.specs.Words.{words, is_blank as the_blank, number_of, within, hex_of as the_bytes, byte_of as the_byte, register_of as the_register, byte_in, register_in};
+
+use crate::{Bytes, Items};
+use df1_base::NoMemory;
+use hex::{FromHex, FromHexError};
+use std::alloc::{AllocError, Global};
+
+/// The most decimal digits that a number has.
+const DIGITS: usize = 9;
+
+/// The words of a line.
+pub(crate) fn words_of(alloc: Global, line: &[u8]) -> Result<Vec<&[u8]>, AllocError>
+    ensures { IfOk result (λ v. map (λ x. x.now) v.items ≡ words line.now) }
+{
+    line.split(|byte| is_blank(*byte))
+        .filter(|word| !word.is_empty())
+        .collect(alloc)
+}
+
+/// Whether a byte parts words.
+fn is_blank(byte: u8) -> bool
+    ensures { result ≡ the_blank byte }
+{
+    byte == b' ' || byte == b'\t'
+}
+
+/// The number that a word of 1 to 9 decimal digits is. Leading zeros are digits like others.
+#[tactic(auto, unfolding(crate::specs::Words::number_of))]
+pub(crate) fn number_of(word: &[u8]) -> Option<u32>
+    ensures { result ≡ number_of word.now }
+{
+    if word.is_empty() || word.len() > DIGITS {
+        return None;
+    }
+    let mut value = 0;
+    for byte in word {
+        if !byte.is_ascii_digit() {
+            return None;
+        }
+        value = value * 10 + u32::from(byte - b'0');
+    }
+    Some(value)
+}
+
+/// A number that stands within these bounds.
+pub(crate) fn within(least: u32, most: u32, number: Option<u32>) -> Option<u32>
+    ensures { result ≡ within least most number }
+{
+    match number {
+        Some(n) if least <= n && n <= most => Some(n),
+        _ => None,
+    }
+}
+
+/// Whether a word is this text.
+pub(crate) fn is(word: &[u8], text: &str) -> bool
+    ensures { result ≡ bytes_eq word.now text.now }
+{
+    word == text.as_bytes()
+}
+
+/// The bytes that a word of pairs of hexadecimal digits spells.
+pub(crate) fn hex_of(alloc: Global, word: &[u8]) -> Result<Option<Bytes>, NoMemory>
+    ensures { IfOk result (λ bytes. bytes ≡ the_bytes word.now) }
+{
+    match hex::decode(alloc, word) {
+        Ok(bytes) => Ok(Some(Items::from_vec(bytes))),
+        Err(FromHexError::OutOfMemory) => Err(NoMemory),
+        Err(_) => Ok(None),
+    }
+}
+
+/// The byte that two hexadecimal digits spell.
+pub(crate) fn byte_of(word: &[u8]) -> Option<u8>
+    ensures { result ≡ the_byte word.now }
+{
+    let byte = <[u8; 1] as FromHex>::from_hex(word).ok()?;
+    byte_in(&byte)
+}
+
+/// The byte of a list of one.
+fn byte_in(bytes: &[u8]) -> Option<u8>
+    ensures { result ≡ byte_in bytes.now }
+{
+    match bytes {
+        [byte] => Some(*byte),
+        _ => None,
+    }
+}
+
+/// The word of a data file that four hexadecimal digits spell, its high byte first.
+pub(crate) fn register_of(word: &[u8]) -> Option<u16>
+    ensures { result ≡ the_register word.now }
+{
+    let bytes = <[u8; 2] as FromHex>::from_hex(word).ok()?;
+    register_in(&bytes)
+}
+
+/// The word of a high and a low byte.
+fn register_in(bytes: &[u8]) -> Option<u16>
+    ensures { result ≡ register_in bytes.now }
+{
+    match bytes {
+        [high, low] => Some(u16::from(*high) * 256 + u16::from(*low)),
+        _ => None,
+    }
+}
