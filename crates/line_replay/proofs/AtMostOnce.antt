@@ -62,8 +62,7 @@ good body front b d least most reads whole =
     let told = heard-next (full_duplex Bcc 250) (machine Bcc 250) (works Bcc 250) b front d reads in
     let good = good-within Bcc 250 [] body front b [] nothing_before least most whole in
     let after = stands-next (full_duplex Bcc 250) (machine Bcc 250) (works Bcc 250) b front d reads in
-    let spelled : ReadOff (full_duplex Bcc 250) (front ++ b ∷ []) (lent Bcc 250) body = rw whole (good-lent Bcc 250 [] body (bytes_of (units Bcc body)) [] (pieces_of body) nothing_before (units-spell Bcc body) most) in
-    (
+    let spelled : ReadOff (full_duplex Bcc 250) (front ++ b ∷ []) (lent Bcc 250) body = rw whole (good-lent Bcc 250 [] body (bytes_of (units Bcc body)) [] (pieces_of body) nothing_before (units-spell Bcc body) most) in (
       told.is ∙ sym (same-split (full_duplex Bcc 250) (machine Bcc 250) (works Bcc 250) (front ++ b ∷ []) (last_heard (full_duplex Bcc 250)) (last_heard (full_duplex Bcc 250)) (next 250 d b).1 (Some heard.Good) told good),
       ap (λ (e : Decoding). lent_at e.standing) after.is ∙ sym (same-split (full_duplex Bcc 250) (machine Bcc 250) (works Bcc 250) (front ++ b ∷ []) (decoding Bcc 250) (lent Bcc 250) (next 250 d b).0 body after spelled),
     )

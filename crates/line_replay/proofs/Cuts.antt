@@ -28,6 +28,6 @@ split-first p [] = ([], [], refl)
 split-first p (x ∷ xs) =
     let rest = split-first p xs in
     elim (p x) as (λ b. (part : List ℕ) × (parts : List (List ℕ)) × (cond b ([] ∷ slice_split p xs) (onto_first x (slice_split p xs)) ≡ part ∷ parts)) [
-    | true ↦ ([], slice_split p xs, refl)
-    | false ↦ (x ∷ rest.0, rest.1, ap (onto_first x) rest.2)
+      | true ↦ ([], slice_split p xs, refl)
+      | false ↦ (x ∷ rest.0, rest.1, ap (onto_first x) rest.2)
     ]

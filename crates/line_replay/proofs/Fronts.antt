@@ -28,7 +28,7 @@ taken_all xs i n le none = elim (cases_lt i (length xs)) [
   | inl lt ↦
       let no : Some (get_or xs i 0) ≡ None = sym (slice_get-get_or xs i 0 lt) ∙ sym (slice_get-drop xs i) ∙ none in cc
   | inr past ↦ (
-      take_all i xs past ∙ sym (take_all n xs (omega arith)),
-      drop_of_length-le xs past ∙ sym (drop_of_length-le xs (omega arith)),
-    )
+    take_all i xs past ∙ sym (take_all n xs (omega arith)),
+    drop_of_length-le xs past ∙ sym (drop_of_length-le xs (omega arith)),
+  )
 ]

@@ -100,9 +100,9 @@ abbrev pub after_statement : Draft → Statement → Option Draft
 after_statement d s =
     option_and_then
     (λ stage.
-        if nat_le (d.steps + steps_of s) 4000000
-        then Some (record { stage = stage; script = with_statement d.script s; steps = d.steps + steps_of s })
-        else None)
+    if nat_le (d.steps + steps_of s) 4000000
+    then Some (record { stage = stage; script = with_statement d.script s; steps = d.steps + steps_of s })
+    else None)
     (next_stage d.stage s)
 
 abbrev pub after_line : Draft → List ℕ → Option Draft

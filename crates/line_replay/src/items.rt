@@ -31,7 +31,8 @@ impl<T> Items<T> {
 
     /// Puts an item at the end. Where there is no memory for it, the list is unchanged.
     pub fn push(&mut self, item: T) -> Result<(), NoMemory>
-        where T: Drop
+    where
+        T: Drop,
         ensures ok { OnOk result (self.new ≡ self.old ++ item ∷ []) }
         ensures err { OnErr result (self.new ≡ self.old) }
     {

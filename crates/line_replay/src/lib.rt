@@ -3,9 +3,9 @@
 
 mod hearing;
 mod items;
+mod play;
 mod printing;
 mod read;
-mod play;
 mod report;
 mod script;
 mod sending;

@@ -34,11 +34,7 @@ pub fn print<K: Sink>(record_of: &Record, sink: &mut K) -> Result<(), Failed>
 }
 
 /// Sends a report by way of the buffer.
-fn put_report<K: Sink>(
-    buffer: &mut Buffer,
-    sink: &mut K,
-    record_of: &Record,
-) -> Result<(), Failed>
+fn put_report<K: Sink>(buffer: &mut Buffer, sink: &mut K, record_of: &Record) -> Result<(), Failed>
     ensures ok { OnOk result (Wrote (K.held sink.old) (K.held sink.new) (buffer.old ++ report record_of.now) buffer.new) }
     ensures part { WrotePart (K.held sink.old) (K.held sink.new) (buffer.old ++ report record_of.now) }
     ensures later { K.faults sink.old ≤ K.faults sink.new }

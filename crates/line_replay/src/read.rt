@@ -190,9 +190,10 @@ fn next_stage(stage: Stage, statement: &Statement) -> Option<Stage>
     match (stage, statement) {
         (Stage::AtFile, Statement::File(_)) => Some(Stage::AtCommand),
         (Stage::AtFile | Stage::AtCommand, Statement::Command(_)) => Some(Stage::AtEvents),
-        (Stage::AtFile | Stage::AtCommand | Stage::AtEvents, Statement::Take(_) | Statement::Deliver(_)) => {
-            Some(Stage::AtEvents)
-        }
+        (
+            Stage::AtFile | Stage::AtCommand | Stage::AtEvents,
+            Statement::Take(_) | Statement::Deliver(_),
+        ) => { Some(Stage::AtEvents) }
         (Stage::AtFile | Stage::AtCommand | Stage::AtEvents, Statement::End) => Some(Stage::Ended),
         _ => None,
     }

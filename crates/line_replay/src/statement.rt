@@ -6,7 +6,7 @@ ghost use Rattle.hex.specs.Hex.{decode_sized};
 ghost use Rattle.line_replay.specs.ScriptText.{is_write as the_test, write_of as the_write, file_of as the_file, bare_statement as the_bare, operand_statement as the_operand, file_statement as the_file_line, statement_of as the_statement, steps_of};
 ghost use Rattle.line_replay.specs.Words.{number_of as the_number, within as the_bounded};
 
-use crate::words::{number_of, is, within};
+use crate::words::{is, number_of, within};
 use df1_base::FileType;
 use df1_node::FileSpec;
 use hex::FromHex;

@@ -109,7 +109,8 @@ fn sending_of(payload: &[u8]) -> Sending
         return Sending::nothing();
     };
     let mut body = ArrayVec::<u8, 250>::new();
-    body.try_extend_from_slice(&[DST, SRC, *cmd, 0, TNS, 0]).unwrap();
+    body.try_extend_from_slice(&[DST, SRC, *cmd, 0, TNS, 0])
+        .unwrap();
     body.try_extend_from_slice(rest).unwrap();
     Sending::frame(&body)
 }
@@ -196,12 +197,7 @@ fn push_words(tables: &Tables, spec: FileSpec, words: &mut Words) -> Result<(), 
 }
 
 /// Adds a word of a file, unless it is 0.
-fn push_word(
-    tables: &Tables,
-    file: u16,
-    index: u32,
-    words: &mut Words,
-) -> Result<(), NoMemory>
+fn push_word(tables: &Tables, file: u16, index: u32, words: &mut Words) -> Result<(), NoMemory>
     ensures { OnOk result (words.new ≡ words.old ++ word_line file index (word_at tables.now file index)) }
 {
     match tables.word(file, index) {

@@ -1,0 +1,60 @@
+-- What the program answers, and with which status and note.
+use Rattle.std.specs.Prelude.{◌≡◌, ◌⊎◌, ℕ, List, [], ◌∷◌, Option, Some, None, Result, Ok, Err, if◌then◌else◌, ◌==◌, is_none, codes, option_and_then, option_map}
+use Rattle.std.specs.Str.{bytes_eq}
+use Rattle.line_replay.specs.ScriptText.{script_of}
+use Rattle.line_replay.specs.Report.{report}
+use Rattle.line_replay.specs.Run.{record_of}
+use Rattle.df1_tool.specs.declared.form.Form.{Form}
+use Rattle.df1_tool.specs.declared.form.Form.TheVariants.{Replay}
+use Rattle.df1_tool.specs.declared.trouble.Trouble.{Trouble}
+use Rattle.df1_tool.specs.declared.trouble.Trouble.TheVariants.{Usage, Refusal, Input, Output, NoMemory}
+
+-- what the words ask for
+unfoldable pub form_of : List (List ℕ) → Option Form
+form_of (word ∷ []) = if bytes_eq word (codes "replay") then Some Replay else None
+form_of words = None
+
+-- the report of the run of the script that the input says, if it says one
+abbrev pub replayed : List ℕ → Option (List ℕ)
+replayed input = option_map (λ script. report (record_of script)) (script_of input)
+
+-- the text that a form defines for an input, if it takes the input
+unfoldable pub answer : Form → List ℕ → Option (List ℕ)
+answer Replay = replayed
+
+-- the text that is defined for these words and an input
+abbrev pub answer_of : List (List ℕ) → List ℕ → Option (List ℕ)
+answer_of words input = option_and_then (λ form. answer form input) (form_of words)
+
+abbrev pub status_of_trouble : Trouble → ℕ
+status_of_trouble Usage = 2
+status_of_trouble Refusal = 3
+status_of_trouble Input = 4
+status_of_trouble Output = 5
+status_of_trouble NoMemory = 7
+
+-- the status of a run that ended so
+abbrev pub status_of : Result (Unit {0}) Trouble → ℕ
+status_of (Ok done) = 0
+status_of (Err trouble) = status_of_trouble trouble
+
+-- the note of a run with this status
+abbrev pub note_of : ℕ → List ℕ
+note_of status =
+    if status == 2 then codes "df1: usage: df1 replay\n"
+    else if status == 3 then codes "df1: script: form\n"
+    else if status == 4 then codes "df1: input cannot be read\n"
+    else if status == 5 then codes "df1: output cannot be written\n"
+    else if status == 7 then codes "df1: no memory\n"
+    else []
+
+-- the status of a run with these words over an input, where nothing fails
+abbrev pub status_for : List (List ℕ) → List ℕ → ℕ
+status_for words input =
+    if is_none (form_of words) then 2
+    else if is_none (answer_of words input) then 3
+    else 0
+
+-- one of the statuses of the program
+abbrev pub IsStatus : ℕ → Type 0
+IsStatus status = (status ≡ 0) ⊎ (status ≡ 2) ⊎ (status ≡ 3) ⊎ (status ≡ 4) ⊎ (status ≡ 5) ⊎ (status ≡ 7)

@@ -1,0 +1,11 @@
+//! The program `df1` as one call: it is given its words and the outside world, and answers a status.
+#![tactic(auto)]
+
+mod form;
+mod replaying;
+#[cfg(test)]
+mod tests;
+mod top;
+mod trouble;
+
+pub use top::{Ran, run};
