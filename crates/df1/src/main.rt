@@ -1,15 +1,20 @@
 //! The program `df1` over standard input, standard output and standard error.
 #![tactic(auto)]
 
-use df1_base::{StdIn, StdOut};
+use df1_base::{StdIn, StdOut, write_all};
+use std::io::ErrorKind;
 use std::process::ExitCode;
+use std::rt::Env;
 use std::{env, io};
 
-fn main(rt: HostRuntime) -> io::Result<ExitCode> {
-    let mut words = Vec::new(rt.alloc());
-    for word in env::args(&rt)?.skip(1) {
-        words.push(word)?;
-    }
+/// The status of a program that finds no memory for its words.
+const NO_MEMORY: u8 = 7;
+
+fn main(rt: HostRuntime) -> ExitCode {
+    let Ok(words) = words(&rt) else {
+        let _ = write_all(&mut StdOut::new(rt.stderr()), b"df1: no memory\n");
+        return ExitCode::from(NO_MEMORY);
+    };
     let ran = df1_tool::run(
         rt.alloc(),
         &words,
@@ -17,5 +22,19 @@ fn main(rt: HostRuntime) -> io::Result<ExitCode> {
         StdOut::new(rt.stdout()),
         StdOut::new(rt.stderr()),
     );
-    Ok(ExitCode::from(ran.status))
+    ExitCode::from(ran.status)
+}
+
+/// The words after the program's name. Where one isn't UTF-8 they are no form of the program, and none is given.
+fn words<R: Env + AllocGlobal>(rt: &R) -> io::Result<Vec<String>> {
+    let mut words = Vec::new(rt.alloc());
+    let args = match env::args(rt) {
+        Ok(args) => args,
+        Err(error) if error.kind() == ErrorKind::InvalidData => return Ok(words),
+        Err(error) => return Err(error),
+    };
+    for word in args.skip(1) {
+        words.push(word)?;
+    }
+    Ok(words)
 }
