@@ -9,6 +9,7 @@ mod end_draft;
 mod event_line;
 mod given_words;
 mod items;
+mod laws;
 mod read;
 mod reader;
 mod script;
@@ -18,6 +19,7 @@ mod words;
 
 pub use cause::{Cause, LineFault, ScriptFault};
 pub use items::Items;
+pub use laws::refused_over_the_limit;
 pub use read::read_script;
 pub use reader::Reader;
 pub use script::{Bytes, EndPlan, Ends, Event, Events, Lane, Script, Specs, Who, WordOf, Words};

@@ -1,0 +1,11 @@
+//! What holds of every text. The function does nothing.
+ghost use Rattle.std.specs.Prelude.{◌≡◌, ◌<◌, ◌++◌, ℕ, List, Err, length};
+ghost use Rattle.line_script.specs.declared.cause.Cause.{Cause as Fault};
+ghost use Rattle.line_script.specs.ScriptText.{script_of};
+
+/// A text of more than 16,777,216 bytes is no script, and its first 16,777,217 bytes show its first faulty line and the
+/// cause: whatever follows them, line and cause are the same.
+pub fn refused_over_the_limit()
+    ensures { (text more : List ℕ) → 16777216 < length text
+        → (number : ℕ) × (fault : Fault) × (script_of text ≡ Err (number, fault)) × (script_of (text ++ more) ≡ Err (number, fault)) }
+{}
