@@ -1,0 +1,3 @@
+pub mod FrameUnits
+pub mod Choices
+pub mod Joining

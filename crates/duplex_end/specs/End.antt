@@ -1,0 +1,212 @@
+-- An end of a full-duplex link over any host: what a byte, a tick and a take do to it. A host's meaning is the record of its ghost members.
+use Rattle.std.specs.Prelude.{ℕ, Bool, true, false, List, [], Option, Some, None, is_some, is_none, not, ◌&&◌, if◌then◌else◌}
+use Rattle.df1_base.specs.declared.host.Host.{Ghosts}
+use Rattle.df1_base.specs.declared.host.Did.{Did}
+use Rattle.df1_base.specs.declared.host.Fate.{Fate}
+use Rattle.df1_base.specs.declared.host.Fate.TheVariants as fate
+use Rattle.df1_base.specs.declared.host.News.{News}
+use Rattle.df1_base.specs.declared.host.News.TheVariants as news
+use Rattle.df1_base.specs.declared.link.Act.{Act}
+use Rattle.df1_base.specs.declared.link.Act.TheVariants as act
+use Rattle.df1_base.specs.declared.link.Out.{Out}
+use Rattle.df1_base.specs.declared.link.Step.{Step}
+use Rattle.df1_base.specs.declared.link.Turn.{Turn}
+use Rattle.df1_base.specs.declared.link.Turn.TheVariants as turn
+use Rattle.df1_frame.specs.Standing.{Outside}
+use Rattle.duplex_sender.specs.declared.Phase.{Phase}
+use Rattle.duplex_sender.specs.declared.Phase.TheVariants as phase
+use Rattle.duplex_sender.specs.declared.SendTurn.{SendTurn}
+use Rattle.duplex_sender.specs.declared.SendTurn.TheVariants as sends
+use Rattle.duplex_sender.specs.Sender.{SenderState, idle, phase_of, body_of, load, sent_last, on_ack, ack_fate, on_nak, nak_fate, on_tick, tick_turn}
+use Rattle.duplex_receiver.specs.Receiver.{ReceiverState, hearing, act_at, after_byte, body_at, is_good, response_for, Offers, Forgets, Again, Silent}
+use Rattle.embedded_response.specs.Giving.{Giving, nothing, offer, forget, answer_enq, ask, unask, begin, chosen, take}
+use Rattle.duplex_end.specs.declared.Setup.{Setup}
+
+-- an end: its receiver, its sender, what it has to give, the body of the transmission that was begun last (empty where none was), and its host
+pub record EndState (H : Type 0) : Type 0 where
+  pub receiver : ReceiverState
+  pub sender : SenderState
+  pub mouth : Giving
+  pub sending : List ℕ
+  pub host : H
+
+-- an end that has heard and given nothing
+abbrev pub new_end : {H : Type 0} → Setup → H → EndState H
+new_end setup host = record {
+  receiver = record { decoding = record { check = setup.check; standing = Outside }; kept = None };
+  sender = idle setup.limits;
+  mouth = nothing setup.check setup.embed;
+  sending = [];
+  host = host;
+}
+
+-- the end with another host
+abbrev pub with_host : {H : Type 0} → EndState H → H → EndState H
+with_host e host = record e { host = host }
+
+-- ---- what the parts make of an act, of a fate and of a byte that was given
+
+-- the sender hears ACK and NAK
+abbrev pub sender_after : Act → SenderState → SenderState
+sender_after act.PeerAck s = on_ack s
+sender_after act.PeerNak s = on_nak s
+sender_after _ s = s
+
+-- the fate that is decided there
+abbrev pub fate_at : Act → SenderState → Option Fate
+fate_at act.PeerAck s = ack_fate s
+fate_at act.PeerNak s = nak_fate s
+fate_at _ s = None
+
+-- the response of an act is put in
+abbrev pub responded : Act → Giving → Giving
+responded a g = elim (response_for a) [ Offers r ↦ offer g r | Forgets ↦ forget g | Again ↦ answer_enq g | Silent ↦ g ]
+
+abbrev pub is_waiting : Phase → Bool
+is_waiting phase.Waiting = true
+is_waiting _ = false
+
+-- where the sender leaves Waiting, no ENQ is wished
+abbrev pub dropped : Phase → Phase → Giving → Giving
+dropped before after g = if is_waiting before && not (is_waiting after) then unask g else g
+
+-- the byte is the last of a transmission
+abbrev pub ends_here : Option Out → Bool
+ends_here None = false
+ends_here (Some out) = is_some out.last_of
+
+-- with the last byte of a transmission the sender begins to wait
+abbrev pub after_out : Option Out → SenderState → SenderState
+after_out out s = if ends_here out then sent_last s else s
+
+-- what the host did with an accepted body
+abbrev pub did_at : {H : Type 0} → Ghosts H → Act → H → List ℕ → Option Did
+did_at m act.Accept host body = Some (m.did host body)
+did_at m _ host body = None
+
+-- the host takes an accepted body
+abbrev pub host_after : {H : Type 0} → Ghosts H → Act → H → List ℕ → H
+host_after m act.Accept host body = m.after_accept host body
+host_after m _ host body = host
+
+-- a fate is told to the host
+abbrev pub host_told : {H : Type 0} → Ghosts H → Option Fate → H → H
+host_told m None host = host
+host_told m (Some what) host = m.after_told host what
+
+-- what the host answers to that
+abbrev pub news_of : {H : Type 0} → Ghosts H → Option Fate → H → News
+news_of m None host = news.Nothing
+news_of m (Some what) host = m.news host what
+
+-- ---- a byte
+
+-- the act at a byte
+abbrev pub act_of_byte : {H : Type 0} → Ghosts H → EndState H → ℕ → Act
+act_of_byte m e b = act_at (m.room_for e.host) 250 e.receiver b
+
+-- the receiver after a byte
+abbrev pub receiver_after : {H : Type 0} → Ghosts H → EndState H → ℕ → ReceiverState
+receiver_after m e b = after_byte (m.room_for e.host) 250 e.receiver b
+
+-- the host after the act, before a fate is told
+abbrev pub host_at_byte : {H : Type 0} → Ghosts H → EndState H → ℕ → H
+host_at_byte m e b = host_after m (act_of_byte m e b) e.host (body_at (receiver_after m e b))
+
+-- first the act's effect, then the fate is told
+abbrev pub end_after_byte : {H : Type 0} → Ghosts H → EndState H → ℕ → EndState H
+end_after_byte m e b =
+    let what = act_of_byte m e b in
+    let sender = sender_after what e.sender in
+    record {
+      receiver = receiver_after m e b;
+      sender = sender;
+      mouth = dropped (phase_of e.sender) (phase_of sender) (responded what e.mouth);
+      sending = e.sending;
+      host = host_told m (fate_at what e.sender) (host_at_byte m e b);
+    }
+
+-- what is told of a byte
+abbrev pub step_at_byte : {H : Type 0} → Ghosts H → EndState H → ℕ → Step
+step_at_byte m e b =
+    let what = act_of_byte m e b in
+    record {
+      act = what;
+      did = did_at m what e.host (body_at (receiver_after m e b));
+      news = news_of m (fate_at what e.sender) (host_at_byte m e b);
+      whole = is_good (hearing (m.room_for e.host) 250 e.receiver b).heard;
+      station = 0;
+    }
+
+-- ---- a tick
+
+-- the fate that a tick decides
+abbrev pub fate_of_tick : SendTurn → Option Fate
+fate_of_tick sends.Failed = Some fate.Undelivered
+fate_of_tick _ = None
+
+-- an ENQ is wished where the sender asks
+abbrev pub asked : SendTurn → Giving → Giving
+asked sends.Ask g = ask g
+asked _ g = g
+
+-- what is told of the sender's part of a tick
+abbrev pub turn_told : {H : Type 0} → Ghosts H → SendTurn → H → Turn
+turn_told m sends.Still host = turn.Still
+turn_told m sends.Ask host = turn.Ask
+turn_told m sends.Failed host = turn.Failed (m.news host fate.Undelivered)
+
+-- the host after the sender's part of a tick
+abbrev pub host_at_tick : {H : Type 0} → Ghosts H → EndState H → H
+host_at_tick m e = host_told m (fate_of_tick (tick_turn e.sender)) e.host
+
+-- first the sender's tick, then the host's
+abbrev pub end_after_tick : {H : Type 0} → Ghosts H → EndState H → EndState H
+end_after_tick m e = record {
+  receiver = e.receiver;
+  sender = on_tick e.sender;
+  mouth = dropped (phase_of e.sender) (phase_of (on_tick e.sender)) (asked (tick_turn e.sender) e.mouth);
+  sending = e.sending;
+  host = m.after_tick (host_at_tick m e);
+}
+
+-- what is told of a tick
+abbrev pub turn_at_tick : {H : Type 0} → Ghosts H → EndState H → Turn
+turn_at_tick m e = turn_told m (tick_turn e.sender) e.host
+
+-- the commands that are unanswered from a tick on
+abbrev pub gone_at_tick : {H : Type 0} → Ghosts H → EndState H → List ℕ
+gone_at_tick m e = m.unanswered (host_at_tick m e)
+
+-- ---- a take
+
+-- a transmission of this body begins
+abbrev pub transmitted : {H : Type 0} → EndState H → List ℕ → EndState H
+transmitted e body = record { receiver = e.receiver; sender = e.sender; mouth = begin e.mouth body; sending = body; host = e.host }
+
+-- the host's next message is handed out and loaded
+abbrev pub loaded : {H : Type 0} → Ghosts H → EndState H → List ℕ → EndState H
+loaded m e body = record { receiver = e.receiver; sender = load e.sender body; mouth = e.mouth; sending = e.sending; host = m.after_next e.host }
+
+-- the frame of a sender that sends is begun, or else that of a new message
+abbrev pub begun_next : {H : Type 0} → Ghosts H → EndState H → EndState H
+begun_next m e = elim (phase_of e.sender) [
+  | phase.Idle ↦ elim (m.next_body e.host) [ None ↦ e | Some body ↦ transmitted (loaded m e body) body ]
+  | phase.Sending ↦ transmitted e (body_of e.sender)
+  | phase.Waiting ↦ e
+]
+
+-- a frame is begun only where nothing else is to be given
+abbrev pub prepared : {H : Type 0} → Ghosts H → EndState H → EndState H
+prepared m e = if is_none (chosen e.mouth) then begun_next m e else e
+
+-- the next byte is given of what there is
+abbrev pub given_next : {H : Type 0} → EndState H → EndState H
+given_next e = record { receiver = e.receiver; sender = after_out (take e.mouth).1 e.sender; mouth = (take e.mouth).0; sending = e.sending; host = e.host }
+
+abbrev pub end_after_take : {H : Type 0} → Ghosts H → EndState H → EndState H
+end_after_take m e = given_next (prepared m e)
+
+-- the byte that a take gives
+abbrev pub out_at_take : {H : Type 0} → Ghosts H → EndState H → Option Out
+out_at_take m e = (take (prepared m e).mouth).1

@@ -1,0 +1,3 @@
+pub mod End
+pub mod Joined
+pub mod Emission

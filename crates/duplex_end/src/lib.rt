@@ -1,0 +1,225 @@
+//! One end of a full-duplex link, over any host: the receiver, the sender and what is to be given, joined.
+//!
+//! A byte that was heard has its act's effect first: an accepted message goes to the host, and the response of the act
+//! waits to be given. An ACK or a NAK goes to the sender, and a fate that it decides is told to the host at once.
+//!
+//! A tick is the sender's first and the host's second. Where the sender asks, an ENQ is wished; where it gives its
+//! message up, that is told to the host. An ENQ that was wished and not begun is dropped when the sender leaves Waiting.
+//!
+//! A take gives the first of these that is there:
+//!
+//! 1. the second byte of a pair whose first was given;
+//! 2. inside a frame, a response that waits, where embedding is on and the last unit had a gap;
+//! 3. inside a frame, its next unit;
+//! 4. a response that waits;
+//! 5. an ENQ that is wished;
+//! 6. the frame of a sender that is in Sending;
+//! 7. the frame of a new message of the host.
+//!
+//! With the last byte of a frame the sender begins to wait (manual topic: full-duplex protocol).
+#![tactic(auto)]
+
+ghost use Rattle.std.specs.Prelude.{◌≡◌, ◌≤◌, ◌+◌, length, is_none, IsSome};
+ghost use Rattle.std.specs.Borrow.{Lends, sem};
+ghost use Rattle.duplex_receiver.specs.Receiver.{body_at};
+ghost use Rattle.embedded_response.specs.Giving.{chosen, take};
+ghost use Rattle.duplex_end.specs.End.{new_end, with_host, end_after_byte, step_at_byte, end_after_tick, turn_at_tick, gone_at_tick, begun_next, prepared, given_next, end_after_take, out_at_take};
+ghost use Rattle.duplex_end.specs.Joined.{most_left};
+ghost use Rattle.duplex_end.specs.contracts.End.{the_row};
+
+mod parts;
+#[cfg(test)]
+mod tests;
+
+use arrayvec::ArrayVec;
+use df1_base::{Host, Out, Step, Turn};
+use df1_check::Check;
+use duplex_receiver::Receiver;
+use duplex_sender::{Limits, Phase, Sender};
+use embedded_response::Mouth;
+use parts::{drop_wish, fill, hear_peer, is_whole, note_out, respond, take_in, tell, tick_sender};
+use std::marker::Model;
+
+/// How an end is set up.
+#[derive(Clone, Copy, Debug, PartialEq, Eq)]
+pub struct Setup {
+    /// The check of its frames.
+    pub check: Check,
+    /// Whether responses may stand inside its frames.
+    pub embed: bool,
+    /// The limits of its sender, whose `ack_ticks` is at least 1.
+    pub limits: Limits,
+}
+
+/// One end of a full-duplex link, with the host behind it.
+#[derive(Drop)]
+pub struct End<H: Host + Drop> {
+    receiver: Receiver<250>,
+    sender: Sender,
+    mouth: Mouth,
+    sending: ArrayVec<u8, 250>,
+    host: H,
+}
+
+impl<H: Host + Drop> Model for End<H> {
+    ghost use Rattle.duplex_end.specs.End.{EndState};
+    ghost use Rattle.duplex_end.specs.Joined.{Joined};
+
+    ghost Value = { EndState H };
+
+    ghost view = { λ e. record { receiver = e.receiver; sender = e.sender; mouth = e.mouth; sending = e.sending.items; host = e.host } };
+
+    ghost invariant = { λ e. Joined e.mouth e.sender };
+}
+
+impl<H: Host + Drop> End<H> {
+    /// An end over a host that has heard and given nothing.
+    pub fn new(setup: Setup, host: H) -> End<H>
+        requires { 1 ≤ setup.limits.ack_ticks }
+        ensures { result ≡ new_end setup host }
+    {
+        End {
+            receiver: Receiver::new(setup.check),
+            sender: Sender::new(setup.limits),
+            mouth: Mouth::new(setup.check, setup.embed),
+            sending: ArrayVec::new(),
+            host,
+        }
+    }
+
+    /// The host.
+    pub fn host(&self) -> &H
+        ensures { result.now ≡ self.now.host }
+    {
+        &self.host
+    }
+
+    /// The host, to be changed in any way.
+    pub fn host_mut(&mut self) -> &mut H
+        ensures* writes_back { sem 𝓛 (Lends (the_row H.row H.Host) H.row self.entry result (with_host self.old)) }
+        ensures value { result.now ≡ self.old.host }
+    {
+        &mut self.host
+    }
+
+    /// Takes a byte that was heard, in constant time, and says what the end made of it. `did` is there exactly at
+    /// Accept, `news` is what the host answered to a fate that was decided here, `whole` says whether a good frame was
+    /// heard, and `station` is 0.
+    pub fn on_byte(&mut self, b: u8) -> Step
+        ensures state { self.new ≡ end_after_byte H.Host self.old b }
+        ensures step { result ≡ step_at_byte H.Host self.old b }
+    {
+        let act = self.receiver.on_byte(b, &self.host);
+        let did = take_in(&mut self.host, act, self.receiver.body());
+        respond(&mut self.mouth, act);
+        let before = self.sender.phase();
+        let fate = hear_peer(&mut self.sender, act);
+        drop_wish(&mut self.mouth, before, self.sender.phase());
+        let news = tell(&mut self.host, fate);
+        Step {
+            act,
+            did,
+            news,
+            whole: is_whole(act),
+            station: 0,
+        }
+    }
+
+    /// A unit of time has passed: the sender's tick first, the host's second. `gone` is replaced by the commands that
+    /// are unanswered from this tick on. The answer is Ask exactly where the sender asks, Failed with what the host
+    /// answered exactly where the message was given up, and else Still.
+    pub fn on_tick(&mut self, gone: &mut ArrayVec<u32, 16>) -> Turn
+        ensures state { self.new ≡ end_after_tick H.Host self.old }
+        ensures turn { result ≡ turn_at_tick H.Host self.old }
+        ensures gone { gone.new.items ≡ gone_at_tick H.Host self.old }
+    {
+        let before = self.sender.phase();
+        let turn = tick_sender(&mut self.sender, &mut self.mouth, &mut self.host);
+        drop_wish(&mut self.mouth, before, self.sender.phase());
+        self.host.tick(gone);
+        turn
+    }
+
+    /// Gives the next byte, in constant time but for the beginning of a frame: None exactly where nothing is to be given.
+    pub fn take(&mut self) -> Option<Out>
+        ensures state { self.new ≡ end_after_take H.Host self.old }
+        ensures out { result ≡ out_at_take H.Host self.old }
+        ensures fewer { IsSome result → most_left H.Host self.new + 1 ≤ most_left H.Host self.old }
+        ensures most { most_left H.Host self.old ≤ 511 }
+    {
+        self.prepare();
+        self.give()
+    }
+
+    /// Whether `take` would give nothing.
+    pub fn quiet(&self) -> bool
+        ensures { result ≡ is_none (out_at_take H.Host self.now) }
+    {
+        self.mouth.idle()
+            && match self.sender.phase() {
+                Phase::Idle => !self.host.ready(),
+                Phase::Sending => false,
+                Phase::Waiting => true,
+            }
+    }
+
+    /// The body of the frame that ended at the last byte heard, at most 250 bytes, whether it is good, too short or with
+    /// a wrong check; empty after every other byte.
+    pub fn body(&self) -> &[u8]
+        ensures body { result.now ≡ body_at self.now.receiver }
+        ensures fits { length result.now ≤ 250 }
+    {
+        self.receiver.body()
+    }
+
+    /// The body of the transmission that was begun last, empty where none was.
+    pub fn sending(&self) -> &[u8]
+        ensures { result.now ≡ self.now.sending }
+    {
+        &self.sending
+    }
+
+    /// Begins a frame where nothing else is to be given.
+    fn prepare(&mut self)
+        ensures state { self.new ≡ prepared H.Host self.old }
+        ensures no_more { most_left H.Host self.new ≤ most_left H.Host self.old }
+        ensures most { most_left H.Host self.old ≤ 511 }
+    {
+        if self.mouth.idle() {
+            self.begin_next();
+        }
+    }
+
+    /// Begins the frame of a sender that sends, or else that of a new message of the host.
+    fn begin_next(&mut self)
+        requires { chosen self.old.mouth ≡ None }
+        ensures state { self.new ≡ begun_next H.Host self.old }
+        ensures no_more { most_left H.Host self.new ≤ most_left H.Host self.old }
+    {
+        match self.sender.phase() {
+            Phase::Idle => {
+                if self.host.ready() {
+                    let _ = self.host.next(&mut self.sending);
+                    self.sender.load(&self.sending);
+                    self.mouth.frame(&self.sending);
+                }
+            }
+            Phase::Sending => {
+                fill(&mut self.sending, self.sender.body());
+                self.mouth.frame(&self.sending);
+            }
+            Phase::Waiting => {}
+        }
+    }
+
+    /// Gives the next byte of what there is.
+    fn give(&mut self) -> Option<Out>
+        ensures state { self.new ≡ given_next self.old }
+        ensures out { result ≡ (take self.old.mouth).1 }
+        ensures fewer { IsSome result → most_left H.Host self.new + 1 ≤ most_left H.Host self.old }
+    {
+        let out = self.mouth.take();
+        note_out(&mut self.sender, out);
+        out
+    }
+}
