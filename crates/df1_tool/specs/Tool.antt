@@ -1,9 +1,12 @@
 -- What the program answers, and with which status and note.
-use Rattle.std.specs.Prelude.{◌≡◌, ◌⊎◌, ℕ, List, [], ◌∷◌, Option, Some, None, Result, Ok, Err, if◌then◌else◌, ◌==◌, is_none, codes, option_and_then, option_map}
+use Rattle.std.specs.Prelude.{◌≡◌, ◌⊎◌, ℕ, List, [], ◌∷◌, ◌++◌, Option, Some, None, Result, Ok, Err, if◌then◌else◌, ◌==◌, is_none, codes, decimal, option_and_then}
 use Rattle.std.specs.Str.{bytes_eq}
-use Rattle.line_replay.specs.ScriptText.{script_of}
-use Rattle.line_replay.specs.Report.{report}
-use Rattle.line_replay.specs.Run.{record_of}
+use Rattle.line_script.specs.declared.cause.Cause.{Cause}
+use Rattle.line_script.specs.declared.cause.Cause.TheVariants as cause
+use Rattle.line_script.specs.declared.script.Script.{Script}
+use Rattle.line_script.specs.ScriptText.{script_of}
+use Rattle.line_report.specs.Report.{report}
+use Rattle.line_world.specs.Run.{record_of}
 use Rattle.df1_tool.specs.declared.form.Form.{Form}
 use Rattle.df1_tool.specs.declared.form.Form.TheVariants.{Replay}
 use Rattle.df1_tool.specs.declared.trouble.Trouble.{Trouble}
@@ -14,9 +17,14 @@ unfoldable pub form_of : List (List ℕ) → Option Form
 form_of (word ∷ []) = if bytes_eq word (codes "replay") then Some Replay else None
 form_of words = None
 
+-- the report of the run of a script, where there is one
+abbrev pub report_of : Result Script (ℕ × Cause) → Option (List ℕ)
+report_of (Ok script) = Some (report (record_of script))
+report_of (Err fault) = None
+
 -- the report of the run of the script that the input says, if it says one
 abbrev pub replayed : List ℕ → Option (List ℕ)
-replayed input = option_map (λ script. report (record_of script)) (script_of input)
+replayed input = report_of (script_of input)
 
 -- the text that a form defines for an input, if it takes the input
 unfoldable pub answer : Form → List ℕ → Option (List ℕ)
@@ -28,7 +36,7 @@ answer_of words input = option_and_then (λ form. answer form input) (form_of wo
 
 abbrev pub status_of_trouble : Trouble → ℕ
 status_of_trouble Usage = 2
-status_of_trouble Refusal = 3
+status_of_trouble (Refusal line cause) = 3
 status_of_trouble Input = 4
 status_of_trouble Output = 5
 status_of_trouble NoMemory = 7
@@ -38,14 +46,37 @@ abbrev pub status_of : Result (Unit {0}) Trouble → ℕ
 status_of (Ok done) = 0
 status_of (Err trouble) = status_of_trouble trouble
 
--- the note of a run with this status
-abbrev pub note_of : ℕ → List ℕ
-note_of status =
-    if status == 2 then codes "df1: usage: df1 replay\n"
-    else if status == 3 then codes "df1: script: form\n"
-    else if status == 4 then codes "df1: input cannot be read\n"
-    else if status == 5 then codes "df1: output cannot be written\n"
-    else if status == 7 then codes "df1: no memory\n"
+abbrev pub cause_text : Cause → List ℕ
+cause_text cause.Size = codes "size"
+cause_text cause.Long = codes "long"
+cause_text cause.After = codes "after"
+cause_text cause.Form = codes "form"
+cause_text cause.Place = codes "place"
+cause_text cause.Missing = codes "missing"
+cause_text cause.Value = codes "value"
+cause_text cause.Twice = codes "twice"
+cause_text cause.Spent = codes "spent"
+cause_text cause.Events = codes "events"
+cause_text cause.NoEnd = codes "open"
+
+-- the note of a refused line
+abbrev pub line_note : ℕ → Cause → List ℕ
+line_note line fault = codes "df1: line " ++ decimal line ++ codes ": " ++ cause_text fault ++ codes "\n"
+
+abbrev pub note_of : Trouble → List ℕ
+note_of Usage = codes "df1: usage: df1 replay\n"
+note_of (Refusal line cause) = line_note line cause
+note_of Input = codes "df1: input cannot be read\n"
+note_of Output = codes "df1: output cannot be written\n"
+note_of NoMemory = codes "df1: no memory\n"
+
+-- the note of a run with this status, which isn't 3
+abbrev pub note_at : ℕ → List ℕ
+note_at status =
+    if status == 2 then note_of Usage
+    else if status == 4 then note_of Input
+    else if status == 5 then note_of Output
+    else if status == 7 then note_of NoMemory
     else []
 
 -- the status of a run with these words over an input, where nothing fails

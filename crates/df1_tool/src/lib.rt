@@ -2,6 +2,7 @@
 #![tactic(auto)]
 
 mod form;
+mod reading;
 mod replaying;
 #[cfg(test)]
 mod tests;

@@ -1,8 +1,9 @@
 //! The command `replay`: a script that has been read as bytes, its run, and the report of the run.
-ghost use Rattle.std.specs.Prelude.{◌≡◌, ◌⊎◌, ◌≤◌, [], List, ℕ, None, Some, unwrap_or, OnOk, IfErr, IsErrOf};
+ghost use Rattle.std.specs.Prelude.{◌≡◌, ◌⊎◌, ◌≤◌, [], List, ℕ, Err, Some, unwrap_or, OnOk, IfErr, IsErrOf};
 ghost use Rattle.df1_base.specs.Outside.{Rose, Put, WrotePart};
-ghost use Rattle.df1_tool.specs.Outcome.{PlaysBack};
+ghost use Rattle.line_script.specs.ScriptText.{script_of};
 ghost use Rattle.df1_tool.specs.Tool.{replayed};
+ghost use Rattle.df1_tool.specs.Outcome.{IsFromReplay, TellsRefusal};
 
 use crate::trouble::Trouble;
 use df1_base::{Failed, NoMemory, Sink};
@@ -10,18 +11,21 @@ use line_replay::{ScriptFault, print, read_script, replay};
 use std::alloc::Global;
 
 /// Runs a script and writes its report.
-pub(crate) fn answer<K: Sink>(alloc: Global, input: &[u8], out: &mut K) -> Result<(), Trouble>
+pub(crate) fn answer<K: Sink>(
+    alloc: Global,
+    input: &[u8],
+    out: &mut K,
+) -> Result<(), Trouble>
     ensures done { OnOk result ((text : List ℕ) × (replayed input.now ≡ Some text) × Put (K.held out.old) (K.held out.new) text) }
-    ensures plays { OnOk result (PlaysBack input.now (K.held out.old) (K.held out.new)) }
-    ensures refusal { IsErrOf result Trouble.Refusal → (replayed input.now ≡ None) × (out.new ≡ out.old) }
+    ensures refusal { IfErr result (TellsRefusal (λ line cause. (script_of input.now ≡ Err (line, cause)) × (out.new ≡ out.old))) }
     ensures output { IsErrOf result Trouble.Output → Rose (K.faults out.old) (K.faults out.new) }
-    ensures only { IfErr result (λ trouble. (trouble ≡ Trouble.Refusal) ⊎ (trouble ≡ Trouble.Output) ⊎ (trouble ≡ Trouble.NoMemory)) }
+    ensures neither { IfErr result IsFromReplay }
     ensures part { WrotePart (K.held out.old) (K.held out.new) (unwrap_or (replayed input.now) []) }
     ensures later { K.faults out.old ≤ K.faults out.new }
 {
     let script = match read_script(alloc, input) {
         Ok(script) => script,
-        Err(ScriptFault::At { .. }) => return Err(Trouble::Refusal),
+        Err(ScriptFault::At { line, cause }) => return Err(Trouble::Refusal(line, cause)),
         Err(ScriptFault::NoMemory) => return Err(Trouble::NoMemory),
     };
     let record = match replay(alloc, &script) {

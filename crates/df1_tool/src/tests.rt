@@ -5,13 +5,6 @@ use std::alloc::Global;
 use std::process::Abort;
 use std::test::Fail;
 
-/// A script that sends one write of the word 1234 and delivers its frame.
-const WRITE: &str = "file b 7 89 16\nai 0FAA02078900003412\nak 19\nad 19\nend\n";
-
-/// Its report.
-const REPORT: &str =
-    "a sent 100201000F000100AA0207890000341210036D\nb exec 01000F000100AA02078900003412\nb word 7 0 1234\ndeceived 0\n";
-
 /// What a run of the program is to show.
 #[derive(Drop)]
 struct Case {
@@ -47,65 +40,149 @@ fn check<R: Abort + AllocGlobal>(rt: &R, case: &Case) -> Result<(), Fail> {
     Ok(())
 }
 
+/// A run of a script that ends well.
+fn played(input: &'static str, out: &'static str) -> Case {
+    Case {
+        words: &["replay"],
+        input,
+        read_fails: &[],
+        room: 4000,
+        status: 0,
+        out,
+        note: "",
+    }
+}
+
+/// A run of a script that is refused.
+fn refused(input: &'static str, note: &'static str) -> Case {
+    Case {
+        words: &["replay"],
+        input,
+        read_fails: &[],
+        room: 4000,
+        status: 3,
+        out: "",
+        note,
+    }
+}
+
 #[test]
-fn a_run_has_the_status_the_report_and_the_note_of_its_words_and_input(
-    rt: HostRuntime,
-) -> Result<(), Fail> {
+fn a_script_is_played_and_reported(rt: HostRuntime) -> Result<(), Fail> {
     let cases = [
-        Case {
-            words: &["replay"],
-            input: WRITE,
-            read_fails: &[],
-            room: 1000,
-            status: 0,
-            out: REPORT,
-            note: "",
-        },
-        Case {
-            words: &["replay"],
-            input: "end\n",
-            read_fails: &[],
-            room: 1000,
-            status: 0,
-            out: "deceived 0\n",
-            note: "",
-        },
-        Case {
-            words: &["replay"],
-            input: "",
-            read_fails: &[],
-            room: 1000,
-            status: 3,
-            out: "",
-            note: "df1: script: form\n",
-        },
-        Case {
-            words: &["replay"],
-            input: "zz",
-            read_fails: &[],
-            room: 1000,
-            status: 3,
-            out: "",
-            note: "df1: script: form\n",
-        },
+        // One write.
+        played(
+            "file b 7 89 16\nai 0FAA02078900003412\nak 19\nad 19\nend\n",
+            "a sent 100201000F000100AA0207890000341210036D\nb exec 01000F000100AA02078900003412\nb word 7 0 1234\ndeceived 0\n",
+        ),
+        // Nothing happens.
+        played(
+            "end\n",
+            "deceived 0\n",
+        ),
+        // An ordinary exchange.
+        played(
+            "file b 7 89 16\nai 0FAA02078900003412\nak 99\nad 99\nbk 99\nbd 99\nak 99\nad 99\nend\n",
+            "a sent 100201000F000100AA0207890000341210036D\nb exec 01000F000100AA02078900003412\nb sent 1006100200014F0001001003AF\na answered 1 00014F000100\na sent 1006\nb word 7 0 1234\ndeceived 0\n",
+        ),
+        // A BCC of 10 isn't doubled.
+        played(
+            "set b.node 7\nai 0600E2\nak 99\nend\n",
+            "a sent 100207000600010000E2100310\ndeceived 0\n",
+        ),
+        // Bytes of 10 are doubled.
+        played(
+            "set b.node 7\nset a.tns 16\nai 060010\nak 99\nend\n",
+            "a sent 1002070006001010000010101003D3\ndeceived 0\n",
+        ),
+        // A lost ACK.
+        played(
+            "file b 7 89 16\nai 0FAA02078900003412\nak 19\nad 19\nbk 2\nbx 2\nat 10\nak 2\nad 2\nbk 13\nbd 13\nak 2\nad 2\nend\n",
+            "a sent 100201000F000100AA0207890000341210036D\nb exec 01000F000100AA02078900003412\nb sent 1006\na enquiry\na sent 1005\nb sent 1006100200014F0001001003AF\na answered 1 00014F000100\na sent 1006\nb word 7 0 1234\ndeceived 0\n",
+        ),
+        // A damaged frame and a lost NAK.
+        played(
+            "file b 7 89 16\nai 0FAA02078900003412\nak 19\nad 2\nac 01\nad 17\nbk 2\nbx 2\nat 10\nak 2\nad 2\nbk 2\nbd 2\nak 19\nad 19\nbk 13\nbd 13\nak 2\nad 2\nend\n",
+            "a sent 100201000F000100AA0207890000341210036D\nb damaged\nb sent 1015\na enquiry\na sent 1005\nb sent 1015\na sent 100201000F000100AA0207890000341210036D\nb exec 01000F000100AA02078900003412\nb sent 1006100200014F0001001003AF\na answered 1 00014F000100\na sent 1006\nb word 7 0 1234\ndeceived 0\n",
+        ),
+        // An ACK that becomes a NAK.
+        played(
+            "file b 7 89 16\nai 0FAA02078900003412\nak 19\nad 19\nbk 2\nbd 1\nbc 13\nbd 1\nak 19\nad 19\nbk 13\nbd 13\nak 2\nad 2\nend\n",
+            "a sent 100201000F000100AA0207890000341210036D\nb exec 01000F000100AA02078900003412\nb sent 1006\na sent 100201000F000100AA0207890000341210036D\nb repeat\nb sent 1006100200014F0001001003AF\na answered 1 00014F000100\na sent 1006\nb word 7 0 1234\ndeceived 0\n",
+        ),
+        // A stale ACK.
+        played(
+            "file b 7 89 16\nai 0FAA02078900003412\nai 0FAA02078901007856\nak 19\nad 19\nbk 13\nat 10\nak 2\nad 2\nbk 2\nbd 13\nak 21\nbd 2\nad 2\nax 19\nat 100\nend\n",
+            "a sent 100201000F000100AA0207890000341210036D\nb exec 01000F000100AA02078900003412\nb sent 1006100200014F0001001003AF\na enquiry\na sent 1005\nb sent 1006\na answered 1 00014F000100\na sent 1006100201000F000200AA020789010078561003E3\na unanswered 2\nb word 7 0 1234\ndeceived 0\n",
+        ),
+        // An embedded response.
+        played(
+            "set a.embed on\nfile b 7 89 16\nai 0FAA02078900003412\nbi 060055\nak 8\nbk 13\nbd 13\nak 13\nad 21\nend\n",
+            "a sent 100201000F000100\nb sent 100200010600010000551003A3\na exec 0001060001000055\na sent 1006AA0207890000341210036D\nb exec 01000F000100AA02078900003412\nb word 7 0 1234\ndeceived 0\n",
+        ),
+        // A foreign command.
+        played(
+            "file b 7 89 16\nan 100201000F000100AA0207890000341210036D\nend\n",
+            "b exec 01000F000100AA02078900003412\nb word 7 0 1234\ndeceived 1\n",
+        ),
+        // A foreign reply.
+        played(
+            "bn 10020001460009001003B0\nend\n",
+            "a stray 000146000900\ndeceived 1\n",
+        ),
+        // Too many NAKs.
+        played(
+            "set a.max_naks 0\nfile b 7 89 16\nai 0FAA02078900003412\nak 19\nax 19\nbn 1015\nend\n",
+            "a sent 100201000F000100AA0207890000341210036D\na undelivered 1\ndeceived 0\n",
+        ),
+        // Too many ENQs.
+        played(
+            "set b.max_enqs 0\nai 060055\nak 13\nad 13\nbk 99\nbt 10\nend\n",
+            "a sent 100201000600010000551003A3\nb exec 0100060001000055\nb sent 100610020001460001000055100363\nb dropped\ndeceived 0\n",
+        ),
+        // No room.
+        played(
+            "set a.reply_ticks 33\nai 060055\nai 060055\nai 060055\nak 13\nad 13\nbk 2\nbd 2\nat 33\nak 13\nad 13\nbk 2\nbd 2\nat 33\nak 13\nad 13\nbk 2\nend\n",
+            "a sent 100201000600010000551003A3\nb exec 0100060001000055\nb sent 1006\na unanswered 1\na sent 100201000600020000551003A2\nb exec 0100060002000055\nb sent 1006\na unanswered 2\na sent 100201000600030000551003A1\nb full\nb sent 1015\ndeceived 0\n",
+        ),
+    ];
+    for case in &cases {
+        check(&rt, case)?;
+    }
+    Ok(())
+}
+
+#[test]
+fn a_run_that_does_not_end_well_tells_why(rt: HostRuntime) -> Result<(), Fail> {
+    let cases = [
+        // No input.
+        refused("", "df1: line 1: open\n"),
+        // A line that is none of the forms.
+        refused("end\nzz\n", "df1: line 2: after\n"),
+        // A word that is no line.
+        refused("zz", "df1: line 1: form\n"),
+        // A second file.
+        refused("file b 7 89 16\nfile b 7 89 16\nend\n", "df1: line 2: twice\n"),
+        // Other words.
         Case {
             words: &["replay", "now"],
-            input: WRITE,
+            input: "file b 7 89 16\nend\n",
             read_fails: &[],
-            room: 1000,
+            room: 4000,
             status: 2,
             out: "",
             note: "df1: usage: df1 replay\n",
         },
+        // A read that fails.
         Case {
             words: &["replay"],
-            input: WRITE,
+            input: "file b 7 89 16\nai 0FAA02078900003412\nak 19\nad 19\nend\n",
             read_fails: &[3],
-            room: 1000,
+            room: 4000,
             status: 4,
             out: "",
             note: "df1: input cannot be read\n",
         },
+        // An output that is full.
         Case {
             words: &["replay"],
             input: "end\n",
@@ -118,6 +195,35 @@ fn a_run_has_the_status_the_report_and_the_note_of_its_words_and_input(
     ];
     for case in &cases {
         check(&rt, case)?;
+    }
+    Ok(())
+}
+
+/// A script of so many commands of end a.
+fn commands(alloc: Global, count: u32) -> Result<String, Fail> {
+    let mut text = String::new(alloc);
+    for _ in 0..count {
+        text.push_str("ai 0600\n")?;
+    }
+    text.push_str("end\n")?;
+    Ok(text)
+}
+
+#[test]
+fn an_end_issues_65535_commands_and_no_more(rt: HostRuntime) -> Result<(), Fail> {
+    let words = words(rt.alloc(), &["replay"])?;
+    let expected: [(u32, u8, &str); 2] = [(65_535, 0, ""), (65_536, 3, "df1: line 65536: spent\n")];
+    for (count, status, note) in expected {
+        let text = commands(rt.alloc(), count)?;
+        let ran = run(
+            rt.alloc(),
+            &words,
+            BytesIn::new(rt.alloc(), text.as_bytes(), 4096, &[])?,
+            BytesOut::new(rt.alloc(), 100, 100, &[])?,
+            BytesOut::new(rt.alloc(), 100, 100, &[])?,
+        );
+        assert_eq!(rt; ran.status, status);
+        assert_eq!(rt; ran.note.held(), note.as_bytes());
     }
     Ok(())
 }

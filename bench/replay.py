@@ -1,0 +1,88 @@
+#!/usr/bin/env python3
+"""Makes large scripts and times the built program on them.
+
+Usage: bench/replay.py [PROGRAM]     (crates/df1/out/df1 where PROGRAM is left out)
+
+For each script it prints the bytes of the script and the events a second, and the most memory that a run took so far:
+
+- drill: 20,000 commands; in turn an ordinary exchange, a damaged frame, a lost ACK, and a lost ACK with a foreign NAK;
+- steps: 16 MB of script, each step a line of its own;
+- ticks: 65,000 commands and 4,000,000 events, nearly all of them ticks.
+"""
+import os
+import resource
+import subprocess
+import sys
+import time
+
+LIMIT = 16_777_216
+EVENTS = 4_000_000
+
+ORDINARY = ["ak 23", "ad 23", "bk 15", "bd 15", "ak 2", "ad 2"]
+DAMAGED = ["ak 23", "ad 2", "ac 01", "ad 21", "bk 2", "bd 2", "ak 23", "ad 23", "bk 15", "bd 15", "ak 2", "ad 2"]
+LOST_ACK = ["ak 23", "ad 23", "bk 2", "bx 2", "at 10", "ak 2", "ad 2", "bk 15", "bd 15", "ak 2", "ad 2"]
+FOREIGN_NAK = ["ak 23", "ad 23", "bk 2", "bx 2", "bn 1015", "ak 23", "ad 23", "bk 15", "bd 15", "ak 2", "ad 2"]
+
+
+def payload(i):
+    """A write of the word i to an element of file 7."""
+    return f"0FAA020789{i % 16:02X}00{i % 256:02X}{i // 256 % 256:02X}"
+
+
+def drill(rounds=20_000):
+    lines = ["file b 7 89 16"]
+    for i in range(1, rounds + 1):
+        lines.append("ai " + payload(i))
+        lines += (ORDINARY, DAMAGED, LOST_ACK, FOREIGN_NAK)[i % 4]
+    return "\n".join(lines + ["end"]) + "\n"
+
+
+def steps():
+    """Ordinary exchanges, each take and delivery spelled alone, up to the limits of a script."""
+    head = "file b 7 89 16\n"
+    size, count, parts = len(head), 0, [head]
+    for i in range(1, 65_536):
+        text = "ai " + payload(i) + "\n"
+        for line in ORDINARY:
+            verb, n = line.split()
+            text += f"{verb} 1\n" * int(n)
+        if size + len(text) > LIMIT - 10 or count + 81 > EVENTS:
+            break
+        size, count = size + len(text), count + 81
+        parts.append(text)
+    return "".join(parts) + "end\n"
+
+
+def ticks(commands=65_000):
+    lines = ["ai " + payload(i) for i in range(1, commands + 1)]
+    return "\n".join(lines + [f"at {EVENTS - commands}", "end"]) + "\n"
+
+
+def events(text):
+    total = 0
+    for line in text.splitlines():
+        words = line.split()
+        if len(words[0]) == 2 and words[0][0] in "ab":
+            if words[0][1] in "ktdx":
+                total += int(words[1]) if len(words) > 1 else 1
+            else:
+                total += len(words[1]) // 2 if words[0][1] == "n" else 1
+    return total
+
+
+def main():
+    top = os.path.dirname(os.path.dirname(os.path.abspath(__file__)))
+    program = sys.argv[1] if len(sys.argv) > 1 else os.path.join(top, "crates", "df1", "out", "df1")
+    for name, make in (("drill", drill), ("steps", steps), ("ticks", ticks)):
+        text = make()
+        count = events(text)
+        start = time.perf_counter()
+        ran = subprocess.run([program, "replay"], input=text.encode(), stdout=subprocess.PIPE, check=True)
+        taken = time.perf_counter() - start
+        peak = resource.getrusage(resource.RUSAGE_CHILDREN).ru_maxrss
+        print(f"{name}: {len(text)} bytes, {count} events, {len(ran.stdout)} bytes of report: {taken:.2f} s, "
+              f"{len(text) / taken / 1e6:.1f} MB/s, {count / taken:,.0f} events/s, peak so far {peak / 1024:.0f} MiB")
+
+
+if __name__ == "__main__":
+    main()
