@@ -30,6 +30,7 @@ impl Host for OneCommand {
     ghost use Rattle.df1_base.specs.declared.host.Did.TheVariants as did_of;
     ghost use Rattle.df1_base.specs.declared.host.Fate.TheVariants as fate_of;
     ghost use Rattle.df1_base.specs.declared.host.News.TheVariants as news_of;
+    ghost use Rattle.duplex_end.specs.declared.tests.TheConstants.{COMMAND};
 
     ghost room_for = { λ _ _. true };
 
