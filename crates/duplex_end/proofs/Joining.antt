@@ -2,7 +2,8 @@
 use Rattle.std.proofs.Common.{◌≡◌, ℕ, ◌+◌, ◌≤◌, Bool, true, false, List, [], ◌∷◌, ◌++◌, length, map, Option, Some, None, IsSome, is_none, subst, refl, arith, length-append}
 use Rattle.std.proofs.lemmas.Bool.Decides.{nat_tests}
 use Rattle.std.specs.Prelude.{IsTrue, not, ◌==◌, if◌then◌else◌}
-use Rattle.std.specs.Option.{ForSome}
+use Rattle.std.specs.Option.{ForSome, option_map}
+use Rattle.df1_base.specs.declared.link.Resp.{Resp}
 use Rattle.df1_base.specs.declared.link.Out.{Out}
 use Rattle.df1_frame.specs.declared.framer.Unit.{Unit as Given}
 use Rattle.df1_check.specs.declared.Check.{Check}
@@ -12,7 +13,7 @@ use Rattle.duplex_sender.specs.declared.Phase.{Phase}
 use Rattle.duplex_sender.specs.declared.Phase.TheVariants as phase
 use Rattle.duplex_sender.specs.declared.Limits.{Limits}
 use Rattle.duplex_sender.specs.Sender.{SenderState, Activity, Idle, Sending, Waiting, phase_of, sent_last}
-use Rattle.embedded_response.specs.Giving.{Giving, Choice, Second, Respond, Give, Enquire, begin, is_begun, chosen, given, take, unit_out, plain, code_of, one_if, bytes_left}
+use Rattle.embedded_response.specs.Giving.{Giving, Choice, Second, Respond, Give, Enquire, begin, is_begun, chosen, first_there, may_embed, given, take, unit_out, plain, code_of, one_if, bytes_left}
 use Rattle.duplex_end.specs.End.{after_out, ends_here}
 use Rattle.duplex_end.specs.Joined.{LastEnds, Joined}
 use Rattle.duplex_end.proofs.FrameUnits.{units-last, units-length}
@@ -161,3 +162,15 @@ pub begin-fewer : (g : Giving) (body : List ℕ) (at after : Phase) (ready next_
 begin-fewer g body at after ready next_ready e fits come =
     let none = subst (Chosen g.second g.waiting g.left g.asking) e (is-chosen g) in
     rw (none.0, none.1, none.2, none.3, units-begun g.check body) (omega (arith, units-length g.check body fits, come))
+
+unit-given : (g : Giving) (may : Bool) (waiting : Option Resp) (unit : Given) (others : List (Option Choice)) → waiting ≡ None → IsSome (given g (first_there (None ∷ option_map Respond (if may then waiting else None) ∷ Some (Give unit) ∷ others))).1
+unit-given g true None unit others none = refl
+unit-given g false None unit others none = refl
+unit-given g may (Some r) unit others none = absurd cc
+
+-- a frame that is begun gives its first byte
+pub begin-gives : (g : Giving) (body : List ℕ) → chosen g ≡ None → IsSome (take (begin g body)).1
+begin-gives g body e =
+    let none = subst (Chosen g.second g.waiting g.left g.asking) e (is-chosen g) in
+    let start : Giving = begin g body in
+    rw none.0 (unit-given (record start { second = None }) (may_embed start) g.waiting (pair_unit 2 true) (option_map Respond g.waiting ∷ (if g.asking then Some Enquire else None) ∷ []) none.1)

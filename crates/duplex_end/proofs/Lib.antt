@@ -1,3 +1,5 @@
 pub mod FrameUnits
 pub mod Choices
 pub mod Joining
+pub mod Runs
+pub mod Draining

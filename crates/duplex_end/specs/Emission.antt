@@ -1,7 +1,10 @@
--- What an end gives over a list of signals.
-use Rattle.std.specs.Prelude.{ℕ, List, [], ◌∷◌, ◌++◌, option_to_list, replicate}
+-- What an end hears and gives over a list of signals.
+use Rattle.std.specs.Prelude.{◌≡◌, ◌≤◌, ℕ, List, [], ◌∷◌, ◌++◌, length, option_to_list, replicate, IfSome}
 use Rattle.df1_base.specs.declared.host.Host.{Ghosts}
 use Rattle.df1_base.specs.declared.link.Out.{Out}
+use Rattle.duplex_sender.specs.declared.Phase.TheVariants as phase
+use Rattle.duplex_sender.specs.Sender.{phase_of, body_of}
+use Rattle.duplex_receiver.specs.Receiver.{Hearing, hearing}
 use Rattle.duplex_end.specs.End.{EndState, end_after_byte, end_after_tick, end_after_take, out_at_take}
 
 -- what comes to an end: a byte, a unit of time, or the wish for a byte
@@ -32,6 +35,29 @@ abbrev pub emission : {H : Type 0} → Ghosts H → EndState H → List Letter �
 emission m e [] = []
 emission m e (signal ∷ signals) = given_at m e signal ++ emission m (end_after m e signal) signals
 
--- as many takes as an end can have bytes to give: a take where nothing is left gives nothing and changes nothing
-abbrev pub drain : List Letter
-drain = replicate 511 Take
+-- the bytes among these signals
+abbrev pub bytes_among : List Letter → List ℕ
+bytes_among [] = []
+bytes_among (Byte b ∷ signals) = b ∷ bytes_among signals
+bytes_among (Tick ∷ signals) = bytes_among signals
+bytes_among (Take ∷ signals) = bytes_among signals
+
+-- what is heard at each of these bytes
+abbrev pub hearings : {H : Type 0} → Ghosts H → EndState H → List Letter → List Hearing
+hearings m e [] = []
+hearings m e (Byte b ∷ signals) = hearing (m.room_for e.host) 250 e.receiver b ∷ hearings m (end_after_byte m e b) signals
+hearings m e (Tick ∷ signals) = hearings m (end_after_tick m e) signals
+hearings m e (Take ∷ signals) = hearings m (end_after_take m e) signals
+
+-- so many takes
+abbrev pub takes : ℕ → List Letter
+takes n = replicate n Take
+
+-- takes until nothing is given: a take that gives nothing changes nothing, so these are as many as an end can have bytes to give
+unfoldable pub drain : List Letter
+drain = takes 511
+
+-- the message of the sender, and the one that an idle sender is given next, have at most 250 bytes
+pub record BodiesFit {H : Type 0} (m : Ghosts H) (e : EndState H) : Type 0 where
+  pub sender_fits : length (body_of e.sender) ≤ 250
+  pub next_fits : phase_of e.sender ≡ phase.Idle → IfSome (m.next_body e.host) (λ body. length body ≤ 250)

@@ -188,13 +188,15 @@ transmitted e body = record { receiver = e.receiver; sender = e.sender; mouth = 
 abbrev pub loaded : {H : Type 0} → Ghosts H → EndState H → List ℕ → EndState H
 loaded m e body = record { receiver = e.receiver; sender = load e.sender body; mouth = e.mouth; sending = e.sending; host = m.after_next e.host }
 
--- the frame of a sender that sends is begun, or else that of a new message
+-- by the sender's phase and the host's next message: a sender that is in Sending has its frame begun; an idle one is given a new message, and that one's frame is begun
+abbrev pub begun_at : {H : Type 0} → Ghosts H → EndState H → Phase → Option (List ℕ) → EndState H
+begun_at m e phase.Idle None = e
+begun_at m e phase.Idle (Some body) = transmitted (loaded m e body) body
+begun_at m e phase.Sending next = transmitted e (body_of e.sender)
+begun_at m e phase.Waiting next = e
+
 abbrev pub begun_next : {H : Type 0} → Ghosts H → EndState H → EndState H
-begun_next m e = elim (phase_of e.sender) [
-  | phase.Idle ↦ elim (m.next_body e.host) [ None ↦ e | Some body ↦ transmitted (loaded m e body) body ]
-  | phase.Sending ↦ transmitted e (body_of e.sender)
-  | phase.Waiting ↦ e
-]
+begun_next m e = begun_at m e (phase_of e.sender) (m.next_body e.host)
 
 -- a frame is begun only where nothing else is to be given
 abbrev pub prepared : {H : Type 0} → Ghosts H → EndState H → EndState H

@@ -27,6 +27,7 @@ ghost use Rattle.duplex_end.specs.End.{new_end, with_host, end_after_byte, step_
 ghost use Rattle.duplex_end.specs.Joined.{most_left};
 ghost use Rattle.duplex_end.specs.contracts.End.{the_row};
 
+mod laws;
 mod parts;
 #[cfg(test)]
 mod tests;
@@ -37,6 +38,7 @@ use df1_check::Check;
 use duplex_receiver::Receiver;
 use duplex_sender::{Limits, Phase, Sender};
 use embedded_response::Mouth;
+pub use laws::{a_drain_ends, hears_what_the_grammar_hears, parts_stay_joined, signals_go_on};
 use parts::{drop_wish, fill, hear_peer, is_whole, note_out, respond, take_in, tell, tick_sender};
 use std::marker::Model;
 
@@ -206,7 +208,7 @@ impl<H: Host + Drop> End<H> {
             }
             Phase::Sending => {
                 fill(&mut self.sending, self.sender.body());
-                self.mouth.frame(&self.sending);
+                self.mouth.frame(self.sender.body());
             }
             Phase::Waiting => {}
         }

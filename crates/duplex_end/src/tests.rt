@@ -1,0 +1,186 @@
+//! One end with a host that has one message to send and takes every message.
+use crate::{End, Setup};
+use arrayvec::ArrayVec;
+use df1_base::{Act, Did, Fate, Host, News, Turn};
+use df1_check::Check;
+use duplex_sender::Limits;
+use std::process::Abort;
+
+const COMMAND: [u8; 14] = [
+    0x01, 0x00, 0x0F, 0x00, 0x01, 0x00, 0xAA, 0x02, 0x07, 0x89, 0x00, 0x00, 0x34, 0x12,
+];
+
+const COMMAND_FRAME: [u8; 19] = [
+    0x10, 0x02, 0x01, 0x00, 0x0F, 0x00, 0x01, 0x00, 0xAA, 0x02, 0x07, 0x89, 0x00, 0x00, 0x34, 0x12,
+    0x10, 0x03, 0x6D,
+];
+
+const REPLY_FRAME: [u8; 11] = [
+    0x10, 0x02, 0x00, 0x01, 0x4F, 0x00, 0x01, 0x00, 0x10, 0x03, 0xAF,
+];
+
+/// A host that hands the command out once, and answers each message and each fate.
+#[derive(Drop)]
+struct OneCommand {
+    waits: bool,
+}
+
+impl Host for OneCommand {
+    ghost use Rattle.std.specs.Prelude.{true, false, [], Some, None, if◌then◌else◌};
+    ghost use Rattle.df1_base.specs.declared.host.Did.TheVariants as did_of;
+    ghost use Rattle.df1_base.specs.declared.host.Fate.TheVariants as fate_of;
+    ghost use Rattle.df1_base.specs.declared.host.News.TheVariants as news_of;
+    ghost use Rattle.duplex_end.specs.declared.tests.TheConstants.{COMMAND};
+
+    ghost room_for = { λ _ _. true };
+
+    ghost did = { λ _ _. did_of.Answered 1 };
+
+    ghost after_accept = { λ h _. h };
+
+    ghost next_body = { λ h. if h.waits then Some COMMAND else None };
+
+    ghost after_next = { λ h. record { waits = false } };
+
+    ghost news = { λ _ fate. elim fate [ fate_of.Delivered ↦ news_of.Nothing | fate_of.Undelivered ↦ news_of.Undelivered 1 ] };
+
+    ghost after_told = { λ h _. h };
+
+    ghost unanswered = { λ _. [] };
+
+    ghost after_tick = { λ h. h };
+
+    ghost after_clear = { λ h. h };
+
+    fn has_room(&self, _body: &[u8]) -> bool {
+        true
+    }
+
+    fn accept(&mut self, _body: &[u8]) -> Did {
+        Did::Answered(1)
+    }
+
+    fn ready(&self) -> bool {
+        self.waits
+    }
+
+    fn next(&mut self, into: &mut ArrayVec<u8, 250>) -> bool {
+        if !self.waits {
+            return false;
+        }
+        self.waits = false;
+        into.clear();
+        let fits = into.try_extend_from_slice(&COMMAND).is_ok();
+        prove!(fits);
+        true
+    }
+
+    fn told(&mut self, fate: Fate) -> News {
+        match fate {
+            Fate::Delivered => News::Nothing,
+            Fate::Undelivered => News::Undelivered(1),
+        }
+    }
+
+    fn tick(&mut self, gone: &mut ArrayVec<u32, 16>) {
+        gone.clear();
+    }
+
+    fn clear(&mut self) {}
+}
+
+fn end_with_embedding() -> End<OneCommand> {
+    End::new(
+        Setup {
+            check: Check::Bcc,
+            embed: true,
+            limits: Limits {
+                ack_ticks: 2,
+                max_naks: 1,
+                max_enqs: 1,
+            },
+        },
+        OneCommand { waits: true },
+    )
+}
+
+/// The end gives these bytes.
+fn gives(rt: &impl Abort, end: &mut End<OneCommand>, bytes: &[u8]) {
+    for b in bytes {
+        assert!(rt; !end.quiet());
+        let given = end.take().map(|out| out.byte);
+        assert_eq!(rt; given, Some(*b));
+    }
+}
+
+/// The act at the last of these bytes, with the host's news.
+fn hears(end: &mut End<OneCommand>, bytes: &[u8]) -> (Act, Option<Did>, News) {
+    let mut last = (Act::Nothing, None, News::Nothing);
+    for b in bytes {
+        let step = end.on_byte(*b);
+        last = (step.act, step.did, step.news);
+    }
+    last
+}
+
+#[test]
+fn an_ordinary_exchange(rt: HostRuntime) {
+    let mut end = end_with_embedding();
+    assert_eq!(rt; end.sending().len(), 0);
+    gives(&rt, &mut end, &COMMAND_FRAME);
+    assert!(rt; end.quiet());
+    assert_eq!(rt; end.take(), None);
+    assert_eq!(rt; end.sending(), COMMAND.as_slice());
+    assert_eq!(rt;
+        hears(&mut end, &[0x10, 0x06]),
+        (Act::PeerAck, None, News::Nothing)
+    );
+    assert_eq!(rt;
+        hears(&mut end, &REPLY_FRAME),
+        (Act::Accept, Some(Did::Answered(1)), News::Nothing)
+    );
+    assert_eq!(rt; end.body().len(), 6);
+    gives(&rt, &mut end, &[0x10, 0x06]);
+    assert!(rt; end.quiet());
+}
+
+#[test]
+fn a_response_stands_in_the_frame(rt: HostRuntime) {
+    let mut end = end_with_embedding();
+    gives(&rt, &mut end, &COMMAND_FRAME[..8]);
+    assert_eq!(rt; hears(&mut end, &REPLY_FRAME).0, Act::Accept);
+    gives(&rt, &mut end, &[0x10, 0x06]);
+    gives(&rt, &mut end, &COMMAND_FRAME[8..]);
+    assert_eq!(rt; hears(&mut end, &REPLY_FRAME).0, Act::Repeat);
+    gives(&rt, &mut end, &[0x10, 0x06]);
+}
+
+#[test]
+fn a_wish_for_an_enq_is_dropped_at_an_ack(rt: HostRuntime) {
+    let mut gone = ArrayVec::new();
+    let mut end = end_with_embedding();
+    gives(&rt, &mut end, &COMMAND_FRAME);
+    assert_eq!(rt; end.on_tick(&mut gone), Turn::Still);
+    assert_eq!(rt; end.on_tick(&mut gone), Turn::Ask);
+    assert!(rt; !end.quiet());
+    assert_eq!(rt; hears(&mut end, &[0x10, 0x06]).0, Act::PeerAck);
+    assert!(rt; end.quiet());
+}
+
+#[test]
+fn a_lost_answer_is_asked_for_and_a_nak_sends_again(rt: HostRuntime) {
+    let mut gone = ArrayVec::new();
+    let mut end = end_with_embedding();
+    gives(&rt, &mut end, &COMMAND_FRAME);
+    assert_eq!(rt; end.on_tick(&mut gone), Turn::Still);
+    assert_eq!(rt; end.on_tick(&mut gone), Turn::Ask);
+    gives(&rt, &mut end, &[0x10, 0x05]);
+    assert_eq!(rt; hears(&mut end, &[0x10, 0x15]).0, Act::PeerNak);
+    gives(&rt, &mut end, &COMMAND_FRAME);
+    assert_eq!(rt; end.on_tick(&mut gone), Turn::Still);
+    assert_eq!(rt; end.on_tick(&mut gone), Turn::Failed(News::Undelivered(1)));
+    assert!(rt; end.quiet());
+    end.host_mut().waits = true;
+    assert!(rt; end.host().waits);
+    gives(&rt, &mut end, &COMMAND_FRAME);
+}

@@ -36,5 +36,5 @@ returns-in-Sending-clause-no_more g c =
     let sends : phase_of c.self.inside.sender ≡ phase.Sending = search rules in
     let ready = is_some (g.H.Host.next_body c.self.inside.host) in
     let no_more : most_left g.H.Host after ≤ most_left g.H.Host before =
-    rw c.frame-in-Sending.ensures (begin-fewer c.self.inside.mouth c.deref-in-Sending.result.now (phase_of c.self.inside.sender) (phase_of c.self.inside.sender) ready ready none (search rules) (rw sends refl)) in
+    rw c.frame-in-Sending.ensures (begin-fewer c.self.inside.mouth c.body-in-Sending.result.now (phase_of c.self.inside.sender) (phase_of c.self.inside.sender) ready ready none (search rules) (rw sends refl)) in
     subst (λ (e : EndState g.row.H.Denot). most_left g.H.Host after ≤ most_left g.H.Host e) c.self.view_is no_more
