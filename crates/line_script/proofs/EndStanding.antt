@@ -1,15 +1,14 @@
 -- What is known of an end is such as its plan may have.
-use Rattle.std.proofs.Common.{◌≡◌, ℕ, ◌<◌, ◌≤◌, Bool, true, false, cond, List, [], ◌∷◌, ◌++◌, length, find, Option, Some, None, refl, sym, ◌∙◌, ap, subst, arith, nat_le, nat_lt, eqb, append_assoc, append-nil, length-append, is_none, ◌+◌}
-use Rattle.std.specs.Prelude.{IsTrue, ◌&&◌, All, unwrap_or}
+use Rattle.std.proofs.Common.{◌≡◌, ℕ, ◌<◌, Bool, true, false, cond, List, [], ◌∷◌, ◌++◌, length, find, Option, Some, None, refl, arith, nat_le, nat_lt, eqb, append_assoc, append-nil, length-append, is_none, ◌+◌}
+use Rattle.std.specs.Prelude.{IsTrue, All, unwrap_or}
 use Rattle.std.specs.List.{list_any}
 use Rattle.std.specs.Option.{option_or, option_map_or}
-use Rattle.std.proofs.lemmas.Bool.{cond_both}
 use Rattle.std.proofs.lemmas.Bool.Decides.{nat_tests}
 use Rattle.std.proofs.lemmas.List.Elements.{All-nil, All-push, All-weaker}
 use Rattle.std.proofs.lemmas.List.Folds.{find-append}
 use Rattle.df1_node.specs.declared.file_spec.FileSpec.{FileSpec}
 use Rattle.df1_node.specs.declared.tables.MakeFault.{MakeFault}
-use Rattle.df1_node.specs.declared.tables.MakeFault.TheVariants.{TooMany, Empty, Large, Twice}
+use Rattle.df1_node.specs.declared.tables.MakeFault.TheVariants.{TooMany}
 use Rattle.df1_node.specs.Tables.{faults, first_fault, fault_of, has_word, word_count}
 use Rattle.line_script.specs.declared.script.Who.{Who}
 use Rattle.line_script.specs.declared.script.WordOf.{WordOf}

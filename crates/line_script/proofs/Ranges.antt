@@ -1,5 +1,5 @@
 -- A statement has its values within their ranges.
-use Rattle.std.proofs.Common.{◌≡◌, ℕ, ◌<◌, ◌≤◌, Bool, true, false, cond, List, [], ◌∷◌, length, position, take, drop, Option, Some, None, option_map, refl, arith, nat_le, eqb}
+use Rattle.std.proofs.Common.{◌≡◌, ℕ, ◌<◌, Bool, true, false, List, [], ◌∷◌, length, position, take, drop, Option, Some, None, option_map, arith, nat_le, eqb}
 use Rattle.std.specs.Prelude.{IsTrue, ◌&&◌, codes, if◌then◌else◌}
 use Rattle.std.specs.Str.{bytes_eq}
 use Rattle.std.proofs.lemmas.Bool.{cond_both}

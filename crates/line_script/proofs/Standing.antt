@@ -1,9 +1,7 @@
 -- What the lines so far say can be played.
-use Rattle.std.proofs.Common.{◌≡◌, ℕ, ◌+◌, ◌-◌, ◌<◌, ◌≤◌, Bool, true, false, cond, List, [], ◌∷◌, ◌++◌, length, find, Option, Some, None, Result, Ok, Err, refl, sym, ◌∙◌, ap, subst, arith, nat_le, nat_lt, eqb, append-nil, is_none, is_some}
+use Rattle.std.proofs.Common.{◌≡◌, ℕ, ◌+◌, ◌-◌, ◌<◌, ◌≤◌, Bool, true, false, cond, List, [], ◌∷◌, ◌++◌, length, Option, Some, None, Result, Ok, Err, refl, subst, arith, nat_le, nat_lt, eqb, append-nil}
 use Rattle.std.specs.Prelude.{IsTrue, IfOk, MatchResult, ◌||◌, All, sum_by, count_by, if◌then◌else◌}
-use Rattle.std.specs.List.{list_any}
-use Rattle.std.specs.Option.{option_map_or, option_to_list}
-use Rattle.std.proofs.lemmas.Bool.{cond_both}
+use Rattle.std.specs.Option.{option_to_list}
 use Rattle.std.proofs.lemmas.Bool.Decides.{nat_tests}
 use Rattle.std.proofs.lemmas.List.Elements.{All-nil, All-push}
 use Rattle.std.proofs.lemmas.List.Sums.{sum_by-append}
@@ -12,13 +10,11 @@ use Rattle.line_script.specs.declared.cause.ScriptFault.{ScriptFault}
 use Rattle.line_script.specs.declared.cause.Cause.TheVariants as cause
 use Rattle.line_script.specs.declared.script.Who.{Who}
 use Rattle.line_script.specs.declared.script.Who.TheVariants as who
-use Rattle.line_script.specs.declared.script.WordOf.{WordOf}
 use Rattle.line_script.specs.declared.script.Event.{Event}
 use Rattle.line_script.specs.declared.script.Event.TheVariants as event
 use Rattle.line_script.specs.declared.script.Script.{Script}
 use Rattle.line_script.specs.declared.statement.Side.{Side}
 use Rattle.line_script.specs.declared.statement.Side.TheVariants.{A, B}
-use Rattle.line_script.specs.declared.statement.EndName.{EndName}
 use Rattle.line_script.specs.declared.statement.EndName.TheVariants.{Known, Absent}
 use Rattle.line_script.specs.declared.statement.Verb.{Verb}
 use Rattle.line_script.specs.declared.statement.Verb.TheVariants.{Take, Tick, Deliver, Lose}
@@ -26,14 +22,14 @@ use Rattle.line_script.specs.declared.statement.Statement.{Statement}
 use Rattle.line_script.specs.declared.statement.Statement.TheVariants.{Mode, Check, Set, File, Word, Issue, Times, Alter, Foreign, End}
 use Rattle.line_script.specs.declared.reader.Stage.{Stage}
 use Rattle.line_script.specs.declared.reader.Reader.{Reader}
-use Rattle.line_script.specs.Drafts.{fresh, end_at, is_misplaced, is_missing, is_out_of_range, is_twice, is_spent, is_too_many, is_full, declared, first_of, cause_of, steps_of, stage_after, settled, counted, event_of, times_event, with_statement, unless_wrong, after_statement}
-use Rattle.line_script.specs.Lines.{TextLine, is_ended, is_passed_over, reaches_limit, is_long, content, after_form, after_words, after_line, finished, script_with, lines_from}
+use Rattle.line_script.specs.Drafts.{fresh, is_misplaced, is_missing, is_out_of_range, is_twice, is_spent, is_too_many, first_of, cause_of, settled, counted, times_event, with_statement, unless_wrong}
+use Rattle.line_script.specs.Lines.{TextLine, is_ended, is_passed_over, reaches_limit, is_long, content, after_form, after_words, after_line, script_with, lines_from}
 use Rattle.line_script.specs.Refusal.{IsRefused}
 use Rattle.line_script.specs.Playable.{IsBetween, IsPossible, IsPlayable, issues, count_of, joins}
 use Rattle.line_script.specs.ScriptText.{at_line, with_event, script_from, script_of, parts}
 use Rattle.line_script.specs.Statements.{who_of, other_end, is_payload, statement_of}
 use Rattle.line_script.specs.Words.{words}
-use Rattle.line_script.proofs.Ranges.{IfBetween, IsSound, IfSound, IfSound-statement_of}
+use Rattle.line_script.proofs.Ranges.{IsSound, IfSound, IfSound-statement_of}
 use Rattle.line_script.proofs.EndStanding.{IsRight, right_at_first, right_with_setting, right_with_commands, right_with_file, right_with_word, plan_is_right}
 
 pub record Stands (d : Reader) (events : List Event) : Type 0 where

@@ -1,5 +1,5 @@
 -- What the lines so far say of one end, and the plan that it makes.
-use Rattle.std.specs.Prelude.{ℕ, Bool, false, [], Option, Some, None, is_some, unwrap_or}
+use Rattle.std.specs.Prelude.{ℕ, Bool, false, [], Some, None, is_some, unwrap_or}
 use Rattle.line_script.specs.declared.script.Who.{Who}
 use Rattle.line_script.specs.declared.script.EndPlan.{EndPlan}
 use Rattle.line_script.specs.declared.set_line.Setting.{Setting}

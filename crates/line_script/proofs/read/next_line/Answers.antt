@@ -1,4 +1,4 @@
-use Rattle.std.proofs.Common.{◌+◌, ◌-◌, sym, arith, length, drop, eqb}
+use Rattle.std.proofs.Common.{sym, arith, eqb}
 use Rattle.std.proofs.lemmas.Grind.{common_steps}
 use Rattle.line_script.proofs.Cuts.{split-at, split-none}
 use Rattle.line_script.proofs.read.next_line.Goals as goal
