@@ -1,0 +1,30 @@
+use Rattle.std.specs.List.{flat_map}
+use Rattle.std.proofs.lemmas.Result.{on_ok_weaker}
+use Rattle.line_report.specs.Report.{report, line_text, word_text, deceived_text}
+use Rattle.line_report.proofs.Writing.{wrote_three, part_first, part_second, part_third}
+use Rattle.line_report.proofs.printing.put_report.Goals as goal
+
+pub returns-in_err-put_lines-clause-part : goal.returns-in_err-put_lines-clause-part
+unfolding report
+returns-in_err-put_lines-clause-part g c =
+    let r = c.args.record_of.now in
+    part_first _ _ c.args.buffer.now (flat_map line_text r.lines) (flat_map word_text r.words) (deceived_text r.deceived) (rw c.as_slice.ensures at c.put_lines.ensures.part)
+
+pub returns-in_err-put_words-clause-part : goal.returns-in_err-put_words-clause-part
+unfolding report
+returns-in_err-put_words-clause-part g c =
+    let r = c.args.record_of.now in
+    part_second _ _ _ c.args.buffer.now (flat_map line_text r.lines) (flat_map word_text r.words) (deceived_text r.deceived) _ (rw c.as_slice.ensures at c.in_ok-put_lines.ensures.ok) (rw c.as_slice-2.ensures at c.put_words.ensures.part)
+
+pub returns-clause-ok : goal.returns-clause-ok
+unfolding report
+returns-clause-ok g c =
+    let r = c.args.record_of.now in
+    on_ok_weaker c.put_deceived.result
+    (λ put. wrote_three _ _ _ _ c.args.buffer.now (flat_map line_text r.lines) (flat_map word_text r.words) (deceived_text r.deceived) _ _ _ (rw c.as_slice.ensures at c.in_ok-put_lines.ensures.ok) (rw c.as_slice-2.ensures at c.in_ok-put_words.ensures.ok) put) c.put_deceived.ensures.ok
+
+pub returns-clause-part : goal.returns-clause-part
+unfolding report
+returns-clause-part g c =
+    let r = c.args.record_of.now in
+    part_third _ _ _ _ c.args.buffer.now (flat_map line_text r.lines) (flat_map word_text r.words) (deceived_text r.deceived) _ _ (rw c.as_slice.ensures at c.in_ok-put_lines.ensures.ok) (rw c.as_slice-2.ensures at c.in_ok-put_words.ensures.ok) c.put_deceived.ensures.part

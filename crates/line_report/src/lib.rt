@@ -1,0 +1,14 @@
+//! The report of a replay: what the ends of the line sent, executed and were told, event by event, the words that
+//! their data files hold in the end, and how often an end was deceived; and its text.
+#![tactic(auto)]
+
+mod digits;
+mod printing;
+mod record;
+mod short;
+
+pub use printing::{print, put_line};
+pub use record::{Line, Lines, Record};
+
+#[cfg(test)]
+mod tests;
