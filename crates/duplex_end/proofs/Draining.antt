@@ -9,7 +9,7 @@ use Rattle.duplex_sender.specs.declared.Phase.TheVariants as phase
 use Rattle.duplex_sender.specs.Sender.{SenderState, Activity, Idle, Sending, Waiting, phase_of, body_of, sent_last}
 use Rattle.embedded_response.specs.Giving.{Giving, Choice, Second, Respond, Give, Enquire, chosen, given, take}
 use Rattle.duplex_end.specs.End.{EndState, after_out, ends_here, begun_at, begun_next, prepared, given_next, end_after_take, out_at_take}
-use Rattle.duplex_end.specs.Joined.{Joined, most_left}
+use Rattle.duplex_end.specs.Joined.{Joined, IsShort, most_left}
 use Rattle.duplex_end.specs.Emission.{Take, end_after_all, emission, takes, drain, BodiesFit}
 use Rattle.duplex_end.proofs.Joining.{begin-fewer, begin-gives, take-fewer, most}
 use Rattle.duplex_end.proofs.Runs.{next-fits, prepared-joined, signal-joined}
@@ -73,12 +73,12 @@ prepared-no-more m e fits = chosen-no-more m e (chosen e.mouth) refl fits
 pub take-lowers : {H : Type 0} (m : Ghosts H) (e : EndState H) → Joined e.mouth e.sender → BodiesFit m e → IsSome (out_at_take m e) → most_left m (end_after_take m e) + 1 ≤ most_left m e
 take-lowers m e j fits some =
     let p = prepared m e in
-    let fewer : most_left m (given_next p) + 1 ≤ most_left m p = take-fewer p.mouth p.sender (is_some (m.next_body p.host)) (prepared-joined m e (is_none (chosen e.mouth)) j fits) some in
+    let fewer : most_left m (given_next p) + 1 ≤ most_left m p = take-fewer p.mouth p.sender (is_some (m.next_body p.host)) (prepared-joined m e (is_none (chosen e.mouth)) j) some in
     let no_more = prepared-no-more m e fits in
     omega (arith, fewer, no_more)
 
-pub most-left : {H : Type 0} (m : Ghosts H) (e : EndState H) → Joined e.mouth e.sender → most_left m e ≤ 511
-most-left m e j = most e.mouth e.sender (is_some (m.next_body e.host)) j
+pub most-left : {H : Type 0} (m : Ghosts H) (e : EndState H) → IsShort e.mouth → most_left m e ≤ 511
+most-left m e short = most e.mouth e.sender (is_some (m.next_body e.host)) short
 
 -- ---- the bodies still fit after a take
 
@@ -127,15 +127,15 @@ drained-by m (suc n) e None is j fits left = rw (quiet-takes m e (suc n) (rw is 
 drained-by m (suc n) e (Some out) is j fits left =
     let after = end_after_take m e in
     let fewer = take-lowers m e j fits (rw is refl) in
-    drained-by m n after (out_at_take m after) refl (signal-joined m e Take j fits) (take-fits m e fits) (omega (arith, fewer, left))
+    drained-by m n after (out_at_take m after) refl (signal-joined m e Take j) (take-fits m e fits) (omega (arith, fewer, left))
 
 -- after as many takes as bytes are left, nothing is to be given
 pub drained : {H : Type 0} (m : Ghosts H) (e : EndState H) (n : ℕ) → Joined e.mouth e.sender → BodiesFit m e → most_left m e ≤ n → IsNone (out_at_take m (end_after_all m e (takes n)))
 drained m e n j fits left = drained-by m n e (out_at_take m e) refl j fits left
 
-pub drain-ends : {H : Type 0} (m : Ghosts H) (e : EndState H) → Joined e.mouth e.sender → BodiesFit m e → IsNone (out_at_take m (end_after_all m e drain))
+pub drain-ends : {H : Type 0} (m : Ghosts H) (e : EndState H) → Joined e.mouth e.sender → IsShort e.mouth → BodiesFit m e → IsNone (out_at_take m (end_after_all m e drain))
 unfolding drain
-drain-ends m e j fits = drained m e 511 j fits (most-left m e j)
+drain-ends m e j short fits = drained m e 511 j fits (most-left m e short)
 
 given-by : {H : Type 0} (m : Ghosts H) (n : ℕ) (e : EndState H) (out : Option Out) → out_at_take m e ≡ out → Joined e.mouth e.sender → BodiesFit m e → length (emission m e (takes n)) ≤ most_left m e
 given-by m zero e out is j fits = omega arith
@@ -146,7 +146,7 @@ given-by {H} m (suc n) e None is j fits =
 given-by m (suc n) e (Some out) is j fits =
     let after = end_after_take m e in
     let fewer = take-lowers m e j fits (rw is refl) in
-    let rest = given-by m n after (out_at_take m after) refl (signal-joined m e Take j fits) (take-fits m e fits) in
+    let rest = given-by m n after (out_at_take m after) refl (signal-joined m e Take j) (take-fits m e fits) in
     let one : length (option_to_list (out_at_take m e)) ≡ 1 = rw is refl in
     omega (arith, fewer, rest, one, length-append (option_to_list (out_at_take m e)) (emission m after (takes n)))
 

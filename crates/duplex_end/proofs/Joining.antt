@@ -15,7 +15,7 @@ use Rattle.duplex_sender.specs.declared.Limits.{Limits}
 use Rattle.duplex_sender.specs.Sender.{SenderState, Activity, Idle, Sending, Waiting, phase_of, sent_last}
 use Rattle.embedded_response.specs.Giving.{Giving, Choice, Second, Respond, Give, Enquire, begin, is_begun, chosen, first_there, may_embed, given, take, unit_out, plain, code_of, one_if, bytes_left}
 use Rattle.duplex_end.specs.End.{after_out, ends_here}
-use Rattle.duplex_end.specs.Joined.{LastEnds, Joined}
+use Rattle.duplex_end.specs.Joined.{LastEnds, Joined, IsShort}
 use Rattle.duplex_end.proofs.FrameUnits.{units-last, units-length}
 use Rattle.duplex_end.proofs.Choices.{Chosen, is-chosen}
 
@@ -24,11 +24,10 @@ pub none-left : (g : Giving) → chosen g ≡ None → g.left ≡ []
 none-left g e = (subst (Chosen g.second g.waiting g.left g.asking) e (is-chosen g)).2
 
 -- a frame that is begun joins the sender that sends it
-pub begin-joined : (g : Giving) (before s : SenderState) (body : List ℕ) → Joined g before → phase_of s ≡ phase.Sending → length body ≤ 250 → Joined (begin g body) s
-begin-joined g before s body j sends fits = record {
+pub begin-joined : (g : Giving) (before s : SenderState) (body : List ℕ) → Joined g before → phase_of s ≡ phase.Sending → Joined (begin g body) s
+begin-joined g before s body j sends = record {
   second_is_plain = j.second_is_plain;
   last_ends = units-last g.check body;
-  fits = units-length g.check body fits;
   sends = λ _. sends;
 }
 
@@ -57,36 +56,50 @@ pub take-sends : (g : Giving) (s : SenderState) → Joined g s → IsTrue (ends_
 take-sends g s j ends = given-sends g s (chosen g) j (is-chosen g) ends
 
 -- where a unit is given, the rest of its frame stays the sender's
-unit-joined : (g : Giving) (s : SenderState) (unit : Given) (rest : List Given) (second : Option ℕ) → unit.second ≡ second → LastEnds (unit ∷ rest) → length (bytes_of (unit ∷ rest)) ≤ 506 → phase_of s ≡ phase.Sending
+unit-joined : (g : Giving) (s : SenderState) (unit : Given) (rest : List Given) (second : Option ℕ) → unit.second ≡ second → LastEnds (unit ∷ rest) → phase_of s ≡ phase.Sending
     → Joined (record g { left = rest; gap = unit.gap; second = (unit_out unit second g.begun).1 }) (after_out (Some (unit_out unit second g.begun).0) s)
-unit-joined g s unit [] None e ends fits sends = record { second_is_plain = λ out is. absurd cc; last_ends = tt; fits = omega arith; sends = λ begun. absurd cc }
-unit-joined g s unit [] (Some code) e ends fits sends = absurd (let none = ends.1 in cc)
-unit-joined g s unit (next ∷ more) None e ends fits sends = record {
+unit-joined g s unit [] None e ends sends = record { second_is_plain = λ out is. absurd cc; last_ends = tt; sends = λ begun. absurd cc }
+unit-joined g s unit [] (Some code) e ends sends = absurd (let none = ends.1 in cc)
+unit-joined g s unit (next ∷ more) None e ends sends = record {
   second_is_plain = λ out is. absurd cc;
   last_ends = ends.1;
-  fits = omega (arith, length-append (unit_bytes unit) (bytes_of (next ∷ more)), fits);
   sends = λ begun. rw ends.0 sends;
 }
-unit-joined g s unit (next ∷ more) (Some code) e ends fits sends = record {
+unit-joined g s unit (next ∷ more) (Some code) e ends sends = record {
   second_is_plain = λ out is. let same : plain code ≡ out = cc in subst (λ (o : Out). o.last_of ≡ None) same refl;
   last_ends = ends.1;
-  fits = omega (arith, length-append (unit_bytes unit) (bytes_of (next ∷ more)), fits);
   sends = λ begun. sends;
 }
 
 given-joined : (g : Giving) (s : SenderState) (c : Option Choice) → Joined g s → Chosen g.second g.waiting g.left g.asking c → Joined (given g c).0 (after_out (given g c).1 s)
 given-joined g s None j h = j
-given-joined g s (Some (Second out)) j h = rw (not-last out s (second-plain g s out j h)) (record { second_is_plain = λ o is. absurd cc; last_ends = j.last_ends; fits = j.fits; sends = j.sends })
-given-joined g s (Some (Respond r)) j h = record { second_is_plain = λ out is. let same : plain (code_of r) ≡ out = cc in subst (λ (o : Out). o.last_of ≡ None) same refl; last_ends = j.last_ends; fits = j.fits; sends = j.sends }
+given-joined g s (Some (Second out)) j h = rw (not-last out s (second-plain g s out j h)) (record { second_is_plain = λ o is. absurd cc; last_ends = j.last_ends; sends = j.sends })
+given-joined g s (Some (Respond r)) j h = record { second_is_plain = λ out is. let same : plain (code_of r) ≡ out = cc in subst (λ (o : Out). o.last_of ≡ None) same refl; last_ends = j.last_ends; sends = j.sends }
 given-joined g s (Some (Give unit)) j h =
     let rest = h.1.0 in
     let is = h.1.1 in
-    rw is (unit-joined g s unit rest unit.second refl (subst LastEnds is j.last_ends) (subst (λ (l : List Given). length (bytes_of l) ≤ 506) is j.fits) (j.sends (rw is (cons-begun unit h.1.0))))
-given-joined g s (Some Enquire) j h = record { second_is_plain = λ out is. let same : plain 5 ≡ out = cc in subst (λ (o : Out). o.last_of ≡ None) same refl; last_ends = j.last_ends; fits = j.fits; sends = j.sends }
+    rw is (unit-joined g s unit rest unit.second refl (subst LastEnds is j.last_ends) (j.sends (rw is (cons-begun unit h.1.0))))
+given-joined g s (Some Enquire) j h = record { second_is_plain = λ out is. let same : plain 5 ≡ out = cc in subst (λ (o : Out). o.last_of ≡ None) same refl; last_ends = j.last_ends; sends = j.sends }
 
 -- a take leaves the parts joined
 pub take-joined : (g : Giving) (s : SenderState) → Joined g s → Joined (take g).0 (after_out (take g).1 s)
 take-joined g s j = given-joined g s (chosen g) j (is-chosen g)
+
+-- a frame that is begun is short
+pub begin-short : (g : Giving) (body : List ℕ) → length body ≤ 250 → IsShort (begin g body)
+begin-short g body fits = units-length g.check body fits
+
+given-short : (g : Giving) (c : Option Choice) → Chosen g.second g.waiting g.left g.asking c → IsShort g → IsShort (given g c).0
+given-short g None h short = short
+given-short g (Some (Second out)) h short = short
+given-short g (Some (Respond r)) h short = short
+given-short g (Some (Give unit)) h short =
+    let all = subst (λ (l : List Given). length (bytes_of l) ≤ 506) h.1.1 short in
+    rw h.1.1 (omega (arith, length-append (unit_bytes unit) (bytes_of h.1.0), all))
+given-short g (Some Enquire) h short = short
+
+pub take-short : (g : Giving) → IsShort g → IsShort (take g).0
+take-short g short = given-short g (chosen g) (is-chosen g) short
 
 -- ---- how much is left
 
@@ -110,8 +123,8 @@ most-parts second waiting asking [] at ready fits = omega (arith, one_if-most se
 most-parts second waiting asking (unit ∷ rest) at ready fits = rw (cons-begun unit rest) (omega (arith, one_if-most second, one_if-most waiting, one_if-most asking, fits))
 
 -- an end has at most 511 bytes to give
-pub most : (g : Giving) (s : SenderState) (ready : Bool) → Joined g s → bytes_left g + to_come (is_begun g) (phase_of s) ready ≤ 511
-most g s ready j = most-parts (not (is_none g.second)) (not (is_none g.waiting)) g.asking g.left (phase_of s) ready j.fits
+pub most : (g : Giving) (s : SenderState) (ready : Bool) → IsShort g → bytes_left g + to_come (is_begun g) (phase_of s) ready ≤ 511
+most g s ready short = most-parts (not (is_none g.second)) (not (is_none g.waiting)) g.asking g.left (phase_of s) ready short
 
 unit-length : (unit : Given) (rest : List Given) (second : Option ℕ) (number : ℕ) → unit.second ≡ second → length (bytes_of (unit ∷ rest)) ≡ one_if (not (is_none (unit_out unit second number).1)) + length (bytes_of rest) + 1
 unit-length unit rest None number e = rw e (omega (arith, length-append (unit.first ∷ []) (bytes_of rest)))

@@ -1,5 +1,5 @@
 -- An end over lists of signals.
-use Rattle.std.proofs.Common.{◌≡◌, ℕ, ◌≤◌, Bool, true, false, List, [], ◌∷◌, ◌++◌, length, Option, Some, None, is_none, ap, subst, sym, ◌∙◌, refl, arith, append_assoc, append-nil}
+use Rattle.std.proofs.Common.{◌≡◌, ℕ, ◌≤◌, Bool, true, false, List, [], ◌∷◌, ◌++◌, length, Option, Some, None, is_none, ap, subst, sym, ◌∙◌, refl, append_assoc, append-nil}
 use Rattle.std.specs.Prelude.{IfSome, not, ◌&&◌, if◌then◌else◌}
 use Rattle.df1_base.specs.declared.host.Host.{Ghosts}
 use Rattle.df1_base.specs.declared.link.Act.{Act}
@@ -77,18 +77,18 @@ signals-stand m check e bytes before (Take ∷ signals) stands =
 -- ---- the parts stay joined
 
 dropped-joined : (leaves : Bool) (g : Giving) (s : SenderState) → Joined g s → Joined (if leaves then unask g else g) s
-dropped-joined true g s j = record { second_is_plain = j.second_is_plain; last_ends = j.last_ends; fits = j.fits; sends = j.sends }
+dropped-joined true g s j = record { second_is_plain = j.second_is_plain; last_ends = j.last_ends; sends = j.sends }
 dropped-joined false g s j = j
 
 responded-joined : (r : Response) (g : Giving) (s : SenderState) → Joined g s → Joined (elim r [ Offers resp ↦ offer g resp | Forgets ↦ forget g | Again ↦ answer_enq g | Silent ↦ g ]) s
-responded-joined (Offers resp) g s j = record { second_is_plain = j.second_is_plain; last_ends = j.last_ends; fits = j.fits; sends = j.sends }
-responded-joined Forgets g s j = record { second_is_plain = j.second_is_plain; last_ends = j.last_ends; fits = j.fits; sends = j.sends }
-responded-joined Again g s j = record { second_is_plain = j.second_is_plain; last_ends = j.last_ends; fits = j.fits; sends = j.sends }
+responded-joined (Offers resp) g s j = record { second_is_plain = j.second_is_plain; last_ends = j.last_ends; sends = j.sends }
+responded-joined Forgets g s j = record { second_is_plain = j.second_is_plain; last_ends = j.last_ends; sends = j.sends }
+responded-joined Again g s j = record { second_is_plain = j.second_is_plain; last_ends = j.last_ends; sends = j.sends }
 responded-joined Silent g s j = j
 
 asked-joined : (turn : SendTurn) (g : Giving) (s : SenderState) → Joined g s → Joined (asked turn g) s
 asked-joined sends.Still g s j = j
-asked-joined sends.Ask g s j = record { second_is_plain = j.second_is_plain; last_ends = j.last_ends; fits = j.fits; sends = j.sends }
+asked-joined sends.Ask g s j = record { second_is_plain = j.second_is_plain; last_ends = j.last_ends; sends = j.sends }
 asked-joined sends.Failed g s j = j
 
 -- a sender that is in Sending stays there at what is heard and at a tick
@@ -108,7 +108,7 @@ tick-sends limits (Sending body naks enqs) e = e
 tick-sends limits (Waiting body naks enqs left) e = absurd cc
 
 sender-joined : (g : Giving) (s after : SenderState) → Joined g s → (phase_of s ≡ phase.Sending → phase_of after ≡ phase.Sending) → Joined g after
-sender-joined g s after j stays = record { second_is_plain = j.second_is_plain; last_ends = j.last_ends; fits = j.fits; sends = λ begun. stays (j.sends begun) }
+sender-joined g s after j stays = record { second_is_plain = j.second_is_plain; last_ends = j.last_ends; sends = λ begun. stays (j.sends begun) }
 
 heard-joined : (a : Act) (g : Giving) (s : SenderState) → Joined g s → Joined g (sender_after a s)
 heard-joined act.PeerAck g s j = sender-joined g s (on_ack s) j (ack-sends s.limits s.activity)
@@ -132,24 +132,24 @@ tick-joined turn leaves g s j = dropped-joined leaves (asked turn g) (on_tick s)
 pub next-fits : {H : Type 0} (m : Ghosts H) (e : EndState H) (body : List ℕ) → BodiesFit m e → phase_of e.sender ≡ phase.Idle → m.next_body e.host ≡ Some body → length body ≤ 250
 next-fits m e body fits idle next = subst (λ (o : Option (List ℕ)). IfSome o (λ (b : List ℕ). length b ≤ 250)) next (fits.next_fits idle)
 
-begun-joined : {H : Type 0} (m : Ghosts H) (e : EndState H) (at : Phase) (next : Option (List ℕ)) → phase_of e.sender ≡ at → m.next_body e.host ≡ next → Joined e.mouth e.sender → BodiesFit m e
+begun-joined : {H : Type 0} (m : Ghosts H) (e : EndState H) (at : Phase) (next : Option (List ℕ)) → phase_of e.sender ≡ at → m.next_body e.host ≡ next → Joined e.mouth e.sender
     → Joined (begun_at m e at next).mouth (begun_at m e at next).sender
-begun-joined m e phase.Idle None is next j fits = j
-begun-joined m e phase.Idle (Some body) is next j fits = begin-joined e.mouth e.sender (load e.sender body) body j refl (next-fits m e body fits is next)
-begun-joined m e phase.Sending next is same j fits = begin-joined e.mouth e.sender e.sender (body_of e.sender) j is fits.sender_fits
-begun-joined m e phase.Waiting next is same j fits = j
+begun-joined m e phase.Idle None is next j = j
+begun-joined m e phase.Idle (Some body) is next j = begin-joined e.mouth e.sender (load e.sender body) body j refl
+begun-joined m e phase.Sending next is same j = begin-joined e.mouth e.sender e.sender (body_of e.sender) j is
+begun-joined m e phase.Waiting next is same j = j
 
-pub prepared-joined : {H : Type 0} (m : Ghosts H) (e : EndState H) (idle : Bool) → Joined e.mouth e.sender → BodiesFit m e → Joined (if idle then begun_next m e else e).mouth (if idle then begun_next m e else e).sender
-prepared-joined m e true j fits = begun-joined m e (phase_of e.sender) (m.next_body e.host) refl refl j fits
-prepared-joined m e false j fits = j
+pub prepared-joined : {H : Type 0} (m : Ghosts H) (e : EndState H) (idle : Bool) → Joined e.mouth e.sender → Joined (if idle then begun_next m e else e).mouth (if idle then begun_next m e else e).sender
+prepared-joined m e true j = begun-joined m e (phase_of e.sender) (m.next_body e.host) refl refl j
+prepared-joined m e false j = j
 
-pub signal-joined : {H : Type 0} (m : Ghosts H) (e : EndState H) (signal : Letter) → Joined e.mouth e.sender → BodiesFit m e → Joined (end_after m e signal).mouth (end_after m e signal).sender
-signal-joined m e (Byte b) j fits = byte-joined (act_of_byte m e b) (is_waiting (phase_of e.sender) && not (is_waiting (phase_of (sender_after (act_of_byte m e b) e.sender)))) e.mouth e.sender j
-signal-joined m e Tick j fits = tick-joined (tick_turn e.sender) (is_waiting (phase_of e.sender) && not (is_waiting (phase_of (on_tick e.sender)))) e.mouth e.sender j
-signal-joined m e Take j fits = take-joined (prepared m e).mouth (prepared m e).sender (prepared-joined m e (is_none (chosen e.mouth)) j fits)
+pub signal-joined : {H : Type 0} (m : Ghosts H) (e : EndState H) (signal : Letter) → Joined e.mouth e.sender → Joined (end_after m e signal).mouth (end_after m e signal).sender
+signal-joined m e (Byte b) j = byte-joined (act_of_byte m e b) (is_waiting (phase_of e.sender) && not (is_waiting (phase_of (sender_after (act_of_byte m e b) e.sender)))) e.mouth e.sender j
+signal-joined m e Tick j = tick-joined (tick_turn e.sender) (is_waiting (phase_of e.sender) && not (is_waiting (phase_of (on_tick e.sender)))) e.mouth e.sender j
+signal-joined m e Take j = take-joined (prepared m e).mouth (prepared m e).sender (prepared-joined m e (is_none (chosen e.mouth)) j)
 
 pub new-joined : {H : Type 0} (setup : Setup) (host : H) → Joined (new_end setup host).mouth (new_end setup host).sender
-new-joined setup host = record { second_is_plain = λ out is. absurd cc; last_ends = tt; fits = omega arith; sends = λ begun. absurd cc }
+new-joined setup host = record { second_is_plain = λ out is. absurd cc; last_ends = tt; sends = λ begun. absurd cc }
 
 -- a new end stands for no byte
 start-stands : (check : Check) (N : ℕ) → Stands check N [] [] (record { decoding = record { check = check; standing = Outside }; kept = None })

@@ -62,6 +62,7 @@ fate_at _ s = None
 abbrev pub responded : Act → Giving → Giving
 responded a g = elim (response_for a) [ Offers r ↦ offer g r | Forgets ↦ forget g | Again ↦ answer_enq g | Silent ↦ g ]
 
+-- a response is waited for
 abbrev pub is_waiting : Phase → Bool
 is_waiting phase.Waiting = true
 is_waiting _ = false
@@ -113,7 +114,7 @@ receiver_after m e b = after_byte (m.room_for e.host) 250 e.receiver b
 abbrev pub host_at_byte : {H : Type 0} → Ghosts H → EndState H → ℕ → H
 host_at_byte m e b = host_after m (act_of_byte m e b) e.host (body_at (receiver_after m e b))
 
--- first the act's effect, then the fate is told
+-- the end after a byte: first the act's effect, then the fate is told
 abbrev pub end_after_byte : {H : Type 0} → Ghosts H → EndState H → ℕ → EndState H
 end_after_byte m e b =
     let what = act_of_byte m e b in
@@ -160,7 +161,7 @@ turn_told m sends.Failed host = turn.Failed (m.news host fate.Undelivered)
 abbrev pub host_at_tick : {H : Type 0} → Ghosts H → EndState H → H
 host_at_tick m e = host_told m (fate_of_tick (tick_turn e.sender)) e.host
 
--- first the sender's tick, then the host's
+-- the end after a tick: first the sender's tick, then the host's
 abbrev pub end_after_tick : {H : Type 0} → Ghosts H → EndState H → EndState H
 end_after_tick m e = record {
   receiver = e.receiver;
@@ -195,6 +196,7 @@ begun_at m e phase.Idle (Some body) = transmitted (loaded m e body) body
 begun_at m e phase.Sending next = transmitted e (body_of e.sender)
 begun_at m e phase.Waiting next = e
 
+-- the frame that is next is begun, if there is one
 abbrev pub begun_next : {H : Type 0} → Ghosts H → EndState H → EndState H
 begun_next m e = begun_at m e (phase_of e.sender) (m.next_body e.host)
 
@@ -206,6 +208,7 @@ prepared m e = if is_none (chosen e.mouth) then begun_next m e else e
 abbrev pub given_next : {H : Type 0} → EndState H → EndState H
 given_next e = record { receiver = e.receiver; sender = after_out (take e.mouth).1 e.sender; mouth = (take e.mouth).0; sending = e.sending; host = e.host }
 
+-- the end after a take
 abbrev pub end_after_take : {H : Type 0} → Ghosts H → EndState H → EndState H
 end_after_take m e = given_next (prepared m e)
 

@@ -15,12 +15,15 @@ LastEnds [] = Unit {0}
 LastEnds (unit ∷ []) = (unit.last ≡ true) × (unit.second ≡ None)
 LastEnds (unit ∷ next ∷ more) = (unit.last ≡ false) × LastEnds (next ∷ more)
 
--- what is to be given, beside the sender: a pair's second byte ends no transmission; a frame that is begun ends with its last byte, has at most 506 bytes, and is the sender's
+-- what is to be given, beside the sender: a pair's second byte ends no transmission; a frame that is begun ends with its last byte, and is the sender's
 pub record Joined (g : Giving) (s : SenderState) : Type 0 where
   pub second_is_plain : ForSome g.second (λ out. out.last_of ≡ None)
   pub last_ends : LastEnds g.left
-  pub fits : length (bytes_of g.left) ≤ 506
   pub sends : is_begun g ≡ true → phase_of s ≡ phase.Sending
+
+-- what is left of a frame has at most 506 bytes
+abbrev pub IsShort : Giving → Type 0
+IsShort g = length (bytes_of g.left) ≤ 506
 
 -- at most so many bytes of a frame that isn't begun: one of a sender that sends, or of a host that is ready
 abbrev pub frame_to_come : {H : Type 0} → Ghosts H → EndState H → ℕ

@@ -4,7 +4,7 @@ ghost use Rattle.std.specs.Prelude.{◌≡◌, ◌≤◌, ◌+◌, ◌∷◌, �
 ghost use Rattle.duplex_receiver.specs.Hearing.{Stands};
 ghost use Rattle.duplex_end.specs.declared.Setup.{Setup as Settings};
 ghost use Rattle.duplex_end.specs.End.{EndState, new_end, end_after_take, out_at_take};
-ghost use Rattle.duplex_end.specs.Joined.{Joined, most_left};
+ghost use Rattle.duplex_end.specs.Joined.{Joined, IsShort, most_left};
 ghost use Rattle.duplex_end.specs.Emission.{Letter, Take, end_after, given_at, end_after_all, emission, bytes_among, hearings, takes, drain, BodiesFit};
 
 use df1_base::Host;
@@ -24,7 +24,7 @@ pub fn hears_what_the_grammar_hears<H: Host>()
 /// A frame that is begun stays the sender's, over every signal.
 pub fn parts_stay_joined<H: Host>()
     ensures start { (setup : Settings) (host : H) → Joined (new_end setup host).mouth (new_end setup host).sender }
-    ensures goes_on { (e : EndState H) (signal : Letter) → Joined e.mouth e.sender → BodiesFit H.Host e → Joined (end_after H.Host e signal).mouth (end_after H.Host e signal).sender }
+    ensures goes_on { (e : EndState H) (signal : Letter) → Joined e.mouth e.sender → Joined (end_after H.Host e signal).mouth (end_after H.Host e signal).sender }
 {}
 
 /// Where nothing is to be given, takes change nothing. A take that gives a byte leaves fewer, of at most 511. After as many
@@ -33,8 +33,8 @@ pub fn a_drain_ends<H: Host>()
     ensures quiet { (e : EndState H) → IsNone (out_at_take H.Host e) → end_after_take H.Host e ≡ e }
     ensures fewer { (e : EndState H) → Joined e.mouth e.sender → BodiesFit H.Host e → IsSome (out_at_take H.Host e) → most_left H.Host (end_after_take H.Host e) + 1 ≤ most_left H.Host e }
     ensures fits { (e : EndState H) → BodiesFit H.Host e → BodiesFit H.Host (end_after_take H.Host e) }
-    ensures most { (e : EndState H) → Joined e.mouth e.sender → most_left H.Host e ≤ 511 }
+    ensures most { (e : EndState H) → IsShort e.mouth → most_left H.Host e ≤ 511 }
     ensures ends { (e : EndState H) (n : ℕ) → Joined e.mouth e.sender → BodiesFit H.Host e → most_left H.Host e ≤ n → IsNone (out_at_take H.Host (end_after_all H.Host e (takes n))) }
     ensures gives { (e : EndState H) (n : ℕ) → Joined e.mouth e.sender → BodiesFit H.Host e → length (emission H.Host e (takes n)) ≤ most_left H.Host e }
-    ensures drained { (e : EndState H) → Joined e.mouth e.sender → BodiesFit H.Host e → IsNone (out_at_take H.Host (end_after_all H.Host e drain)) }
+    ensures drained { (e : EndState H) → Joined e.mouth e.sender → IsShort e.mouth → BodiesFit H.Host e → IsNone (out_at_take H.Host (end_after_all H.Host e drain)) }
 {}

@@ -65,13 +65,13 @@ pub struct End<H: Host + Drop> {
 
 impl<H: Host + Drop> Model for End<H> {
     ghost use Rattle.duplex_end.specs.End.{EndState};
-    ghost use Rattle.duplex_end.specs.Joined.{Joined};
+    ghost use Rattle.duplex_end.specs.Joined.{Joined, IsShort};
 
     ghost Value = { EndState H };
 
     ghost view = { λ e. record { receiver = e.receiver; sender = e.sender; mouth = e.mouth; sending = e.sending.items; host = e.host } };
 
-    ghost invariant = { λ e. Joined e.mouth e.sender };
+    ghost invariant = { λ e. Joined e.mouth e.sender × IsShort e.mouth };
 }
 
 impl<H: Host + Drop> End<H> {

@@ -5,17 +5,17 @@ use Rattle.duplex_sender.specs.Sender.{phase_of}
 use Rattle.embedded_response.specs.Giving.{chosen}
 use Rattle.duplex_end.specs.End.{EndState}
 use Rattle.duplex_end.specs.Joined.{most_left}
-use Rattle.duplex_end.proofs.Joining.{none-left, begin-joined, begin-fewer}
+use Rattle.duplex_end.proofs.Joining.{none-left, begin-joined, begin-short, begin-fewer}
 use Rattle.duplex_end.proofs.End.begin_next.Goals as goal
 
 pub frame-requires-in-Sending-clause-none_begun : goal.frame-requires-in-Sending-clause-none_begun
 frame-requires-in-Sending-clause-none_begun g c = none-left c.self.inside.mouth (subst (λ (e : EndState g.row.H.Denot). chosen e.mouth ≡ None) (sym c.self.view_is) c.requires)
 
 pub invariant_of-self-in-Sending : goal.invariant_of-self-in-Sending
-invariant_of-self-in-Sending g c = rw c.frame-in-Sending.ensures (begin-joined c.self.inside.mouth c.self.inside.sender c.self.inside.sender _ c.self.invariant (search rules) (search rules))
+invariant_of-self-in-Sending g c = rw c.frame-in-Sending.ensures (begin-joined c.self.inside.mouth c.self.inside.sender c.self.inside.sender _ c.self.invariant.0 (search rules), begin-short c.self.inside.mouth _ (search rules))
 
 pub invariant_of-self : goal.invariant_of-self
-invariant_of-self g c = rw c.frame.ensures (begin-joined c.self.inside.mouth c.self.inside.sender _ _ c.self.invariant (search rules) (search rules))
+invariant_of-self g c = rw c.frame.ensures (begin-joined c.self.inside.mouth c.self.inside.sender _ _ c.self.invariant.0 (search rules), begin-short c.self.inside.mouth _ (search rules))
 
 pub returns-then-ready-clause-no_more : goal.returns-then-ready-clause-no_more
 returns-then-ready-clause-no_more g c =
