@@ -1,0 +1,8 @@
+use Rattle.df1_tool.proofs.Limits.{exact_status}
+use Rattle.df1_tool.proofs.top.run.Goals as goal
+
+pub returns-clause-exact : goal.returns-clause-exact
+returns-clause-exact g c =
+    let e = c.perform-ended.ensures in
+    λ no_input no_output no_note all told. exact_status _ all _ _ _ _ _ _ _ _ c.perform-ended.result c.tell-status.result
+    (record { usage = e.usage; done = e.done; refusal = e.refusal; failed_input = e.input; failed_output = e.output }) c.tell-status.ensures.status no_input no_output no_note told
