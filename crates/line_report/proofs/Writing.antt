@@ -1,5 +1,5 @@
 -- A text that is written item by item.
-use Rattle.std.proofs.Common.{◌≡◌, ℕ, ◌+◌, ◌<◌, List, [], ◌∷◌, ◌++◌, length, take, drop, ◌≤◌, Option, get_or, sym, ap, ◌∙◌, subst, append_assoc, append-nil, take-append-drop, refl}
+use Rattle.std.proofs.Common.{◌≡◌, ℕ, ◌+◌, ◌<◌, List, ◌++◌, length, take, drop, ◌≤◌, Option, get_or, sym, ap, ◌∙◌, append_assoc, append-nil, take-append-drop, refl}
 use Rattle.std.specs.List.{flat_map}
 use Rattle.std.proofs.lemmas.Grind.{flat_map-append}
 use Rattle.std.proofs.lemmas.List.{take_all, take_more}

@@ -1,4 +1,4 @@
-use Rattle.std.proofs.Common.{◌≡◌, ◌∷◌, [], ◌/◌, ◌%◌, ◌<◌, ℕ, arith, rules, refl}
+use Rattle.std.proofs.Common.{◌≡◌, ◌∷◌, [], ◌/◌, ◌%◌, ◌<◌, arith, rules, refl}
 use Rattle.hex.specs.Hex.{encode_lower, encode_with}
 use Rattle.line_report.proofs.Pairs.{raised}
 use Rattle.line_report.proofs.digits.pair.Goals as goal

@@ -1,4 +1,3 @@
-use Rattle.std.proofs.Common.{◌≡◌, []}
 use Rattle.std.proofs.lemmas.Result.{on_ok_weaker}
 use Rattle.df1_base.proofs.Laws.{put_rest, part_rest}
 use Rattle.line_report.proofs.printing.print.Goals as goal
