@@ -1,7 +1,7 @@
-pub mod Arrivals
-pub mod AtMostOnce
-pub mod Cuts
-pub mod Forms
-pub mod Fronts
-pub mod Reading
-pub mod Writing
+pub mod Dealing
+pub mod Idle
+pub mod Issuing
+pub mod Playing
+pub mod Rising
+pub mod Stepping
+pub mod Taking

@@ -1,8 +1,6 @@
-pub mod Digits
-pub mod Once
-pub mod Playable
-pub mod Refusal
-pub mod Report
+pub mod Acts
+pub mod Deception
+pub mod NodeHost
+pub mod Plays
 pub mod Run
-pub mod ScriptText
-pub mod Words
+pub mod Steps

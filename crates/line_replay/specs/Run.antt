@@ -1,150 +1,172 @@
--- The run of a script: what each event leaves, and the lines of the report that it makes.
-use Rattle.std.specs.Prelude.{ℕ, ◌+◌, Bool, true, false, not, ◌&&◌, List, [], ◌∷◌, ◌++◌, length, take, drop, slice_index, Option, Some, None, map, zero, suc, ◌==◌, if◌then◌else◌}
+-- The run of a script: its first state, what each event leaves, the lines of the report that it makes, and the record.
+use Rattle.std.specs.Prelude.{ℕ, ◌+◌, List, [], ◌∷◌, ◌++◌, map, replicate, Option, Some, None, zero, suc, ◌==◌, slice_index_or, if◌then◌else◌}
 use Rattle.std.specs.List.{flat_map}
-use Rattle.std.specs.Option.{option_to_list}
-use Rattle.df1_check.specs.declared.Check.TheVariants.{Bcc}
-use Rattle.df1_frame.specs.declared.heard.Heard.{Heard}
-use Rattle.df1_frame.specs.declared.heard.Heard.TheVariants as heard
-use Rattle.df1_frame.specs.Units.{units, bytes_of}
-use Rattle.df1_frame.specs.Standing.{Outside, Decoding, lent_at}
-use Rattle.df1_frame.specs.Step.{next}
-use Rattle.pccc_envelope.specs.Envelope.{is_reply}
-use Rattle.df1_node.specs.declared.file_spec.FileSpec.{FileSpec}
-use Rattle.df1_node.specs.Tables.{DataTables, fresh, word_at, word_count}
-use Rattle.df1_node.specs.Answer.{StationState, after_answer}
-use Rattle.line_replay.specs.declared.script.Who.TheVariants.{A, B}
-use Rattle.line_replay.specs.declared.script.Event.{Event}
-use Rattle.line_replay.specs.declared.script.Event.TheVariants as event
-use Rattle.line_replay.specs.declared.script.Script.{Script}
-use Rattle.line_replay.specs.declared.report.Line.{Line}
-use Rattle.line_replay.specs.declared.report.Line.TheVariants as line
-use Rattle.line_replay.specs.declared.report.WordOf.{WordOf}
-use Rattle.line_replay.specs.declared.report.Record.{Record}
+use Rattle.df1_check.specs.declared.Check.{Check}
+use Rattle.df1_node.specs.declared.handed.Handed.TheVariants as handed
+use Rattle.df1_node.specs.Tables.{DataTables, fresh, has_word, with_word, word_at, word_count}
+use Rattle.df1_node.specs.Answer.{StationState, fits_compat}
+use Rattle.df1_node.specs.Node.{NodeState}
+use Rattle.duplex_sender.specs.declared.Limits.{Limits}
+use Rattle.duplex_end.specs.declared.Setup.{Setup}
+use Rattle.duplex_end.specs.End.{new_end}
+use Rattle.line_script.specs.declared.script.Who.{Who}
+use Rattle.line_script.specs.declared.script.Who.TheVariants.{A, B, M, S}
+use Rattle.line_script.specs.declared.script.Event.{Event}
+use Rattle.line_script.specs.declared.script.Event.TheVariants as event
+use Rattle.line_script.specs.declared.script.EndPlan.{EndPlan}
+use Rattle.line_script.specs.declared.script.Script.{Script}
+use Rattle.line_script.specs.declared.script.WordOf.{WordOf}
+use Rattle.line_script.specs.Plans.{plan_of, fresh_end}
+use Rattle.line_report.specs.declared.record.Line.{Line}
+use Rattle.line_report.specs.declared.record.Line.TheVariants as line
+use Rattle.line_report.specs.declared.record.Record.{Record}
+use Rattle.line_replay.specs.Acts.{SideState, LineState, swapped, Deed, Issue, Take, Deliver, Lose, Alter, Foreign, Tick, after_deeds, lines_over, given_over}
 
--- ---- the two ends and what lies between them
+-- ---- the first state
 
--- end b: its decoder and its station
-pub record Hearing : Type 0 where
-  pub decoding : Decoding
-  pub station : StationState
+-- a word has its first value, where there is such a word
+abbrev pub with_first : DataTables → WordOf → DataTables
+with_first tables w = if has_word tables.specs w.file w.index then with_word tables w.file w.index w.value else tables
 
--- the bytes that end a has still to give, those on their way, and end b
-pub record State : Type 0 where
-  pub left : List ℕ
-  pub lane : List ℕ
-  pub b : Hearing
+abbrev pub with_all : DataTables → List WordOf → DataTables
+with_all tables [] = tables
+with_all tables (w ∷ words) = with_all (with_first tables w) words
 
--- the body of end a's command: DST 1, SRC 0, CMD, STS 0, TNS 1 low byte first, and the rest of the payload
-abbrev pub command_body : List ℕ → List ℕ
-command_body payload = 1 ∷ 0 ∷ slice_index payload 0 ∷ 0 ∷ 1 ∷ 0 ∷ drop 1 payload
+-- the tables of an end before anything happens: its files, with the first values of their words
+abbrev pub first_tables : EndPlan → DataTables
+first_tables plan = with_all (fresh plan.files) plan.words
 
--- the bodies that end a sends: its command, if there is one
-abbrev pub issued_by : List ℕ → List (List ℕ)
-issued_by [] = []
-issued_by (cmd ∷ rest) = command_body (cmd ∷ rest) ∷ []
+-- the compatibility file, where it is one of the files and holds bits or integers
+abbrev pub first_compat : EndPlan → Option ℕ
+first_compat plan = if fits_compat (first_tables plan).specs plan.compat then plan.compat else None
 
-abbrev pub issued : Script → List (List ℕ)
-issued script = issued_by script.payload
+abbrev pub first_station : EndPlan → StationState
+first_station plan = record { tables = first_tables plan; compat = first_compat plan; block = plan.block }
 
--- the bytes of their frames
-abbrev pub frames : List (List ℕ) → List ℕ
-frames bodies = flat_map (λ body. bytes_of (units Bcc body)) bodies
+abbrev pub first_node : EndPlan → NodeState
+first_node plan = record {
+  room = plan.room;
+  station = first_station plan;
+  replies = [];
+  initiator = record { node = plan.node; tns = plan.tns; reply_ticks = plan.reply_ticks; issued = [] };
+  last = handed.Nothing;
+}
 
--- the tables of end b before anything happens: its data file, all words 0
-abbrev pub first_tables : Script → DataTables
-first_tables script = fresh (option_to_list script.file)
+abbrev pub limits_of : EndPlan → Limits
+limits_of plan = record { ack_ticks = plan.ack_ticks; max_naks = plan.max_naks; max_enqs = plan.max_enqs }
 
-abbrev pub start : Script → State
+abbrev pub setup_of : Check → EndPlan → Setup
+setup_of check plan = record { check = check; embed = plan.embed; limits = limits_of plan }
+
+abbrev pub first_side : Check → EndPlan → SideState
+first_side check plan = record { end = new_end (setup_of check plan) (first_node plan); lane = [] }
+
+-- the plan of end a, and of end b; where a script has none, an end is as it is where no line tells of it
+abbrev pub plan_of_a : Script → EndPlan
+plan_of_a script = slice_index_or script.ends 0 (plan_of A 0 fresh_end)
+
+abbrev pub plan_of_b : Script → EndPlan
+plan_of_b script = slice_index_or script.ends 1 (plan_of B 1 fresh_end)
+
+abbrev pub start : Script → LineState
 start script = record {
-  left = frames (issued script);
-  lane = [];
-  b = record {
-    decoding = record { check = Bcc; standing = Outside };
-    station = record { tables = first_tables script; compat = None; block = [] };
-  };
+  a = first_side script.check (plan_of_a script);
+  b = first_side script.check (plan_of_b script);
+  deceived = 0;
 }
-
--- ---- one byte that arrives
-
-abbrev pub is_good : Option Heard → Bool
-is_good (Some heard.Good) = true
-is_good other = false
-
--- the body that is lent after a byte
-abbrev pub body_at : Hearing → ℕ → List ℕ
-body_at b byte = lent_at (next 250 b.decoding byte).0.standing
-
--- a whole frame is heard at the byte, and its body is a command
-abbrev pub executes : Hearing → ℕ → Bool
-executes b byte = is_good (next 250 b.decoding byte).1 && not (is_reply (body_at b byte))
-
-abbrev pub after_byte : Hearing → ℕ → Hearing
-after_byte b byte = record {
-  decoding = (next 250 b.decoding byte).0;
-  station = if executes b byte then after_answer b.station (body_at b byte) else b.station;
-}
-
--- the bodies that a byte makes the station execute
-abbrev pub executed_at : Hearing → ℕ → List (List ℕ)
-executed_at b byte = if executes b byte then body_at b byte ∷ [] else []
-
-abbrev pub after_bytes : Hearing → List ℕ → Hearing
-after_bytes b [] = b
-after_bytes b (byte ∷ bytes) = after_bytes (after_byte b byte) bytes
-
-abbrev pub executed_by : Hearing → List ℕ → List (List ℕ)
-executed_by b [] = []
-executed_by b (byte ∷ bytes) = executed_at b byte ++ executed_by (after_byte b byte) bytes
 
 -- ---- events
 
-abbrev pub after_event : State → Event → State
-after_event s (event.Take who n) = record { left = drop n s.left; lane = s.lane ++ take n s.left; b = s.b }
-after_event s (event.Deliver lane n) = record { left = s.left; lane = drop n s.lane; b = after_bytes s.b (take n s.lane) }
+-- the end at which an event happens, or from which its bytes come
+abbrev pub who_of : Event → Who
+who_of (event.Issue who dst payload) = who
+who_of (event.Take who n) = who
+who_of (event.Deliver lane n) = lane.from
+who_of (event.Lose lane n) = lane.from
+who_of (event.Alter lane mask) = lane.from
+who_of (event.Foreign lane bytes) = lane.from
+who_of (event.Tick who n) = who
 
--- what was given at once
-abbrev pub sent_line : List ℕ → List Line
-sent_line [] = []
-sent_line (byte ∷ bytes) = line.Sent A (byte ∷ bytes) ∷ []
+-- the unit steps of an event
+abbrev pub deeds_of : Event → List Deed
+deeds_of (event.Issue who dst payload) = Issue dst payload ∷ []
+deeds_of (event.Take who n) = replicate n Take
+deeds_of (event.Deliver lane n) = replicate n Deliver
+deeds_of (event.Lose lane n) = replicate n Lose
+deeds_of (event.Alter lane mask) = Alter mask ∷ []
+deeds_of (event.Foreign lane bytes) = map Foreign bytes
+deeds_of (event.Tick who n) = replicate n Tick
 
-abbrev pub lines_of : State → Event → List Line
-lines_of s (event.Take who n) = sent_line (take n s.left)
-lines_of s (event.Deliver lane n) = map (line.Exec B) (executed_by s.b (take n s.lane))
+-- the other end
+abbrev pub other : Who → Who
+other A = B
+other B = A
+other M = M
+other (S station) = S station
 
-abbrev pub state_after : State → List Event → State
+-- the line, looked at from this end
+abbrev pub seen_from : Who → LineState → LineState
+seen_from A s = s
+seen_from B s = swapped s
+seen_from M s = s
+seen_from (S station) s = s
+
+abbrev pub after_event : LineState → Event → LineState
+after_event s e = seen_from (who_of e) (after_deeds (seen_from (who_of e) s) (deeds_of e))
+
+-- the bytes that an end gave at one event, if it gave one
+abbrev pub sent_lines : Who → List ℕ → List Line
+sent_lines who [] = []
+sent_lines who (byte ∷ bytes) = line.Sent who (byte ∷ bytes) ∷ []
+
+-- the lines of unit steps at an end, and then its bytes
+abbrev pub deed_lines : Who → LineState → List Deed → List Line
+deed_lines who s deeds = lines_over who (other who) s deeds ++ sent_lines who (given_over s.a deeds)
+
+abbrev pub lines_of : LineState → Event → List Line
+lines_of s e = deed_lines (who_of e) (seen_from (who_of e) s) (deeds_of e)
+
+abbrev pub state_after : LineState → List Event → LineState
 state_after s [] = s
 state_after s (e ∷ events) = state_after (after_event s e) events
 
-abbrev pub lines_after : State → List Event → List Line
+abbrev pub lines_after : LineState → List Event → List Line
 lines_after s [] = []
 lines_after s (e ∷ events) = lines_of s e ++ lines_after (after_event s e) events
 
 -- the last state of a run
-abbrev pub last_state : Script → State
+abbrev pub last_state : Script → LineState
 last_state script = state_after (start script) script.events
 
--- the tables of end b in the end
-abbrev pub last_tables : Script → DataTables
-last_tables script = (last_state script).b.station.tables
-
--- ---- the record of a run
+-- ---- the record
 
 -- a word of a file, if it isn't 0
-abbrev pub word_line : ℕ → ℕ → Option ℕ → List WordOf
-word_line number index None = []
-word_line number index (Some value) =
-    if value == 0 then [] else record { who = B; file = number; index = index; value = value } ∷ []
+abbrev pub word_line : Who → ℕ → ℕ → Option ℕ → List WordOf
+word_line who number index None = []
+word_line who number index (Some value) =
+    if value == 0 then [] else record { who = who; file = number; index = index; value = value } ∷ []
 
 -- so many words of a file, from an index on
-abbrev pub words_from : DataTables → ℕ → ℕ → ℕ → List WordOf
-words_from tables number index zero = []
-words_from tables number index (suc more) =
-    word_line number index (word_at tables number index) ++ words_from tables number (index + 1) more
+abbrev pub words_from : Who → DataTables → ℕ → ℕ → ℕ → List WordOf
+words_from who tables number index zero = []
+words_from who tables number index (suc more) =
+    word_line who number index (word_at tables number index) ++ words_from who tables number (index + 1) more
 
 -- the words that aren't 0: files in their order, words rising
-abbrev pub words_of : DataTables → List WordOf
-words_of tables = flat_map (λ spec. words_from tables spec.number 0 (word_count spec)) tables.specs
+abbrev pub words_of : Who → DataTables → List WordOf
+words_of who tables = flat_map (λ spec. words_from who tables spec.number 0 (word_count spec)) tables.specs
 
--- the record of a script's run: on this line no byte is altered or foreign, so nobody is deceived
-abbrev pub record_of : Script → Record
-record_of script = record { lines = lines_after (start script) script.events; words = words_of (last_tables script); deceived = 0 }
+-- the tables of an end
+abbrev pub tables_of : SideState → DataTables
+tables_of side = side.end.host.station.tables
+
+-- the words of both ends
+abbrev pub all_words : LineState → List WordOf
+all_words s = words_of A (tables_of s.a) ++ words_of B (tables_of s.b)
+
+abbrev pub record_from : LineState → List Line → Record
+record_from s lines = record { lines = lines; words = all_words s; deceived = s.deceived }
+
+-- the record of a script's run
+unfoldable pub record_of : Script → Record
+record_of script = record_from (last_state script) (lines_after (start script) script.events)

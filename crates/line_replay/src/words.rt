@@ -1,52 +1,53 @@
-//! Words of a script line, and the numbers that they are.
-ghost use Rattle.std.specs.Prelude.{◌≡◌, ◌≤◌, ◌==◌, map, IfOk, IfSome};
-ghost use Rattle.std.specs.Str.{bytes_eq};
-ghost use Rattle.line_replay.specs.Words.{words, number_of, within};
+//! The words that are not 0 in the end.
 
-use std::alloc::{AllocError, Global};
+ghost use Rattle.std.specs.Prelude.{◌≡◌, ◌++◌, OnOk};
+ghost use Rattle.df1_node.specs.Tables.{word_at, word_count};
+ghost use Rattle.line_replay.specs.Run.{word_line, words_from, words_of};
 
-/// The most decimal digits that a number has.
-const DIGITS: usize = 9;
+use df1_base::NoMemory;
+use df1_node::{FileSpec, Tables};
+use line_script::{Who, WordOf, Words};
 
-/// The words of a line, parted by one blank each.
-pub(crate) fn words_of(alloc: Global, line: &[u8]) -> Result<Vec<&[u8]>, AllocError>
-    ensures { IfOk result (λ v. map (λ x. x.now) v.items ≡ words line.now) }
+/// Adds the words of an end that aren't 0: files in their order, words rising.
+pub(crate) fn push_all(who: Who, tables: &Tables, words: &mut Words) -> Result<(), NoMemory>
+    ensures { OnOk result (words.new ≡ words.old ++ words_of who tables.now) }
 {
-    line.split(|b| *b == b' ').collect(alloc)
+    for place in 0..tables.files() {
+        let Some(spec) = tables.spec_at(place) else {
+            unreachable!();
+        };
+        push_file(who, tables, spec, words)?;
+    }
+    Ok(())
 }
 
-/// The number that a word of 1 to 9 decimal digits is. Leading zeros are digits like others.
-#[tactic(auto, unfolding(crate::specs::Words::number_of))]
-pub(crate) fn number_of(word: &[u8]) -> Option<u32>
-    ensures { result ≡ number_of word.now }
+/// Adds the words of a file that aren't 0.
+fn push_file(who: Who, tables: &Tables, spec: FileSpec, words: &mut Words) -> Result<(), NoMemory>
+    ensures { OnOk result (words.new ≡ words.old ++ words_from who tables.now spec.number 0 (word_count spec)) }
 {
-    if word.is_empty() || word.len() > DIGITS {
-        return None;
+    for index in 0..spec.words() {
+        push_word(who, tables, spec.number, index, words)?;
     }
-    let mut value = 0;
-    for byte in word {
-        if !byte.is_ascii_digit() {
-            return None;
-        }
-        value = value * 10 + u32::from(byte - b'0');
-    }
-    Some(value)
+    Ok(())
 }
 
-/// A number that stands within these bounds.
-pub(crate) fn within(least: u32, most: u32, number: Option<u32>) -> Option<u32>
-    ensures value { result ≡ within least most number }
-    ensures bounds { IfSome result (λ n. (least ≤ n) × (n ≤ most)) }
+/// Adds a word of a file, unless it is 0.
+fn push_word(
+    who: Who,
+    tables: &Tables,
+    file: u16,
+    index: u32,
+    words: &mut Words,
+) -> Result<(), NoMemory>
+    ensures { OnOk result (words.new ≡ words.old ++ word_line who file index (word_at tables.now file index)) }
 {
-    match number {
-        Some(n) if least <= n && n <= most => Some(n),
-        _ => None,
+    match tables.word(file, index) {
+        Some(value) if value != 0 => words.push(WordOf {
+            who,
+            file,
+            index,
+            value,
+        }),
+        _ => Ok(()),
     }
-}
-
-/// Whether a word is this text.
-pub(crate) fn is(word: &[u8], text: &str) -> bool
-    ensures { result ≡ bytes_eq word.now text.now }
-{
-    word == text.as_bytes()
 }

@@ -1,212 +1,144 @@
-//! The world of a script: end a gives the frame of its command, the lane carries it, end b hears it.
-ghost use Rattle.std.specs.Prelude.{◌≡◌, ◌++◌, ◌+◌, ◌≤◌, ◌<◌, [], ◌∷◌, IfOk, OnOk, length, take, drop, map, Option, slice_index};
-ghost use Rattle.std.specs.Option.{option_to_list, ForSome};
-ghost use Rattle.df1_node.specs.Tables.{fresh, word_at, word_count};
-ghost use Rattle.line_replay.specs.declared.report.Line.TheVariants.{Exec};
-ghost use Rattle.line_replay.specs.declared.script.Who.TheVariants.{B};
-ghost use Rattle.line_replay.specs.Run.{after_event, lines_of, sent_line, after_byte, after_bytes, executed_at, executed_by, frames, issued_by, start, words_of, word_line, words_from};
-ghost use Rattle.line_replay.specs.Playable.{IsPlayable};
+//! The world of a script: both ends, what is on its way between them, and what is told so far.
 
-use crate::hearing::Hearing;
-use crate::sending::Sending;
-use crate::{Bytes, Event, Items, Line, Lines, Script, Who, WordOf, Words};
-use arrayvec::ArrayVec;
+ghost use Rattle.std.specs.Prelude.{◌≡◌, ◌++◌, IfOk, OnOk};
+ghost use Rattle.line_script.specs.Playable.{IsPlayable, IsPossible, count_of};
+ghost use Rattle.line_replay.specs.Run.{record_from, all_words, who_of};
+ghost use Rattle.line_replay.specs.Plays.{IsNext, begun, played};
+
+use crate::deal::deal;
+use crate::outset::side_of;
+use crate::side::Side;
+use crate::told::Told;
+use crate::words::push_all;
 use df1_base::NoMemory;
-use df1_node::{FileSpec, MakeFault, Station, Tables};
+use line_report::{Lines, Record};
+use line_script::{Event, Script, Who, Words};
 use std::alloc::Global;
-use std::collections::VecDeque;
 use std::marker::Model;
 
-/// DST of end a's command: the node of end b.
-const DST: u8 = 1;
-
-/// SRC of end a's command: its own node.
-const SRC: u8 = 0;
-
-/// TNS of end a's first command.
-const TNS: u8 = 1;
-
-/// The two ends and what lies between them.
+/// Two ends with their nodes, and the bytes on their way between them. After want of memory it is only dropped.
 #[derive(Drop)]
-pub(crate) struct World {
-    sending: Sending,
-    lane: VecDeque<u8>,
-    b: Hearing,
+pub struct World {
+    alloc: Global,
+    a: Side,
+    b: Side,
+    told: Told,
+    events: u32,
 }
 
 impl Model for World {
+    ghost use Rattle.std.specs.Prelude.{◌≤◌};
     ghost use Rattle.std.specs.Coded.{codes};
-    ghost use Rattle.line_replay.specs.contracts.hearing.Hearing as hearing_row;
-    ghost use Rattle.line_replay.specs.Run.{State};
+    ghost use Rattle.df1_node.specs.contracts.node.Node as node_row;
+    ghost use Rattle.line_replay.specs.Plays.{Played};
 
-    ghost Value = { State };
+    ghost Value = { Played };
 
-    ghost coded = { Prim.hlevel (codes, hearing_row.the_row.coded) };
+    ghost coded = { Prim.hlevel (codes, node_row.the_row.coded) };
 
-    ghost view = { λ w. record { left = w.sending; lane = w.lane.items; b = w.b } };
+    ghost view = { λ w. record { state = record { a = w.a; b = w.b; deceived = w.told.deceived }; lines = w.told.lines; events = w.events } };
+
+    ghost invariant = { λ w. w.told.deceived ≤ w.events };
 }
 
 impl World {
     /// The world before the first event of a script.
     pub fn new(alloc: Global, script: &Script) -> Result<World, NoMemory>
         requires { IsPlayable script.now }
-        ensures { IfOk result (λ world. world ≡ start script.now) }
+        ensures { IfOk result (λ world. world ≡ begun script.now) }
     {
-        let tables = tables_of(alloc, script.file)?;
+        let [a, b] = script.ends.as_slice() else {
+            unreachable!();
+        };
         Ok(World {
-            sending: sending_of(script.payload.as_slice()),
-            lane: VecDeque::new(alloc),
-            b: Hearing::new(Station::new(tables, None, &[])),
+            alloc,
+            a: side_of(alloc, script.check, a)?,
+            b: side_of(alloc, script.check, b)?,
+            told: Told {
+                lines: Lines::new(alloc),
+                deceived: 0,
+            },
+            events: 0,
         })
     }
 
-    /// Does an event, and adds the lines that it makes.
-    pub fn step(&mut self, alloc: Global, event: &Event, lines: &mut Lines) -> Result<(), NoMemory>
-        ensures { IfOk result (λ _. (self.new ≡ after_event self.old event.now) × (lines.new ≡ lines.old ++ lines_of self.old event.now)) }
+    /// Does an event: one that may happen, at the end a or b, which issues at most 65,535 commands; the sum of the
+    /// events, with this one, is at most 5,000,000. An event of `n` steps ends at the first that has nothing to do.
+    pub fn step(&mut self, event: &Event) -> Result<(), NoMemory>
+        requires { IsNext self.old event.now }
+        ensures { OnOk result (self.new ≡ played self.old event.now) }
     {
-        match *event {
-            Event::Take { n, .. } => {
-                let bytes = give(alloc, &mut self.sending, &mut self.lane, n)?;
-                if !bytes.as_slice().is_empty() {
-                    lines.push(Line::Sent { who: Who::A, bytes })?;
-                }
-                Ok(())
-            }
-            Event::Deliver { n, .. } => arrive(alloc, &mut self.lane, &mut self.b, n, lines),
+        let alloc = self.alloc;
+        self.events += count(event);
+        match place(event) {
+            Who::A => deal(
+                alloc,
+                event,
+                Who::A,
+                &mut self.a,
+                &mut self.b,
+                &mut self.told,
+            ),
+            Who::B => deal(
+                alloc,
+                event,
+                Who::B,
+                &mut self.b,
+                &mut self.a,
+                &mut self.told,
+            ),
+            Who::M | Who::S(_) => unreachable!(),
         }
     }
 
-    /// The words of end b's data files that aren't 0.
-    pub fn words(&self, alloc: Global) -> Result<Words, NoMemory>
-        ensures { IfOk result (λ words. words ≡ words_of self.now.b.station.tables) }
+    /// The record of what happened: the lines, the words that aren't 0, and how often an end was deceived.
+    pub fn finish(self) -> Result<Record, NoMemory>
+        ensures { IfOk result (λ r. r ≡ record_from self.state self.lines) }
     {
-        nonzero_words(alloc, self.b.tables())
+        let words = self.words()?;
+        let World { told, .. } = self;
+        Ok(Record {
+            lines: told.lines,
+            words,
+            deceived: told.deceived,
+        })
+    }
+
+    /// The words of both ends that aren't 0.
+    fn words(&self) -> Result<Words, NoMemory>
+        ensures { IfOk result (λ words. words ≡ all_words self.now.state) }
+    {
+        let mut words = Words::new(self.alloc);
+        push_all(Who::A, self.a.tables(), &mut words)?;
+        push_all(Who::B, self.b.tables(), &mut words)?;
+        Ok(words)
     }
 }
 
-/// The tables that a data file makes, if there is one.
-fn tables_of(alloc: Global, file: Option<FileSpec>) -> Result<Tables, NoMemory>
-    requires { ForSome file (λ spec. (1 ≤ spec.count) × (spec.count ≤ 1000)) }
-    ensures { IfOk result (λ tables. tables ≡ fresh (option_to_list file)) }
+/// The end at which an event happens, or from which its bytes come.
+fn place(event: &Event) -> Who
+    ensures { result ≡ who_of event.now }
 {
-    let made = match file {
-        Some(spec) => Tables::new(alloc, &[spec]),
-        None => Tables::new(alloc, &[]),
-    };
-    match made {
-        Ok(tables) => Ok(tables),
-        Err(MakeFault::NoMemory) => Err(NoMemory),
-        Err(_) => unreachable!(),
+    match event {
+        Event::Issue { who, .. } | Event::Take { who, .. } | Event::Tick { who, .. } => *who,
+        Event::Deliver { lane, .. }
+        | Event::Lose { lane, .. }
+        | Event::Alter { lane, .. }
+        | Event::Foreign { lane, .. } => lane.from,
     }
 }
 
-/// The frame of the command with this payload of at most 245 bytes, and nothing where it is empty.
-fn sending_of(payload: &[u8]) -> Sending
-    requires { length payload.now ≤ 245 }
-    ensures { result ≡ frames (issued_by payload.now) }
+/// How many events an event counts.
+fn count(event: &Event) -> u32
+    requires { IsPossible event.now }
+    ensures { result ≡ count_of event.now }
 {
-    let Some((cmd, rest)) = payload.split_first() else {
-        return Sending::nothing();
-    };
-    let mut body = ArrayVec::<u8, 250>::new();
-    body.try_extend_from_slice(&[DST, SRC, *cmd, 0, TNS, 0])
-        .unwrap();
-    body.try_extend_from_slice(rest).unwrap();
-    Sending::frame(&body)
-}
-
-/// Puts up to `n` of the bytes that are left onto the lane, and answers them.
-fn give(
-    alloc: Global,
-    sending: &mut Sending,
-    lane: &mut VecDeque<u8>,
-    n: u32,
-) -> Result<Bytes, NoMemory>
-    ensures given { IfOk result (λ bytes. bytes ≡ take n sending.old) }
-    ensures left { OnOk result (sending.new ≡ drop n sending.old) }
-    ensures lane { OnOk result (lane.new.items ≡ lane.old.items ++ take n sending.old) }
-{
-    let mut bytes = Items::new(alloc);
-    for _ in 0..n {
-        let Some(byte) = sending.next_byte() else {
-            return Ok(bytes);
-        };
-        lane.push_back(byte)?;
-        bytes.push(byte)?;
-    }
-    Ok(bytes)
-}
-
-/// Delivers up to `n` bytes of the lane, and adds a line for each command that is executed.
-fn arrive(
-    alloc: Global,
-    lane: &mut VecDeque<u8>,
-    b: &mut Hearing,
-    n: u32,
-    lines: &mut Lines,
-) -> Result<(), NoMemory>
-    ensures lane { OnOk result (lane.new.items ≡ drop n lane.old.items) }
-    ensures after { OnOk result (b.new ≡ after_bytes b.old (take n lane.old.items)) }
-    ensures lines { OnOk result (lines.new ≡ lines.old ++ map (Exec B) (executed_by b.old (take n lane.old.items))) }
-{
-    for _ in 0..n {
-        let Some(byte) = lane.pop_front() else {
-            return Ok(());
-        };
-        hear(alloc, b, byte, lines)?;
-    }
-    Ok(())
-}
-
-/// Delivers one byte.
-fn hear(alloc: Global, b: &mut Hearing, byte: u8, lines: &mut Lines) -> Result<(), NoMemory>
-    ensures after { OnOk result (b.new ≡ after_byte b.old byte) }
-    ensures lines { OnOk result (lines.new ≡ lines.old ++ map (Exec B) (executed_at b.old byte)) }
-{
-    if b.on_byte(byte) {
-        lines.push(Line::Exec {
-            who: Who::B,
-            body: Bytes::from_slice(alloc, b.body())?,
-        })?;
-    }
-    Ok(())
-}
-
-/// The words that aren't 0: files in their order, words rising.
-fn nonzero_words(alloc: Global, tables: &Tables) -> Result<Words, NoMemory>
-    ensures { IfOk result (λ words. words ≡ words_of tables.now) }
-{
-    let mut words = Items::new(alloc);
-    for place in 0..tables.files() {
-        let Some(spec) = tables.spec_at(place) else {
-            unreachable!();
-        };
-        push_words(tables, spec, &mut words)?;
-    }
-    Ok(words)
-}
-
-/// Adds the words of a file that aren't 0.
-fn push_words(tables: &Tables, spec: FileSpec, words: &mut Words) -> Result<(), NoMemory>
-    ensures { OnOk result (words.new ≡ words.old ++ words_from tables.now spec.number 0 (word_count spec)) }
-{
-    for index in 0..spec.words() {
-        push_word(tables, spec.number, index, words)?;
-    }
-    Ok(())
-}
-
-/// Adds a word of a file, unless it is 0.
-fn push_word(tables: &Tables, file: u16, index: u32, words: &mut Words) -> Result<(), NoMemory>
-    ensures { OnOk result (words.new ≡ words.old ++ word_line file index (word_at tables.now file index)) }
-{
-    match tables.word(file, index) {
-        Some(value) if value != 0 => words.push(WordOf {
-            who: Who::B,
-            file,
-            index,
-            value,
-        }),
-        _ => Ok(()),
+    match event {
+        Event::Issue { .. } | Event::Alter { .. } => 1,
+        Event::Take { n, .. }
+        | Event::Deliver { n, .. }
+        | Event::Lose { n, .. }
+        | Event::Tick { n, .. } => *n,
+        Event::Foreign { bytes, .. } => bytes.as_slice().len() as u32,
     }
 }
