@@ -6,7 +6,7 @@ use Rattle.duplex_sender.specs.declared.Phase.{Phase}
 use Rattle.duplex_sender.specs.declared.Phase.TheVariants as phase
 use Rattle.duplex_sender.specs.Sender.{phase_of, body_of}
 use Rattle.embedded_response.specs.Giving.{Giving, Choice, Second, Respond, Give, Enquire, begin, chosen, given, take}
-use Rattle.duplex_end.specs.End.{EndState, after_out, begun_next, prepared, given_next, end_after_take, out_at_take, transmitted, loaded}
+use Rattle.duplex_end.specs.End.{EndState, after_out, begun_next, prepared, given_next, end_after_take, out_at_take, transmitted, loaded, begun_at}
 use Rattle.duplex_end.proofs.Joining.{none-left}
 
 -- nothing is chosen where nothing is given
@@ -29,15 +29,8 @@ given-none : {H : Type 0} (e : EndState H) → chosen e.mouth ≡ None → given
 unfolding given_by
 given-none e none = ap (given_by e) none
 
--- what is begun, by the phase and the host's message
-abbrev pub begun_by : {H : Type 0} → Ghosts H → EndState H → Phase → Option (List ℕ) → EndState H
-begun_by m e p next = elim p [
-  | phase.Idle ↦ elim next [ None ↦ e | Some body ↦ transmitted (loaded m e body) body ]
-  | phase.Sending ↦ transmitted e (body_of e.sender)
-  | phase.Waiting ↦ e
-]
 
-begun-none : {H : Type 0} (m : Ghosts H) (e : EndState H) (p : Phase) (next : Option (List ℕ)) → chosen (begun_by m e p next).mouth ≡ None → begun_by m e p next ≡ e
+begun-none : {H : Type 0} (m : Ghosts H) (e : EndState H) (p : Phase) (next : Option (List ℕ)) → chosen (begun_at m e p next).mouth ≡ None → begun_at m e p next ≡ e
 begun-none m e phase.Idle None none = refl
 begun-none m e phase.Idle (Some body) none = absurd (frame-chosen e.mouth body none)
 begun-none m e phase.Sending next none = absurd (frame-chosen e.mouth (body_of e.sender) none)

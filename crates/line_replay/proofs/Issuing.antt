@@ -18,7 +18,7 @@ use Rattle.duplex_sender.specs.declared.Phase.{Phase}
 use Rattle.duplex_sender.specs.declared.Phase.TheVariants as phase
 use Rattle.duplex_sender.specs.Sender.{phase_of, tick_turn}
 use Rattle.embedded_response.specs.Giving.{chosen}
-use Rattle.duplex_end.specs.End.{EndState, end_after_byte, end_after_tick, end_after_take, host_after, host_told, host_at_byte, act_of_byte, receiver_after, fate_at, fate_of_tick, begun_next, prepared}
+use Rattle.duplex_end.specs.End.{EndState, end_after_byte, end_after_tick, end_after_take, host_after, host_told, host_at_byte, act_of_byte, receiver_after, fate_at, fate_of_tick, begun_next, prepared, begun_at}
 use Rattle.line_script.specs.declared.script.Who.{Who}
 use Rattle.line_script.specs.declared.script.Who.TheVariants.{A, B, M, S}
 use Rattle.line_script.specs.declared.script.Event.{Event}
@@ -30,7 +30,6 @@ use Rattle.line_replay.specs.NodeHost.{node_host}
 use Rattle.line_replay.specs.Acts.{SideState, LineState, swapped, Deed, Issue, Take, Deliver, Lose, Alter, Foreign, Tick, near_after, arriving, after_arrival, after_deed, after_deeds}
 use Rattle.line_replay.specs.Run.{seen_from, after_event}
 use Rattle.line_replay.specs.Plays.{issued_by}
-use Rattle.line_replay.proofs.Idle.{begun_by}
 
 -- ---- tests
 
@@ -116,7 +115,7 @@ byte-commands e b =
 pub tick-commands : (e : EndState NodeState) → commands (end_after_tick node_host e).host ≡ commands e.host
 tick-commands e = ticked-length _ ∙ host-told (fate_of_tick (tick_turn e.sender)) e.host
 
-begun-commands : (p : Phase) (next : Option (List ℕ)) (e : EndState NodeState) → commands (begun_by node_host e p next).host ≡ commands e.host
+begun-commands : (p : Phase) (next : Option (List ℕ)) (e : EndState NodeState) → commands (begun_at node_host e p next).host ≡ commands e.host
 begun-commands phase.Idle None e = refl
 begun-commands phase.Idle (Some body) e = next-commands e.host
 begun-commands phase.Sending next e = refl

@@ -57,7 +57,7 @@ pub(crate) fn deal(
             near.alter(*mask);
             Ok(())
         }
-        Event::Foreign { bytes, .. } => { intrude(alloc, other(who), far, bytes.as_slice(), told) }
+        Event::Foreign { bytes, .. } => intrude(alloc, other(who), far, bytes.as_slice(), told),
         Event::Tick { n, .. } => pass(who, near, *n, &mut told.lines),
     }
 }
