@@ -34,15 +34,15 @@ answered_all words bytes text left left' held held' is took all some put = elim 
 pub refused_all : (bytes : List ℕ) (left left' : Option (List ℕ)) (line : ℕ) (fault : Cause) → Took left left' bytes → IsAllOrOver left' bytes → script_of bytes ≡ Err (line, fault) → Refused left left' line fault
 refused_all bytes left left' line fault took all refused = elim all [
   | inl end ↦ record {
-      bytes = bytes;
-      took = took;
-      refused = λ more none. let nothing : more ≡ [] = none end in rw (nothing, append-nil bytes) refused;
-    }
+    bytes = bytes;
+    took = took;
+    refused = λ more none. let nothing : more ≡ [] = none end in rw (nothing, append-nil bytes) refused;
+  }
   | inr over ↦ record {
-      bytes = bytes;
-      took = took;
-      refused = λ more none. let same = refused_over bytes more over in same.3 ∙ sym same.2 ∙ refused;
-    }
+    bytes = bytes;
+    took = took;
+    refused = λ more none. let same = refused_over bytes more over in same.3 ∙ sym same.2 ∙ refused;
+  }
 ]
 
 whole : (bytes all : List ℕ) (left left' : Option (List ℕ)) → left ≡ Some all → Took left left' bytes → (rest : List ℕ) × (left' ≡ Some rest) × (all ≡ bytes ++ rest)
@@ -54,15 +54,15 @@ pub part_all : (words : List (List ℕ)) (bytes all : List ℕ) (left left' held
 part_all words bytes all left left' held held' is told took reached part =
     let w = whole bytes all left left' told took in
     rw (answer_is words all is) (elim reached [
-    | inl end ↦
-        let nothing : w.0 ≡ [] = end w.0 w.1 in
-        let same : all ≡ bytes = w.2 ∙ rw (nothing) (append-nil bytes) in
-        rw same part
-    | inr over ↦
-        let fault = refused_over bytes w.0 over in
-        let none : replayed all ≡ None = ap report_of (ap script_of w.2 ∙ fault.3) in
-        let none' : replayed bytes ≡ None = ap report_of fault.2 in
-        rw none (rw none' at part)
+      | inl end ↦
+          let nothing : w.0 ≡ [] = end w.0 w.1 in
+          let same : all ≡ bytes = w.2 ∙ rw (nothing) (append-nil bytes) in
+          rw same part
+      | inr over ↦
+          let fault = refused_over bytes w.0 over in
+          let none : replayed all ≡ None = ap report_of (ap script_of w.2 ∙ fault.3) in
+          let none' : replayed bytes ≡ None = ap report_of fault.2 in
+          rw none (rw none' at part)
     ])
 
 pub only_form : (form : Form) → form ≡ Replay

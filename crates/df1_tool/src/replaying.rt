@@ -11,11 +11,7 @@ use line_replay::{ScriptFault, print, read_script, replay};
 use std::alloc::Global;
 
 /// Runs a script and writes its report.
-pub(crate) fn answer<K: Sink>(
-    alloc: Global,
-    input: &[u8],
-    out: &mut K,
-) -> Result<(), Trouble>
+pub(crate) fn answer<K: Sink>(alloc: Global, input: &[u8], out: &mut K) -> Result<(), Trouble>
     ensures done { OnOk result ((text : List ℕ) × (replayed input.now ≡ Some text) × Put (K.held out.old) (K.held out.new) text) }
     ensures refusal { IfErr result (TellsRefusal (λ line cause. (script_of input.now ≡ Err (line, cause)) × (out.new ≡ out.old))) }
     ensures output { IsErrOf result Trouble.Output → Rose (K.faults out.old) (K.faults out.new) }

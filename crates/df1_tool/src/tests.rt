@@ -75,10 +75,7 @@ fn a_script_is_played_and_reported(rt: HostRuntime) -> Result<(), Fail> {
             "a sent 100201000F000100AA0207890000341210036D\nb exec 01000F000100AA02078900003412\nb word 7 0 1234\ndeceived 0\n",
         ),
         // Nothing happens.
-        played(
-            "end\n",
-            "deceived 0\n",
-        ),
+        played("end\n", "deceived 0\n"),
         // An ordinary exchange.
         played(
             "file b 7 89 16\nai 0FAA02078900003412\nak 99\nad 99\nbk 99\nbd 99\nak 99\nad 99\nend\n",
@@ -161,7 +158,10 @@ fn a_run_that_does_not_end_well_tells_why(rt: HostRuntime) -> Result<(), Fail> {
         // A word that is no line.
         refused("zz", "df1: line 1: form\n"),
         // A second file.
-        refused("file b 7 89 16\nfile b 7 89 16\nend\n", "df1: line 2: twice\n"),
+        refused(
+            "file b 7 89 16\nfile b 7 89 16\nend\n",
+            "df1: line 2: twice\n",
+        ),
         // Other words.
         Case {
             words: &["replay", "now"],

@@ -29,7 +29,6 @@ given-none : {H : Type 0} (e : EndState H) → chosen e.mouth ≡ None → given
 unfolding given_by
 given-none e none = ap (given_by e) none
 
-
 begun-none : {H : Type 0} (m : Ghosts H) (e : EndState H) (p : Phase) (next : Option (List ℕ)) → chosen (begun_at m e p next).mouth ≡ None → begun_at m e p next ≡ e
 begun-none m e phase.Idle None none = refl
 begun-none m e phase.Idle (Some body) none = absurd (frame-chosen e.mouth body none)

@@ -27,7 +27,8 @@ mod world;
 
 pub use line_report::{Line, Lines, Record, print};
 pub use line_script::{
-    Bytes, Cause, EndPlan, Ends, Event, Events, Items, Lane, Script, ScriptFault, Specs, Who, WordOf, Words, read_script,
+    Bytes, Cause, EndPlan, Ends, Event, Events, Items, Lane, Script, ScriptFault, Specs, Who,
+    WordOf, Words, read_script,
 };
 pub use play::replay;
 pub use world::World;
