@@ -134,7 +134,7 @@ fn a_script_is_played_and_reported(rt: HostRuntime) -> Result<(), Fail> {
         // Too many ENQs.
         played(
             "set b.max_enqs 0\nai 060055\nak 13\nad 13\nbk 99\nbt 10\nend\n",
-            "a sent 100201000600010000551003A3\nb exec 0100060001000055\nb sent 100610020001460001000055100363\nb dropped\ndeceived 0\n",
+            "a sent 100201000600010000551003A3\nb exec 0100060001000055\nb sent 1006100200014600010055100363\nb dropped\ndeceived 0\n",
         ),
         // No room.
         played(
