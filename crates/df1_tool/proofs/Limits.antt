@@ -15,7 +15,7 @@ use Rattle.df1_tool.specs.Outcome.{Answered, Refused, TellsRefusal}
 abbrev pub IsAllOrOver : Option (List ℕ) → List ℕ → Type 0
 IsAllOrOver left' bytes = IsAtEnd left' ⊎ (16777216 < length bytes)
 
-answer_is : (words : List (List ℕ)) (input : List ℕ) → form_of words ≡ Some Replay → answer_of words input ≡ replayed input
+pub answer_is : (words : List (List ℕ)) (input : List ℕ) → form_of words ≡ Some Replay → answer_of words input ≡ replayed input
 unfolding answer
 answer_is words input is = rw is refl
 

@@ -1,2 +1,3 @@
 pub mod Outcome
+pub mod Replayed
 pub mod Tool

@@ -8,10 +8,12 @@
 //! | 4 | only where the input's count of faults rose |
 //! | 5 | only where the count of faults of the output, or of the note, rose |
 //! | 7 | want of memory |
-ghost use Rattle.std.specs.Prelude.{◌≡◌, ◌⊎◌, ◌↔◌, ◌≤◌, List, ℕ, [], None, Ok, map, unwrap_or, string_bytes, OnOk, IfErr, IsErrOf, ◌≢◌, MatchResult};
+ghost use Rattle.std.specs.Prelude.{◌≡◌, ◌⊎◌, ◌↔◌, ◌≤◌, List, ℕ, [], None, Ok, map, unwrap_or, string_bytes, OnOk, IfErr, IsErrOf, ◌≢◌, MatchResult, Some};
 ghost use Rattle.std.specs.Option.{ForSome};
 ghost use Rattle.df1_base.specs.Outside.{Rose, Put, WrotePart};
 ghost use Rattle.df1_tool.specs.Outcome.{Answered, Refused, TellsRefusal};
+ghost use Rattle.df1_tool.specs.Replayed.{Replayed};
+ghost use Rattle.df1_tool.specs.declared.form.Form.TheVariants.{Replay};
 ghost use Rattle.df1_tool.specs.Tool.{answer_of, form_of as the_form, IsStatus, line_note, note_at, note_of, status_of, status_for};
 ghost use Rattle.line_script.specs.declared.cause.Cause.{Cause as Fault};
 
@@ -106,6 +108,11 @@ pub fn run<S: Source, K: Sink, N: Sink>(
     // 0: the input is read to its end, and its answer written.
     ensures done { result.status ≡ 0 → Answered (answer_of (map string_bytes words.now))
         (S.left input) (S.left result.input) (K.held out) (K.held result.out) }
+
+    // 0 of `replay`: the report of the script's run is written, and each command was executed once, in order, and accepted
+    // replies are the station's to that very command, unless an end was deceived.
+    ensures once { the_form (map string_bytes words.now) ≡ Some Replay → result.status ≡ 0 →
+        Replayed (S.left input) (S.left result.input) (K.held out) (K.held result.out) }
 
     // 3: the bytes taken show the first faulty line and its cause, and the note tells them.
     ensures refusal { result.status ≡ 3 → (line : ℕ) × (fault : Fault) × Refused (S.left input) (S.left result.input) line fault

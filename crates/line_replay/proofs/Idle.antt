@@ -1,12 +1,12 @@
 -- A take that gives nothing changes nothing, at an end over any host.
-use Rattle.std.proofs.Common.{◌≡◌, ◌∙◌, Bool, true, false, List, [], ◌∷◌, Option, Some, None, is_none, refl, ap}
+use Rattle.std.proofs.Common.{◌≡◌, ◌∙◌, Bool, true, false, List, Option, Some, None, is_none, refl, ap}
 use Rattle.std.specs.Prelude.{ℕ, if◌then◌else◌}
 use Rattle.df1_base.specs.declared.host.Host.{Ghosts}
 use Rattle.duplex_sender.specs.declared.Phase.{Phase}
 use Rattle.duplex_sender.specs.declared.Phase.TheVariants as phase
 use Rattle.duplex_sender.specs.Sender.{phase_of, body_of}
-use Rattle.embedded_response.specs.Giving.{Giving, Choice, Second, Respond, Give, Enquire, begin, chosen, given, take}
-use Rattle.duplex_end.specs.End.{EndState, after_out, begun_next, prepared, given_next, end_after_take, out_at_take, transmitted, loaded, begun_at}
+use Rattle.embedded_response.specs.Giving.{Giving, Choice, Second, Respond, Give, Enquire, begin, chosen, given}
+use Rattle.duplex_end.specs.End.{EndState, after_out, begun_next, prepared, given_next, end_after_take, out_at_take, begun_at}
 use Rattle.duplex_end.proofs.Joining.{none-left}
 
 -- nothing is chosen where nothing is given

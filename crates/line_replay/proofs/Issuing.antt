@@ -12,13 +12,13 @@ use Rattle.pccc_envelope.specs.Envelope.{is_reply}
 use Rattle.pccc_envelope.proofs.Replies.{and_64}
 use Rattle.df1_node.specs.declared.handed.Handed.{Handed}
 use Rattle.df1_node.specs.declared.handed.Handed.TheVariants as handed
-use Rattle.df1_node.specs.Initiator.{Issued, Standing, Answered, Out, Undelivered, InitiatorState, restated, after_reply, answered_place, is_out_at, after_hand_out, next_place, after_give_up, all_ticked, issue_fault}
-use Rattle.df1_node.specs.Node.{NodeState, after_accept, after_next, after_told, after_tick, initiator_after, next_body}
+use Rattle.df1_node.specs.Initiator.{Issued, Standing, Answered, Out, Undelivered, InitiatorState, restated, after_reply, answered_place, is_out_at, after_hand_out, next_place, all_ticked, issue_fault}
+use Rattle.df1_node.specs.Node.{NodeState, after_next, after_told, initiator_after, next_body}
 use Rattle.duplex_sender.specs.declared.Phase.{Phase}
 use Rattle.duplex_sender.specs.declared.Phase.TheVariants as phase
 use Rattle.duplex_sender.specs.Sender.{phase_of, tick_turn}
 use Rattle.embedded_response.specs.Giving.{chosen}
-use Rattle.duplex_end.specs.End.{EndState, end_after_byte, end_after_tick, end_after_take, host_after, host_told, host_at_byte, act_of_byte, receiver_after, fate_at, fate_of_tick, begun_next, prepared, begun_at}
+use Rattle.duplex_end.specs.End.{EndState, end_after_byte, end_after_tick, end_after_take, host_after, host_told, host_at_byte, act_of_byte, fate_at, fate_of_tick, begun_next, begun_at}
 use Rattle.line_script.specs.declared.script.Who.{Who}
 use Rattle.line_script.specs.declared.script.Who.TheVariants.{A, B, M, S}
 use Rattle.line_script.specs.declared.script.Event.{Event}

@@ -1,6 +1,6 @@
 -- Playing one event after another: which are still to come, and that there is room for them.
-use Rattle.std.proofs.Common.{◌≡◌, ◌∙◌, ℕ, ◌+◌, ◌<◌, ◌≤◌, suc, List, ◌∷◌, length, drop, drop-cons, get_or, ap, sym, subst, cond, arith}
-use Rattle.std.specs.Prelude.{All, count_by, sum_by}
+use Rattle.std.proofs.Common.{◌≡◌, ◌∙◌, ℕ, ◌+◌, ◌<◌, ◌≤◌, suc, List, ◌∷◌, length, drop, drop-cons, get_or, ap, sym, cond, arith}
+use Rattle.std.specs.Prelude.{count_by, sum_by}
 use Rattle.std.proofs.Math.Numerals.{suc-eq-add-one}
 use Rattle.std.proofs.lemmas.List.Sums.{sum_by-cons}
 use Rattle.line_script.specs.declared.script.Who.TheVariants.{A, B, M, S}

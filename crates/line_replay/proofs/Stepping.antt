@@ -1,5 +1,5 @@
 -- Unit steps of one kind, one after another.
-use Rattle.std.proofs.Common.{◌≡◌, ◌∙◌, ℕ, zero, suc, List, [], ◌∷◌, ◌++◌, Option, Some, None, refl, sym, ap, append-nil}
+use Rattle.std.proofs.Common.{◌≡◌, ◌∙◌, ℕ, zero, suc, List, [], ◌++◌, Option, None, refl, ap, append-nil}
 use Rattle.std.specs.Prelude.{replicate}
 use Rattle.line_script.specs.declared.script.Who.{Who}
 use Rattle.line_report.specs.declared.record.Line.{Line}

@@ -1,6 +1,10 @@
 pub mod Acts
 pub mod Deception
+pub mod Example
+pub mod Exchanges
 pub mod NodeHost
+pub mod Once
 pub mod Plays
 pub mod Run
 pub mod Steps
+pub mod Tells

@@ -18,6 +18,7 @@
 mod cell;
 mod deal;
 mod deceit;
+pub mod laws;
 mod outset;
 mod play;
 mod side;

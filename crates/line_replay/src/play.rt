@@ -3,6 +3,7 @@
 ghost use Rattle.std.specs.Prelude.{◌≡◌, IfOk};
 ghost use Rattle.line_script.specs.Playable.{IsPlayable};
 ghost use Rattle.line_replay.specs.Run.{record_of};
+ghost use Rattle.line_replay.specs.Once.{EachOnce};
 
 use crate::World;
 use df1_base::NoMemory;
@@ -10,11 +11,13 @@ use line_report::Record;
 use line_script::Script;
 use std::alloc::Global;
 
-/// Plays a script that can be read, and answers the record of its run.
+/// Plays a script that can be read, and answers the record of its run. Where no end was deceived, each command was
+/// executed once at most, in order, and each accepted reply was the one to that very command.
 #[tactic(auto, unfolding(crate::specs::Run::record_of))]
 pub fn replay(alloc: Global, script: &Script) -> Result<Record, NoMemory>
     requires { IsPlayable script.now }
-    ensures { IfOk result (λ r. r ≡ record_of script.now) }
+    ensures record { IfOk result (λ r. r ≡ record_of script.now) }
+    ensures once { IfOk result (λ r. r.deceived ≡ 0 → EachOnce script.now r.lines) }
 {
     let mut world = World::new(alloc, script)?;
     for event in script.events.as_slice() {

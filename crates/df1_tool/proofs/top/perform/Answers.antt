@@ -1,4 +1,4 @@
-use Rattle.std.proofs.Common.{◌≡◌, Some, sym, ◌∙◌, ap, refl}
+use Rattle.std.proofs.Common.{Some, sym, ◌∙◌, ap}
 use Rattle.std.proofs.lemmas.Result.{on_ok_weaker}
 use Rattle.df1_base.proofs.Laws.{wrote_none}
 use Rattle.df1_tool.proofs.Limits.{answered_all, refused_all, part_all, only_form, tells_more}

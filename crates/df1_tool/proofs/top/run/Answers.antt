@@ -1,3 +1,4 @@
+use Rattle.df1_tool.proofs.Headline.{ended-well, replayed-well}
 use Rattle.df1_tool.proofs.Limits.{exact_status}
 use Rattle.df1_tool.proofs.top.run.Goals as goal
 
@@ -6,3 +7,6 @@ returns-clause-exact g c =
     let e = c.perform-ended.ensures in
     λ no_input no_output no_note all told. exact_status _ all _ _ _ _ _ _ _ _ c.perform-ended.result c.tell-status.result
     (record { usage = e.usage; done = e.done; refusal = e.refusal; failed_input = e.input; failed_output = e.output }) c.tell-status.ensures.status no_input no_output no_note told
+
+pub returns-clause-once : goal.returns-clause-once
+returns-clause-once g c is zero = replayed-well _ _ _ _ _ is (ended-well c.perform-ended.result c.tell-status.result c.tell-status.ensures.status zero c.perform-ended.ensures.done)

@@ -1,11 +1,6 @@
-use Rattle.std.proofs.Common.{◌≡◌, ◌++◌, sym, subst, map, OnOk, List}
-use Rattle.std.specs.Prelude.{IsTrue, replicate}
-use Rattle.line_script.specs.declared.script.Event.{Event}
-use Rattle.line_script.specs.Playable.{IsPossible}
-use Rattle.line_report.specs.declared.record.Line.{Line}
-use Rattle.line_replay.specs.Acts.{LineState, Deliver, Foreign, after_deeds}
-use Rattle.line_replay.specs.Run.{deeds_of, deed_lines, other}
-use Rattle.line_replay.specs.Plays.{IsUnspent}
+use Rattle.std.proofs.Common.{map}
+use Rattle.std.specs.Prelude.{replicate}
+use Rattle.line_replay.specs.Acts.{LineState, Deliver, Foreign}
 use Rattle.line_replay.proofs.Issuing.{payload-issues}
 use Rattle.line_replay.proofs.Dealing.{on_ok, without-bytes, delivers-give-none, foreign-give-none, takes-state, takes-lines, losses-state, losses-lines, ticks-state, ticks-lines}
 use Rattle.line_replay.proofs.deal.deal.Goals as goal

@@ -1,7 +1,7 @@
 use Rattle.std.proofs.Common.{◌≡◌, ◌-◌, ◌+◌, ◌∙◌, ◌++◌, List, None, Some, sym, ap, append_assoc, append-nil, arith}
 use Rattle.std.specs.Prelude.{replicate, slice_get}
 use Rattle.line_report.specs.declared.record.Line.{Line}
-use Rattle.line_replay.specs.Acts.{SideState, LineState, Deliver, after_deeds, lines_over}
+use Rattle.line_replay.specs.Acts.{SideState, LineState, Deliver, after_deeds}
 use Rattle.line_replay.proofs.Rising.{repeat-next}
 use Rattle.line_replay.proofs.Taking.{leave-none, delivers-none, delivers-no-lines, deliver-one, deliver-lines}
 use Rattle.line_replay.proofs.deal.deliver.Goals as goal

@@ -1,4 +1,4 @@
-use Rattle.std.proofs.Common.{◌≡◌, ◌+◌, ◌∙◌, ap, drop, map, append_assoc, arith}
+use Rattle.std.proofs.Common.{◌+◌, ◌∙◌, ap, drop, map, arith}
 use Rattle.line_replay.specs.Acts.{LineState, Foreign, after_deeds}
 use Rattle.line_replay.proofs.Rising.{drop-next}
 use Rattle.line_replay.proofs.Dealing.{foreign-one, foreign-lines-one}

@@ -1,4 +1,4 @@
-use Rattle.std.proofs.Common.{◌≡◌, ◌-◌, ◌∙◌, sym, ap, not, None, false, true}
+use Rattle.std.proofs.Common.{◌≡◌, ◌-◌, ◌∙◌, sym, ap, not, None}
 use Rattle.std.specs.Prelude.{slice_get}
 use Rattle.line_replay.specs.Acts.{Lose}
 use Rattle.line_replay.proofs.Rising.{repeat-next}

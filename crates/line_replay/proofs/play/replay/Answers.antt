@@ -1,9 +1,9 @@
-use Rattle.std.proofs.Common.{◌≡◌, ◌+◌, ◌∙◌, ◌∷◌, append_assoc, drop, arith}
+use Rattle.std.proofs.Common.{◌+◌, ◌∙◌, append_assoc, drop, arith}
 use Rattle.std.proofs.lemmas.List.Elements.{All-get_or}
-use Rattle.line_script.specs.declared.script.Event.{Event}
 use Rattle.line_script.specs.Playable.{IsPossible}
 use Rattle.line_replay.specs.Run.{lines_of, lines_after, after_event}
 use Rattle.line_replay.proofs.Playing.{events-next, room-of-a, room-of-b, unspent, sum-of-next}
+use Rattle.line_replay.proofs.Runs.{once-played}
 use Rattle.line_replay.proofs.play.replay.Goals as goal
 
 pub step-requires : goal.step-requires
@@ -40,3 +40,9 @@ loop-event-preserved c =
       commands_of_b = room-of-b w.state e rest possible (rw next at c.loop-event.invariant.commands_of_b);
       sum = sum-of-next w.events e rest (rw next at c.loop-event.invariant.sum);
     })
+
+pub returns-clause-once : goal.returns-clause-once
+returns-clause-once c =
+    let w = c.loop-event.world in
+    let over = rw c.as_slice-event-items.ensures at c.loop-event-test.false in
+    once-played c.args.script.now c.requires c.loop-event.event-index w over c.loop-event.invariant.state c.loop-event.invariant.lines c.finish.result c.finish.ensures

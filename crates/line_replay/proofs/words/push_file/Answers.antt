@@ -1,6 +1,5 @@
-use Rattle.std.proofs.Common.{◌≡◌, ◌++◌, ◌+◌, ◌-◌, sym, ◌∙◌, ap, append_assoc, refl}
-use Rattle.df1_node.specs.Tables.{word_at, word_count}
-use Rattle.line_replay.specs.Run.{word_line, words_from}
+use Rattle.std.proofs.Common.{append_assoc}
+use Rattle.df1_node.specs.Tables.{word_count}
 use Rattle.line_replay.proofs.Rising.{words_from-next}
 use Rattle.line_replay.proofs.words.push_file.Goals as goal
 

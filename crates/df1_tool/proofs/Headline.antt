@@ -1,0 +1,56 @@
+-- What a run of `replay` that ended well shows.
+use Rattle.std.proofs.Common.{◌≡◌, ◌∙◌, ◌⊎◌, ℕ, List, Option, Some, Result, Ok, Err, OnOk, refl, sym, subst, inl, inr, arith}
+use Rattle.df1_base.specs.Outside.{Put}
+use Rattle.line_script.specs.declared.cause.Cause.{Cause}
+use Rattle.line_script.specs.declared.script.Script.{Script}
+use Rattle.line_script.specs.ScriptText.{script_of}
+use Rattle.line_script.specs.Playable.{IsPlayable}
+use Rattle.line_script.proofs.Standing.{IsPlayable-script_of}
+use Rattle.line_report.specs.Report.{report}
+use Rattle.line_replay.specs.Run.{record_of}
+use Rattle.line_replay.specs.Once.{EachOnce}
+use Rattle.line_replay.proofs.Runs.{each-once}
+use Rattle.df1_tool.specs.declared.form.Form.TheVariants.{Replay}
+use Rattle.df1_tool.specs.declared.trouble.Trouble.{Trouble}
+use Rattle.df1_tool.specs.declared.trouble.Trouble.TheVariants.{Usage, Refusal, Input, Output, NoMemory}
+use Rattle.df1_tool.specs.Tool.{answer_of, form_of, report_of, status_of, status_of_trouble}
+use Rattle.df1_tool.specs.Outcome.{Answered}
+use Rattle.df1_tool.specs.Replayed.{Replayed}
+use Rattle.df1_tool.proofs.Limits.{answer_is}
+
+-- a text that is written is the report of a script
+script-read : (read : Result Script (ℕ × Cause)) (text : List ℕ) → report_of read ≡ Some text → (script : Script) × (read ≡ Ok script) × (report (record_of script) ≡ text)
+script-read (Ok script) text is = (script, refl, cc)
+script-read (Err fault) text is = absurd cc
+
+record-once : (script : Script) → IsPlayable script → (record_of script).deceived ≡ 0 → EachOnce script (record_of script).lines
+unfolding record_of
+record-once script playable honest = each-once script playable honest
+
+pub replayed-well : (words : List (List ℕ)) (left left' held held' : Option (List ℕ)) → form_of words ≡ Some Replay → Answered (answer_of words) left left' held held' → Replayed left left' held held'
+replayed-well words left left' held held' is a =
+    let read = script-read (script_of a.input) a.text (sym (answer_is words a.input is) ∙ a.answered) in
+    record {
+      input = a.input;
+      script = read.0;
+      took = a.took;
+      end = a.end;
+      reads = read.1;
+      put = subst (λ (text : List ℕ). Put held held' text) (sym read.2) a.put;
+      once = record-once read.0 (IsPlayable-script_of a.input read.0 read.1);
+    }
+
+-- status 0 comes of success alone
+trouble-tells : (trouble : Trouble) → 0 ≡ status_of_trouble trouble → ⊥
+trouble-tells Usage is = omega (arith, is)
+trouble-tells (Refusal line cause) is = omega (arith, is)
+trouble-tells Input is = omega (arith, is)
+trouble-tells Output is = omega (arith, is)
+trouble-tells NoMemory is = omega (arith, is)
+
+pub ended-well : {P R : Type 0} (ended : Result (Unit {0}) Trouble) (status : ℕ) → (status ≡ status_of ended) ⊎ ((ended ≡ Ok tt) × (status ≡ 5) × R) → status ≡ 0 → OnOk ended P → P
+ended-well (Ok done) status how zero p = p
+ended-well (Err trouble) status how zero p = absurd (elim how [
+  | inl is ↦ trouble-tells trouble (sym zero ∙ is)
+  | inr other ↦ let wrong = other.0 in cc
+])

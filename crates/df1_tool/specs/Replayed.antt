@@ -1,0 +1,20 @@
+-- What a run of `replay` shows that ended well: its script, the report, and each command once.
+use Rattle.std.specs.Prelude.{◌≡◌, ℕ, List, Option, Ok}
+use Rattle.df1_base.specs.Outside.{Took, Put, IsAtEnd}
+use Rattle.line_script.specs.declared.script.Script.{Script}
+use Rattle.line_script.specs.ScriptText.{script_of}
+use Rattle.line_report.specs.Report.{report}
+use Rattle.line_replay.specs.Run.{record_of}
+use Rattle.line_replay.specs.Once.{EachOnce}
+
+-- The input was read to its end and is a script. The report of its run is written, and nothing else. Where no end was
+-- deceived, each station executed commands that were issued to it, in their order, each once, and each accepted reply is
+-- what it answered to that very command.
+pub record Replayed (left left' held held' : Option (List ℕ)) : Type 0 where
+  pub input : List ℕ
+  pub script : Script
+  pub took : Took left left' input
+  pub end : IsAtEnd left'
+  pub reads : script_of input ≡ Ok script
+  pub put : Put held held' (report (record_of script))
+  pub once : (record_of script).deceived ≡ 0 → EachOnce script (record_of script).lines
