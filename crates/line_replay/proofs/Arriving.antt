@@ -20,7 +20,7 @@ use Rattle.df1_node.specs.Node.{NodeState}
 use Rattle.duplex_sender.specs.Sender.{SenderState}
 use Rattle.duplex_receiver.specs.Receiver.{hearing, kept_at}
 use Rattle.duplex_end.specs.End.{EndState, act_of_byte, did_at, news_of, fate_at, host_after, host_at_byte}
-use Rattle.line_script.specs.declared.script.Who.{Who}
+use Rattle.line_statement.specs.declared.who.Who.{Who}
 use Rattle.line_report.specs.declared.record.Line.{Line}
 use Rattle.line_report.specs.declared.record.Line.TheVariants as line
 use Rattle.line_replay.specs.declared.cell.Cell.{Cell}

@@ -1,7 +1,7 @@
 -- An event at one end, by what its steps do there.
 use Rattle.std.proofs.Common.{◌≡◌, ◌∙◌, ℕ, List, [], ◌∷◌, ◌++◌, map, Result, Ok, Err, OnOk, ◌+◌, refl, sym, ap, append-nil, append_assoc}
 use Rattle.std.specs.Prelude.{replicate}
-use Rattle.line_script.specs.declared.script.Who.{Who}
+use Rattle.line_statement.specs.declared.who.Who.{Who}
 use Rattle.line_report.specs.declared.record.Line.{Line}
 use Rattle.line_replay.specs.declared.cell.Cell.{Cell}
 use Rattle.line_replay.specs.Acts.{SideState, LineState, Deed, Take, Deliver, Lose, Foreign, Tick, bare, after_cell, deceptions_at, cell_lines, after_deed, after_deeds, lines_over, given_over}

@@ -3,7 +3,7 @@ use Rattle.std.proofs.Common.{◌≡◌, ℕ, ◌≤◌, true, false, List, map}
 use Rattle.std.specs.Option.{option_map}
 use Rattle.std.specs.List.{filter}
 use Rattle.df1_node.specs.Answer.{StationState}
-use Rattle.line_script.specs.declared.script.Who.{Who}
+use Rattle.line_statement.specs.declared.who.Who.{Who}
 use Rattle.line_report.specs.declared.record.Line.{Line}
 use Rattle.line_replay.specs.declared.cell.Cell.{Cell}
 use Rattle.line_replay.specs.Acts.{LineState, swapped}

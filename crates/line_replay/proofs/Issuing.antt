@@ -19,11 +19,11 @@ use Rattle.duplex_sender.specs.declared.Phase.TheVariants as phase
 use Rattle.duplex_sender.specs.Sender.{phase_of, tick_turn}
 use Rattle.embedded_response.specs.Giving.{chosen}
 use Rattle.duplex_end.specs.End.{EndState, end_after_byte, end_after_tick, end_after_take, host_after, host_told, host_at_byte, act_of_byte, fate_at, fate_of_tick, begun_next, begun_at}
-use Rattle.line_script.specs.declared.script.Who.{Who}
-use Rattle.line_script.specs.declared.script.Who.TheVariants.{A, B, M, S}
+use Rattle.line_statement.specs.declared.who.Who.{Who}
+use Rattle.line_statement.specs.declared.who.Who.TheVariants.{A, B, M, S}
 use Rattle.line_script.specs.declared.script.Event.{Event}
 use Rattle.line_script.specs.declared.script.Event.TheVariants as event
-use Rattle.line_script.specs.Statements.{is_payload}
+use Rattle.line_statement.specs.Statements.{is_payload}
 use Rattle.line_script.specs.Playable.{IsPossible, issues}
 use Rattle.line_replay.specs.declared.cell.Cell.{Cell}
 use Rattle.line_replay.specs.NodeHost.{node_host}

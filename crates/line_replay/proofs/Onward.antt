@@ -14,8 +14,8 @@ use Rattle.df1_node.specs.Initiator.{Issued, Waiting, next_issued}
 use Rattle.df1_node.specs.Node.{NodeState, after_tick as node_ticked, after_next, after_node_issue}
 use Rattle.duplex_sender.specs.Sender.{tick_turn}
 use Rattle.duplex_end.specs.End.{EndState, end_after_take, out_at_take, fate_of_tick, host_at_tick, turn_at_tick, gone_at_tick}
-use Rattle.line_script.specs.declared.script.Who.{Who}
-use Rattle.line_script.specs.Statements.{is_payload}
+use Rattle.line_statement.specs.declared.who.Who.{Who}
+use Rattle.line_statement.specs.Statements.{is_payload}
 use Rattle.line_report.specs.declared.record.Line.{Line}
 use Rattle.line_report.specs.declared.record.Line.TheVariants as line
 use Rattle.line_replay.specs.declared.cell.Cell.{Cell}

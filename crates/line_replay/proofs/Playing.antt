@@ -3,7 +3,7 @@ use Rattle.std.proofs.Common.{◌≡◌, ◌∙◌, ℕ, ◌+◌, ◌<◌, ◌�
 use Rattle.std.specs.Prelude.{count_by, sum_by}
 use Rattle.std.proofs.Math.Numerals.{suc-eq-add-one}
 use Rattle.std.proofs.lemmas.List.Sums.{sum_by-cons}
-use Rattle.line_script.specs.declared.script.Who.TheVariants.{A, B, M, S}
+use Rattle.line_statement.specs.declared.who.Who.TheVariants.{A, B, M, S}
 use Rattle.line_script.specs.declared.script.Event.{Event}
 use Rattle.line_script.specs.declared.script.Event.TheVariants as event
 use Rattle.line_script.specs.Playable.{IsPossible, issues, count_of}

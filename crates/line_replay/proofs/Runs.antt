@@ -4,12 +4,12 @@ use Rattle.std.specs.Prelude.{IsTrue, IfOk, All, replicate, count_by}
 use Rattle.std.specs.List.{filter}
 use Rattle.std.proofs.lemmas.List.Elements.{All-head, All-tail}
 use Rattle.df1_node.specs.Answer.{StationState}
-use Rattle.line_script.specs.declared.script.Who.{Who}
-use Rattle.line_script.specs.declared.script.Who.TheVariants.{A, B, M, S}
+use Rattle.line_statement.specs.declared.who.Who.{Who}
+use Rattle.line_statement.specs.declared.who.Who.TheVariants.{A, B, M, S}
 use Rattle.line_script.specs.declared.script.Event.{Event}
 use Rattle.line_script.specs.declared.script.Event.TheVariants as event
 use Rattle.line_script.specs.declared.script.Script.{Script}
-use Rattle.line_script.specs.Statements.{is_payload}
+use Rattle.line_statement.specs.Statements.{is_payload}
 use Rattle.line_script.specs.Playable.{IsPossible, IsPlayable, issues, is_end, joins}
 use Rattle.line_report.specs.declared.record.Line.{Line}
 use Rattle.line_report.specs.declared.record.Record.{Record}

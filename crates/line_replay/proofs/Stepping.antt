@@ -1,7 +1,7 @@
 -- Unit steps of one kind, one after another.
 use Rattle.std.proofs.Common.{◌≡◌, ◌∙◌, ℕ, zero, suc, List, [], ◌++◌, Option, None, refl, ap, append-nil}
 use Rattle.std.specs.Prelude.{replicate}
-use Rattle.line_script.specs.declared.script.Who.{Who}
+use Rattle.line_statement.specs.declared.who.Who.{Who}
 use Rattle.line_report.specs.declared.record.Line.{Line}
 use Rattle.line_replay.specs.declared.cell.Cell.{Cell}
 use Rattle.line_replay.specs.Acts.{SideState, LineState, Deed, near_after, near_lines, arriving, after_arrival, arrival_lines, deceived_after, given_at, given_over, after_deed, after_deeds, lines_at, lines_over}

@@ -5,7 +5,7 @@ use Rattle.std.specs.Option.{option_map, option_to_list}
 use Rattle.df1_base.specs.declared.link.Out.{Out}
 use Rattle.df1_node.specs.Node.{NodeState}
 use Rattle.duplex_end.specs.End.{EndState, out_at_take}
-use Rattle.line_script.specs.declared.script.Who.{Who}
+use Rattle.line_statement.specs.declared.who.Who.{Who}
 use Rattle.line_replay.specs.declared.cell.Cell.{Cell}
 use Rattle.line_replay.specs.NodeHost.{node_host}
 use Rattle.line_replay.specs.Acts.{SideState, LineState, Deed, Take, Deliver, Lose, byte_taken, after_take, after_leaving, after_cell, after_arrival, cell_lines, arrival_lines, deceptions_at, deceived_after, cell_of, after_deed, after_deeds, lines_over, given_over}

@@ -5,7 +5,7 @@ use Rattle.std.specs.List.{filter_map}
 use Rattle.std.proofs.lemmas.List.Elements.{filter_map-append, All-push, All-nil, Contains-append_left}
 use Rattle.df1_node.specs.Answer.{StationState, reply_to}
 use Rattle.df1_node.specs.Initiator.{Issued}
-use Rattle.line_script.specs.declared.script.Who.{Who}
+use Rattle.line_statement.specs.declared.who.Who.{Who}
 use Rattle.line_report.specs.declared.record.Line.{Line}
 use Rattle.line_replay.specs.Exchanges.{exchanges, station_after}
 use Rattle.line_replay.specs.Tells.{executed_at, answer_at, stray_at, executed_in, answers_in, strays_in}

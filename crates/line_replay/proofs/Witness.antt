@@ -4,7 +4,7 @@ use Rattle.std.specs.Prelude.{All}
 use Rattle.std.proofs.lemmas.List.Elements.{All-nil, All-cons}
 use Rattle.df1_check.specs.Checks.{with_byte}
 use Rattle.df1_frame.specs.Spelling.{check_bytes}
-use Rattle.line_script.specs.declared.script.Who.TheVariants.{A, B}
+use Rattle.line_statement.specs.declared.who.Who.TheVariants.{A, B}
 use Rattle.line_script.specs.declared.script.Event.{Event}
 use Rattle.line_script.specs.Playable.{IsPossible, IsPlayable}
 use Rattle.line_replay.specs.Run.{start, last_state, lines_after}

@@ -14,7 +14,7 @@ use Rattle.df1_base.specs.declared.link.Turn.TheVariants as turn
 use Rattle.duplex_receiver.specs.Receiver.{body_at}
 use Rattle.df1_node.specs.Node.{NodeState, after_node_issue}
 use Rattle.duplex_end.specs.End.{EndState, with_host, end_after_byte, step_at_byte, end_after_tick, turn_at_tick, gone_at_tick, end_after_take, out_at_take}
-use Rattle.line_script.specs.declared.script.Who.{Who}
+use Rattle.line_statement.specs.declared.who.Who.{Who}
 use Rattle.line_report.specs.declared.record.Line.{Line}
 use Rattle.line_report.specs.declared.record.Line.TheVariants as line
 use Rattle.line_replay.specs.declared.cell.Cell.{Cell}

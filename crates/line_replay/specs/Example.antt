@@ -2,7 +2,7 @@
 use Rattle.std.specs.Prelude.{ℕ, false, List, [], ◌∷◌}
 use Rattle.df1_base.specs.declared.file_type.FileType.TheVariants.{Integer}
 use Rattle.df1_check.specs.declared.Check.TheVariants.{Bcc}
-use Rattle.line_script.specs.declared.script.Who.TheVariants.{A, B}
+use Rattle.line_statement.specs.declared.who.Who.TheVariants.{A, B}
 use Rattle.line_script.specs.declared.script.Event.TheVariants.{Issue, Take, Deliver}
 use Rattle.line_script.specs.declared.script.Script.{Script}
 use Rattle.line_script.specs.Plans.{plan_of, fresh_end}

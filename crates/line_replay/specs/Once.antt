@@ -5,8 +5,8 @@ use Rattle.std.specs.Option.{option_map}
 use Rattle.std.specs.List.Sorted.{IsStrictlyIncreasing}
 use Rattle.df1_node.specs.Answer.{StationState}
 use Rattle.df1_node.specs.Initiator.{Issued, Standing, Waiting, Out, Answered, Undelivered, Unanswered}
-use Rattle.line_script.specs.declared.script.Who.{Who}
-use Rattle.line_script.specs.declared.script.Who.TheVariants.{A, B}
+use Rattle.line_statement.specs.declared.who.Who.{Who}
+use Rattle.line_statement.specs.declared.who.Who.TheVariants.{A, B}
 use Rattle.line_script.specs.declared.script.EndPlan.{EndPlan}
 use Rattle.line_script.specs.declared.script.Script.{Script}
 use Rattle.line_report.specs.declared.record.Line.{Line}

@@ -9,8 +9,8 @@ use Rattle.df1_node.specs.Node.{NodeState}
 use Rattle.duplex_sender.specs.declared.Limits.{Limits}
 use Rattle.duplex_end.specs.declared.Setup.{Setup}
 use Rattle.duplex_end.specs.End.{new_end}
-use Rattle.line_script.specs.declared.script.Who.{Who}
-use Rattle.line_script.specs.declared.script.Who.TheVariants.{A, B, M, S}
+use Rattle.line_statement.specs.declared.who.Who.{Who}
+use Rattle.line_statement.specs.declared.who.Who.TheVariants.{A, B, M, S}
 use Rattle.line_script.specs.declared.script.Event.{Event}
 use Rattle.line_script.specs.declared.script.Event.TheVariants as event
 use Rattle.line_script.specs.declared.script.EndPlan.{EndPlan}

@@ -1,6 +1,6 @@
 -- Unit steps at one end, whatever the other does.
 use Rattle.std.specs.Prelude.{List, [], ◌∷◌, ◌++◌}
-use Rattle.line_script.specs.declared.script.Who.{Who}
+use Rattle.line_statement.specs.declared.who.Who.{Who}
 use Rattle.line_report.specs.declared.record.Line.{Line}
 use Rattle.line_replay.specs.Acts.{SideState, Deed, near_after, near_lines}
 

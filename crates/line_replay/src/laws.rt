@@ -1,7 +1,7 @@
 //! Laws of the run of a script. The functions do nothing.
 ghost use Rattle.std.specs.Prelude.{◌≡◌, ◌∷◌, []};
 ghost use Rattle.line_script.specs.declared.script.Script.{Script};
-ghost use Rattle.line_script.specs.declared.script.Who.TheVariants.{A, B};
+ghost use Rattle.line_statement.specs.declared.who.Who.TheVariants.{A, B};
 ghost use Rattle.line_script.specs.Playable.{IsPlayable};
 ghost use Rattle.line_replay.specs.Run.{start, last_state, lines_after};
 ghost use Rattle.line_replay.specs.Once.{EachOnce};

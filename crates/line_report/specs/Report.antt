@@ -2,8 +2,8 @@
 use Rattle.std.specs.Prelude.{ℕ, ◌/◌, ◌%◌, List, [], ◌∷◌, ◌++◌, codes, decimal}
 use Rattle.std.specs.List.{flat_map}
 use Rattle.hex.specs.Hex.{encode_upper}
-use Rattle.line_script.specs.declared.script.Who.{Who}
-use Rattle.line_script.specs.declared.script.Who.TheVariants.{A, B, M, S}
+use Rattle.line_statement.specs.declared.who.Who.{Who}
+use Rattle.line_statement.specs.declared.who.Who.TheVariants.{A, B, M, S}
 use Rattle.line_script.specs.declared.script.WordOf.{WordOf}
 use Rattle.line_report.specs.declared.record.Line.{Line}
 use Rattle.line_report.specs.declared.record.Line.TheVariants.{Sent, Exec, Answered, Undelivered, Unanswered, Stray, Repeat, Full, Damaged, Enquiry, Dropped}

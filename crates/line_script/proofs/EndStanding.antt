@@ -10,10 +10,10 @@ use Rattle.df1_node.specs.declared.file_spec.FileSpec.{FileSpec}
 use Rattle.df1_node.specs.declared.tables.MakeFault.{MakeFault}
 use Rattle.df1_node.specs.declared.tables.MakeFault.TheVariants.{TooMany}
 use Rattle.df1_node.specs.Tables.{faults, first_fault, fault_of, has_word, word_count}
-use Rattle.line_script.specs.declared.script.Who.{Who}
+use Rattle.line_statement.specs.declared.who.Who.{Who}
 use Rattle.line_script.specs.declared.script.WordOf.{WordOf}
-use Rattle.line_script.specs.declared.set_line.Setting.{Setting}
-use Rattle.line_script.specs.declared.set_line.Setting.TheVariants.{Embed, Node, Tns, AckTicks, MaxNaks, MaxEnqs, ReplyTicks, Room}
+use Rattle.line_statement.specs.declared.set_line.Setting.{Setting}
+use Rattle.line_statement.specs.declared.set_line.Setting.TheVariants.{Embed, Node, Tns, AckTicks, MaxNaks, MaxEnqs, ReplyTicks, Room}
 use Rattle.line_script.specs.declared.end_draft.Settings.{Settings}
 use Rattle.line_script.specs.declared.end_draft.EndDraft.{EndDraft}
 use Rattle.line_script.specs.Plans.{fresh_end, with_setting, plan_of}

@@ -1,6 +1,5 @@
 pub mod Cuts
 pub mod EndStanding
-pub mod Forms
 pub mod Ranges
 pub mod Reading
 pub mod Seen

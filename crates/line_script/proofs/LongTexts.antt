@@ -1,14 +1,14 @@
 -- A text over the limit is refused where its first bytes are, and for the same cause, whatever follows them.
-use Rattle.std.proofs.Common.{◌≡◌, ℕ, ◌+◌, ◌-◌, ◌<◌, ◌≤◌, min, Bool, true, false, cond, ltb, leb, eqb, List, [], ◌∷◌, ◌++◌, length, Option, Result, Ok, Err, refl, sym, ap, ◌∙◌, subst, arith, inl, inr, append_assoc, append-nil, length-append}
+use Rattle.std.proofs.Common.{◌≡◌, ℕ, ◌+◌, ◌-◌, ◌<◌, ◌≤◌, min, Bool, true, false, cond, ltb, leb, eqb, List, [], ◌∷◌, ◌++◌, length, Option, Result, Ok, Err, refl, sym, ap, ◌∙◌, arith, inl, inr, append_assoc, append-nil, length-append}
 use Rattle.std.specs.Prelude.{◌&&◌}
-use Rattle.std.specs.List.{slice_split, onto_first}
+use Rattle.std.specs.List.{onto_first}
 use Rattle.std.proofs.lemmas.Bool.{cases_lt, lt-ltb, le-ltb, le-leb, and_right}
 use Rattle.line_script.specs.declared.cause.Cause.{Cause}
 use Rattle.line_script.specs.declared.cause.Cause.TheVariants as cause
 use Rattle.line_script.specs.declared.reader.Reader.{Reader}
 use Rattle.line_script.specs.declared.script.Event.{Event}
 use Rattle.line_script.specs.declared.script.Script.{Script}
-use Rattle.line_script.specs.Lines.{TextLine, text_line, last_line, lines_from, reaches_limit, is_long, after_line}
+use Rattle.line_script.specs.Lines.{TextLine, text_line, lines_from, after_line}
 use Rattle.line_script.specs.ScriptText.{at_line, with_event, script_from, parts, script_of}
 use Rattle.line_script.specs.Drafts.{fresh}
 use Rattle.line_script.proofs.Cuts.{split-first}

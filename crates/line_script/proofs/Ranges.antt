@@ -5,16 +5,16 @@ use Rattle.std.specs.Str.{bytes_eq}
 use Rattle.std.proofs.lemmas.Bool.{cond_both}
 use Rattle.std.proofs.lemmas.Bool.Decides.{nat_tests}
 use Rattle.df1_base.specs.declared.file_type.FileType.{FileType}
-use Rattle.line_script.specs.declared.set_line.Setting.{Setting}
-use Rattle.line_script.specs.declared.set_line.Setting.TheVariants.{Embed, Node, Tns, AckTicks, MaxNaks, MaxEnqs, ReplyTicks, Room}
-use Rattle.line_script.specs.declared.statement.Side.{Side}
-use Rattle.line_script.specs.declared.statement.EndName.{EndName}
-use Rattle.line_script.specs.declared.statement.Verb.{Verb}
-use Rattle.line_script.specs.declared.statement.Statement.{Statement}
-use Rattle.line_script.specs.declared.statement.Statement.TheVariants as statement
+use Rattle.line_statement.specs.declared.set_line.Setting.{Setting}
+use Rattle.line_statement.specs.declared.set_line.Setting.TheVariants.{Embed, Node, Tns, AckTicks, MaxNaks, MaxEnqs, ReplyTicks, Room}
+use Rattle.line_statement.specs.declared.statement.Side.{Side}
+use Rattle.line_statement.specs.declared.statement.EndName.{EndName}
+use Rattle.line_statement.specs.declared.statement.Verb.{Verb}
+use Rattle.line_statement.specs.declared.statement.Statement.{Statement}
+use Rattle.line_statement.specs.declared.statement.Statement.TheVariants as statement
 use Rattle.line_script.specs.Playable.{IsBetween}
-use Rattle.line_script.specs.Words.{number_of, within, hex_of, byte_of, register_of}
-use Rattle.line_script.specs.Statements.{statement_of, end_of, switch_of, check_of, setting_of, set_statement, setting_at, end_setting, set_line, file_type, file_spec, file_line, word_line, side_of, verb_of, times_line, is_payload, issue_line, alter_line, foreign_line, event_of_side, bare_event, operand_event, one_word, three_words, five_words}
+use Rattle.line_statement.specs.Words.{number_of, within, hex_of, byte_of, register_of}
+use Rattle.line_statement.specs.Statements.{statement_of, end_of, switch_of, check_of, setting_of, set_statement, setting_at, end_setting, set_line, file_type, file_spec, file_line, word_line, side_of, verb_of, times_line, is_payload, issue_line, alter_line, foreign_line, event_of_side, bare_event, operand_event, one_word, three_words, five_words}
 
 -- a number within bounds, if there is one
 abbrev pub IfBetween : ℕ → ℕ → Option ℕ → Type 0

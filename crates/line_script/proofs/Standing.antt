@@ -8,18 +8,18 @@ use Rattle.std.proofs.lemmas.List.Sums.{sum_by-append}
 use Rattle.line_script.specs.declared.cause.Cause.{Cause}
 use Rattle.line_script.specs.declared.cause.ScriptFault.{ScriptFault}
 use Rattle.line_script.specs.declared.cause.Cause.TheVariants as cause
-use Rattle.line_script.specs.declared.script.Who.{Who}
-use Rattle.line_script.specs.declared.script.Who.TheVariants as who
+use Rattle.line_statement.specs.declared.who.Who.{Who}
+use Rattle.line_statement.specs.declared.who.Who.TheVariants as who
 use Rattle.line_script.specs.declared.script.Event.{Event}
 use Rattle.line_script.specs.declared.script.Event.TheVariants as event
 use Rattle.line_script.specs.declared.script.Script.{Script}
-use Rattle.line_script.specs.declared.statement.Side.{Side}
-use Rattle.line_script.specs.declared.statement.Side.TheVariants.{A, B}
-use Rattle.line_script.specs.declared.statement.EndName.TheVariants.{Known, Absent}
-use Rattle.line_script.specs.declared.statement.Verb.{Verb}
-use Rattle.line_script.specs.declared.statement.Verb.TheVariants.{Take, Tick, Deliver, Lose}
-use Rattle.line_script.specs.declared.statement.Statement.{Statement}
-use Rattle.line_script.specs.declared.statement.Statement.TheVariants.{Mode, Check, Set, File, Word, Issue, Times, Alter, Foreign, End}
+use Rattle.line_statement.specs.declared.statement.Side.{Side}
+use Rattle.line_statement.specs.declared.statement.Side.TheVariants.{A, B}
+use Rattle.line_statement.specs.declared.statement.EndName.TheVariants.{Known, Absent}
+use Rattle.line_statement.specs.declared.statement.Verb.{Verb}
+use Rattle.line_statement.specs.declared.statement.Verb.TheVariants.{Take, Tick, Deliver, Lose}
+use Rattle.line_statement.specs.declared.statement.Statement.{Statement}
+use Rattle.line_statement.specs.declared.statement.Statement.TheVariants.{Mode, Check, Set, File, Word, Issue, Times, Alter, Foreign, End}
 use Rattle.line_script.specs.declared.reader.Stage.{Stage}
 use Rattle.line_script.specs.declared.reader.Reader.{Reader}
 use Rattle.line_script.specs.Drafts.{fresh, is_misplaced, is_missing, is_out_of_range, is_twice, is_spent, is_too_many, first_of, cause_of, settled, counted, times_event, with_statement, unless_wrong}
@@ -27,8 +27,8 @@ use Rattle.line_script.specs.Lines.{TextLine, is_ended, is_passed_over, reaches_
 use Rattle.line_script.specs.Refusal.{IsRefused}
 use Rattle.line_script.specs.Playable.{IsBetween, IsPossible, IsPlayable, issues, count_of, joins}
 use Rattle.line_script.specs.ScriptText.{at_line, with_event, script_from, script_of, parts}
-use Rattle.line_script.specs.Statements.{who_of, other_end, is_payload, statement_of}
-use Rattle.line_script.specs.Words.{words}
+use Rattle.line_statement.specs.Statements.{who_of, other_end, is_payload, statement_of}
+use Rattle.line_statement.specs.Words.{words}
 use Rattle.line_script.proofs.Ranges.{IsSound, IfSound, IfSound-statement_of}
 use Rattle.line_script.proofs.EndStanding.{IsRight, right_at_first, right_with_setting, right_with_commands, right_with_file, right_with_word, plan_is_right}
 

@@ -9,21 +9,21 @@ use Rattle.line_script.specs.declared.cause.Cause.TheVariants as cause
 use Rattle.line_script.specs.declared.script.Lane.{Lane}
 use Rattle.line_script.specs.declared.script.Event.{Event}
 use Rattle.line_script.specs.declared.script.Event.TheVariants as event
-use Rattle.line_script.specs.declared.statement.Side.{Side}
-use Rattle.line_script.specs.declared.statement.Side.TheVariants.{A, B}
-use Rattle.line_script.specs.declared.statement.EndName.{EndName}
-use Rattle.line_script.specs.declared.statement.EndName.TheVariants.{Known, Absent}
-use Rattle.line_script.specs.declared.statement.Verb.{Verb}
-use Rattle.line_script.specs.declared.statement.Verb.TheVariants.{Take, Tick, Deliver, Lose}
-use Rattle.line_script.specs.declared.statement.Statement.{Statement}
-use Rattle.line_script.specs.declared.statement.Statement.TheVariants.{Mode, Check, Set, File, Word, Issue, Times, Alter, Foreign, End}
+use Rattle.line_statement.specs.declared.statement.Side.{Side}
+use Rattle.line_statement.specs.declared.statement.Side.TheVariants.{A, B}
+use Rattle.line_statement.specs.declared.statement.EndName.{EndName}
+use Rattle.line_statement.specs.declared.statement.EndName.TheVariants.{Known, Absent}
+use Rattle.line_statement.specs.declared.statement.Verb.{Verb}
+use Rattle.line_statement.specs.declared.statement.Verb.TheVariants.{Take, Tick, Deliver, Lose}
+use Rattle.line_statement.specs.declared.statement.Statement.{Statement}
+use Rattle.line_statement.specs.declared.statement.Statement.TheVariants.{Mode, Check, Set, File, Word, Issue, Times, Alter, Foreign, End}
 use Rattle.line_script.specs.declared.end_draft.EndDraft.{EndDraft}
 use Rattle.line_script.specs.declared.reader.Stage.{Stage}
 use Rattle.line_script.specs.declared.reader.Stage.TheVariants.{Fresh, Settings, Events, Ended}
 use Rattle.line_script.specs.declared.reader.Reader.{Reader}
 use Rattle.line_script.specs.Places.{is_at}
 use Rattle.line_script.specs.Plans.{fresh_end, is_given, with_setting, node_of}
-use Rattle.line_script.specs.Statements.{who_of, other_end}
+use Rattle.line_statement.specs.Statements.{who_of, other_end}
 
 -- before any line: 4,000,000 events may come
 abbrev pub fresh : Reader

@@ -5,5 +5,3 @@ pub mod Playable
 pub mod Plans
 pub mod Refusal
 pub mod ScriptText
-pub mod Statements
-pub mod Words

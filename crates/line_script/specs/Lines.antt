@@ -3,19 +3,19 @@ use Rattle.std.specs.Prelude.{ℕ, ◌+◌, ◌-◌, Bool, true, false, List, []
 use Rattle.df1_check.specs.declared.Check.TheVariants.{Bcc}
 use Rattle.line_script.specs.declared.cause.Cause.{Cause}
 use Rattle.line_script.specs.declared.cause.Cause.TheVariants as cause
-use Rattle.line_script.specs.declared.script.Who.TheVariants as who
+use Rattle.line_statement.specs.declared.who.Who.TheVariants as who
 use Rattle.line_script.specs.declared.script.Event.{Event}
 use Rattle.line_script.specs.declared.script.EndPlan.{EndPlan}
 use Rattle.line_script.specs.declared.script.Script.{Script}
-use Rattle.line_script.specs.declared.statement.Statement.{Statement}
+use Rattle.line_statement.specs.declared.statement.Statement.{Statement}
 use Rattle.line_script.specs.declared.end_draft.EndDraft.{EndDraft}
 use Rattle.line_script.specs.declared.reader.Stage.{Stage}
 use Rattle.line_script.specs.declared.reader.Stage.TheVariants.{Ended}
 use Rattle.line_script.specs.declared.reader.Reader.{Reader}
 use Rattle.line_script.specs.Drafts.{after_statement}
 use Rattle.line_script.specs.Plans.{plan_of}
-use Rattle.line_script.specs.Statements.{statement_of}
-use Rattle.line_script.specs.Words.{words}
+use Rattle.line_statement.specs.Statements.{statement_of}
+use Rattle.line_statement.specs.Words.{words}
 
 -- a line: how many bytes of the text stand before it, its bytes without its line feed, and whether a line feed ends it
 pub record TextLine : Type 0 where

@@ -1,9 +1,9 @@
 -- What the lines so far say of one end, and the plan that it makes.
 use Rattle.std.specs.Prelude.{ℕ, Bool, false, [], Some, None, is_some, unwrap_or}
-use Rattle.line_script.specs.declared.script.Who.{Who}
+use Rattle.line_statement.specs.declared.who.Who.{Who}
 use Rattle.line_script.specs.declared.script.EndPlan.{EndPlan}
-use Rattle.line_script.specs.declared.set_line.Setting.{Setting}
-use Rattle.line_script.specs.declared.set_line.Setting.TheVariants.{Embed, Node, Tns, AckTicks, MaxNaks, MaxEnqs, ReplyTicks, Room}
+use Rattle.line_statement.specs.declared.set_line.Setting.{Setting}
+use Rattle.line_statement.specs.declared.set_line.Setting.TheVariants.{Embed, Node, Tns, AckTicks, MaxNaks, MaxEnqs, ReplyTicks, Room}
 use Rattle.line_script.specs.declared.end_draft.Settings.{Settings}
 use Rattle.line_script.specs.declared.end_draft.EndDraft.{EndDraft}
 

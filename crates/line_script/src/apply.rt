@@ -4,11 +4,10 @@ ghost use Rattle.line_script.specs.Drafts.{with_statement as the_draft, settled,
 
 use crate::causes::steps_of;
 use crate::reader::{NODE_OF_A, NODE_OF_B, Reader, Stage};
-use crate::set_line::Setting;
-use crate::statement::{EndName, Side, Statement, Verb};
 use crate::{Event, Lane, WordOf};
 use df1_base::NoMemory;
 use df1_node::FileSpec;
+use line_statement::{EndName, Setting, Side, Statement, Verb};
 
 impl Reader {
     /// Takes a statement, and answers its event, if it is one.

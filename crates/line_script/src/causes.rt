@@ -4,8 +4,8 @@ ghost use Rattle.line_script.specs.Drafts.{cause_of as the_cause, is_misplaced a
 
 use crate::Cause;
 use crate::reader::{Reader, Stage};
-use crate::statement::{EndName, Statement};
 use df1_node::FileSpec;
+use line_statement::{EndName, Statement};
 
 /// The most files of an end.
 const FILES: usize = 256;

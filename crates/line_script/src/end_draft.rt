@@ -5,9 +5,9 @@ ghost use Rattle.std.specs.List.{list_any};
 ghost use Rattle.line_script.specs.Plans.{is_given as the_given, with_setting as the_settings, no_settings, fresh_end, node_of as the_node, plan_of as the_plan};
 
 use crate::given_words::GivenWords;
-use crate::set_line::Setting;
-use crate::{EndPlan, Items, Specs, Who};
+use crate::{EndPlan, Specs};
 use df1_node::FileSpec;
+use line_statement::{Items, Setting, Who};
 use std::alloc::Global;
 
 /// The most commands of an end.

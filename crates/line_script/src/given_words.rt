@@ -3,8 +3,9 @@ ghost use Rattle.std.specs.Prelude.{◌≡◌, [], ◌∷◌, ◌++◌, OnOk, On
 ghost use Rattle.std.specs.List.{list_any};
 ghost use Rattle.line_script.specs.Places.{is_at};
 
-use crate::{Items, WordOf, Words};
+use crate::{WordOf, Words};
 use df1_base::NoMemory;
+use line_statement::Items;
 use std::alloc::Global;
 use std::collections::BTreeSet;
 use std::marker::Model;

@@ -6,23 +6,18 @@ mod apply;
 mod cause;
 mod causes;
 mod end_draft;
-mod event_line;
 mod given_words;
-mod items;
 mod laws;
 mod read;
 mod reader;
 mod script;
-mod set_line;
-mod statement;
-mod words;
 
 pub use cause::{Cause, LineFault, ScriptFault};
-pub use items::Items;
 pub use laws::refused_over_the_limit;
+pub use line_statement::{Bytes, Items, Who};
 pub use read::read_script;
 pub use reader::Reader;
-pub use script::{Bytes, EndPlan, Ends, Event, Events, Lane, Script, Specs, Who, WordOf, Words};
+pub use script::{EndPlan, Ends, Event, Events, Lane, Script, Specs, WordOf, Words};
 
 #[cfg(test)]
 mod tests;

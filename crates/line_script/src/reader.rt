@@ -6,11 +6,10 @@ ghost use Rattle.line_script.specs.Lines.{after_line, after_words, finished, rea
 ghost use Rattle.line_script.specs.Refusal.{IsFaulty};
 
 use crate::end_draft::EndDraft;
-use crate::statement::{EVENTS, Side, Statement, statement_of};
-use crate::words::words_of;
-use crate::{Cause, Ends, Event, Events, Items, LineFault, Script, Who};
+use crate::{Cause, Ends, Event, Events, LineFault, Script};
 use df1_base::NoMemory;
 use df1_check::Check;
+use line_statement::{EVENTS, Items, Side, Statement, Who, statement_of, words_of};
 use std::alloc::Global;
 
 /// The longest script, in bytes.

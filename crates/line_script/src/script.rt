@@ -1,11 +1,8 @@
 //! What a script says: the plan of each end, and the events of the line between them.
 
-use crate::Items;
 use df1_check::Check;
 use df1_node::FileSpec;
-
-/// Bytes, as of a message or a payload.
-pub type Bytes = Items<u8>;
+use line_statement::{Bytes, Items, Who};
 
 /// The data files of an end, in the order in which they were declared.
 pub type Specs = Items<FileSpec>;
@@ -18,15 +15,6 @@ pub type Ends = Items<EndPlan>;
 
 /// The events of a script, in its order.
 pub type Events = Items<Event>;
-
-/// An end of the line: a or b of a full-duplex link, or the master or the station of a number on a half-duplex line.
-#[derive(Clone, Copy, Debug, PartialEq, Eq)]
-pub enum Who {
-    A,
-    B,
-    M,
-    S(u8),
-}
 
 /// A direction of the line: the queue of the bytes that one end gave and that go to another.
 #[derive(Clone, Copy, Debug, PartialEq, Eq)]

@@ -1,6 +1,6 @@
 use Rattle.std.proofs.Common.{◌≡◌, ◌≤◌, ◌+◌, ◌++◌, ◌-◌}
 use Rattle.std.specs.Prelude.{replicate}
-use Rattle.line_script.specs.declared.script.Who.{Who}
+use Rattle.line_statement.specs.declared.who.Who.{Who}
 use Rattle.line_replay.specs.Acts.{LineState, Deliver, after_deeds, lines_over}
 use Rattle.line_replay.proofs.deal.deliver.Given as goal
 

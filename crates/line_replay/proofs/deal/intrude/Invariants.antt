@@ -1,5 +1,5 @@
 use Rattle.std.proofs.Common.{◌≡◌, ◌≤◌, ◌+◌, ◌++◌, drop, map}
-use Rattle.line_script.specs.declared.script.Who.{Who}
+use Rattle.line_statement.specs.declared.who.Who.{Who}
 use Rattle.line_replay.specs.Acts.{SideState, Foreign, after_deeds, lines_over}
 use Rattle.line_replay.proofs.deal.intrude.Given as goal
 

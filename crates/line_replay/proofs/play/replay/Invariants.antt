@@ -1,6 +1,6 @@
 use Rattle.std.proofs.Common.{◌≡◌, ◌≤◌, ◌+◌, ◌++◌, drop}
 use Rattle.std.specs.Prelude.{count_by, sum_by}
-use Rattle.line_script.specs.declared.script.Who.TheVariants.{A, B}
+use Rattle.line_statement.specs.declared.who.Who.TheVariants.{A, B}
 use Rattle.line_script.specs.Playable.{issues, count_of}
 use Rattle.line_replay.specs.Run.{start, state_after, lines_after}
 use Rattle.line_replay.specs.Plays.{issued_by}

@@ -1,6 +1,6 @@
 //! The lines that are events: an end and a verb in one word, and in most an operand.
 ghost use Rattle.std.specs.Prelude.{◌≡◌, ◌&&◌, IfOk, Some, length, nat_le};
-ghost use Rattle.line_script.specs.Statements.{side_of as the_side, verb_of as the_verb, times_line as the_times, bare_event as the_bare, operand_event as the_operand, event_of_side as the_event, issue_line as the_issue, alter_line as the_alter, foreign_line as the_foreign, is_payload as the_test};
+ghost use Rattle.line_statement.specs.Statements.{side_of as the_side, verb_of as the_verb, times_line as the_times, bare_event as the_bare, operand_event as the_operand, event_of_side as the_event, issue_line as the_issue, alter_line as the_alter, foreign_line as the_foreign, is_payload as the_test};
 
 use crate::Bytes;
 use crate::statement::{EVENTS, Side, Statement, Verb};

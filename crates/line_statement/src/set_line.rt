@@ -1,8 +1,8 @@
 //! The lines that begin with `set`: the mode, the check, and the settings of an end, each with the values that it may
 //! have.
 ghost use Rattle.std.specs.Prelude.{◌≡◌, ◌==◌, option_map, position};
-ghost use Rattle.line_script.specs.Statements.{set_line as the_set, end_setting as the_end_setting, set_statement as the_set_statement, setting_of as the_setting, check_of as the_check, switch_of as the_switch};
-ghost use Rattle.line_script.specs.Words.{number_of as the_number, within as the_bounded};
+ghost use Rattle.line_statement.specs.Statements.{set_line as the_set, end_setting as the_end_setting, set_statement as the_set_statement, setting_of as the_setting, check_of as the_check, switch_of as the_switch};
+ghost use Rattle.line_statement.specs.Words.{number_of as the_number, within as the_bounded};
 
 use crate::statement::{EndName, Statement, end_of};
 use crate::words::{is, number_of, within};
@@ -13,14 +13,22 @@ const TICKS: u32 = 1_000_000;
 
 /// A setting of an end, with its value.
 #[derive(Clone, Copy, Debug, PartialEq, Eq)]
-pub(crate) enum Setting {
+pub enum Setting {
+    /// Whether responses may stand inside messages.
     Embed(bool),
+    /// Its address, DST of what is sent to it.
     Node(u8),
+    /// TNS of its first command.
     Tns(u16),
+    /// Ticks until an ENQ asks for a missing response: 1 to 1,000,000.
     AckTicks(u32),
+    /// NAKs after which a message is given up: 0 to 255.
     MaxNaks(u32),
+    /// ENQs after which a message is given up: 0 to 255.
     MaxEnqs(u32),
+    /// Ticks until a command counts as unanswered: 33 to 1,000,000.
     ReplyTicks(u32),
+    /// How many replies may wait: 2 to 64.
     Room(usize),
 }
 

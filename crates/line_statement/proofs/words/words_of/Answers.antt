@@ -1,8 +1,8 @@
 use Rattle.std.proofs.Common.{◌==◌, rules, tests, length, not}
 use Rattle.std.proofs.lemmas.Iterator.Consumers.{map_from_collect, YieldsList-at, YieldsList-from_filter}
 use Rattle.std.proofs.lemmas.Iterator.Splits.{YieldsList-from_slice_split}
-use Rattle.line_script.specs.Words.{is_blank}
-use Rattle.line_script.proofs.words.words_of.Goals as goal
+use Rattle.line_statement.specs.Words.{is_blank}
+use Rattle.line_statement.proofs.words.words_of.Goals as goal
 
 pub returns : goal.returns
 returns c =

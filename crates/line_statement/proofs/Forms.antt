@@ -1,6 +1,6 @@
 -- Lines that are none of the forms by the count of their words.
 use Rattle.std.proofs.Common.{◌≡◌, ◌≢◌, ℕ, List, [], ◌∷◌, length, None, refl}
-use Rattle.line_script.specs.Statements.{statement_of}
+use Rattle.line_statement.specs.Statements.{statement_of}
 
 pub no_form : (words : List (List ℕ)) → length words ≢ 1 → length words ≢ 2 → length words ≢ 3 → length words ≢ 5 → statement_of words ≡ None
 unfolding statement_of

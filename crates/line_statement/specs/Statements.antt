@@ -6,19 +6,19 @@ use Rattle.df1_base.specs.declared.file_type.FileType.TheVariants.{Integer}
 use Rattle.df1_check.specs.declared.Check.{Check}
 use Rattle.df1_check.specs.declared.Check.TheVariants.{Bcc, Crc}
 use Rattle.df1_node.specs.declared.file_spec.FileSpec.{FileSpec}
-use Rattle.line_script.specs.declared.script.Who.{Who}
-use Rattle.line_script.specs.declared.script.Who.TheVariants as who
-use Rattle.line_script.specs.declared.set_line.Setting.{Setting}
-use Rattle.line_script.specs.declared.set_line.Setting.TheVariants.{Embed, Node, Tns, AckTicks, MaxNaks, MaxEnqs, ReplyTicks, Room}
-use Rattle.line_script.specs.declared.statement.Side.{Side}
-use Rattle.line_script.specs.declared.statement.Side.TheVariants.{A, B}
-use Rattle.line_script.specs.declared.statement.EndName.{EndName}
-use Rattle.line_script.specs.declared.statement.EndName.TheVariants.{Known, Absent}
-use Rattle.line_script.specs.declared.statement.Verb.{Verb}
-use Rattle.line_script.specs.declared.statement.Verb.TheVariants.{Take, Tick, Deliver, Lose}
-use Rattle.line_script.specs.declared.statement.Statement.{Statement}
-use Rattle.line_script.specs.declared.statement.Statement.TheVariants as statement
-use Rattle.line_script.specs.Words.{number_of, within, hex_of, byte_of, register_of}
+use Rattle.line_statement.specs.declared.who.Who.{Who}
+use Rattle.line_statement.specs.declared.who.Who.TheVariants as who
+use Rattle.line_statement.specs.declared.set_line.Setting.{Setting}
+use Rattle.line_statement.specs.declared.set_line.Setting.TheVariants.{Embed, Node, Tns, AckTicks, MaxNaks, MaxEnqs, ReplyTicks, Room}
+use Rattle.line_statement.specs.declared.statement.Side.{Side}
+use Rattle.line_statement.specs.declared.statement.Side.TheVariants.{A, B}
+use Rattle.line_statement.specs.declared.statement.EndName.{EndName}
+use Rattle.line_statement.specs.declared.statement.EndName.TheVariants.{Known, Absent}
+use Rattle.line_statement.specs.declared.statement.Verb.{Verb}
+use Rattle.line_statement.specs.declared.statement.Verb.TheVariants.{Take, Tick, Deliver, Lose}
+use Rattle.line_statement.specs.declared.statement.Statement.{Statement}
+use Rattle.line_statement.specs.declared.statement.Statement.TheVariants as statement
+use Rattle.line_statement.specs.Words.{number_of, within, hex_of, byte_of, register_of}
 
 -- ---- ends
 

@@ -5,6 +5,9 @@ use df1_base::NoMemory;
 use std::alloc::Global;
 use std::marker::Model;
 
+/// Bytes, as of a message or a payload.
+pub type Bytes = Items<u8>;
+
 /// A list of items, kept in memory of the allocator that it was made with.
 #[derive(Drop)]
 pub struct Items<T> {

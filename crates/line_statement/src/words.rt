@@ -3,7 +3,7 @@
 ghost use Rattle.std.specs.Prelude.{◌≡◌, map, IfOk};
 ghost use Rattle.std.specs.Str.{bytes_eq};
 ghost use Rattle.hex.specs.Hex.{decode_of, decode_sized};
-ghost use Rattle.line_script.specs.Words.{words, is_blank as the_blank, number_of, within, hex_of as the_bytes, byte_of as the_byte, register_of as the_register, byte_in, register_in};
+ghost use Rattle.line_statement.specs.Words.{words, is_blank as the_blank, number_of, within, hex_of as the_bytes, byte_of as the_byte, register_of as the_register, byte_in, register_in};
 
 use crate::{Bytes, Items};
 use df1_base::NoMemory;
@@ -13,8 +13,8 @@ use std::alloc::{AllocError, Global};
 /// The most decimal digits that a number has.
 const DIGITS: usize = 9;
 
-/// The words of a line.
-pub(crate) fn words_of(alloc: Global, line: &[u8]) -> Result<Vec<&[u8]>, AllocError>
+/// The words of a line, parted by blanks and tabs.
+pub fn words_of(alloc: Global, line: &[u8]) -> Result<Vec<&[u8]>, AllocError>
     ensures { IfOk result (λ v. map (λ x. x.now) v.items ≡ words line.now) }
 {
     line.split(|byte| is_blank(*byte))

@@ -1,9 +1,9 @@
 use Rattle.std.proofs.Common.{map, ◌≡◌, ◌≢◌, ◌<◌, ◌≤◌, length, sym, arith, rules, ℕ, List, Bor, None}
 use Rattle.std.proofs.lemmas.List.{length-map}
-use Rattle.line_script.specs.Statements.{statement_of}
-use Rattle.line_script.proofs.Forms.{no_form}
-use Rattle.line_script.proofs.statement.statement_of.Goals as goal
-use Rattle.line_script.proofs.statement.statement_of.Goals.{in_default-via-then-words-lt1, in_default-via-else-words-lt1+else-words-lt2+else-words-lt3+else-words-lt4+then-words-lt5, in_default-via-else-words-lt1+else-words-lt2+else-words-lt3+else-words-lt4+else-words-lt5+else-words-lt6}
+use Rattle.line_statement.specs.Statements.{statement_of}
+use Rattle.line_statement.proofs.Forms.{no_form}
+use Rattle.line_statement.proofs.statement.statement_of.Goals as goal
+use Rattle.line_statement.proofs.statement.statement_of.Goals.{in_default-via-then-words-lt1, in_default-via-else-words-lt1+else-words-lt2+else-words-lt3+else-words-lt4+then-words-lt5, in_default-via-else-words-lt1+else-words-lt2+else-words-lt3+else-words-lt4+else-words-lt5+else-words-lt6}
 
 -- words of which there are none, four, or more than five
 none : (words : List (Bor (List ℕ))) → length words ≢ 1 → length words ≢ 2 → length words ≢ 3 → length words ≢ 5 → None ≡ statement_of (map (λ x. x.now) words)

@@ -1,8 +1,8 @@
 //! What one line of a script says, by the table of the forms. A value, number or length that is out of its range
 //! leaves its field None: such a line still is one of the forms.
 ghost use Rattle.std.specs.Prelude.{◌≡◌, map, IfOk, Some};
-ghost use Rattle.line_script.specs.Words.{within as the_bounded};
-ghost use Rattle.line_script.specs.Statements.{end_of as the_end, other_end, who_of, statement_of as the_statement, one_word as the_one, three_words as the_three, file_line as the_file, word_line as the_word, five_words as the_five, file_spec as the_spec, file_type as the_type};
+ghost use Rattle.line_statement.specs.Words.{within as the_bounded};
+ghost use Rattle.line_statement.specs.Statements.{end_of as the_end, other_end, who_of, statement_of as the_statement, one_word as the_one, three_words as the_three, file_line as the_file, word_line as the_word, five_words as the_five, file_spec as the_spec, file_type as the_type};
 
 use crate::event_line::{bare_event, operand_event};
 use crate::set_line::{Setting, set_line};
@@ -14,7 +14,7 @@ use df1_node::FileSpec;
 use std::alloc::Global;
 
 /// The most events that one line, and a whole script, may count.
-pub(crate) const EVENTS: u32 = 4_000_000;
+pub const EVENTS: u32 = 4_000_000;
 
 /// The highest file number.
 const FILE_NUMBER: u32 = 999;
@@ -24,7 +24,7 @@ const ELEMENTS: u32 = 1000;
 
 /// An end of a full-duplex link.
 #[derive(Clone, Copy, Debug, PartialEq, Eq)]
-pub(crate) enum Side {
+pub enum Side {
     A,
     B,
 }
@@ -53,25 +53,29 @@ impl Side {
 
 /// The end that a word names.
 #[derive(Clone, Copy, Debug, PartialEq, Eq)]
-pub(crate) enum EndName {
+pub enum EndName {
     /// An end of a full-duplex link.
     Known(Side),
     /// A master or a station, which a full-duplex link hasn't.
     Absent,
 }
 
-/// What happens a number of times.
+/// What happens a number of times, at an end or at its queue.
 #[derive(Clone, Copy, Debug, PartialEq, Eq)]
-pub(crate) enum Verb {
+pub enum Verb {
+    /// The end gives a byte, which goes into its queue.
     Take,
+    /// A tick passes at the end.
     Tick,
+    /// The byte at the head of the queue arrives.
     Deliver,
+    /// The byte at the head of the queue is lost.
     Lose,
 }
 
-/// A line that is one of the forms.
+/// A line that is one of the forms. What is None of it was out of its range.
 #[derive(Drop)]
-pub(crate) enum Statement {
+pub enum Statement {
     /// Full mode.
     Mode,
     /// Which check the line has.
@@ -120,7 +124,7 @@ pub(crate) enum Statement {
 
 /// What the words of a line say, if they are one of the forms.
 #[tactic(auto, unfolding(crate::specs::Statements::statement_of))]
-pub(crate) fn statement_of(alloc: Global, words: &[&[u8]]) -> Result<Option<Statement>, NoMemory>
+pub fn statement_of(alloc: Global, words: &[&[u8]]) -> Result<Option<Statement>, NoMemory>
     ensures { IfOk result (λ s. s ≡ the_statement (map (λ x. x.now) words.now)) }
 {
     match words {
