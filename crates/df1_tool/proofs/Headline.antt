@@ -9,6 +9,9 @@ use Rattle.line_script.proofs.Standing.{IsPlayable-script_of}
 use Rattle.line_report.specs.Report.{report}
 use Rattle.line_replay.specs.Run.{record_of}
 use Rattle.line_replay.specs.Once.{EachOnce}
+use Rattle.line_replay.specs.Prompt.{IsPrompt, EndsQuiet}
+use Rattle.line_replay.specs.Complete.{IsComplete}
+use Rattle.line_replay.proofs.Completing.{is-complete}
 use Rattle.line_replay.proofs.Runs.{each-once}
 use Rattle.df1_tool.specs.declared.form.Form.TheVariants.{Replay}
 use Rattle.df1_tool.specs.declared.trouble.Trouble.{Trouble}
@@ -27,6 +30,10 @@ record-once : (script : Script) → IsPlayable script → (record_of script).dec
 unfolding record_of
 record-once script playable honest = each-once script playable honest
 
+record-complete : (script : Script) → IsPlayable script → IsPrompt script → EndsQuiet script → IsComplete script (record_of script).lines
+unfolding record_of
+record-complete script playable prompt quiet = is-complete script playable prompt quiet
+
 pub replayed-well : (words : List (List ℕ)) (left left' held held' : Option (List ℕ)) → form_of words ≡ Some Replay → Answered (answer_of words) left left' held held' → Replayed left left' held held'
 replayed-well words left left' held held' is a =
     let read = script-read (script_of a.input) a.text (sym (answer_is words a.input is) ∙ a.answered) in
@@ -38,6 +45,7 @@ replayed-well words left left' held held' is a =
       reads = read.1;
       put = subst (λ (text : List ℕ). Put held held' text) (sym read.2) a.put;
       once = record-once read.0 (IsPlayable-script_of a.input read.0 read.1);
+      complete = record-complete read.0 (IsPlayable-script_of a.input read.0 read.1);
     }
 
 -- status 0 comes of success alone

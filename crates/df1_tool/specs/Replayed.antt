@@ -1,4 +1,5 @@
--- What a run of `replay` shows that ended well: its script, the report, and each command once.
+-- What a run of `replay` shows that ended well: its script, the report, each command once, and all of them where nothing
+-- disturbs the line.
 use Rattle.std.specs.Prelude.{◌≡◌, ℕ, List, Option, Ok}
 use Rattle.df1_base.specs.Outside.{Took, Put, IsAtEnd}
 use Rattle.line_script.specs.declared.script.Script.{Script}
@@ -6,10 +7,13 @@ use Rattle.line_script.specs.ScriptText.{script_of}
 use Rattle.line_report.specs.Report.{report}
 use Rattle.line_replay.specs.Run.{record_of}
 use Rattle.line_replay.specs.Once.{EachOnce}
+use Rattle.line_replay.specs.Prompt.{IsPrompt, EndsQuiet}
+use Rattle.line_replay.specs.Complete.{IsComplete}
 
 -- The input was read to its end and is a script. The report of its run is written, and nothing else. Where no end was
 -- deceived, each station executed commands that were issued to it, in their order, each once, and each accepted reply is
--- what it answered to that very command.
+-- what it answered to that very command. Where nothing disturbs the line and nothing is under way in the end, no end was
+-- deceived, and all commands were executed and answered.
 pub record Replayed (left left' held held' : Option (List ℕ)) : Type 0 where
   pub input : List ℕ
   pub script : Script
@@ -18,3 +22,4 @@ pub record Replayed (left left' held held' : Option (List ℕ)) : Type 0 where
   pub reads : script_of input ≡ Ok script
   pub put : Put held held' (report (record_of script))
   pub once : (record_of script).deceived ≡ 0 → EachOnce script (record_of script).lines
+  pub complete : IsPrompt script → EndsQuiet script → IsComplete script (record_of script).lines

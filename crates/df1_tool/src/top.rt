@@ -109,9 +109,10 @@ pub fn run<S: Source, K: Sink, N: Sink>(
     ensures done { result.status ≡ 0 → Answered (answer_of (map string_bytes words.now))
         (S.left input) (S.left result.input) (K.held out) (K.held result.out) }
 
-    // 0 of `replay`: the report of the script's run is written, and each command was executed once, in order, and accepted
-    // replies are the station's to that very command, unless an end was deceived.
-    ensures once { the_form (map string_bytes words.now) ≡ Some Replay → result.status ≡ 0 →
+    // 0 of `replay`: the report of the script's run is written. Unless an end was deceived, each command was executed at
+    // most once, in order, and accepted replies are the station's to that very command. Where nothing disturbs the line,
+    // all commands were executed and answered.
+    ensures replayed { the_form (map string_bytes words.now) ≡ Some Replay → result.status ≡ 0 →
         Replayed (S.left input) (S.left result.input) (K.held out) (K.held result.out) }
 
     // 3: the bytes taken show the first faulty line and its cause, and the note tells them.

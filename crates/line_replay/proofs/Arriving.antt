@@ -59,7 +59,7 @@ honest false ends body none is = absurd cc
 abbrev IsNew : Option (List ℕ) → Option Key → List ℕ → Type 0
 IsNew end kept body = (end ≡ Some body) × (is_kept kept (key_of body) ≡ false)
 
-accept-new : (b : SideState) (cell : Cell) → deceptions_at b cell ≡ 0 → act_of_byte node_host b.end cell.byte ≡ act.Accept → IsNew (option_map (λ (e : Ending). e.body) cell.ends) b.end.receiver.kept (body_heard b cell)
+pub accept-new : (b : SideState) (cell : Cell) → deceptions_at b cell ≡ 0 → act_of_byte node_host b.end cell.byte ≡ act.Accept → IsNew (option_map (λ (e : Ending). e.body) cell.ends) b.end.receiver.kept (body_heard b cell)
 accept-new b cell none is =
     let h = hearing (node_host.room_for b.end.host) 250 b.end.receiver cell.byte in
     let heard = accept-heard b.end.receiver.kept h is in
@@ -86,7 +86,7 @@ news-silent from to who (news.Undelivered n) = record { executes = refl; answers
 news-silent from to who news.Dropped = record { executes = refl; answers = refl; strays = refl }
 
 -- the lines of an act, and of the fate that it decides
-abbrev told_at : Who → Act → SenderState → NodeState → List ℕ → List Line
+abbrev pub told_at : Who → Act → SenderState → NodeState → List ℕ → List Line
 told_at who what sender host body = act_lines who what (did_at node_host what host body) body ++ news_lines who (news_of node_host (fate_at what sender) (host_after node_host what host body))
 
 -- what was done with a reply
@@ -109,7 +109,7 @@ executes-accept near far two first issued heard lines body place false is t =
     let command : is_command body ≡ true = ap not is in
     rw (filter-keeps is_command heard body command) (told-executes near far first issued (filter is_command heard) lines (line.Exec far body ∷ []) body (rw two.far_itself refl) refl refl t)
 
-append-none : (who : Who) (what : Option Did) (body : List ℕ) → did_lines who what body ++ [] ≡ did_lines who what body
+pub append-none : (who : Who) (what : Option Did) (body : List ℕ) → did_lines who what body ++ [] ≡ did_lines who what body
 append-none who what body = append-nil (did_lines who what body)
 
 executes-act : (near far : Who) → AreTwo near far → (first : StationState) (issued : List Issued) (heard : List (List ℕ)) (lines : List Line) (what : Act) (sender : SenderState) (host : NodeState) (body : List ℕ) → Told near far first issued (filter is_command heard) lines

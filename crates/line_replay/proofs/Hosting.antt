@@ -18,7 +18,8 @@ use Rattle.df1_node.specs.Node.{NodeState, next_body, next_handed, after_accept,
 use Rattle.line_replay.specs.Exchanges.{exchanges}
 use Rattle.line_replay.proofs.Exchanging.{exchanges-push, exchange-fits}
 use Rattle.line_replay.proofs.Handing.{is_command, AreHanded, AreNumbered, AreSettledBy, Initiates, Hosts}
-use Rattle.line_replay.proofs.Initiating.{get-seam, initiates-issue, initiates-heard, initiates-reply, initiates-told, initiates-tick, initiates-hand_out, next-is-command}
+use Rattle.line_replay.proofs.Initiating.{initiates-issue, initiates-heard, initiates-reply, initiates-told, initiates-tick, initiates-hand_out, next-is-command}
+use Rattle.line_replay.proofs.Sublists.{get-seam}
 
 -- ---- a message more, of the kind that is looked for, or of the other
 

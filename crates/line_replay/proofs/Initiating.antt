@@ -11,7 +11,7 @@ use Rattle.df1_node.specs.declared.handed.Handed.{Handed}
 use Rattle.df1_node.specs.declared.handed.Handed.TheVariants as last
 use Rattle.df1_node.specs.Initiator.{Issued, Standing, Waiting, Out, Answered, Undelivered, Unanswered, InitiatorState, is_waiting, is_out, is_reply_to, restated, ticked, all_ticked, next_issued, next_place, next_command, answered_place, is_out_at, after_issue, after_reply, after_hand_out}
 use Rattle.df1_node.specs.Node.{initiator_after}
-use Rattle.line_replay.proofs.Sublists.{Has}
+use Rattle.line_replay.proofs.Sublists.{Has, get-seam}
 use Rattle.line_replay.proofs.Handing.{AreHanded, AreNumbered, IsSettledBy, AreSettledBy, Initiates}
 use Rattle.line_replay.proofs.Restating.{position-cons, answered-some, bodies-restated, bodies-tick, bodies-hand_out}
 
@@ -49,10 +49,6 @@ get-append : (xs ys : List (List ℕ)) (k : ℕ) (x : List ℕ) → slice_get xs
 get-append [] ys k x e = absurd cc
 get-append (y ∷ xs) ys zero x e = e
 get-append (y ∷ xs) ys (suc k) x e = get-append xs ys k x e
-
-pub get-seam : (xs : List (List ℕ)) (y : List ℕ) (ys : List (List ℕ)) → slice_get (xs ++ y ∷ ys) (length xs) ≡ Some y
-get-seam [] y ys = refl
-get-seam (x ∷ xs) y ys = get-seam xs y ys
 
 settled-more : (heard : List (List ℕ)) (x body : List ℕ) (standing : Standing) → IsSettledBy heard body standing → IsSettledBy (heard ++ x ∷ []) body standing
 settled-more heard x body Waiting is = tt

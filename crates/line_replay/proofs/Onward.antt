@@ -44,7 +44,7 @@ and-parts true b h = h
 and-parts false b h = absurd cc
 
 -- what may be issued is no reply
-payload-command : (payload : List ℕ) → IsTrue (is_payload payload) → eqb (bit_at (slice_index payload 0) 6) 1 ≡ false
+pub payload-command : (payload : List ℕ) → IsTrue (is_payload payload) → eqb (bit_at (slice_index payload 0) 6) 1 ≡ false
 payload-command [] h = absurd cc
 payload-command (cmd ∷ rest) h = sym (and_64 cmd) ∙ ap not (and-parts (nat_le (length (cmd ∷ rest)) 245) (bit_and cmd 0x40 == 0) h)
 
@@ -159,7 +159,7 @@ gone-silent : (from to who : Who) (numbers : List ℕ) → AreSilent from to (go
 gone-silent from to who [] = silent-none from to
 gone-silent from to who (n ∷ numbers) = silent-both from to (line.Unanswered who n ∷ []) (gone_lines who numbers) (record { executes = refl; answers = refl; strays = refl }) (gone-silent from to who numbers)
 
-tick-silent : (from to who : Who) (e : EndState NodeState) → AreSilent from to (turn_lines who (turn_at_tick node_host e) ++ gone_lines who (gone_at_tick node_host e))
+pub tick-silent : (from to who : Who) (e : EndState NodeState) → AreSilent from to (turn_lines who (turn_at_tick node_host e) ++ gone_lines who (gone_at_tick node_host e))
 tick-silent from to who e = silent-both from to (turn_lines who (turn_at_tick node_host e)) (gone_lines who (gone_at_tick node_host e)) (turn-silent from to who (turn_at_tick node_host e)) (gone-silent from to who (gone_at_tick node_host e))
 
 pub holds-tick : (near far : Who) (first far_first : StationState) (s : LineState) (lines : List Line) → Holds near far first far_first s lines → Holds near far first far_first (after_deed s Tick) (lines ++ lines_at near far s Tick)

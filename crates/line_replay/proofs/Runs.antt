@@ -46,7 +46,7 @@ earlier count b None none = none
 earlier count b (Some cell) none = omega (arith, none)
 
 -- a step that isn't an issue
-abbrev IsPlain : Deed → Type 0
+abbrev pub IsPlain : Deed → Type 0
 IsPlain (Issue dst payload) = ⊥
 IsPlain Take = Unit {0}
 IsPlain Deliver = Unit {0}
@@ -55,7 +55,7 @@ IsPlain (Alter mask) = Unit {0}
 IsPlain (Foreign byte) = Unit {0}
 IsPlain Tick = Unit {0}
 
-abbrev ArePlain : List Deed → Type 0
+abbrev pub ArePlain : List Deed → Type 0
 ArePlain [] = Unit {0}
 ArePlain (deed ∷ deeds) = IsPlain deed × ArePlain deeds
 
@@ -77,17 +77,17 @@ goes-plain (deed ∷ deeds) plain s near far two first far_first lines k =
 goes-issue : (s : LineState) (dst : ℕ) (payload : List ℕ) → IsTrue (is_payload payload) → issued_by s.a < 65535 → Goes s (Issue dst payload ∷ [])
 goes-issue s dst payload may few near far two first far_first lines k none = rw (append-nil lines) (holds-issue near far first far_first s dst payload lines may few (k none))
 
-plain-again : (deed : Deed) → IsPlain deed → (n : ℕ) → ArePlain (replicate n deed)
+pub plain-again : (deed : Deed) → IsPlain deed → (n : ℕ) → ArePlain (replicate n deed)
 plain-again deed plain zero = tt
 plain-again deed plain (suc n) = (plain, plain-again deed plain n)
 
-plain-foreign : (bytes : List ℕ) → ArePlain (map Foreign bytes)
+pub plain-foreign : (bytes : List ℕ) → ArePlain (map Foreign bytes)
 plain-foreign [] = tt
 plain-foreign (byte ∷ bytes) = (tt, plain-foreign bytes)
 
 -- ---- events
 
-sent-silent : (from to who : Who) (bytes : List ℕ) → AreSilent from to (sent_lines who bytes)
+pub sent-silent : (from to who : Who) (bytes : List ℕ) → AreSilent from to (sent_lines who bytes)
 sent-silent from to who [] = silent-none from to
 sent-silent from to who (byte ∷ bytes) = record { executes = refl; answers = refl; strays = refl }
 
@@ -119,7 +119,7 @@ kept-deeds near far two first far_first s deeds bytes lines goes k none =
     subst (λ (all : List Line). Holds near far first far_first (after_deeds s deeds) all) (append_assoc lines over sent)
     (holds-silent near far first far_first (after_deeds s deeds) (lines ++ over) sent (sent-silent near far near bytes) (sent-silent far near near bytes) (goes near far two first far_first lines k none))
 
-a-and-b : AreTwo A B
+pub a-and-b : AreTwo A B
 a-and-b = record { itself = refl; far_itself = refl; other = refl; far_other = refl }
 
 kept-seen : (who : Who) → IsTrue (is_end who) → (first_a first_b : StationState) (s : LineState) (deeds : List Deed) (lines : List Line) → Goes (seen_from who s) deeds → Kept A B first_a first_b s lines
@@ -131,7 +131,7 @@ kept-seen B end first_a first_b s deeds lines goes k none =
 kept-seen M end first_a first_b s deeds lines goes k none = absurd cc
 kept-seen (S station) end first_a first_b s deeds lines goes k none = absurd cc
 
-joins-end : (from to : Who) → IsTrue (joins from to) → IsTrue (is_end from)
+pub joins-end : (from to : Who) → IsTrue (joins from to) → IsTrue (is_end from)
 joins-end A to h = refl
 joins-end B to h = refl
 joins-end M to h = absurd cc
@@ -209,20 +209,18 @@ each-once script playable none =
     let h = kept-events a b script.events (start script) [] playable.events (omega (arith, playable.commands_of_a)) (omega (arith, playable.commands_of_b)) (λ zero. holds-start script) none in
     record { to_b = once-of A B a b s lines h; to_a = once-of B A b a (swapped s) lines (holds-swapped A B a b s lines h) }
 
-drop-past : (n : ℕ) (events : List Event) → length events ≤ n → drop n events ≡ []
+pub drop-past : (n : ℕ) (events : List Event) → length events ≤ n → drop n events ≡ []
 drop-past zero [] past = refl
 drop-past zero (e ∷ events) past = absurd (omega arith)
 drop-past (suc n) [] past = refl
 drop-past (suc n) (e ∷ events) past = drop-past n events (omega arith)
 
--- the record of a run that was played to its end
-pub once-played : {E : Type 0} (script : Script) → IsPlayable script → (i : ℕ) (w : Played) → length script.events ≤ i → state_after w.state (drop i script.events) ≡ last_state script
-    → w.lines ++ lines_after w.state (drop i script.events) ≡ lines_after (start script) script.events → (result : Result Record E) → IfOk result (λ r. r ≡ record_from w.state w.lines) → IfOk result (λ r. r.deceived ≡ 0 → EachOnce script r.lines)
-once-played script playable i w over state lines (Err e) is = tt
-once-played script playable i w over state lines (Ok r) is =
+-- what holds of the lines of a run holds of the record of a run that was played to its end
+pub record-played : {E : Type 0} (P : Record → Type 0) (script : Script) (i : ℕ) (w : Played) → length script.events ≤ i → state_after w.state (drop i script.events) ≡ last_state script
+    → w.lines ++ lines_after w.state (drop i script.events) ≡ lines_after (start script) script.events → (result : Result Record E) → IfOk result (λ r. r ≡ record_from w.state w.lines) → P (record_from (last_state script) (lines_after (start script) script.events)) → IfOk result P
+record-played P script i w over state lines (Err e) is p = tt
+record-played P script i w over state lines (Ok r) is p =
     let none : drop i script.events ≡ [] = drop-past i script.events over in
     let same_state : w.state ≡ last_state script = rw none at state in
     let same_lines : w.lines ≡ lines_after (start script) script.events = sym (append-nil w.lines) ∙ rw none at lines in
-    λ zero.
-    let honest : (last_state script).deceived ≡ 0 = ap (λ (s : LineState). s.deceived) (sym same_state) ∙ ap (λ (x : Record). x.deceived) (sym is) ∙ zero in
-    subst (EachOnce script) (sym same_lines ∙ ap (λ (x : Record). x.lines) (sym is)) (each-once script playable honest)
+    subst P (sym (is ∙ ap (λ (s : LineState). record_from s w.lines) same_state ∙ ap (record_from (last_state script)) same_lines)) p

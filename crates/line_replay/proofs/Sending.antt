@@ -169,7 +169,7 @@ begun-sends {messages = messages} m e phase.Sending next is s =
     rw (append-nil messages) (record { joined = begin-joined e.mouth e.sender e.sender (body_of e.sender) s.joined is; current = s.current; begun = λ begun. refl })
 begun-sends {messages = messages} m e phase.Waiting next is s = rw (append-nil messages) s
 
-prepared-sends : {H : Type 0} {messages : List (List ℕ)} (m : Ghosts H) (e : EndState H) (idle : Bool) → Sends e messages
+pub prepared-sends : {H : Type 0} {messages : List (List ℕ)} (m : Ghosts H) (e : EndState H) (idle : Bool) → Sends e messages
     → Sends (if idle then begun_next m e else e) (messages ++ option_to_list (if idle then handed_in (phase_of e.sender) (m.next_body e.host) else None))
 prepared-sends m e true s = begun-sends m e (phase_of e.sender) (m.next_body e.host) refl s
 prepared-sends {messages = messages} m e false s = rw (append-nil messages) s
@@ -220,7 +220,7 @@ pub take-receiver : {H : Type 0} (m : Ghosts H) (e : EndState H) → (end_after_
 take-receiver m e = prepared-receiver m e (is_none (chosen e.mouth))
 
 -- a byte that ends a transmission is one of a frame that is begun
-ends-begun : (g : Giving) (s : SenderState) (c : Option Choice) → Joined g s → Chosen g.second g.waiting g.left g.asking c → IsTrue (ends_here (given g c).1) → is_begun g ≡ true
+pub ends-begun : (g : Giving) (s : SenderState) (c : Option Choice) → Joined g s → Chosen g.second g.waiting g.left g.asking c → IsTrue (ends_here (given g c).1) → is_begun g ≡ true
 ends-begun g s None j h ends = absurd cc
 ends-begun g s (Some (Second out)) j h ends = let plain = j.second_is_plain out h in let no : false ≡ true = rw plain at ends in absurd cc
 ends-begun g s (Some (Respond r)) j h ends = absurd cc

@@ -6,7 +6,7 @@ use Rattle.std.proofs.lemmas.Option.{slice_get-map, slice_get_within}
 use Rattle.pccc_envelope.specs.Envelope.{tns_of}
 use Rattle.df1_node.specs.Initiator.{Issued}
 use Rattle.line_replay.specs.Once.{body_at, AreApart, AreInOrder}
-use Rattle.line_replay.proofs.Sublists.{IsWithin, nothing, skips, keeps, from-map}
+use Rattle.line_replay.proofs.Sublists.{IsWithin, nothing, skips, keeps, from-map, get-seam}
 use Rattle.line_replay.proofs.Handing.{AreNumbered, numbered-at, numbered-apart}
 
 -- numbers that rise, from one on
@@ -31,10 +31,6 @@ increasing low (x ∷ xs) h (suc k) inside = let more = increasing (suc x) xs h.
 
 abbrev ArePlaces : {A : Type 0} → ℕ → List A → List A → Type 0
 ArePlaces low all xs = (places : List ℕ) × RiseFrom low places × (map Some xs ≡ map (slice_get all) places)
-
-get-seam : {A : Type 0} (front : List A) (x : A) (back : List A) → slice_get (front ++ x ∷ back) (length front) ≡ Some x
-get-seam [] x back = refl
-get-seam (y ∷ front) x back = get-seam front x back
 
 places-of : {A : Type 0} (front xs ys : List A) → IsWithin xs ys → ArePlaces (length front) (front ++ ys) xs
 places-of front _ _ nothing = ([], tt, refl)

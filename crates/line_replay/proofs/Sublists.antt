@@ -1,5 +1,5 @@
 -- Lists within lists, in order, and lists whose elements differ.
-use Rattle.std.proofs.Common.{◌≡◌, ◌∙◌, ℕ, zero, suc, ◌≤◌, Bool, true, false, List, [], ◌∷◌, ◌++◌, map, cond, Some, refl, ap, sym, subst, arith, take, append-nil}
+use Rattle.std.proofs.Common.{◌≡◌, ◌∙◌, ℕ, zero, suc, ◌≤◌, Bool, true, false, List, [], ◌∷◌, ◌++◌, map, cond, Some, refl, ap, sym, subst, arith, take, append-nil, length, is_none, Option, None}
 use Rattle.std.specs.Prelude.{slice_get, Contains}
 use Rattle.std.specs.List.{filter}
 use Rattle.std.proofs.lemmas.List.Elements.{filter-append}
@@ -12,12 +12,20 @@ Has xs x = (k : ℕ) × (slice_get xs k ≡ Some x)
 pub same-some : {A : Type 0} (x y : A) → Some x ≡ Some y → x ≡ y
 same-some x y e = cc
 
+pub none-is : {A : Type 0} (o : Option A) → is_none o ≡ true → o ≡ None
+none-is None is = refl
+none-is (Some x) is = absurd cc
+
 -- ---- one element, at its place
 
 pub get-more : {A : Type 0} (xs ys : List A) (k : ℕ) (x : A) → slice_get xs k ≡ Some x → slice_get (xs ++ ys) k ≡ Some x
 get-more [] ys k x is = cc
 get-more (y ∷ xs) ys zero x is = is
 get-more (y ∷ xs) ys (suc k) x is = get-more xs ys k x is
+
+pub get-seam : {A : Type 0} (front : List A) (x : A) (back : List A) → slice_get (front ++ x ∷ back) (length front) ≡ Some x
+get-seam [] x back = refl
+get-seam (y ∷ front) x back = get-seam front x back
 
 pub get-last : {A : Type 0} (xs : List A) (x : A) → Has (xs ++ x ∷ []) x
 get-last [] x = (0, refl)

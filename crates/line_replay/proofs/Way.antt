@@ -7,7 +7,7 @@ use Rattle.std.proofs.lemmas.Bool.Decides.{nat_tests}
 use Rattle.pccc_envelope.specs.declared.key.Key.{Key}
 use Rattle.pccc_envelope.specs.Envelope.{key_of}
 use Rattle.pccc_envelope.specs.Accepted.{is_kept, same_key}
-use Rattle.line_replay.proofs.Sublists.{IsWithin, nothing, within-push, within-take, get-more, same-some}
+use Rattle.line_replay.proofs.Sublists.{IsWithin, nothing, within-push, within-take, get-more, same-some, get-seam}
 
 -- a lane: of each byte, the message of the transmission that it ends, if it ends one
 abbrev pub Lane : Type 0
@@ -83,12 +83,8 @@ way-put messages lane kept accepted w = record { last = w.last; in_order = w.in_
 last-inside : (before : List (List ℕ)) (body : List ℕ) (m : ℕ) (other : List ℕ) → slice_get (before ++ body ∷ []) m ≡ Some other → m ≤ length before
 last-inside before body m other is = let inside = slice_get_within (before ++ body ∷ []) m other is in omega (arith, length-append before (body ∷ []))
 
-get-seam : (before : List (List ℕ)) (body : List ℕ) → slice_get (before ++ body ∷ []) (length before) ≡ Some body
-get-seam [] body = refl
-get-seam (first ∷ before) body = get-seam before body
-
 carried-end : (before : List (List ℕ)) (body : List ℕ) (low : ℕ) (lane : Lane) → low ≤ length before → AreCarried (before ++ body ∷ []) low lane → AreCarried (before ++ body ∷ []) low (lane ++ Some body ∷ [])
-carried-end before body low [] inside h = (length before, inside, get-seam before body, tt)
+carried-end before body low [] inside h = (length before, inside, get-seam before body [], tt)
 carried-end before body low (None ∷ lane) inside h = carried-end before body low lane inside h
 carried-end before body low (Some other ∷ lane) inside h = (h.0, h.1, h.2, carried-end before body h.0 lane (last-inside before body h.0 other h.2) h.3)
 

@@ -1,10 +1,12 @@
 pub mod Acts
+pub mod Complete
 pub mod Deception
 pub mod Example
 pub mod Exchanges
 pub mod NodeHost
 pub mod Once
 pub mod Plays
+pub mod Prompt
 pub mod Run
 pub mod Steps
 pub mod Tells

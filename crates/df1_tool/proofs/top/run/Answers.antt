@@ -8,5 +8,5 @@ returns-clause-exact g c =
     λ no_input no_output no_note all told. exact_status _ all _ _ _ _ _ _ _ _ c.perform-ended.result c.tell-status.result
     (record { usage = e.usage; done = e.done; refusal = e.refusal; failed_input = e.input; failed_output = e.output }) c.tell-status.ensures.status no_input no_output no_note told
 
-pub returns-clause-once : goal.returns-clause-once
-returns-clause-once g c is zero = replayed-well _ _ _ _ _ is (ended-well c.perform-ended.result c.tell-status.result c.tell-status.ensures.status zero c.perform-ended.ensures.done)
+pub returns-clause-replayed : goal.returns-clause-replayed
+returns-clause-replayed g c is zero = replayed-well _ _ _ _ _ is (ended-well c.perform-ended.result c.tell-status.result c.tell-status.ensures.status zero c.perform-ended.ensures.done)

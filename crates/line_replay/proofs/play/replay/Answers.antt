@@ -1,9 +1,14 @@
-use Rattle.std.proofs.Common.{◌+◌, ◌∙◌, append_assoc, drop, arith}
+use Rattle.std.proofs.Common.{◌≡◌, ◌+◌, ◌∙◌, append_assoc, drop, arith}
 use Rattle.std.proofs.lemmas.List.Elements.{All-get_or}
 use Rattle.line_script.specs.Playable.{IsPossible}
 use Rattle.line_replay.specs.Run.{lines_of, lines_after, after_event}
 use Rattle.line_replay.proofs.Playing.{events-next, room-of-a, room-of-b, unspent, sum-of-next}
-use Rattle.line_replay.proofs.Runs.{once-played}
+use Rattle.line_report.specs.declared.record.Record.{Record}
+use Rattle.line_replay.specs.Once.{EachOnce}
+use Rattle.line_replay.specs.Prompt.{IsPrompt, EndsQuiet}
+use Rattle.line_replay.specs.Complete.{IsComplete}
+use Rattle.line_replay.proofs.Completing.{is-complete}
+use Rattle.line_replay.proofs.Runs.{each-once, record-played}
 use Rattle.line_replay.proofs.play.replay.Goals as goal
 
 pub step-requires : goal.step-requires
@@ -43,6 +48,12 @@ loop-event-preserved c =
 
 pub returns-clause-once : goal.returns-clause-once
 returns-clause-once c =
-    let w = c.loop-event.world in
     let over = rw c.as_slice-event-items.ensures at c.loop-event-test.false in
-    once-played c.args.script.now c.requires c.loop-event.event-index w over c.loop-event.invariant.state c.loop-event.invariant.lines c.finish.result c.finish.ensures
+    record-played (λ (r : Record). r.deceived ≡ 0 → EachOnce c.args.script.now r.lines) c.args.script.now c.loop-event.event-index c.loop-event.world over c.loop-event.invariant.state c.loop-event.invariant.lines c.finish.result c.finish.ensures
+    (each-once c.args.script.now c.requires)
+
+pub returns-clause-complete : goal.returns-clause-complete
+returns-clause-complete c =
+    let over = rw c.as_slice-event-items.ensures at c.loop-event-test.false in
+    record-played (λ (r : Record). IsPrompt c.args.script.now → EndsQuiet c.args.script.now → IsComplete c.args.script.now r.lines) c.args.script.now c.loop-event.event-index c.loop-event.world over c.loop-event.invariant.state c.loop-event.invariant.lines c.finish.result c.finish.ensures
+    (is-complete c.args.script.now c.requires)
