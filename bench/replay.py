@@ -73,6 +73,8 @@ def events(text):
 def main():
     top = os.path.dirname(os.path.dirname(os.path.abspath(__file__)))
     program = sys.argv[1] if len(sys.argv) > 1 else os.path.join(top, "crates", "df1", "out", "df1")
+    if not os.path.exists(program):
+        sys.exit(f"bench/replay.py: there is no {program}; ./df1 builds it, as ./df1 replay < examples/one-write.df1")
     for name, make in (("drill", drill), ("steps", steps), ("ticks", ticks)):
         text = make()
         count = events(text)
