@@ -153,9 +153,9 @@ fn a_run_that_does_not_end_well_tells_why(rt: HostRuntime) -> Result<(), Fail> {
     let cases = [
         // No input.
         refused("", "df1: line 1: open\n"),
-        // A line that is none of the forms.
+        // A line after the end.
         refused("end\nzz\n", "df1: line 2: after\n"),
-        // A word that is no line.
+        // A line that is none of the forms.
         refused("zz", "df1: line 1: form\n"),
         // A second file.
         refused(

@@ -90,7 +90,7 @@ abbrev pub told_at : Who → Act → SenderState → NodeState → List ℕ → 
 told_at who what sender host body = act_lines who what (did_at node_host what host body) body ++ news_lines who (news_of node_host (fate_at what sender) (host_after node_host what host body))
 
 -- what was done with a reply
-abbrev did_reply : Option ℕ → Did
+abbrev pub did_reply : Option ℕ → Did
 did_reply place = option_map_or (λ (p : ℕ). did.Answered (p + 1)) place did.Stray
 
 -- the commands of the near end: the far one executes one more at the accept of a command

@@ -1,7 +1,7 @@
 -- A byte arrives, in a run that nothing disturbs.
 use Rattle.std.proofs.Common.{◌≡◌, ◌∙◌, ℕ, suc, ◌+◌, ◌≤◌, Bool, true, false, List, [], ◌∷◌, ◌++◌, length, map, not, Option, Some, None, refl, ap, sym, subst, arith, append-nil, length-append, inl, inr}
 use Rattle.std.specs.Prelude.{◌⊎◌, slice_get, if◌then◌else◌}
-use Rattle.std.specs.Option.{option_map, option_map_or}
+use Rattle.std.specs.Option.{option_map}
 use Rattle.std.specs.List.{filter}
 use Rattle.std.specs.Str.{bytes_eq}
 use Rattle.std.proofs.lemmas.List.Elements.{filter_map-append}
@@ -9,7 +9,6 @@ use Rattle.std.proofs.lemmas.Slice.Eq.{bytes_eq-Decides}
 use Rattle.std.proofs.lemmas.Bool.{lt-ltb}
 use Rattle.df1_base.specs.declared.host.Fate.{Fate}
 use Rattle.df1_base.specs.declared.host.Fate.TheVariants as fate
-use Rattle.df1_base.specs.declared.host.Did.{Did}
 use Rattle.df1_base.specs.declared.host.Did.TheVariants as did
 use Rattle.df1_base.specs.declared.link.Act.{Act}
 use Rattle.df1_base.specs.declared.link.Act.TheVariants as act
@@ -34,7 +33,7 @@ use Rattle.line_replay.specs.declared.cell.Cell.{Cell}
 use Rattle.line_replay.specs.declared.cell.Ending.{Ending}
 use Rattle.line_replay.specs.NodeHost.{node_host}
 use Rattle.line_replay.specs.Deception.{deceptions}
-use Rattle.line_replay.specs.Acts.{SideState, LineState, after_cell, deceptions_at, did_lines, news_lines, cell_lines}
+use Rattle.line_replay.specs.Acts.{SideState, LineState, deceptions_at, did_lines, news_lines, cell_lines}
 use Rattle.line_replay.specs.Tells.{executed_in, executed_at}
 use Rattle.line_replay.proofs.Issuing.{byte-commands}
 use Rattle.line_replay.proofs.Sublists.{filter-keeps, filter-drops}
@@ -43,7 +42,7 @@ use Rattle.line_replay.proofs.Handing.{is_command}
 use Rattle.line_replay.proofs.Restating.{bodies-accept}
 use Rattle.line_replay.proofs.Staying.{hosts-act, hosts-fate}
 use Rattle.line_replay.proofs.Holds.{AreTwo}
-use Rattle.line_replay.proofs.Arriving.{told_at}
+use Rattle.line_replay.proofs.Arriving.{told_at, did_reply, coming, arrived}
 use Rattle.line_replay.specs.Prompt.{Late}
 use Rattle.line_replay.proofs.Clearing.{end_of, IsTrueEnd}
 use Rattle.line_replay.proofs.Flowing.{awaits, heard_by, byte-acts, flow-silent, far-silent, flow-acked, far-acked, good-end, good-arrives, flow-accepted, far-accepted}
@@ -98,9 +97,6 @@ adds-none : (who : Who) (lines more : List Line) (old : List (List ℕ)) → exe
 adds-none who lines more old is before = adds who lines more [] old is before ∙ append-nil old
 
 -- the line of an accepted message
-abbrev did_reply : Option ℕ → Did
-did_reply place = option_map_or (λ (p : ℕ). did.Answered (p + 1)) place did.Stray
-
 reply-line : (near far who : Who) (place : Option ℕ) (body : List ℕ) → executed_in who (did_lines far (Some (did_reply place)) body ++ []) ≡ []
 reply-line near far who None body = refl
 reply-line near far who (Some place) body = refl
@@ -117,10 +113,7 @@ accept-other near far two lines old body place false before = adds-none near lin
 
 -- ---- the end at which it arrives
 
--- the line before a cell arrives, and after it has arrived with this act
-abbrev coming : EndState NodeState → Cell → List Cell → SideState → ℕ → LineState
-coming end cell cells b count = record { a = record { end = end; lane = cell ∷ cells }; b = b; deceived = count }
-
+-- the line after a cell has arrived with this act
 abbrev reached : EndState NodeState → Cell → List Cell → SideState → ℕ → Act → LineState
 reached end cell cells b count what = record { a = record { end = end; lane = cells }; b = record { end = heard_by node_host b.end cell.byte what; lane = b.lane }; deceived = count }
 
@@ -270,10 +263,6 @@ reach-good near far two first far_first end cell cells b count after late lines 
     }
 
 -- ---- whichever
-
--- the line after a cell has arrived
-abbrev pub arrived : EndState NodeState → Cell → List Cell → SideState → ℕ → LineState
-arrived end cell cells b count = record { a = record { end = end; lane = cells }; b = after_cell b cell; deceived = count }
 
 pub flows-arrival : (near far : Who) → AreTwo near far → (first far_first : StationState) (end : EndState NodeState) (cell : Cell) (cells : List Cell) (b : SideState) (count : ℕ) (late : Late) (lines : List Line)
     → Flows near far first far_first (coming end cell cells b count) late lines → Flows near far first far_first (arrived end cell cells b (count + deceptions_at b cell)) late (lines ++ cell_lines far b cell)
