@@ -7,12 +7,12 @@ use Rattle.line_script.specs.ScriptText.{script_of}
 use Rattle.line_script.specs.Playable.{IsPlayable}
 use Rattle.line_script.proofs.Standing.{IsPlayable-script_of}
 use Rattle.line_report.specs.Report.{report}
-use Rattle.line_replay.specs.Run.{record_of}
-use Rattle.line_replay.specs.Once.{EachOnce}
-use Rattle.line_replay.specs.Prompt.{IsPrompt, EndsQuiet}
-use Rattle.line_replay.specs.Complete.{IsComplete}
-use Rattle.line_replay.proofs.Completing.{is-complete}
-use Rattle.line_replay.proofs.Runs.{each-once}
+use Rattle.duplex_line.specs.Run.{record_of}
+use Rattle.duplex_line.specs.Once.{EachOnce}
+use Rattle.duplex_line.specs.Prompt.{IsPrompt, EndsQuiet}
+use Rattle.duplex_line.specs.Complete.{IsComplete}
+use Rattle.duplex_line.proofs.Complete.WholeRun.{is-complete}
+use Rattle.duplex_line.proofs.Once.WholeRun.{each-once}
 use Rattle.df1_tool.specs.declared.form.Form.TheVariants.{Replay}
 use Rattle.df1_tool.specs.declared.trouble.Trouble.{Trouble}
 use Rattle.df1_tool.specs.declared.trouble.Trouble.TheVariants.{Usage, Refusal, Input, Output, NoMemory}

@@ -5,10 +5,10 @@ use Rattle.df1_base.specs.Outside.{Took, Put, IsAtEnd}
 use Rattle.line_script.specs.declared.script.Script.{Script}
 use Rattle.line_script.specs.ScriptText.{script_of}
 use Rattle.line_report.specs.Report.{report}
-use Rattle.line_replay.specs.Run.{record_of}
-use Rattle.line_replay.specs.Once.{EachOnce}
-use Rattle.line_replay.specs.Prompt.{IsPrompt, EndsQuiet}
-use Rattle.line_replay.specs.Complete.{IsComplete}
+use Rattle.duplex_line.specs.Run.{record_of}
+use Rattle.duplex_line.specs.Once.{EachOnce}
+use Rattle.duplex_line.specs.Prompt.{IsPrompt, EndsQuiet}
+use Rattle.duplex_line.specs.Complete.{IsComplete}
 
 -- The input was read to its end and is a script. The report of its run is written, and nothing else. Where no end was
 -- deceived, each station executed commands that were issued to it, in their order, each once, and each accepted reply is

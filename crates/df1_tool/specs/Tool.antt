@@ -6,7 +6,7 @@ use Rattle.line_script.specs.declared.cause.Cause.TheVariants as cause
 use Rattle.line_script.specs.declared.script.Script.{Script}
 use Rattle.line_script.specs.ScriptText.{script_of}
 use Rattle.line_report.specs.Report.{report}
-use Rattle.line_replay.specs.Run.{record_of}
+use Rattle.duplex_line.specs.Run.{record_of}
 use Rattle.df1_tool.specs.declared.form.Form.{Form}
 use Rattle.df1_tool.specs.declared.form.Form.TheVariants.{Replay}
 use Rattle.df1_tool.specs.declared.trouble.Trouble.{Trouble}

@@ -1,38 +1,15 @@
-//! The world of a full-duplex script: two ends with their nodes, the bytes on their way between them, and the run of a
-//! script over them, with the record of what happened.
-//!
-//! Each direction of the line is a queue of cells. An event happens at one end, or to the bytes from it:
-//!
-//! - issue: the end's node issues a command;
-//! - take: the end gives a byte, which joins the back of its queue;
-//! - deliver: the head of its queue arrives at the other end;
-//! - lose: the head of its queue is gone;
-//! - alter: the head of its queue is changed, and ends no transmission any more;
-//! - foreign: a byte that the end did not give arrives at the other end;
-//! - tick: a unit of time passes at the end.
-//!
-//! An end is deceived where it hears a whole frame at a byte that ends no transmission of the other end, or one of
-//! another body (manual topic: full-duplex protocol).
+//! Replaying a script: it is read, its run is played over the line, and the record of what happened is printed.
 #![tactic(auto)]
 
-mod cell;
-mod deal;
-mod deceit;
-pub mod laws;
-mod outset;
 mod play;
-mod side;
-mod told;
-mod words;
-mod world;
 
+pub use duplex_line::World;
 pub use line_report::{Line, Lines, Record, print};
 pub use line_script::{
     Bytes, Cause, EndPlan, Ends, Event, Events, Items, Lane, Script, ScriptFault, Specs, Who,
     WordOf, Words, read_script,
 };
 pub use play::replay;
-pub use world::World;
 
 #[cfg(test)]
 mod tests;

@@ -2,10 +2,10 @@
 
 ghost use Rattle.std.specs.Prelude.{◌≡◌, IfOk};
 ghost use Rattle.line_script.specs.Playable.{IsPlayable};
-ghost use Rattle.line_replay.specs.Run.{record_of};
-ghost use Rattle.line_replay.specs.Once.{EachOnce};
-ghost use Rattle.line_replay.specs.Prompt.{IsPrompt, EndsQuiet};
-ghost use Rattle.line_replay.specs.Complete.{IsComplete};
+ghost use Rattle.duplex_line.specs.Run.{record_of};
+ghost use Rattle.duplex_line.specs.Once.{EachOnce};
+ghost use Rattle.duplex_line.specs.Prompt.{IsPrompt, EndsQuiet};
+ghost use Rattle.duplex_line.specs.Complete.{IsComplete};
 
 use crate::World;
 use df1_base::NoMemory;
@@ -16,7 +16,7 @@ use std::alloc::Global;
 /// Plays a script that can be read, and answers the record of its run. Where no end was deceived, each command was
 /// executed once at most, in order, and each accepted reply was the one to that very command. Where nothing disturbed the
 /// line, all commands were executed and answered.
-#[tactic(auto, unfolding(crate::specs::Run::record_of))]
+#[tactic(auto, unfolding(duplex_line::specs::Run::record_of))]
 pub fn replay(alloc: Global, script: &Script) -> Result<Record, NoMemory>
     requires { IsPlayable script.now }
     ensures record { IfOk result (λ r. r ≡ record_of script.now) }

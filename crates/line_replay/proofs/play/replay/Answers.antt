@@ -1,14 +1,14 @@
 use Rattle.std.proofs.Common.{◌≡◌, ◌+◌, ◌∙◌, append_assoc, drop, arith}
 use Rattle.std.proofs.lemmas.List.Elements.{All-get_or}
 use Rattle.line_script.specs.Playable.{IsPossible}
-use Rattle.line_replay.specs.Run.{lines_of, lines_after, after_event}
-use Rattle.line_replay.proofs.Playing.{events-next, room-of-a, room-of-b, unspent, sum-of-next}
+use Rattle.duplex_line.specs.Run.{lines_of, lines_after, after_event}
+use Rattle.duplex_line.proofs.Steps.EventsToCome.{events-next, room-of-a, room-of-b, unspent, sum-of-next}
 use Rattle.line_report.specs.declared.record.Record.{Record}
-use Rattle.line_replay.specs.Once.{EachOnce}
-use Rattle.line_replay.specs.Prompt.{IsPrompt, EndsQuiet}
-use Rattle.line_replay.specs.Complete.{IsComplete}
-use Rattle.line_replay.proofs.Completing.{is-complete}
-use Rattle.line_replay.proofs.Runs.{each-once, record-played}
+use Rattle.duplex_line.specs.Once.{EachOnce}
+use Rattle.duplex_line.specs.Prompt.{IsPrompt, EndsQuiet}
+use Rattle.duplex_line.specs.Complete.{IsComplete}
+use Rattle.duplex_line.proofs.Complete.WholeRun.{is-complete}
+use Rattle.duplex_line.proofs.Once.WholeRun.{each-once, record-played}
 use Rattle.line_replay.proofs.play.replay.Goals as goal
 
 pub step-requires : goal.step-requires

@@ -2,8 +2,8 @@ use Rattle.std.proofs.Common.{◌≡◌, ◌≤◌, ◌+◌, ◌++◌, drop}
 use Rattle.std.specs.Prelude.{count_by, sum_by}
 use Rattle.line_statement.specs.declared.who.Who.TheVariants.{A, B}
 use Rattle.line_script.specs.Playable.{issues, count_of}
-use Rattle.line_replay.specs.Run.{start, state_after, lines_after}
-use Rattle.line_replay.specs.Plays.{issued_by}
+use Rattle.duplex_line.specs.Run.{start, state_after, lines_after}
+use Rattle.duplex_line.specs.Plays.{issued_by}
 use Rattle.line_replay.proofs.play.replay.Given as goal
 
 -- what is done and what is still to come make the run; the commands and events that are still to come have room

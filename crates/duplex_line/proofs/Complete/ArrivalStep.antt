@@ -1,0 +1,294 @@
+-- A byte arrives, in a run that nothing disturbs.
+use Rattle.std.proofs.Common.{◌≡◌, ◌∙◌, ℕ, suc, ◌+◌, ◌≤◌, Bool, true, false, List, [], ◌∷◌, ◌++◌, length, map, not, Option, Some, None, refl, ap, sym, subst, arith, append-nil, length-append, inl, inr}
+use Rattle.std.specs.Prelude.{◌⊎◌, slice_get, if◌then◌else◌}
+use Rattle.std.specs.Option.{option_map}
+use Rattle.std.specs.List.{filter}
+use Rattle.std.specs.Str.{bytes_eq}
+use Rattle.std.proofs.lemmas.List.Elements.{filter_map-append}
+use Rattle.std.proofs.lemmas.Slice.Eq.{bytes_eq-Decides}
+use Rattle.std.proofs.lemmas.Bool.{lt-ltb}
+use Rattle.df1_base.specs.declared.host.Fate.{Fate}
+use Rattle.df1_base.specs.declared.host.Fate.TheVariants as fate
+use Rattle.df1_base.specs.declared.host.Did.TheVariants as did
+use Rattle.df1_base.specs.declared.link.Act.{Act}
+use Rattle.df1_base.specs.declared.link.Act.TheVariants as act
+use Rattle.df1_frame.specs.declared.heard.Heard.{Heard}
+use Rattle.df1_frame.specs.declared.heard.Heard.TheVariants as hears
+use Rattle.df1_frame.specs.Standing.{lent_at}
+use Rattle.df1_frame.specs.Step.{next}
+use Rattle.pccc_envelope.specs.declared.key.Key.{Key}
+use Rattle.pccc_envelope.specs.Envelope.{is_reply, key_of}
+use Rattle.pccc_envelope.specs.Accepted.{is_kept}
+use Rattle.df1_node.specs.Answer.{StationState}
+use Rattle.df1_node.specs.Initiator.{Issued, answered_place, is_reply_to}
+use Rattle.df1_node.specs.Node.{NodeState, has_room, after_accept, after_told}
+use Rattle.duplex_sender.specs.declared.Limits.{Limits}
+use Rattle.duplex_sender.specs.Sender.{Activity, Idle, Sending, Waiting, ack_fate}
+use Rattle.duplex_receiver.specs.Receiver.{act_of, is_good}
+use Rattle.duplex_end.specs.End.{EndState, act_of_byte, news_of, host_told}
+use Rattle.line_statement.specs.declared.who.Who.{Who}
+use Rattle.line_report.specs.declared.record.Line.{Line}
+use Rattle.line_report.specs.declared.record.Line.TheVariants as line
+use Rattle.duplex_line.specs.declared.cell.Cell.{Cell}
+use Rattle.duplex_line.specs.declared.cell.Ending.{Ending}
+use Rattle.each_once.specs.NodeHost.{node_host}
+use Rattle.duplex_line.specs.Deception.{deceptions}
+use Rattle.duplex_line.specs.Acts.{SideState, LineState, deceptions_at, did_lines, news_lines, cell_lines}
+use Rattle.each_once.specs.Tells.{executed_in, executed_at}
+use Rattle.duplex_line.proofs.Once.IssueLimits.{byte-commands}
+use Rattle.each_once.proofs.Sublists.{filter-keeps, filter-drops}
+use Rattle.duplex_line.proofs.Once.SentMessages.{Sends, sends-byte}
+use Rattle.each_once.proofs.HandedOut.{is_command}
+use Rattle.each_once.proofs.CommandBodies.{bodies-accept}
+use Rattle.duplex_line.proofs.Once.EndSteps.{hosts-act, hosts-fate}
+use Rattle.duplex_line.proofs.Once.Invariant.{AreTwo}
+use Rattle.duplex_line.proofs.Once.ArrivingCell.{told_at, did_reply, coming, arrived}
+use Rattle.duplex_line.specs.Prompt.{Late}
+use Rattle.duplex_line.proofs.Complete.ClearLane.{end_of, IsTrueEnd}
+use Rattle.duplex_line.proofs.Complete.MessageUnderWay.{awaits, heard_by, byte-acts, flow-silent, far-silent, flow-acked, far-acked, good-end, good-arrives, flow-accepted, far-accepted}
+use Rattle.each_once.proofs.InitiatorProgress.{IsUnderWay, under-reply}
+use Rattle.each_once.proofs.TwoNodes.{answer-fits, no-reply-waits, key-is-new}
+use Rattle.each_once.proofs.MessageLengths.{AreBodies}
+use Rattle.duplex_line.proofs.Complete.Invariant.{IsAhead, Flows}
+
+-- ---- what is heard
+
+-- nothing, an ACK, or a whole frame
+heard-cases : (end : Option (List ℕ)) (h : Option Heard) (lent : List ℕ) → IsTrueEnd end h lent → (h ≡ None) ⊎ ((h ≡ Some hears.Ack) ⊎ (h ≡ Some hears.Good))
+heard-cases None None lent t = inl refl
+heard-cases None (Some hears.Ack) lent t = inr (inl refl)
+heard-cases (Some body) (Some hears.Good) lent t = inr (inr refl)
+heard-cases (Some body) None lent t = absurd t
+heard-cases None (Some other) lent t = absurd t
+heard-cases (Some body) (Some other) lent t = absurd t
+
+-- the act of each
+silent-act : (kept : Option Key) (h : Option Heard) (body : List ℕ) (room : Bool) → h ≡ None → act_of kept (record { heard = h; body = body; has_room = room }) ≡ act.Nothing
+silent-act kept h body room is = rw is refl
+
+ack-act : (kept : Option Key) (h : Option Heard) (body : List ℕ) (room : Bool) → h ≡ Some hears.Ack → act_of kept (record { heard = h; body = body; has_room = room }) ≡ act.PeerAck
+ack-act kept h body room is = rw is refl
+
+good-act : (kept : Option Key) (h : Option Heard) (body : List ℕ) (room : Bool) → h ≡ Some hears.Good → is_kept kept (key_of body) ≡ false → room ≡ true → act_of kept (record { heard = h; body = body; has_room = room }) ≡ act.Accept
+good-act kept h body room is new has = rw (is, new, has) refl
+
+-- ---- no deception
+
+not-whole : (h : Option Heard) (ends : Option Ending) (body : List ℕ) → is_good h ≡ false → deceptions (is_good h) ends body ≡ 0
+not-whole h ends body is = rw is refl
+
+whole-sent : (h : Option Heard) (ends : Option Ending) (body : List ℕ) → option_map (λ (e : Ending). e.body) ends ≡ Some body → deceptions (is_good h) ends body ≡ 0
+whole-sent h None body is = absurd cc
+whole-sent h (Some ending) body is =
+    let same : ending.body ≡ body = cc in
+    let yes : bytes_eq ending.body body ≡ true = (bytes_eq-Decides ending.body body).1 same in
+    rw yes (none (is_good h))
+  where
+    none : (whole : Bool) → deceptions whole (Some (record { number = 0; body = [] })) [] ≡ 0
+    none true = refl
+    none false = refl
+
+-- ---- the lines
+
+adds : (who : Who) (lines more : List Line) (bodies old : List (List ℕ)) → executed_in who more ≡ bodies → executed_in who lines ≡ old → executed_in who (lines ++ more) ≡ old ++ bodies
+adds who lines more bodies old is before = filter_map-append (executed_at who) lines more ∙ ap (λ (xs : List (List ℕ)). executed_in who lines ++ xs) is ∙ ap (λ (xs : List (List ℕ)). xs ++ bodies) before
+
+adds-none : (who : Who) (lines more : List Line) (old : List (List ℕ)) → executed_in who more ≡ [] → executed_in who lines ≡ old → executed_in who (lines ++ more) ≡ old
+adds-none who lines more old is before = adds who lines more [] old is before ∙ append-nil old
+
+-- the line of an accepted message
+reply-line : (near far who : Who) (place : Option ℕ) (body : List ℕ) → executed_in who (did_lines far (Some (did_reply place)) body ++ []) ≡ []
+reply-line near far who None body = refl
+reply-line near far who (Some place) body = refl
+
+accept-line : (near far : Who) → AreTwo near far → (heard : List (List ℕ)) (lines : List Line) (body : List ℕ) (place : Option ℕ) (reply : Bool) → is_reply body ≡ reply → executed_in far lines ≡ filter is_command heard
+    → executed_in far (lines ++ (did_lines far (Some (if reply then did_reply place else did.Executed)) body ++ [])) ≡ filter is_command (heard ++ body ∷ [])
+accept-line near far two heard lines body place true is before = adds-none far lines _ (filter is_command heard) (reply-line near far far place body) before ∙ sym (filter-drops is_command heard body (ap not is))
+accept-line near far two heard lines body place false is before = adds far lines (line.Exec far body ∷ []) (body ∷ []) (filter is_command heard) (rw two.far_itself refl) before ∙ sym (filter-keeps is_command heard body (ap not is))
+
+accept-other : (near far : Who) → AreTwo near far → (lines : List Line) (old : List (List ℕ)) (body : List ℕ) (place : Option ℕ) (reply : Bool) → executed_in near lines ≡ old
+    → executed_in near (lines ++ (did_lines far (Some (if reply then did_reply place else did.Executed)) body ++ [])) ≡ old
+accept-other near far two lines old body place true before = adds-none near lines _ old (reply-line near far near place body) before
+accept-other near far two lines old body place false before = adds-none near lines (line.Exec far body ∷ []) old (rw two.other refl) before
+
+-- ---- the end at which it arrives
+
+-- the line after a cell has arrived with this act
+abbrev reached : EndState NodeState → Cell → List Cell → SideState → ℕ → Act → LineState
+reached end cell cells b count what = record { a = record { end = end; lane = cells }; b = record { end = heard_by node_host b.end cell.byte what; lane = b.lane }; deceived = count }
+
+abbrev lent_after : SideState → Cell → List ℕ
+lent_after b cell = lent_at (next 250 b.end.receiver.decoding cell.byte).0.standing
+
+-- nothing is heard
+reach-silent : (near far : Who) (first far_first : StationState) (end : EndState NodeState) (cell : Cell) (cells : List Cell) (b : SideState) (count after : ℕ) (late : Late) (lines : List Line)
+    → act_of_byte node_host b.end cell.byte ≡ act.Nothing → (next 250 b.end.receiver.decoding cell.byte).1 ≡ None → after ≡ 0 → Flows near far first far_first (coming end cell cells b count) late lines
+    → Flows near far first far_first (reached end cell cells b after act.Nothing) late (lines ++ told_at far act.Nothing b.end.sender b.end.host (lent_after b cell))
+reach-silent near far first far_first end cell cells b count after late lines acts is none h = record {
+  sent = h.sent;
+  heard = h.heard;
+  far_sent = h.far_sent;
+  far_heard = h.far_heard;
+  end = h.end;
+  far_end = record {
+    hosts = h.far_end.hosts;
+    sends = subst (λ (e : EndState NodeState). Sends e h.far_sent) (byte-acts node_host b.end cell.byte act.Nothing acts) (sends-byte node_host b.end cell.byte h.far_end.sends);
+    ahead = h.far_end.ahead;
+    bodies = h.far_end.bodies;
+    commands = h.far_end.commands;
+    room = h.far_end.room;
+    few = h.far_end.few;
+  };
+  flow = flow-silent node_host end b.end cell cells b.lane h.sent h.far_heard late.a is h.flow;
+  far_flow = far-silent node_host end b.end cell cells b.lane h.far_sent h.heard late.b is h.far_flow;
+  executes = adds-none far lines [] (filter is_command h.far_heard) refl h.executes;
+  far_executes = adds-none near lines [] (filter is_command h.heard) refl h.far_executes;
+  honest = none;
+}
+
+-- an ACK is heard, and delivers the message
+delivered : (limits : Limits) (a : Activity) → awaits a ≡ 1 → ack_fate (record { limits = limits; activity = a }) ≡ Some fate.Delivered
+delivered limits Idle one = absurd (omega (arith, one))
+delivered limits (Sending body naks enqs) one = absurd (omega (arith, one))
+delivered limits (Waiting body naks enqs left) one = refl
+
+reach-ack : (near far : Who) (first far_first : StationState) (end : EndState NodeState) (cell : Cell) (cells : List Cell) (b : SideState) (count after : ℕ) (late : Late) (lines : List Line)
+    → act_of_byte node_host b.end cell.byte ≡ act.PeerAck → (next 250 b.end.receiver.decoding cell.byte).1 ≡ Some hears.Ack → after ≡ 0 → Flows near far first far_first (coming end cell cells b count) late lines
+    → Flows near far first far_first (reached end cell cells b after act.PeerAck) late (lines ++ told_at far act.PeerAck b.end.sender b.end.host (lent_after b cell))
+reach-ack near far first far_first end cell cells b count after late lines acts is none h =
+    let acked = far-acked node_host end b.end cell cells b.lane h.far_sent h.heard late.b is h.far_flow in
+    let is_fate = delivered b.end.sender.limits b.end.sender.activity acked.1 in
+    let told : NodeState = after_told b.end.host fate.Delivered in
+    let is_host : told ≡ host_told node_host (ack_fate b.end.sender) b.end.host = ap (λ (o : Option Fate). host_told node_host o b.end.host) (sym is_fate) in
+    let no_news : news_lines far (news_of node_host (ack_fate b.end.sender) b.end.host) ≡ [] = ap (λ (o : Option Fate). news_lines far (news_of node_host o b.end.host)) is_fate in
+    record {
+      sent = h.sent;
+      heard = h.heard;
+      far_sent = h.far_sent;
+      far_heard = h.far_heard;
+      end = h.end;
+      far_end = record {
+        hosts = hosts-fate (ack_fate b.end.sender) far_first b.end.host h.far_sent h.far_heard h.far_end.hosts;
+        sends = subst (λ (e : EndState NodeState). Sends e h.far_sent) (byte-acts node_host b.end cell.byte act.PeerAck acts) (sends-byte node_host b.end cell.byte h.far_end.sends);
+        ahead = subst (λ (node : NodeState). IsAhead node.initiator h.far_heard late.b) is_host (record { done = h.far_end.ahead.done; out = h.far_end.ahead.out; under_way = h.far_end.ahead.under_way; answers = h.far_end.ahead.answers; in_time = h.far_end.ahead.in_time });
+        bodies = h.far_end.bodies;
+        commands = subst (λ (node : NodeState). AreBodies (map (λ c. c.body) node.initiator.issued)) is_host h.far_end.commands;
+        room = subst (λ (node : NodeState). 2 ≤ node.room) is_host h.far_end.room;
+        few = subst (λ (node : NodeState). length node.initiator.issued ≤ 65535) is_host h.far_end.few;
+      };
+      flow = flow-acked node_host end b.end cell cells b.lane h.sent h.far_heard late.a is h.flow;
+      far_flow = acked.0;
+      executes = adds-none far lines _ (filter is_command h.far_heard) (ap (executed_in far) no_news) h.executes;
+      far_executes = adds-none near lines _ (filter is_command h.heard) (ap (executed_in near) no_news) h.far_executes;
+      honest = none;
+    }
+
+-- ---- a message is accepted
+
+length-push : {A : Type 0} (xs : List A) (x : A) → length (xs ++ x ∷ []) ≡ suc (length xs)
+length-push xs x = omega (arith, length-append xs (x ∷ []))
+
+-- a reply answers the command that is out
+reply-ahead : (node : NodeState) (heard : List (List ℕ)) (body : List ℕ) (late : ℕ) (c : Issued) (left : ℕ) → is_reply body ≡ true → (a : IsAhead node.initiator heard late) → a.out ≡ Some left → slice_get node.initiator.issued a.done ≡ Some c → is_reply_to c.body body ≡ true
+    → IsAhead (after_accept node body).initiator (heard ++ body ∷ []) late
+reply-ahead node heard body late c left reply a is at fits =
+    let under = subst (IsUnderWay node.initiator.issued a.done) is a.under_way in
+    let next = under-reply node.initiator a.done left c body under at fits in
+    rw reply (record {
+      done = suc a.done;
+      out = None;
+      under_way = next.1;
+      answers = ap length (filter-keeps is_reply heard body reply) ∙ length-push (filter is_reply heard) body ∙ ap suc a.answers;
+      in_time = tt;
+    })
+
+command-ahead : (node : NodeState) (heard : List (List ℕ)) (body : List ℕ) (late : ℕ) → is_reply body ≡ false → IsAhead node.initiator heard late → IsAhead (after_accept node body).initiator (heard ++ body ∷ []) late
+command-ahead node heard body late command a = rw command (record {
+  done = a.done;
+  out = a.out;
+  under_way = a.under_way;
+  answers = ap length (filter-drops is_reply heard body command) ∙ a.answers;
+  in_time = a.in_time;
+})
+
+accepted-ahead : (near far : Who) (first far_first : StationState) (end : EndState NodeState) (cell : Cell) (cells : List Cell) (b : SideState) (count : ℕ) (late : Late) (lines : List Line) (body : List ℕ) → (h : Flows near far first far_first (coming end cell cells b count) late lines)
+    → h.sent ≡ h.far_heard ++ body ∷ [] → (reply : Bool) → is_reply body ≡ reply → IsAhead (after_accept b.end.host body).initiator (h.far_heard ++ body ∷ []) late.b
+accepted-ahead near far first far_first end cell cells b count late lines body h arrives true reply =
+    let a = h.far_end.ahead in
+    let fits = answer-fits h.end.hosts h.far_end.hosts body arrives _ h.far_flow.flight reply a.done a.out a.answers a.under_way in
+    reply-ahead b.end.host h.far_heard body late.b fits.2.0 fits.0 reply a fits.1 fits.2.1 fits.2.2
+accepted-ahead near far first far_first end cell cells b count late lines body h arrives false command = command-ahead b.end.host h.far_heard body late.b command h.far_end.ahead
+
+-- there is room for it
+has-room : (near far : Who) (first far_first : StationState) (end : EndState NodeState) (cell : Cell) (cells : List Cell) (b : SideState) (count : ℕ) (late : Late) (lines : List Line) (body : List ℕ) → (h : Flows near far first far_first (coming end cell cells b count) late lines)
+    → h.sent ≡ h.far_heard ++ body ∷ [] → (reply : Bool) → is_reply body ≡ reply → has_room b.end.host body ≡ true
+has-room near far first far_first end cell cells b count late lines body h arrives true reply = rw reply refl
+has-room near far first far_first end cell cells b count late lines body h arrives false command =
+    let a = h.end.ahead in
+    let none = no-reply-waits h.far_end.hosts h.end.hosts body arrives command _ h.far_flow.flight a.done a.out a.answers a.under_way in
+    rw (command, none) (lt-ltb 0 b.end.host.room (omega (arith, h.far_end.room)))
+
+-- its key is new
+new-key : (near far : Who) (first far_first : StationState) (end : EndState NodeState) (cell : Cell) (cells : List Cell) (b : SideState) (count : ℕ) (late : Late) (lines : List Line) (body : List ℕ) → (h : Flows near far first far_first (coming end cell cells b count) late lines)
+    → h.sent ≡ h.far_heard ++ body ∷ [] → is_kept b.end.receiver.kept (key_of body) ≡ false
+new-key near far first far_first end cell cells b count late lines body h arrives =
+    ap (λ (kept : Option Key). is_kept kept (key_of body)) h.flow.kept ∙ key-is-new h.far_end.hosts h.end.hosts body arrives _ h.far_flow.flight h.far_end.few h.end.few
+
+reach-good : (near far : Who) → AreTwo near far → (first far_first : StationState) (end : EndState NodeState) (cell : Cell) (cells : List Cell) (b : SideState) (count after : ℕ) (late : Late) (lines : List Line)
+    → act_of_byte node_host b.end cell.byte ≡ act.Accept → (next 250 b.end.receiver.decoding cell.byte).1 ≡ Some hears.Good → after ≡ 0 → (h : Flows near far first far_first (coming end cell cells b count) late lines) → h.sent ≡ h.far_heard ++ lent_after b cell ∷ []
+    → Flows near far first far_first (reached end cell cells b after act.Accept) late (lines ++ told_at far act.Accept b.end.sender b.end.host (lent_after b cell))
+reach-good near far two first far_first end cell cells b count after late lines acts is none h arrives =
+    let body = lent_after b cell in
+    let place = answered_place b.end.host.initiator.issued body in
+    record {
+      sent = h.sent;
+      heard = h.heard;
+      far_sent = h.far_sent;
+      far_heard = h.far_heard ++ body ∷ [];
+      end = h.end;
+      far_end = record {
+        hosts = hosts-act act.Accept far_first b.end.host h.far_sent h.far_heard body h.far_end.hosts;
+        sends = subst (λ (e : EndState NodeState). Sends e h.far_sent) (byte-acts node_host b.end cell.byte act.Accept acts) (sends-byte node_host b.end cell.byte h.far_end.sends);
+        ahead = accepted-ahead near far first far_first end cell cells b count late lines body h arrives (is_reply body) refl;
+        bodies = h.far_end.bodies;
+        commands = subst AreBodies (sym (bodies-accept b.end.host body)) h.far_end.commands;
+        room = h.far_end.room;
+        few = let same = byte-commands b.end cell.byte in subst (λ (x : EndState NodeState). length x.host.initiator.issued ≤ 65535) (byte-acts node_host b.end cell.byte act.Accept acts) (omega (arith, same, h.far_end.few));
+      };
+      flow = flow-accepted node_host end b.end cell cells b.lane h.sent h.far_heard late.a is h.flow;
+      far_flow = far-accepted node_host end b.end cell cells b.lane h.far_sent h.heard late.b is h.far_flow;
+      executes = accept-line near far two h.far_heard lines body place (is_reply body) refl h.executes;
+      far_executes = accept-other near far two lines (filter is_command h.heard) body place (is_reply body) h.far_executes;
+      honest = none;
+    }
+
+-- ---- whichever
+
+pub flows-arrival : (near far : Who) → AreTwo near far → (first far_first : StationState) (end : EndState NodeState) (cell : Cell) (cells : List Cell) (b : SideState) (count : ℕ) (late : Late) (lines : List Line)
+    → Flows near far first far_first (coming end cell cells b count) late lines → Flows near far first far_first (arrived end cell cells b (count + deceptions_at b cell)) late (lines ++ cell_lines far b cell)
+flows-arrival near far two first far_first end cell cells b count late lines h = elim (heard-cases (end_of cell) (next 250 b.end.receiver.decoding cell.byte).1 (lent_after b cell) h.flow.clear.0) [
+  | inl none ↦
+      let acts = silent-act b.end.receiver.kept (next 250 b.end.receiver.decoding cell.byte).1 (lent_after b cell) (has_room b.end.host (lent_after b cell)) none in
+      let honest = honest-sum (not-whole (next 250 b.end.receiver.decoding cell.byte).1 cell.ends (lent_after b cell) (ap is_good none)) in
+      by-act act.Nothing acts (reach-silent near far first far_first end cell cells b count (count + deceptions_at b cell) late lines acts none honest h)
+  | inr other ↦ elim other [
+    | inl ack ↦
+        let acts = ack-act b.end.receiver.kept (next 250 b.end.receiver.decoding cell.byte).1 (lent_after b cell) (has_room b.end.host (lent_after b cell)) ack in
+        let honest = honest-sum (not-whole (next 250 b.end.receiver.decoding cell.byte).1 cell.ends (lent_after b cell) (ap is_good ack)) in
+        by-act act.PeerAck acts (reach-ack near far first far_first end cell cells b count (count + deceptions_at b cell) late lines acts ack honest h)
+    | inr good ↦
+        let body = lent_after b cell in
+        let arrives = good-arrives end b.end cell cells b.lane h.sent h.far_heard late.a good h.flow in
+        let acts = good-act b.end.receiver.kept (next 250 b.end.receiver.decoding cell.byte).1 body (has_room b.end.host body) good (new-key near far first far_first end cell cells b count late lines body h arrives)
+        (has-room near far first far_first end cell cells b count late lines body h arrives (is_reply body) refl) in
+        let honest = honest-sum (whole-sent (next 250 b.end.receiver.decoding cell.byte).1 cell.ends body (good-end (end_of cell) (next 250 b.end.receiver.decoding cell.byte).1 body good h.flow.clear.0)) in
+        by-act act.Accept acts (reach-good near far two first far_first end cell cells b count (count + deceptions_at b cell) late lines acts good honest h arrives)
+  ]
+]
+  where
+    honest-sum : deceptions_at b cell ≡ 0 → count + deceptions_at b cell ≡ 0
+    honest-sum none = omega (arith, none, h.honest)
+
+    by-act : (what : Act) → act_of_byte node_host b.end cell.byte ≡ what → Flows near far first far_first (reached end cell cells b (count + deceptions_at b cell) what) late (lines ++ told_at far what b.end.sender b.end.host (lent_after b cell))
+        → Flows near far first far_first (arrived end cell cells b (count + deceptions_at b cell)) late (lines ++ cell_lines far b cell)
+    by-act what acts after = subst (λ (w : Act). Flows near far first far_first (reached end cell cells b (count + deceptions_at b cell) w) late (lines ++ told_at far w b.end.sender b.end.host (lent_after b cell))) (sym acts) after

@@ -1,0 +1,49 @@
+-- Playing one event after another: which are still to come, and that there is room for them.
+use Rattle.std.proofs.Common.{◌≡◌, ◌∙◌, ℕ, ◌+◌, ◌<◌, ◌≤◌, suc, List, ◌∷◌, length, drop, drop-cons, get_or, ap, sym, cond, arith}
+use Rattle.std.specs.Prelude.{count_by, sum_by}
+use Rattle.std.proofs.Math.Numerals.{suc-eq-add-one}
+use Rattle.std.proofs.lemmas.List.Sums.{sum_by-cons}
+use Rattle.line_statement.specs.declared.who.Who.TheVariants.{A, B, M, S}
+use Rattle.line_script.specs.declared.script.Event.{Event}
+use Rattle.line_script.specs.declared.script.Event.TheVariants as event
+use Rattle.line_script.specs.Playable.{IsPossible, issues, count_of}
+use Rattle.duplex_line.specs.Acts.{LineState}
+use Rattle.duplex_line.specs.Run.{after_event, seen_from, who_of}
+use Rattle.duplex_line.specs.Plays.{issued_by, IsUnspent}
+use Rattle.duplex_line.proofs.Once.IssueLimits.{commands-of-a, commands-of-b}
+
+-- the events from one on are that one and those after it
+pub events-next : (events : List Event) (i : ℕ) (e : Event) → i < length events → e ≡ get_or events i e → drop i events ≡ e ∷ drop (i + 1) events
+events-next events i e lt is =
+    drop-cons events i e lt ∙ ap (λ (x : Event). x ∷ drop (suc i) events) (sym is) ∙ ap (λ (j : ℕ). e ∷ drop j events) (suc-eq-add-one i)
+
+-- there is room for the commands that are still to come
+pub room-of-a : (s : LineState) (e : Event) (rest : List Event) → IsPossible e → issued_by s.a + count_by (issues A) (e ∷ rest) ≤ 65535 → issued_by (after_event s e).a + count_by (issues A) rest ≤ 65535
+room-of-a s e rest possible few =
+    let more = sum_by-cons (λ (x : Event). cond (issues A x) 1 0) e rest in
+    let new = commands-of-a e s possible in
+    omega (arith, more, new, few)
+
+pub room-of-b : (s : LineState) (e : Event) (rest : List Event) → IsPossible e → issued_by s.b + count_by (issues B) (e ∷ rest) ≤ 65535 → issued_by (after_event s e).b + count_by (issues B) rest ≤ 65535
+room-of-b s e rest possible few =
+    let more = sum_by-cons (λ (x : Event). cond (issues B x) 1 0) e rest in
+    let new = commands-of-b e s possible in
+    omega (arith, more, new, few)
+
+-- the next command is not the 65,536th of its end
+pub unspent : (s : LineState) (e : Event) (rest : List Event) → IsPossible e → issued_by s.a + count_by (issues A) (e ∷ rest) ≤ 65535 → issued_by s.b + count_by (issues B) (e ∷ rest) ≤ 65535
+    → IsUnspent (seen_from (who_of e) s).a e
+unspent s (event.Issue A dst payload) rest possible few-a few-b = let more = sum_by-cons (λ (x : Event). cond (issues A x) 1 0) (event.Issue A dst payload) rest in omega (arith, more, few-a)
+unspent s (event.Issue B dst payload) rest possible few-a few-b = let more = sum_by-cons (λ (x : Event). cond (issues B x) 1 0) (event.Issue B dst payload) rest in omega (arith, more, few-b)
+unspent s (event.Issue M dst payload) rest possible few-a few-b = let no = possible.0 in absurd cc
+unspent s (event.Issue (S station) dst payload) rest possible few-a few-b = let no = possible.0 in absurd cc
+unspent s (event.Take who n) rest possible few-a few-b = tt
+unspent s (event.Deliver lane n) rest possible few-a few-b = tt
+unspent s (event.Lose lane n) rest possible few-a few-b = tt
+unspent s (event.Alter lane mask) rest possible few-a few-b = tt
+unspent s (event.Foreign lane bytes) rest possible few-a few-b = tt
+unspent s (event.Tick who n) rest possible few-a few-b = tt
+
+-- an event more is within the sum
+pub sum-of-next : (sum : ℕ) (e : Event) (rest : List Event) → sum + sum_by count_of (e ∷ rest) ≤ 5000000 → sum + count_of e + sum_by count_of rest ≤ 5000000
+sum-of-next sum e rest few = let more = sum_by-cons count_of e rest in omega (arith, more, few)

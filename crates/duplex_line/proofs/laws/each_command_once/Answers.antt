@@ -1,0 +1,5 @@
+use Rattle.duplex_line.proofs.Once.WholeRun.{each-once}
+use Rattle.duplex_line.proofs.laws.each_command_once.Goals as goal
+
+pub returns : goal.returns
+returns c script playable none = each-once script playable none

@@ -1,0 +1,244 @@
+-- The unit steps on a full-duplex line between two nodes: what each does to the ends and to the bytes on their way.
+use Rattle.std.specs.Prelude.{ℕ, ◌+◌, List, [], ◌∷◌, ◌++◌, drop, slice_get, bit_xor, Option, Some, None}
+use Rattle.std.specs.Option.{option_map, option_to_list}
+use Rattle.df1_base.specs.declared.host.Did.{Did}
+use Rattle.df1_base.specs.declared.host.Did.TheVariants as did
+use Rattle.df1_base.specs.declared.host.News.{News}
+use Rattle.df1_base.specs.declared.host.News.TheVariants as news
+use Rattle.df1_base.specs.declared.link.Act.{Act}
+use Rattle.df1_base.specs.declared.link.Act.TheVariants as act
+use Rattle.df1_base.specs.declared.link.Out.{Out}
+use Rattle.df1_base.specs.declared.link.Step.{Step}
+use Rattle.df1_base.specs.declared.link.Turn.{Turn}
+use Rattle.df1_base.specs.declared.link.Turn.TheVariants as turn
+use Rattle.duplex_receiver.specs.Receiver.{body_at}
+use Rattle.df1_node.specs.Node.{NodeState, after_node_issue}
+use Rattle.duplex_end.specs.End.{EndState, with_host, end_after_byte, step_at_byte, end_after_tick, turn_at_tick, gone_at_tick, end_after_take, out_at_take}
+use Rattle.line_statement.specs.declared.who.Who.{Who}
+use Rattle.line_report.specs.declared.record.Line.{Line}
+use Rattle.line_report.specs.declared.record.Line.TheVariants as line
+use Rattle.duplex_line.specs.declared.cell.Cell.{Cell}
+use Rattle.duplex_line.specs.declared.cell.Ending.{Ending}
+use Rattle.each_once.specs.NodeHost.{node_host}
+use Rattle.duplex_line.specs.Deception.{deceptions}
+
+-- an end with its node, and the bytes that it gave and that are on their way to the other end
+pub record SideState : Type 0 where
+  pub end : EndState NodeState
+  pub lane : List Cell
+
+-- two ends and their lanes, and how often an end was deceived
+pub record LineState : Type 0 where
+  pub a : SideState
+  pub b : SideState
+  pub deceived : ℕ
+
+abbrev pub line_state : SideState → SideState → ℕ → LineState
+line_state a b deceived = record { a = a; b = b; deceived = deceived }
+
+-- the line, looked at from the other end
+abbrev pub swapped : LineState → LineState
+swapped s = record { a = s.b; b = s.a; deceived = s.deceived }
+
+-- what happens at an end, or to the bytes from it
+pub data Deed : Type 0 where
+  Issue : (dst : ℕ) (payload : List ℕ) → Deed
+  Take : Deed
+  Deliver : Deed
+  Lose : Deed
+  Alter : (mask : ℕ) → Deed
+  Foreign : (byte : ℕ) → Deed
+  Tick : Deed
+
+-- ---- at the end itself
+
+-- a command is issued
+abbrev pub after_issue : SideState → ℕ → List ℕ → SideState
+after_issue s dst payload = record { end = with_host s.end (after_node_issue s.end.host dst payload); lane = s.lane }
+
+-- the transmission of this body and number ends
+abbrev pub ending_of : List ℕ → ℕ → Ending
+ending_of body number = record { number = number; body = body }
+
+-- the cell of a byte that an end gave while it sent this body
+abbrev pub cell_of : List ℕ → Out → Cell
+cell_of sending out = record { byte = out.byte; ends = option_map (ending_of sending) out.last_of; body_of = out.body_of }
+
+-- the cells that a take puts into the lane: one, or none where the end has nothing to give
+abbrev pub taken : SideState → List Cell
+taken s = option_to_list (option_map (cell_of (end_after_take node_host s.end).sending) (out_at_take node_host s.end))
+
+-- the byte that a take gives
+abbrev pub byte_taken : SideState → Option ℕ
+byte_taken s = option_map (λ out. out.byte) (out_at_take node_host s.end)
+
+-- a byte is given into the lane
+abbrev pub after_take : SideState → SideState
+after_take s = record { end = end_after_take node_host s.end; lane = s.lane ++ taken s }
+
+-- the head of the lane leaves it
+abbrev pub after_leaving : SideState → SideState
+after_leaving s = record { end = s.end; lane = drop 1 s.lane }
+
+-- a byte without numbers
+abbrev pub bare : ℕ → Cell
+bare byte = record { byte = byte; ends = None; body_of = None }
+
+-- the head of the lane is altered, and loses its numbers
+abbrev pub altered : ℕ → List Cell → List Cell
+altered mask [] = []
+altered mask (cell ∷ cells) = bare (bit_xor cell.byte mask) ∷ cells
+
+abbrev pub after_alter : SideState → ℕ → SideState
+after_alter s mask = record { end = s.end; lane = altered mask s.lane }
+
+abbrev pub after_tick : SideState → SideState
+after_tick s = record { end = end_after_tick node_host s.end; lane = s.lane }
+
+-- the end at which it happens
+abbrev pub near_after : SideState → Deed → SideState
+near_after s (Issue dst payload) = after_issue s dst payload
+near_after s Take = after_take s
+near_after s Deliver = after_leaving s
+near_after s Lose = after_leaving s
+near_after s (Alter mask) = after_alter s mask
+near_after s (Foreign byte) = s
+near_after s Tick = after_tick s
+
+-- ---- at the other end
+
+-- what arrives at the other end
+abbrev pub arriving : SideState → Deed → Option Cell
+arriving s (Issue dst payload) = None
+arriving s Take = None
+arriving s Deliver = slice_get s.lane 0
+arriving s Lose = None
+arriving s (Alter mask) = None
+arriving s (Foreign byte) = Some (bare byte)
+arriving s Tick = None
+
+-- a byte arrives
+abbrev pub after_cell : SideState → Cell → SideState
+after_cell s cell = record { end = end_after_byte node_host s.end cell.byte; lane = s.lane }
+
+abbrev pub after_arrival : SideState → Option Cell → SideState
+after_arrival s None = s
+after_arrival s (Some cell) = after_cell s cell
+
+-- what the end makes of a cell
+abbrev pub step_of : SideState → Cell → Step
+step_of s cell = step_at_byte node_host s.end cell.byte
+
+-- the body of the frame that is heard at a cell
+abbrev pub body_heard : SideState → Cell → List ℕ
+body_heard s cell = body_at (end_after_byte node_host s.end cell.byte).receiver
+
+-- how often the end is deceived at a cell
+abbrev pub deceptions_at : SideState → Cell → ℕ
+deceptions_at s cell = deceptions (step_of s cell).whole cell.ends (body_heard s cell)
+
+-- how often an end was deceived, with what arrives
+abbrev pub deceived_after : ℕ → SideState → Option Cell → ℕ
+deceived_after count s None = count
+deceived_after count s (Some cell) = count + deceptions_at s cell
+
+-- ---- both
+
+-- what happens at the end a, or to the bytes from it; for the other end the line is swapped
+abbrev pub after_deed : LineState → Deed → LineState
+after_deed s deed = record {
+  a = near_after s.a deed;
+  b = after_arrival s.b (arriving s.a deed);
+  deceived = deceived_after s.deceived s.b (arriving s.a deed);
+}
+
+-- ---- the lines of the report
+
+-- what the host of an end did with a message
+abbrev pub did_lines : Who → Option Did → List ℕ → List Line
+did_lines who None body = []
+did_lines who (Some did.Executed) body = line.Exec who body ∷ []
+did_lines who (Some (did.Answered n)) body = line.Answered who n body ∷ []
+did_lines who (Some did.Stray) body = line.Stray who body ∷ []
+
+-- the line of an act
+abbrev pub act_lines : Who → Act → Option Did → List ℕ → List Line
+act_lines who act.Accept what body = did_lines who what body
+act_lines who act.Repeat what body = line.Repeat who ∷ []
+act_lines who act.Refuse what body = line.Full who ∷ []
+act_lines who act.Damaged what body = line.Damaged who ∷ []
+act_lines who act.Forgot what body = []
+act_lines who act.PeerAck what body = []
+act_lines who act.PeerNak what body = []
+act_lines who act.PeerEnq what body = []
+act_lines who act.Nothing what body = []
+
+abbrev pub news_lines : Who → News → List Line
+news_lines who news.Nothing = []
+news_lines who (news.Undelivered n) = line.Undelivered who n ∷ []
+news_lines who news.Dropped = line.Dropped who ∷ []
+
+-- at a byte: first the line of the act, then the news
+abbrev pub step_lines : Who → Step → List ℕ → List Line
+step_lines who step body = act_lines who step.act step.did body ++ news_lines who step.news
+
+abbrev pub turn_lines : Who → Turn → List Line
+turn_lines who turn.Still = []
+turn_lines who turn.Ask = line.Enquiry who ∷ []
+turn_lines who (turn.Failed news) = news_lines who news
+
+-- the commands that are unanswered from a tick on
+abbrev pub gone_lines : Who → List ℕ → List Line
+gone_lines who [] = []
+gone_lines who (n ∷ numbers) = line.Unanswered who n ∷ gone_lines who numbers
+
+-- at a tick: first the sender's line, then the unanswered commands
+abbrev pub tick_lines : Who → SideState → List Line
+tick_lines who s = turn_lines who (turn_at_tick node_host s.end) ++ gone_lines who (gone_at_tick node_host s.end)
+
+-- at a cell that arrives
+abbrev pub cell_lines : Who → SideState → Cell → List Line
+cell_lines who s cell = step_lines who (step_of s cell) (body_heard s cell)
+
+abbrev pub arrival_lines : Who → SideState → Option Cell → List Line
+arrival_lines who s None = []
+arrival_lines who s (Some cell) = cell_lines who s cell
+
+-- the lines that it makes at the end itself
+abbrev pub near_lines : Who → SideState → Deed → List Line
+near_lines who s (Issue dst payload) = []
+near_lines who s Take = []
+near_lines who s Deliver = []
+near_lines who s Lose = []
+near_lines who s (Alter mask) = []
+near_lines who s (Foreign byte) = []
+near_lines who s Tick = tick_lines who s
+
+-- the lines that something at the end a makes, by the names of that end and of the other
+abbrev pub lines_at : Who → Who → LineState → Deed → List Line
+lines_at near far s deed = near_lines near s.a deed ++ arrival_lines far s.b (arriving s.a deed)
+
+-- the bytes that an end gives
+abbrev pub given_at : SideState → Deed → List ℕ
+given_at s (Issue dst payload) = []
+given_at s Take = option_to_list (byte_taken s)
+given_at s Deliver = []
+given_at s Lose = []
+given_at s (Alter mask) = []
+given_at s (Foreign byte) = []
+given_at s Tick = []
+
+-- ---- one deed after another
+
+abbrev pub after_deeds : LineState → List Deed → LineState
+after_deeds s [] = s
+after_deeds s (deed ∷ deeds) = after_deeds (after_deed s deed) deeds
+
+abbrev pub lines_over : Who → Who → LineState → List Deed → List Line
+lines_over near far s [] = []
+lines_over near far s (deed ∷ deeds) = lines_at near far s deed ++ lines_over near far (after_deed s deed) deeds
+
+-- the bytes that an end gives, whatever the other does
+abbrev pub given_over : SideState → List Deed → List ℕ
+given_over s [] = []
+given_over s (deed ∷ deeds) = given_at s deed ++ given_over (near_after s deed) deeds

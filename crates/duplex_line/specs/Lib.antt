@@ -1,0 +1,9 @@
+pub mod Acts
+pub mod Complete
+pub mod Deception
+pub mod Example
+pub mod Once
+pub mod Plays
+pub mod Prompt
+pub mod Run
+pub mod Steps

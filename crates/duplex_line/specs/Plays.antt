@@ -1,0 +1,43 @@
+-- A world: what it holds while a script is played, and which event may come next.
+use Rattle.std.specs.Prelude.{ℕ, ◌+◌, ◌<◌, ◌≤◌, List, [], ◌++◌, length}
+use Rattle.line_script.specs.declared.script.Event.{Event}
+use Rattle.line_script.specs.declared.script.Event.TheVariants as event
+use Rattle.line_script.specs.declared.script.Script.{Script}
+use Rattle.line_script.specs.Playable.{IsPossible, count_of}
+use Rattle.line_report.specs.declared.record.Line.{Line}
+use Rattle.duplex_line.specs.Acts.{SideState, LineState}
+use Rattle.duplex_line.specs.Run.{start, after_event, lines_of, seen_from, who_of}
+
+-- the state, the lines of the report so far, and the sum of the events so far
+pub record Played : Type 0 where
+  pub state : LineState
+  pub lines : List Line
+  pub events : ℕ
+
+-- before the first event of a script
+abbrev pub begun : Script → Played
+begun script = record { state = start script; lines = []; events = 0 }
+
+-- after an event more
+abbrev pub played : Played → Event → Played
+played p e = record { state = after_event p.state e; lines = p.lines ++ lines_of p.state e; events = p.events + count_of e }
+
+-- how many commands an end has issued
+abbrev pub issued_by : SideState → ℕ
+issued_by side = length side.end.host.initiator.issued
+
+-- a command is not the 65,536th of its end
+abbrev pub IsUnspent : SideState → Event → Type 0
+IsUnspent side (event.Issue who dst payload) = issued_by side < 65535
+IsUnspent side (event.Take who n) = Unit {0}
+IsUnspent side (event.Deliver lane n) = Unit {0}
+IsUnspent side (event.Lose lane n) = Unit {0}
+IsUnspent side (event.Alter lane mask) = Unit {0}
+IsUnspent side (event.Foreign lane bytes) = Unit {0}
+IsUnspent side (event.Tick who n) = Unit {0}
+
+-- an event that may happen next
+pub record IsNext (p : Played) (e : Event) : Type 0 where
+  pub possible : IsPossible e
+  pub unspent : IsUnspent (seen_from (who_of e) p.state).a e
+  pub sum : p.events + count_of e ≤ 5000000

@@ -1,0 +1,172 @@
+-- The run of a script: its first state, what each event leaves, the lines of the report that it makes, and the record.
+use Rattle.std.specs.Prelude.{ℕ, ◌+◌, List, [], ◌∷◌, ◌++◌, map, replicate, Option, Some, None, zero, suc, ◌==◌, slice_index_or, if◌then◌else◌}
+use Rattle.std.specs.List.{flat_map}
+use Rattle.df1_check.specs.declared.Check.{Check}
+use Rattle.df1_node.specs.declared.handed.Handed.TheVariants as handed
+use Rattle.df1_node.specs.Tables.{DataTables, fresh, has_word, with_word, word_at, word_count}
+use Rattle.df1_node.specs.Answer.{StationState, fits_compat}
+use Rattle.df1_node.specs.Node.{NodeState}
+use Rattle.duplex_sender.specs.declared.Limits.{Limits}
+use Rattle.duplex_end.specs.declared.Setup.{Setup}
+use Rattle.duplex_end.specs.End.{new_end}
+use Rattle.line_statement.specs.declared.who.Who.{Who}
+use Rattle.line_statement.specs.declared.who.Who.TheVariants.{A, B, M, S}
+use Rattle.line_script.specs.declared.script.Event.{Event}
+use Rattle.line_script.specs.declared.script.Event.TheVariants as event
+use Rattle.line_script.specs.declared.script.EndPlan.{EndPlan}
+use Rattle.line_script.specs.declared.script.Script.{Script}
+use Rattle.line_script.specs.declared.script.WordOf.{WordOf}
+use Rattle.line_script.specs.Plans.{plan_of, fresh_end}
+use Rattle.line_report.specs.declared.record.Line.{Line}
+use Rattle.line_report.specs.declared.record.Line.TheVariants as line
+use Rattle.line_report.specs.declared.record.Record.{Record}
+use Rattle.duplex_line.specs.Acts.{SideState, LineState, swapped, Deed, Issue, Take, Deliver, Lose, Alter, Foreign, Tick, after_deeds, lines_over, given_over}
+
+-- ---- the first state
+
+-- a word has its first value, where there is such a word
+abbrev pub with_first : DataTables → WordOf → DataTables
+with_first tables w = if has_word tables.specs w.file w.index then with_word tables w.file w.index w.value else tables
+
+abbrev pub with_all : DataTables → List WordOf → DataTables
+with_all tables [] = tables
+with_all tables (w ∷ words) = with_all (with_first tables w) words
+
+-- the tables of an end before anything happens: its files, with the first values of their words
+abbrev pub first_tables : EndPlan → DataTables
+first_tables plan = with_all (fresh plan.files) plan.words
+
+-- the compatibility file, where it is one of the files and holds bits or integers
+abbrev pub first_compat : EndPlan → Option ℕ
+first_compat plan = if fits_compat (first_tables plan).specs plan.compat then plan.compat else None
+
+abbrev pub first_station : EndPlan → StationState
+first_station plan = record { tables = first_tables plan; compat = first_compat plan; block = plan.block }
+
+abbrev pub first_node : EndPlan → NodeState
+first_node plan = record {
+  room = plan.room;
+  station = first_station plan;
+  replies = [];
+  initiator = record { node = plan.node; tns = plan.tns; reply_ticks = plan.reply_ticks; issued = [] };
+  last = handed.Nothing;
+}
+
+abbrev pub limits_of : EndPlan → Limits
+limits_of plan = record { ack_ticks = plan.ack_ticks; max_naks = plan.max_naks; max_enqs = plan.max_enqs }
+
+abbrev pub setup_of : Check → EndPlan → Setup
+setup_of check plan = record { check = check; embed = plan.embed; limits = limits_of plan }
+
+abbrev pub first_side : Check → EndPlan → SideState
+first_side check plan = record { end = new_end (setup_of check plan) (first_node plan); lane = [] }
+
+-- the plan of end a, and of end b; where a script has none, an end is as it is where no line tells of it
+abbrev pub plan_of_a : Script → EndPlan
+plan_of_a script = slice_index_or script.ends 0 (plan_of A 0 fresh_end)
+
+abbrev pub plan_of_b : Script → EndPlan
+plan_of_b script = slice_index_or script.ends 1 (plan_of B 1 fresh_end)
+
+abbrev pub start : Script → LineState
+start script = record {
+  a = first_side script.check (plan_of_a script);
+  b = first_side script.check (plan_of_b script);
+  deceived = 0;
+}
+
+-- ---- events
+
+-- the end at which an event happens, or from which its bytes come
+abbrev pub who_of : Event → Who
+who_of (event.Issue who dst payload) = who
+who_of (event.Take who n) = who
+who_of (event.Deliver lane n) = lane.from
+who_of (event.Lose lane n) = lane.from
+who_of (event.Alter lane mask) = lane.from
+who_of (event.Foreign lane bytes) = lane.from
+who_of (event.Tick who n) = who
+
+-- the unit steps of an event
+abbrev pub deeds_of : Event → List Deed
+deeds_of (event.Issue who dst payload) = Issue dst payload ∷ []
+deeds_of (event.Take who n) = replicate n Take
+deeds_of (event.Deliver lane n) = replicate n Deliver
+deeds_of (event.Lose lane n) = replicate n Lose
+deeds_of (event.Alter lane mask) = Alter mask ∷ []
+deeds_of (event.Foreign lane bytes) = map Foreign bytes
+deeds_of (event.Tick who n) = replicate n Tick
+
+-- the other end
+abbrev pub other : Who → Who
+other A = B
+other B = A
+other M = M
+other (S station) = S station
+
+-- the line, looked at from this end
+abbrev pub seen_from : Who → LineState → LineState
+seen_from A s = s
+seen_from B s = swapped s
+seen_from M s = s
+seen_from (S station) s = s
+
+abbrev pub after_event : LineState → Event → LineState
+after_event s e = seen_from (who_of e) (after_deeds (seen_from (who_of e) s) (deeds_of e))
+
+-- the bytes that an end gave at one event, if it gave one
+abbrev pub sent_lines : Who → List ℕ → List Line
+sent_lines who [] = []
+sent_lines who (byte ∷ bytes) = line.Sent who (byte ∷ bytes) ∷ []
+
+-- the lines of unit steps at an end, and then its bytes
+abbrev pub deed_lines : Who → LineState → List Deed → List Line
+deed_lines who s deeds = lines_over who (other who) s deeds ++ sent_lines who (given_over s.a deeds)
+
+abbrev pub lines_of : LineState → Event → List Line
+lines_of s e = deed_lines (who_of e) (seen_from (who_of e) s) (deeds_of e)
+
+abbrev pub state_after : LineState → List Event → LineState
+state_after s [] = s
+state_after s (e ∷ events) = state_after (after_event s e) events
+
+abbrev pub lines_after : LineState → List Event → List Line
+lines_after s [] = []
+lines_after s (e ∷ events) = lines_of s e ++ lines_after (after_event s e) events
+
+-- the last state of a run
+abbrev pub last_state : Script → LineState
+last_state script = state_after (start script) script.events
+
+-- ---- the record
+
+-- a word of a file, if it isn't 0
+abbrev pub word_line : Who → ℕ → ℕ → Option ℕ → List WordOf
+word_line who number index None = []
+word_line who number index (Some value) =
+    if value == 0 then [] else record { who = who; file = number; index = index; value = value } ∷ []
+
+-- so many words of a file, from an index on
+abbrev pub words_from : Who → DataTables → ℕ → ℕ → ℕ → List WordOf
+words_from who tables number index zero = []
+words_from who tables number index (suc more) =
+    word_line who number index (word_at tables number index) ++ words_from who tables number (index + 1) more
+
+-- the words that aren't 0: files in their order, words rising
+abbrev pub words_of : Who → DataTables → List WordOf
+words_of who tables = flat_map (λ spec. words_from who tables spec.number 0 (word_count spec)) tables.specs
+
+-- the tables of an end
+abbrev pub tables_of : SideState → DataTables
+tables_of side = side.end.host.station.tables
+
+-- the words of both ends
+abbrev pub all_words : LineState → List WordOf
+all_words s = words_of A (tables_of s.a) ++ words_of B (tables_of s.b)
+
+abbrev pub record_from : LineState → List Line → Record
+record_from s lines = record { lines = lines; words = all_words s; deceived = s.deceived }
+
+-- the record of a script's run
+unfoldable pub record_of : Script → Record
+record_of script = record_from (last_state script) (lines_after (start script) script.events)

@@ -1,0 +1,170 @@
+//! Events at one end of the line, or with the bytes from it.
+
+ghost use Rattle.std.specs.Prelude.{◌≡◌, ◌+◌, ◌≤◌, ◌<◌, ◌++◌, OnOk, IfOk, map, length, replicate};
+ghost use Rattle.duplex_line.specs.Acts.{Deed, Take, Deliver, Lose, Foreign, Tick, SideState, after_deeds, line_state, lines_over, given_over, tick_lines, after_tick};
+ghost use Rattle.duplex_line.specs.Run.{other, sent_lines, deeds_of, deed_lines};
+ghost use Rattle.duplex_line.specs.Plays.{IsUnspent};
+ghost use Rattle.duplex_line.specs.Steps.{near_over, near_lines_over};
+ghost use Rattle.line_script.specs.Playable.{IsPossible, count_of};
+
+use crate::cell::Cell;
+use crate::side::Side;
+use crate::reported::{Reported, arrive, tell_gone, tell_turn};
+use arrayvec::ArrayVec;
+use df1_base::NoMemory;
+use line_report::{Line, Lines};
+use line_script::{Bytes, Event, Who};
+use std::alloc::Global;
+
+/// The end at the other end of the line.
+fn other(who: Who) -> Who
+    ensures { result ≡ other who }
+{
+    match who {
+        Who::A => Who::B,
+        Who::B => Who::A,
+        Who::M | Who::S(_) => who,
+    }
+}
+
+/// Does an event at the end `near`, or with the bytes from it.
+pub(crate) fn deal(
+    alloc: Global,
+    event: &Event,
+    who: Who,
+    near: &mut Side,
+    far: &mut Side,
+    reported: &mut Reported,
+) -> Result<(), NoMemory>
+    requires possible { IsPossible event.now }
+    requires unspent { IsUnspent near.old event.now }
+    requires few { reported.old.deceived + count_of event.now ≤ 5000000 }
+    ensures state { OnOk result (line_state near.new far.new reported.new.deceived
+        ≡ after_deeds (line_state near.old far.old reported.old.deceived) (deeds_of event.now)) }
+    ensures lines { OnOk result (reported.new.lines
+        ≡ reported.old.lines ++ deed_lines who (line_state near.old far.old reported.old.deceived) (deeds_of event.now)) }
+    ensures few { reported.new.deceived ≤ reported.old.deceived + count_of event.now }
+{
+    match event {
+        Event::Issue { dst, payload, .. } => near.issue(*dst, payload.as_slice()),
+        Event::Take { n, .. } => give(alloc, who, near, *n, &mut reported.lines),
+        Event::Deliver { n, .. } => deliver(alloc, other(who), near, far, *n, reported),
+        Event::Lose { n, .. } => {
+            lose(near, *n);
+            Ok(())
+        }
+        Event::Alter { mask, .. } => {
+            near.alter(*mask);
+            Ok(())
+        }
+        Event::Foreign { bytes, .. } => intrude(alloc, other(who), far, bytes.as_slice(), reported),
+        Event::Tick { n, .. } => pass(who, near, *n, &mut reported.lines),
+    }
+}
+
+/// Takes up to `n` bytes, and tells them where there is one.
+fn give(alloc: Global, who: Who, near: &mut Side, n: u32, lines: &mut Lines) -> Result<(), NoMemory>
+    ensures near { OnOk result (near.new ≡ near_over near.old (replicate n Take)) }
+    ensures lines { OnOk result (lines.new ≡ lines.old ++ sent_lines who (given_over near.old (replicate n Take))) }
+{
+    let bytes = take_all(alloc, near, n)?;
+    if bytes.as_slice().is_empty() {
+        return Ok(());
+    }
+    lines.push(Line::Sent { who, bytes })
+}
+
+/// Takes up to `n` bytes, and answers them.
+fn take_all(alloc: Global, near: &mut Side, n: u32) -> Result<Bytes, NoMemory>
+    ensures near { OnOk result (near.new ≡ near_over near.old (replicate n Take)) }
+    ensures bytes { IfOk result (λ bytes. bytes ≡ given_over near.old (replicate n Take)) }
+{
+    let mut bytes = Bytes::new(alloc);
+    for _ in 0..n {
+        let Some(byte) = near.take(alloc)? else {
+            return Ok(bytes);
+        };
+        bytes.push(byte)?;
+    }
+    Ok(bytes)
+}
+
+/// Up to `n` bytes of the queue arrive at the other end.
+fn deliver(
+    alloc: Global,
+    to: Who,
+    near: &mut Side,
+    far: &mut Side,
+    n: u32,
+    reported: &mut Reported,
+) -> Result<(), NoMemory>
+    requires { reported.old.deceived + n ≤ 5000000 }
+    ensures state { OnOk result (line_state near.new far.new reported.new.deceived
+        ≡ after_deeds (line_state near.old far.old reported.old.deceived) (replicate n Deliver)) }
+    ensures lines { (from : Who) → OnOk result (reported.new.lines
+        ≡ reported.old.lines ++ lines_over from to (line_state near.old far.old reported.old.deceived) (replicate n Deliver)) }
+    ensures few { reported.new.deceived ≤ reported.old.deceived + n }
+{
+    for _ in 0..n {
+        let Some(cell) = near.leave() else {
+            return Ok(());
+        };
+        arrive(alloc, to, far, &cell, reported)?;
+    }
+    Ok(())
+}
+
+/// Up to `n` bytes of the queue are lost.
+fn lose(near: &mut Side, n: u32)
+    ensures { near.new ≡ near_over near.old (replicate n Lose) }
+{
+    for _ in 0..n {
+        if near.leave().is_none() {
+            return;
+        }
+    }
+}
+
+/// Foreign bytes arrive at the other end.
+fn intrude(
+    alloc: Global,
+    to: Who,
+    far: &mut Side,
+    bytes: &[u8],
+    reported: &mut Reported,
+) -> Result<(), NoMemory>
+    requires { reported.old.deceived + length bytes.now ≤ 5000000 }
+    ensures state { (near : SideState) → OnOk result (line_state near far.new reported.new.deceived
+        ≡ after_deeds (line_state near far.old reported.old.deceived) (map Foreign bytes.now)) }
+    ensures lines { (from : Who) (near : SideState) → OnOk result (reported.new.lines
+        ≡ reported.old.lines ++ lines_over from to (line_state near far.old reported.old.deceived) (map Foreign bytes.now)) }
+    ensures few { reported.new.deceived ≤ reported.old.deceived + length bytes.now }
+{
+    for byte in bytes {
+        let cell = Cell::bare(*byte);
+        arrive(alloc, to, far, &cell, reported)?;
+    }
+    Ok(())
+}
+
+/// `n` units of time pass.
+fn pass(who: Who, near: &mut Side, n: u32, lines: &mut Lines) -> Result<(), NoMemory>
+    ensures near { OnOk result (near.new ≡ near_over near.old (replicate n Tick)) }
+    ensures lines { OnOk result (lines.new ≡ lines.old ++ near_lines_over who near.old (replicate n Tick)) }
+{
+    for _ in 0..n {
+        tick(who, near, lines)?;
+    }
+    Ok(())
+}
+
+/// A unit of time passes: first the sender's line is told, then the unanswered commands.
+fn tick(who: Who, near: &mut Side, lines: &mut Lines) -> Result<(), NoMemory>
+    ensures near { OnOk result (near.new ≡ after_tick near.old) }
+    ensures lines { OnOk result (lines.new ≡ lines.old ++ tick_lines who near.old) }
+{
+    let mut gone = ArrayVec::new();
+    let turn = near.tick(&mut gone);
+    tell_turn(who, turn, lines)?;
+    tell_gone(who, &gone, lines)
+}

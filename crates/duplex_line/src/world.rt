@@ -1,0 +1,146 @@
+//! The world of a script: both ends, what is on its way between them, and what is told so far.
+
+ghost use Rattle.std.specs.Prelude.{◌≡◌, ◌++◌, IfOk, OnOk};
+ghost use Rattle.line_script.specs.Playable.{IsPlayable, IsPossible, count_of};
+ghost use Rattle.duplex_line.specs.Run.{record_from, all_words, who_of};
+ghost use Rattle.duplex_line.specs.Plays.{IsNext, begun, played};
+
+use crate::deal::deal;
+use crate::outset::side_of;
+use crate::side::Side;
+use crate::reported::Reported;
+use crate::words::push_all;
+use df1_base::NoMemory;
+use line_report::{Lines, Record};
+use line_script::{Event, Script, Who, Words};
+use std::alloc::Global;
+use std::marker::Model;
+
+/// Two ends with their nodes, and the bytes on their way between them. After want of memory it is only dropped.
+#[derive(Drop)]
+pub struct World {
+    alloc: Global,
+    a: Side,
+    b: Side,
+    reported: Reported,
+    events: u32,
+}
+
+impl Model for World {
+    ghost use Rattle.std.specs.Prelude.{◌≤◌};
+    ghost use Rattle.std.specs.Coded.{codes};
+    ghost use Rattle.df1_node.specs.contracts.node.Node as node_row;
+    ghost use Rattle.duplex_line.specs.Acts.{line_state};
+    ghost use Rattle.duplex_line.specs.Plays.{Played};
+
+    ghost Value = { Played };
+
+    ghost coded = { Prim.hlevel (codes, node_row.the_row.coded) };
+
+    ghost view = { λ w. record { state = line_state w.a w.b w.reported.deceived; lines = w.reported.lines; events = w.events } };
+
+    ghost invariant = { λ w. w.reported.deceived ≤ w.events };
+}
+
+impl World {
+    /// The world before the first event of a script.
+    pub fn new(alloc: Global, script: &Script) -> Result<World, NoMemory>
+        requires { IsPlayable script.now }
+        ensures { IfOk result (λ world. world ≡ begun script.now) }
+    {
+        let [a, b] = script.ends.as_slice() else {
+            unreachable!();
+        };
+        Ok(World {
+            alloc,
+            a: side_of(alloc, script.check, a)?,
+            b: side_of(alloc, script.check, b)?,
+            reported: Reported {
+                lines: Lines::new(alloc),
+                deceived: 0,
+            },
+            events: 0,
+        })
+    }
+
+    /// Does an event: one that may happen, at the end a or b, which issues at most 65,535 commands; the sum of the
+    /// events, with this one, is at most 5,000,000. Takes, deliveries and losses end at the first that has nothing to
+    /// do.
+    pub fn step(&mut self, event: &Event) -> Result<(), NoMemory>
+        requires { IsNext self.old event.now }
+        ensures { OnOk result (self.new ≡ played self.old event.now) }
+    {
+        let alloc = self.alloc;
+        self.events += count(event);
+        match place(event) {
+            Who::A => deal(
+                alloc,
+                event,
+                Who::A,
+                &mut self.a,
+                &mut self.b,
+                &mut self.reported,
+            ),
+            Who::B => deal(
+                alloc,
+                event,
+                Who::B,
+                &mut self.b,
+                &mut self.a,
+                &mut self.reported,
+            ),
+            Who::M | Who::S(_) => unreachable!(),
+        }
+    }
+
+    /// The record of what happened: the lines, the words that aren't 0, and how often an end was deceived.
+    pub fn finish(self) -> Result<Record, NoMemory>
+        ensures { IfOk result (λ r. r ≡ record_from self.state self.lines) }
+    {
+        let words = self.words()?;
+        let World { reported, .. } = self;
+        Ok(Record {
+            lines: reported.lines,
+            words,
+            deceived: reported.deceived,
+        })
+    }
+
+    /// The words of both ends that aren't 0.
+    fn words(&self) -> Result<Words, NoMemory>
+        ensures { IfOk result (λ words. words ≡ all_words self.now.state) }
+    {
+        let mut words = Words::new(self.alloc);
+        push_all(Who::A, self.a.tables(), &mut words)?;
+        push_all(Who::B, self.b.tables(), &mut words)?;
+        Ok(words)
+    }
+}
+
+/// The end at which an event happens, or from which its bytes come.
+fn place(event: &Event) -> Who
+    ensures { result ≡ who_of event.now }
+{
+    match event {
+        Event::Issue { who, .. } | Event::Take { who, .. } | Event::Tick { who, .. } => *who,
+        Event::Deliver { lane, .. }
+        | Event::Lose { lane, .. }
+        | Event::Alter { lane, .. }
+        | Event::Foreign { lane, .. } => lane.from,
+    }
+}
+
+/// How many events an event counts.
+fn count(event: &Event) -> u32
+    requires { IsPossible event.now }
+    ensures { result ≡ count_of event.now }
+{
+    match event {
+        Event::Issue { .. } | Event::Alter { .. } => 1,
+        Event::Take { n, .. }
+        | Event::Deliver { n, .. }
+        | Event::Lose { n, .. }
+        | Event::Tick { n, .. } => *n,
+        Event::Foreign { bytes, .. } => bytes.as_slice().len() as u32,
+    }
+}

@@ -1,0 +1,13 @@
+pub mod AcceptedReplies
+pub mod CommandBodies
+pub mod HandedOut
+pub mod InitiatorProgress
+pub mod InitiatorSteps
+pub mod MessageLengths
+pub mod NodeSteps
+pub mod OneDirection
+pub mod RisingPlaces
+pub mod StationReplies
+pub mod Sublists
+pub mod ToldLines
+pub mod TwoNodes

@@ -1,0 +1,162 @@
+-- Two nodes, each of which handed out what the other accepted, but for the messages in flight.
+use Rattle.std.proofs.Common.{◌≡◌, ◌∙◌, ℕ, ◌+◌, ◌-◌, ◌<◌, ◌≤◌, Bool, true, false, not, List, [], ◌∷◌, ◌++◌, length, map, Option, Some, None, option_map, refl, sym, ap, subst, arith, length-append, append-nil}
+use Rattle.std.specs.Prelude.{slice_get, ◌==◌}
+use Rattle.std.specs.Int.{bit_at}
+use Rattle.std.specs.List.{filter}
+use Rattle.std.proofs.lemmas.Bool.{and_parts, eqb-true, false_from_ne_true}
+use Rattle.std.proofs.lemmas.List.{length-map, nil_from_length}
+use Rattle.std.proofs.lemmas.List.Elements.{filter-append}
+use Rattle.std.proofs.lemmas.Option.{slice_get-map, slice_get_within}
+use Rattle.pccc_envelope.specs.Envelope.{is_reply, tns_of, key_of}
+use Rattle.pccc_envelope.specs.Accepted.{is_kept, last_key}
+use Rattle.df1_node.specs.Answer.{StationState}
+use Rattle.df1_node.specs.Initiator.{Issued, is_reply_to, next_command}
+use Rattle.df1_node.specs.Node.{NodeState}
+use Rattle.each_once.specs.Exchanges.{exchanges}
+use Rattle.each_once.proofs.Sublists.{IsWithin, nothing, keeps, within-front, Differ, differ-within, differ-last, get-more, has-filter, from-map, filter-keeps, get-seam}
+use Rattle.each_once.proofs.StationReplies.{exchanges-bodies, exchanges-tns, exchange-fits}
+use Rattle.each_once.proofs.AcceptedReplies.{numbers-differ}
+use Rattle.each_once.proofs.HandedOut.{is_command, Hosts, handed-at, handed-front}
+use Rattle.each_once.proofs.InitiatorProgress.{IsUnderWay, IsDone, out_count, under-count, under-all}
+
+-- ---- how many are out
+
+at-most-one : (out : Option ℕ) → out_count out ≤ 1
+at-most-one None = omega arith
+at-most-one (Some left) = omega arith
+
+one-is-out : (out : Option ℕ) → 0 < out_count out → (left : ℕ) × (out ≡ Some left)
+one-is-out None some = absurd (omega arith)
+one-is-out (Some left) some = (left, refl)
+
+none-is-out : (out : Option ℕ) → out_count out ≡ 0 → out ≡ None
+none-is-out None none = refl
+none-is-out (Some left) none = absurd cc
+
+-- ---- the replies of a station, by their places
+
+exchanges-length : (first : StationState) (xs : List (List ℕ)) → length (map (λ e. e.1) (exchanges first xs)) ≡ length xs
+exchanges-length first xs = length-map (exchanges first xs) (λ e. e.1) ∙ sym (length-map (exchanges first xs) (λ e. e.0)) ∙ ap length (exchanges-bodies first xs)
+
+-- a station replied as often as it executed commands
+replied-count : {first : StationState} {node : NodeState} {messages heard : List (List ℕ)} → Hosts first node messages heard →
+    length (filter is_command heard) ≡ length (filter is_reply messages) + length node.replies
+replied-count {first} {node} {messages} {heard} h = sym (exchanges-length first (filter is_command heard)) ∙ ap length h.replies ∙ length-append (filter is_reply messages) node.replies
+
+-- its n-th reply is to the n-th command
+replied-at : (first : StationState) (executed replies rest : List (List ℕ)) (n : ℕ) (reply : List ℕ) → map (λ e. e.1) (exchanges first executed) ≡ replies ++ rest → slice_get replies n ≡ Some reply →
+    (body : List ℕ) × (slice_get executed n ≡ Some body) × (is_reply_to body reply ≡ true)
+replied-at first executed replies rest n reply all at =
+    let answered = exchanges first executed in
+    let exchange = from-map (λ (e : List ℕ × List ℕ). e.1) answered n reply (ap (λ rs. slice_get rs n) all ∙ get-more replies rest n reply at) in
+    let body = exchange.0.0 in
+    let is : slice_get answered n ≡ Some (body, reply) = exchange.1 ∙ ap (λ r. Some (body, r)) exchange.2 in (
+      body,
+      ap (λ bs. slice_get bs n) (sym (exchanges-bodies first executed)) ∙ slice_get-map (λ (e : List ℕ × List ℕ). e.0) answered n ∙ ap (option_map (λ (e : List ℕ × List ℕ). e.0)) is,
+      (exchange-fits first executed n body reply is).0,
+    )
+
+-- ---- the reply that is in flight is to the command that is out
+
+pub answer-fits : {first other : StationState} {station initiator : NodeState} {sent heard commands told : List (List ℕ)} → Hosts first station sent heard → Hosts other initiator commands told →
+    (reply : List ℕ) → sent ≡ told ++ reply ∷ [] → (flight : List (List ℕ)) → commands ≡ heard ++ flight → is_reply reply ≡ true →
+    (n : ℕ) (out : Option ℕ) → length (filter is_reply told) ≡ n → IsUnderWay initiator.initiator.issued n out →
+    (left : ℕ) × (out ≡ Some left) × ((c : Issued) × (slice_get initiator.initiator.issued n ≡ Some c) × (is_reply_to c.body reply ≡ true))
+answer-fits {first} {other} {station} {initiator} {sent} {heard} {commands} {told} s i reply sends flight flies replies n out count u =
+    let issued = initiator.initiator.issued in
+    let sent_replies : filter is_reply sent ≡ filter is_reply told ++ reply ∷ [] = ap (filter is_reply) sends ∙ filter-keeps is_reply told reply replies in
+    let at : slice_get (filter is_reply sent) n ≡ Some reply = ap (λ rs. slice_get rs n) sent_replies ∙ ap (slice_get (filter is_reply told ++ reply ∷ [])) (sym count) ∙ get-seam (filter is_reply told) reply [] in
+    let executed = replied-at first (filter is_command heard) (filter is_reply sent) station.replies n reply s.replies at in
+    let handed : filter is_command commands ≡ filter is_command heard ++ filter is_command flight = ap (filter is_command) flies ∙ filter-append is_command heard flight in
+    let is : slice_get (filter is_command commands) n ≡ Some executed.0 = ap (λ xs. slice_get xs n) handed ∙ get-more (filter is_command heard) (filter is_command flight) n executed.0 executed.1 in
+    let c = handed-at issued (filter is_command commands) n executed.0 i.initiates.in_order is in
+    let some = under-count issued (filter is_command commands) n out i.initiates.in_order u in
+    let inside = slice_get_within (filter is_command commands) n executed.0 is in
+    let one = one-is-out out (omega arith) in
+    (one.0, one.1, (c.0, c.1, ap (λ b. is_reply_to b reply) c.2 ∙ executed.2))
+
+-- ---- while a command is in flight, no reply waits
+
+pub no-reply-waits : {first other : StationState} {station initiator : NodeState} {sent heard commands told : List (List ℕ)} → Hosts first station sent heard → Hosts other initiator commands told →
+    (command : List ℕ) → commands ≡ heard ++ command ∷ [] → is_reply command ≡ false → (flight : List (List ℕ)) → sent ≡ told ++ flight →
+    (n : ℕ) (out : Option ℕ) → length (filter is_reply told) ≡ n → IsUnderWay initiator.initiator.issued n out → station.replies ≡ []
+no-reply-waits {first} {other} {station} {initiator} {sent} {heard} {commands} {told} s i command sends plain flight flies n out count u =
+    let handed = under-count initiator.initiator.issued (filter is_command commands) n out i.initiates.in_order u in
+    let few = at-most-one out in
+    let one_more = ap length (ap (filter is_command) sends ∙ filter-keeps is_command heard command (ap not plain)) ∙ length-append (filter is_command heard) (command ∷ []) in
+    let replied = replied-count s in
+    let told_some = ap length (ap (filter is_reply) flies ∙ filter-append is_reply told flight) ∙ length-append (filter is_reply told) (filter is_reply flight) in
+    nil_from_length station.replies (omega arith)
+
+-- ---- keys
+
+within-all : {A : Type 0} (xs : List A) → IsWithin xs xs
+within-all [] = nothing
+within-all (x ∷ xs) = keeps x xs xs (within-all xs)
+
+differ-front : (xs ys : List (List ℕ)) → Differ (map tns_of (xs ++ ys)) → Differ (map tns_of xs)
+differ-front xs ys = differ-within tns_of xs (xs ++ ys) (within-front xs xs ys (within-all xs))
+
+-- the TNS of a node's commands differ, and those of its replies, which are those of the other's commands
+commands-differ : {first : StationState} {node : NodeState} {messages heard : List (List ℕ)} → Hosts first node messages heard → length node.initiator.issued ≤ 65535 →
+    Differ (map tns_of (filter is_command messages))
+commands-differ {first} {node} {messages} {heard} h few =
+    let s = node.initiator in
+    let all = handed-front s.issued (filter is_command messages) h.initiates.in_order in
+    differ-front (filter is_command messages) all.0 (subst (λ bs. Differ (map tns_of bs)) all.1 (numbers-differ s.tns 0 s.issued (omega arith) h.initiates.numbered))
+
+replies-differ : {first : StationState} {node : NodeState} {messages heard : List (List ℕ)} → Hosts first node messages heard → Differ (map tns_of (filter is_command heard)) →
+    Differ (map tns_of (filter is_reply messages))
+replies-differ {first} {node} {messages} {heard} h differ =
+    differ-front (filter is_reply messages) node.replies (subst (λ rs. Differ (map tns_of rs)) h.replies (subst Differ (sym (exchanges-tns first (filter is_command heard))) differ))
+
+-- a message before the last, of the same kind, has another TNS
+other-tns : (p : List ℕ → Bool) (heard : List (List ℕ)) (m : List ℕ) (k : ℕ) (h : List ℕ) → Differ (map tns_of (filter p (heard ++ m ∷ []))) → slice_get heard k ≡ Some h → p h ≡ true → p m ≡ true →
+    tns_of h ≡ tns_of m → ⊥
+other-tns p heard m k h differ at ph pm =
+    let has = has-filter p heard k h ph at in
+    differ-last tns_of (filter p heard) has.0 h m (subst (λ xs. Differ (map tns_of xs)) (filter-keeps p heard m pm) differ) has.1
+
+-- so it has another key: by its CMD it is a reply or a command, as the last is
+other-key : (heard : List (List ℕ)) (m : List ℕ) (k : ℕ) (h : List ℕ) (reply : Bool) → Differ (map tns_of (filter is_command (heard ++ m ∷ []))) → Differ (map tns_of (filter is_reply (heard ++ m ∷ []))) →
+    slice_get heard k ≡ Some h → is_reply h ≡ is_reply m → tns_of h ≡ tns_of m → is_reply m ≡ reply → ⊥
+other-key heard m k h true commands replies at kind tns is = other-tns is_reply heard m k h replies at (kind ∙ is) is tns
+other-key heard m k h false commands replies at kind tns is = other-tns is_command heard m k h commands at (ap not (kind ∙ is)) (ap not is) tns
+
+kept-one : (o : Option (List ℕ)) (m : List ℕ) → is_kept (option_map key_of o) (key_of m) ≡ true → (h : List ℕ) × (o ≡ Some h) × (is_reply h ≡ is_reply m) × (tns_of h ≡ tns_of m)
+kept-one None m e = absurd cc
+kept-one (Some h) m e =
+    let tns = and_parts _ _ e in
+    let cmd = and_parts _ _ tns.0 in
+    (h, refl, ap (λ (n : ℕ). bit_at n 6 == 1) (eqb-true _ _ cmd.1), eqb-true _ _ tns.1)
+
+pub key-is-new : {first other : StationState} {station initiator : NodeState} {sent heard commands told : List (List ℕ)} → Hosts first station sent heard → Hosts other initiator commands told →
+    (m : List ℕ) → commands ≡ heard ++ m ∷ [] → (flight : List (List ℕ)) → sent ≡ told ++ flight → length station.initiator.issued ≤ 65535 → length initiator.initiator.issued ≤ 65535 →
+    is_kept (last_key heard) (key_of m) ≡ false
+key-is-new {first} {other} {station} {initiator} {sent} {heard} {commands} {told} s i m sends flight flies few few_too =
+    let executed : Differ (map tns_of (filter is_command told)) =
+    differ-front (filter is_command told) (filter is_command flight)
+    (subst (λ xs. Differ (map tns_of xs)) (ap (filter is_command) flies ∙ filter-append is_command told flight) (commands-differ s few)) in
+    let of_commands = subst (λ xs. Differ (map tns_of (filter is_command xs))) sends (commands-differ i few_too) in
+    let of_replies = subst (λ xs. Differ (map tns_of (filter is_reply xs))) sends (replies-differ i executed) in
+    false_from_ne_true _ (λ kept.
+    let last = kept-one (slice_get heard (length heard - 1)) m kept in
+    other-key heard m (length heard - 1) last.0 (is_reply m) of_commands of_replies last.1 last.2 last.3 refl)
+
+-- ---- once nothing is in flight, waits or is out, each command is answered
+
+pub all-answered : {first other : StationState} {station initiator : NodeState} {sent heard commands told : List (List ℕ)} → Hosts first station sent heard → Hosts other initiator commands told →
+    commands ≡ heard → sent ≡ told → station.replies ≡ [] → (n : ℕ) (out : Option ℕ) → length (filter is_reply told) ≡ n → IsUnderWay initiator.initiator.issued n out → next_command initiator.initiator.issued ≡ None →
+    (map (λ c. c.body) initiator.initiator.issued ≡ filter is_command heard) × ((k : ℕ) (c : Issued) → slice_get initiator.initiator.issued k ≡ Some c → IsDone c.standing)
+all-answered {first} {other} {station} {initiator} {sent} {heard} {commands} {told} s i took accepted none n out count u idle =
+    let issued = initiator.initiator.issued in
+    let handed = under-count issued (filter is_command commands) n out i.initiates.in_order u in
+    let executed = ap (λ xs. length (filter is_command xs)) took in
+    let replied = replied-count s in
+    let told_all = ap (λ xs. length (filter is_reply xs)) accepted in
+    let no_more = ap length none in
+    let ended = under-all issued n (subst (λ o. IsUnderWay issued n o) (none-is-out out (omega arith)) u) idle in
+    let front = handed-front issued (filter is_command commands) i.initiates.in_order in
+    let bodies = sym (length-map issued (λ c. c.body)) ∙ ap length front.1 ∙ length-append (filter is_command commands) front.0 in
+    let rest : front.0 ≡ [] = nil_from_length front.0 (omega (arith, ended.0)) in
+    (front.1 ∙ ap (λ xs. filter is_command commands ++ xs) rest ∙ append-nil (filter is_command commands) ∙ ap (filter is_command) took, ended.1)

@@ -1,0 +1,5 @@
+pub mod Direction
+pub mod Exchanges
+pub mod NodeHost
+pub mod Once
+pub mod Tells

@@ -1,9 +1,0 @@
-use Rattle.std.proofs.Common.{◌≡◌, ◌-◌}
-use Rattle.std.specs.Prelude.{replicate}
-use Rattle.line_replay.specs.Acts.{Lose}
-use Rattle.line_replay.specs.Steps.{near_over}
-use Rattle.line_replay.proofs.deal.lose.Given as goal
-
--- what is done and what is still to be done
-abbrev pub invariant-loop : goal.invariant-loop
-invariant-loop l = near_over l.near (replicate (l.n - l.counter) Lose) ≡ near_over l.fn.near (replicate l.n Lose)

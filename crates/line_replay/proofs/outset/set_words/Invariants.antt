@@ -1,7 +1,0 @@
-use Rattle.std.proofs.Common.{◌≡◌, drop}
-use Rattle.line_replay.specs.Run.{with_all}
-use Rattle.line_replay.proofs.outset.set_words.Given as goal
-
--- what is set and what is still to be set
-abbrev pub invariant-loop-word : goal.invariant-loop-word
-invariant-loop-word l = with_all l.tables (drop l.word-index l.words) ≡ with_all l.fn.tables l.words
