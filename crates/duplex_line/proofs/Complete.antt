@@ -1,32 +1,22 @@
 -- A byte arrives, in a run that nothing disturbs.
 pub mod ArrivalStep
-
 -- What a decoder hears of a frame's check bytes, and where an end chooses a response.
 pub mod CheckBytes
-
 -- A lane whose bytes are heard as what they were given as: nothing, ACKs, and whole frames at the bytes that end them.
 pub mod ClearLane
-
 -- A decoder that hears all that an end gives: where it stands, by what the end has still to give.
 pub mod DecoderPlace
-
 -- A command is issued, and a byte is given, in a run that nothing disturbs.
 pub mod GivingStep
-
 -- What holds at each point of a run that nothing disturbs.
 pub mod Invariant
-
 -- One direction that nothing disturbs: the message under way, and the one response that is awaited for it.
 pub mod MessageUnderWay
-
 -- An end that gives nothing, on a line on which nothing is on its way.
 pub mod QuietEnd
-
 -- A unit of time passes, in a run that nothing disturbs; and what is so where nothing is under way.
 pub mod TickStep
-
 -- Over a whole run that nothing disturbs, and that ends with nothing under way: each command executed and answered.
 pub mod WholeRun
-
 -- The run of an undisturbed write.
 pub mod Witness

@@ -1,17 +1,12 @@
 -- What is counted up one by one: words of a file, and unit steps of one kind.
 pub mod CountedUp
-
 -- An event at one end, by what its steps do there.
 pub mod EventSteps
-
 -- Playing one event after another: which are still to come, and that there is room for them.
 pub mod EventsToCome
-
 -- A take that gives nothing changes nothing, at an end over any host.
 pub mod IdleTake
-
 -- An end that has nothing to give, and an empty lane: nothing comes of more steps.
 pub mod NothingToGive
-
 -- Unit steps of one kind, one after another.
 pub mod UnitSteps

@@ -8,8 +8,8 @@ ghost use Rattle.duplex_line.specs.Steps.{near_over, near_lines_over};
 ghost use Rattle.line_script.specs.Playable.{IsPossible, count_of};
 
 use crate::cell::Cell;
-use crate::side::Side;
 use crate::reported::{Reported, arrive, tell_gone, tell_turn};
+use crate::side::Side;
 use arrayvec::ArrayVec;
 use df1_base::NoMemory;
 use line_report::{Line, Lines};

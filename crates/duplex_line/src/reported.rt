@@ -36,7 +36,14 @@ pub(crate) fn arrive(
     if is_deceived(step.whole, &cell.ends, side.body()) {
         reported.deceived += 1;
     }
-    tell_act(alloc, who, step.act, step.did, side.body(), &mut reported.lines)?;
+    tell_act(
+        alloc,
+        who,
+        step.act,
+        step.did,
+        side.body(),
+        &mut reported.lines,
+    )?;
     tell_news(who, step.news, &mut reported.lines)
 }
 

@@ -7,8 +7,8 @@ ghost use Rattle.duplex_line.specs.Plays.{IsNext, begun, played};
 
 use crate::deal::deal;
 use crate::outset::side_of;
-use crate::side::Side;
 use crate::reported::Reported;
+use crate::side::Side;
 use crate::words::push_all;
 use df1_base::NoMemory;
 use line_report::{Lines, Record};
