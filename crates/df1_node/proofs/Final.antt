@@ -17,7 +17,7 @@ not_waiting (Answered reply) e = refl
 not_waiting Undelivered e = refl
 not_waiting Unanswered e = refl
 
-not_out : (s : Standing) → is_settled s ≡ true → is_out s ≡ false
+pub not_out : (s : Standing) → is_settled s ≡ true → is_out s ≡ false
 not_out Waiting e = refl
 not_out (Out left) e = cc
 not_out (Answered reply) e = refl
@@ -43,12 +43,12 @@ get-append [] ds k c e = cc
 get-append (x ∷ cs) ds zero c e = e
 get-append (x ∷ cs) ds (suc k) c e = get-append cs ds k c e
 
-get-map : (f : Issued → Issued) (cs : List Issued) (k : ℕ) → slice_get (map f cs) k ≡ option_map f (slice_get cs k)
+pub get-map : (f : Issued → Issued) (cs : List Issued) (k : ℕ) → slice_get (map f cs) k ≡ option_map f (slice_get cs k)
 get-map f [] k = refl
 get-map f (x ∷ cs) zero = refl
 get-map f (x ∷ cs) (suc k) = get-map f cs k
 
-get-restated : (cs : List Issued) (p k : ℕ) (s : Standing) → (p ≡ k → ⊥) → slice_get (restated cs p s) k ≡ slice_get cs k
+pub get-restated : (cs : List Issued) (p k : ℕ) (s : Standing) → (p ≡ k → ⊥) → slice_get (restated cs p s) k ≡ slice_get cs k
 get-restated [] p k s apart = refl
 get-restated (x ∷ cs) zero zero s apart = absurd (apart refl)
 get-restated (x ∷ cs) zero (suc k) s apart = refl

@@ -26,11 +26,11 @@ script-read : (read : Result Script (ℕ × Cause)) (text : List ℕ) → report
 script-read (Ok script) text is = (script, refl, cc)
 script-read (Err fault) text is = absurd cc
 
-record-once : (script : Script) → IsPlayable script → (record_of script).deceived ≡ 0 → EachOnce script (record_of script).lines
+record-once : (script : Script) → IsPlayable script → (record_of script).deceived ≡ 0 → EachOnce script (record_of script)
 unfolding record_of
 record-once script playable honest = each-once script playable honest
 
-record-complete : (script : Script) → IsPlayable script → IsPrompt script → EndsQuiet script → IsComplete script (record_of script).lines
+record-complete : (script : Script) → IsPlayable script → IsPrompt script → EndsQuiet script → IsComplete script (record_of script)
 unfolding record_of
 record-complete script playable prompt quiet = is-complete script playable prompt quiet
 

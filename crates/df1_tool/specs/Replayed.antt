@@ -21,5 +21,5 @@ pub record Replayed (left left' held held' : Option (List ℕ)) : Type 0 where
   pub end : IsAtEnd left'
   pub reads : script_of input ≡ Ok script
   pub put : Put held held' (report (record_of script))
-  pub once : (record_of script).deceived ≡ 0 → EachOnce script (record_of script).lines
-  pub complete : IsPrompt script → EndsQuiet script → IsComplete script (record_of script).lines
+  pub once : (record_of script).deceived ≡ 0 → EachOnce script (record_of script)
+  pub complete : IsPrompt script → EndsQuiet script → IsComplete script (record_of script)

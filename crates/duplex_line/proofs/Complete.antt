@@ -18,5 +18,7 @@ pub mod QuietEnd
 pub mod TickStep
 -- Over a whole run that nothing disturbs, and that ends with nothing under way: each command executed and answered.
 pub mod WholeRun
+-- What the lines of a report tell of the messages that an end accepts, where nothing disturbs the line.
+pub mod ToldMessages
 -- The run of an undisturbed write.
 pub mod Witness

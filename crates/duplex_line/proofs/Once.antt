@@ -12,3 +12,5 @@ pub mod LineSteps
 pub mod SentMessages
 -- Over a whole run: each command once, both ways.
 pub mod WholeRun
+-- In every run, whatever is heard: each end's commands are those that the script issues, and the lines tell how each ended.
+pub mod ToldCommands

@@ -1,25 +1,17 @@
 -- The unit steps on a full-duplex line between two nodes: what each does to the ends and to the bytes on their way.
 use Rattle.std.specs.Prelude.{ℕ, ◌+◌, List, [], ◌∷◌, ◌++◌, drop, slice_get, bit_xor, Option, Some, None}
 use Rattle.std.specs.Option.{option_map, option_to_list}
-use Rattle.df1_base.specs.declared.host.Did.{Did}
-use Rattle.df1_base.specs.declared.host.Did.TheVariants as did
-use Rattle.df1_base.specs.declared.host.News.{News}
-use Rattle.df1_base.specs.declared.host.News.TheVariants as news
-use Rattle.df1_base.specs.declared.link.Act.{Act}
-use Rattle.df1_base.specs.declared.link.Act.TheVariants as act
 use Rattle.df1_base.specs.declared.link.Out.{Out}
 use Rattle.df1_base.specs.declared.link.Step.{Step}
-use Rattle.df1_base.specs.declared.link.Turn.{Turn}
-use Rattle.df1_base.specs.declared.link.Turn.TheVariants as turn
 use Rattle.duplex_receiver.specs.Receiver.{body_at}
 use Rattle.df1_node.specs.Node.{NodeState, after_node_issue}
 use Rattle.duplex_end.specs.End.{EndState, with_host, end_after_byte, step_at_byte, end_after_tick, turn_at_tick, gone_at_tick, end_after_take, out_at_take}
 use Rattle.line_statement.specs.declared.who.Who.{Who}
 use Rattle.line_report.specs.declared.record.Line.{Line}
-use Rattle.line_report.specs.declared.record.Line.TheVariants as line
 use Rattle.duplex_line.specs.declared.cell.Cell.{Cell}
 use Rattle.duplex_line.specs.declared.cell.Ending.{Ending}
 use Rattle.each_once.specs.NodeHost.{node_host}
+use Rattle.each_once.specs.NodeLines.{step_lines, turn_lines, gone_lines}
 use Rattle.duplex_line.specs.Deception.{deceptions}
 
 -- an end with its node, and the bytes that it gave and that are on their way to the other end
@@ -153,44 +145,6 @@ after_deed s deed = record {
 }
 
 -- ---- the lines of the report
-
--- what the host of an end did with a message
-abbrev pub did_lines : Who → Option Did → List ℕ → List Line
-did_lines who None body = []
-did_lines who (Some did.Executed) body = line.Exec who body ∷ []
-did_lines who (Some (did.Answered n)) body = line.Answered who n body ∷ []
-did_lines who (Some did.Stray) body = line.Stray who body ∷ []
-
--- the line of an act
-abbrev pub act_lines : Who → Act → Option Did → List ℕ → List Line
-act_lines who act.Accept what body = did_lines who what body
-act_lines who act.Repeat what body = line.Repeat who ∷ []
-act_lines who act.Refuse what body = line.Full who ∷ []
-act_lines who act.Damaged what body = line.Damaged who ∷ []
-act_lines who act.Forgot what body = []
-act_lines who act.PeerAck what body = []
-act_lines who act.PeerNak what body = []
-act_lines who act.PeerEnq what body = []
-act_lines who act.Nothing what body = []
-
-abbrev pub news_lines : Who → News → List Line
-news_lines who news.Nothing = []
-news_lines who (news.Undelivered n) = line.Undelivered who n ∷ []
-news_lines who news.Dropped = line.Dropped who ∷ []
-
--- at a byte: first the line of the act, then the news
-abbrev pub step_lines : Who → Step → List ℕ → List Line
-step_lines who step body = act_lines who step.act step.did body ++ news_lines who step.news
-
-abbrev pub turn_lines : Who → Turn → List Line
-turn_lines who turn.Still = []
-turn_lines who turn.Ask = line.Enquiry who ∷ []
-turn_lines who (turn.Failed news) = news_lines who news
-
--- the commands that are unanswered from a tick on
-abbrev pub gone_lines : Who → List ℕ → List Line
-gone_lines who [] = []
-gone_lines who (n ∷ numbers) = line.Unanswered who n ∷ gone_lines who numbers
 
 -- at a tick: first the sender's line, then the unanswered commands
 abbrev pub tick_lines : Who → SideState → List Line

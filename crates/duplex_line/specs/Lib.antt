@@ -2,6 +2,7 @@ pub mod Acts
 pub mod Complete
 pub mod Deception
 pub mod Example
+pub mod Issues
 pub mod Once
 pub mod Plays
 pub mod Prompt

@@ -1,20 +1,24 @@
--- Each command once, both ways, in the run of a full-duplex script.
-use Rattle.std.specs.Prelude.{List}
+-- Each command once, both ways, in the record of a full-duplex script.
+use Rattle.std.specs.Prelude.{◌≡◌, ◌++◌}
 use Rattle.line_statement.specs.declared.who.Who.{Who}
 use Rattle.line_statement.specs.declared.who.Who.TheVariants.{A, B}
 use Rattle.line_script.specs.declared.script.EndPlan.{EndPlan}
 use Rattle.line_script.specs.declared.script.Script.{Script}
-use Rattle.line_report.specs.declared.record.Line.{Line}
+use Rattle.line_report.specs.declared.record.Record.{Record}
+use Rattle.df1_node.specs.Tables.{DataTables}
 use Rattle.each_once.specs.Once.{Once}
-use Rattle.each_once.specs.Tells.{executed_in, answers_in, strays_in}
-use Rattle.duplex_line.specs.Acts.{SideState}
-use Rattle.duplex_line.specs.Run.{first_station, plan_of_a, plan_of_b, last_state}
+use Rattle.each_once.specs.Exchanges.{station_after}
+use Rattle.each_once.specs.Tells.{executed_in}
+use Rattle.duplex_line.specs.Issues.{commands_of_a, commands_of_b}
+use Rattle.duplex_line.specs.Run.{first_station, plan_of_a, plan_of_b, words_of}
 
--- the station of one end, with the initiator of the other
-abbrev pub IsOnce : Who → Who → EndPlan → SideState → SideState → List Line → Type 0
-IsOnce from to plan near far lines = Once near.end.host.initiator.issued (executed_in to lines) (first_station plan) far.end.host.station (answers_in from lines) (strays_in from lines)
+-- the tables that the commands which an end is told to have executed make of its first ones
+abbrev pub tables_made : Who → EndPlan → Record → DataTables
+tables_made who plan r = (station_after (first_station plan) (executed_in who r.lines)).tables
 
--- both ways, in the run of a script that told these lines
-pub record EachOnce (script : Script) (lines : List Line) : Type 0 where
-  pub to_b : IsOnce A B (plan_of_b script) (last_state script).a (last_state script).b lines
-  pub to_a : IsOnce B A (plan_of_a script) (last_state script).b (last_state script).a lines
+-- each command once from end a to end b and from end b to end a; and the words of the record are those that the executed
+-- commands make of the first ones
+pub record EachOnce (script : Script) (r : Record) : Type 0 where
+  pub to_b : Once A B (commands_of_a script) (first_station (plan_of_b script)) r.lines
+  pub to_a : Once B A (commands_of_b script) (first_station (plan_of_a script)) r.lines
+  pub words : r.words ≡ words_of A (tables_made A (plan_of_a script) r) ++ words_of B (tables_made B (plan_of_b script) r)

@@ -3,34 +3,48 @@ ghost use Rattle.std.specs.Prelude.{◌≡◌, ◌∷◌, []};
 ghost use Rattle.line_script.specs.declared.script.Script.{Script};
 ghost use Rattle.line_statement.specs.declared.who.Who.TheVariants.{A, B};
 ghost use Rattle.line_script.specs.Playable.{IsPlayable};
-ghost use Rattle.duplex_line.specs.Run.{start, last_state, lines_after};
+ghost use Rattle.each_once.specs.Commands.{AreOutcomesTold};
+ghost use Rattle.duplex_line.specs.Issues.{commands_of_a, commands_of_b, issued_of, bodies_of};
+ghost use Rattle.duplex_line.specs.Run.{start, last_state, lines_after, record_of};
 ghost use Rattle.duplex_line.specs.Once.{EachOnce};
 ghost use Rattle.duplex_line.specs.Prompt.{IsPrompt, EndsQuiet};
 ghost use Rattle.duplex_line.specs.Complete.{IsComplete};
 ghost use Rattle.each_once.specs.Tells.{executed_in, answers_in};
 ghost use Rattle.duplex_line.specs.Example.{one_write, the_command, the_reply};
 
+/// A law: in every run, whatever is heard, the commands that an end has issued are those of the script, and the lines tell of
+/// each how it ended, once, and of no other (manual topic: message packets).
+pub fn outcomes_are_told()
+    ensures commands_of_a { (script : Script) → IsPlayable script → bodies_of (last_state script).a ≡ commands_of_a script }
+    ensures commands_of_b { (script : Script) → IsPlayable script → bodies_of (last_state script).b ≡ commands_of_b script }
+    ensures outcomes_of_a { (script : Script) → IsPlayable script → AreOutcomesTold A (issued_of (last_state script).a) (lines_after (start script) script.events) }
+    ensures outcomes_of_b { (script : Script) → IsPlayable script → AreOutcomesTold B (issued_of (last_state script).b) (lines_after (start script) script.events) }
+{}
+
 /// A law: in a run that deceives no end, whatever is lost, altered, foreign or late, each end's station executes commands
-/// that were issued to it, in their order, each once; its tables are what these made of the first ones; and each reply
+/// that were issued to it, in their order, each once; its words are what these made of the first ones; and each reply
 /// that the other end accepts is what the station answered to that very command (manual topic: full-duplex protocol).
+#[tactic(auto, unfolding(crate::specs::Run::record_of))]
 pub fn each_command_once()
-    ensures { (script : Script) → IsPlayable script → (last_state script).deceived ≡ 0 → EachOnce script (lines_after (start script) script.events) }
+    ensures { (script : Script) → IsPlayable script → (record_of script).deceived ≡ 0 → EachOnce script (record_of script) }
 {}
 
 /// A law: in a run that loses, alters and adds no byte, in which few ticks come while something is under way, and which
 /// ends with nothing under way, no end is deceived, and all commands of both ends are executed, in their order, and
-/// answered (manual topic: full-duplex protocol).
+/// answered, in theirs, each by its own reply (manual topic: full-duplex protocol).
+#[tactic(auto, unfolding(crate::specs::Run::record_of))]
 pub fn an_undisturbed_run_is_complete()
-    ensures { (script : Script) → IsPlayable script → IsPrompt script → EndsQuiet script → IsComplete script (lines_after (start script) script.events) }
+    ensures { (script : Script) → IsPlayable script → IsPrompt script → EndsQuiet script → IsComplete script (record_of script) }
 {}
 
 /// A law: the premises of `each_command_once` and of `an_undisturbed_run_is_complete` are met, and their conclusions aren't
 /// empty, by a write over a line that loses nothing: it is executed and answered.
+#[tactic(auto, unfolding(crate::specs::Run::record_of))]
 pub fn one_write_is_executed_and_answered()
     ensures playable { IsPlayable one_write }
     ensures prompt { IsPrompt one_write }
     ensures quiet { EndsQuiet one_write }
-    ensures honest { (last_state one_write).deceived ≡ 0 }
-    ensures executed { executed_in B (lines_after (start one_write) one_write.events) ≡ the_command ∷ [] }
-    ensures answered { answers_in A (lines_after (start one_write) one_write.events) ≡ (1, the_reply) ∷ [] }
+    ensures honest { (record_of one_write).deceived ≡ 0 }
+    ensures executed { executed_in B (record_of one_write).lines ≡ the_command ∷ [] }
+    ensures answered { answers_in A (record_of one_write).lines ≡ (1, the_reply) ∷ [] }
 {}

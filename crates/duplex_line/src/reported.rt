@@ -1,7 +1,8 @@
 //! What is told of a run: the lines of its report, and how often an end was deceived.
 
 ghost use Rattle.std.specs.Prelude.{◌≡◌, ◌+◌, ◌≤◌, ◌<◌, ◌^◌, ◌++◌, OnOk};
-ghost use Rattle.duplex_line.specs.Acts.{act_lines, after_cell, cell_lines, deceptions_at, did_lines, gone_lines, news_lines, turn_lines};
+ghost use Rattle.each_once.specs.NodeLines.{act_lines, did_lines, gone_lines, news_lines, turn_lines};
+ghost use Rattle.duplex_line.specs.Acts.{after_cell, cell_lines, deceptions_at};
 
 use crate::cell::{Cell, copied};
 use crate::deceit::is_deceived;

@@ -13,7 +13,8 @@ use Rattle.df1_node.specs.Answer.{StationState}
 use Rattle.df1_node.specs.Initiator.{Issued, Standing, Waiting, Out, Answered, Undelivered, Unanswered, is_waiting, is_out, is_reply_to, answered_place}
 use Rattle.df1_node.specs.Node.{NodeState}
 use Rattle.each_once.specs.Exchanges.{exchanges}
-use Rattle.each_once.specs.Once.{command_at, is_given_up, IsReplyTo, IsAstray}
+use Rattle.each_once.specs.Commands.{command_at}
+use Rattle.each_once.proofs.KeptCommands.{is_given_up, IsReplyOf, IsOfLost}
 use Rattle.each_once.proofs.Sublists.{Has, IsWithin, within-filter, within-has, within-front, Differ, IsOther, differ-within, differ-last, get-more, has-filter, from-map, contains-at, filter-keeps}
 use Rattle.each_once.proofs.StationReplies.{exchanges-bodies, exchanges-tns, exchange-fits, fits-fields, fits-tns, fits-key}
 use Rattle.each_once.proofs.CommandBodies.{answered-some, answered-none}
@@ -87,7 +88,7 @@ tns-place tns issued p q c d numbered few is-p is-q same =
     omega (arith, at)
 
 pub is-answer : (first : StationState) (executed : List (List ℕ)) (tns : ℕ) (issued : List Issued) (reply : List ℕ) (place : ℕ) → AreNumbered tns 0 issued → length issued ≤ 65535 → IsFound (exchanges first executed) executed issued reply
-    → answered_place issued reply ≡ Some place → IsReplyTo issued (exchanges first executed) (place + 1) reply
+    → answered_place issued reply ≡ Some place → IsReplyOf issued (exchanges first executed) (place + 1) reply
 is-answer first executed tns issued reply place numbered few f is =
     let out = answered-some issued reply place is in
     let at = tns-place tns issued f.place place f.command out.0 numbered few f.is_at out.1 (sym (fits-tns f.command.body reply f.fits) ∙ fits-tns out.0.body reply out.3) in
@@ -125,34 +126,10 @@ given-up heard body Unanswered handed not_out settled none = refl
 
 pub is-astray : (first : StationState) (executed : List (List ℕ)) (issued : List Issued) (heard sent replies : List (List ℕ)) (reply : List ℕ) → Differ (map tns_of executed)
     → map (λ e. e.1) (exchanges first executed) ≡ filter is_reply sent ++ replies → IsWithin (heard ++ reply ∷ []) sent → is_reply reply ≡ true → AreSettledBy heard issued
-    → IsFound (exchanges first executed) executed issued reply → answered_place issued reply ≡ None → IsAstray issued (exchanges first executed) reply
+    → IsFound (exchanges first executed) executed issued reply → answered_place issued reply ≡ None → IsOfLost issued (exchanges first executed) reply
 is-astray first executed issued heard sent replies reply differ all within is_answer settled f is = record {
   number = suc f.place;
   replies = record { command = f.command; is_command = f.is_at; is_answer = f.answer };
   given_up = given-up heard f.command.body f.command.standing f.is_out_of_hand (answered-none issued reply f.place f.command is f.is_at f.fits) (settled-at heard issued f.place f.command settled f.is_at)
       (λ earlier has fitted. other-answer first executed heard sent replies f.command.body reply earlier differ all within is_answer f.fits has fitted);
 }
-
--- ---- a command that ended as answered
-
-max-one : (n : ℕ) → n < 2 → max n 1 ≡ 1
-max-one n small = omega arith
-
--- what fits a command as its reply is a reply
-fits-reply : (body reply : List ℕ) → is_reply_to body reply ≡ true → is_reply reply ≡ true
-fits-reply body reply fits =
-    ap (λ (cmd : ℕ). bit_at cmd 6 == 1) (fits-fields body reply fits).1
-    ∙ ap (λ (n : ℕ). n == 1) (bit_at_or (slice_index body 2) 64 6 ∙ max-one (bit_at (slice_index body 2) 6) (bit_at-lt (slice_index body 2) 6))
-
-settled-answer : (heard : List (List ℕ)) (body reply : List ℕ) (standing : Standing) → standing ≡ Answered reply → IsSettledBy heard body standing → Has heard reply × (is_reply_to body reply ≡ true)
-settled-answer heard body reply standing is settled = subst (IsSettledBy heard body) is settled
-
-pub is-outcome : (first other : StationState) (station initiator : NodeState) (sent heard commands told : List (List ℕ)) → Hosts first station sent heard → Hosts other initiator commands told → IsWithin heard commands → IsWithin told sent → length initiator.initiator.issued ≤ 65535
-    → (number : ℕ) (command : Issued) (reply : List ℕ) → command_at initiator.initiator.issued number ≡ Some command → command.standing ≡ Answered reply → IsReplyTo initiator.initiator.issued (exchanges first (filter is_command heard)) number reply
-is-outcome first other station initiator sent heard commands told s i within accepted few zero command reply is answered = absurd cc
-is-outcome first other station initiator sent heard commands told s i within accepted few (suc place) command reply is answered =
-    let issued = initiator.initiator.issued in
-    let settled = settled-answer told command.body reply command.standing answered (settled-at told issued place command i.initiates.settled is) in
-    let f = found first other station initiator sent heard commands reply s told i within (within-has told sent reply accepted settled.0) (fits-reply command.body reply settled.1) in
-    let at : f.place ≡ place = tns-place initiator.initiator.tns issued f.place place f.command command i.initiates.numbered few f.is_at is (sym (fits-tns f.command.body reply f.fits) ∙ fits-tns command.body reply settled.1) in
-    record { command = f.command; is_command = ap (slice_get issued) (sym at) ∙ f.is_at; is_answer = f.answer }

@@ -1,6 +1,6 @@
 -- Which command a step finds, and that each step leaves the commands' bodies as they are.
 use Rattle.std.proofs.Common.{◌≡◌, ◌∙◌, ℕ, zero, suc, ◌+◌, Bool, true, false, ◌&&◌, cond, List, [], ◌∷◌, map, Option, Some, None, is_some, get_or, slice_get, position, option_map, refl, sym, ap, suc-add}
-use Rattle.std.specs.List.{position_from}
+use Rattle.std.specs.List.{position_from, list_any}
 use Rattle.std.specs.Option.{option_map_or}
 use Rattle.std.proofs.lemmas.Iterator.Adapters.{position_from-zero}
 use Rattle.std.proofs.lemmas.List.Quantifiers.{position-Some}
@@ -11,7 +11,7 @@ use Rattle.df1_base.specs.declared.host.Fate.TheVariants as fate
 use Rattle.pccc_envelope.specs.Envelope.{is_reply}
 use Rattle.df1_node.specs.declared.handed.Handed.{Handed}
 use Rattle.df1_node.specs.declared.handed.Handed.TheVariants as handed
-use Rattle.df1_node.specs.Initiator.{Issued, Standing, Waiting, Out, Answered, Undelivered, InitiatorState, is_out, is_reply_to, restated, answered_place, after_reply, is_out_at, after_hand_out, next_place, all_ticked}
+use Rattle.df1_node.specs.Initiator.{Issued, Standing, Waiting, Out, Answered, Undelivered, InitiatorState, is_out, is_waiting, is_reply_to, restated, answered_place, after_reply, is_out_at, after_hand_out, next_place, all_ticked}
 use Rattle.df1_node.specs.Node.{NodeState, after_accept, after_next, after_told, after_tick, initiator_after}
 
 -- ---- the first place that passes a test
@@ -54,6 +54,18 @@ pub answered-none : (issued : List Issued) (reply : List ℕ) (k : ℕ) (c : Iss
 answered-none issued reply k c none e fits =
     let test : Issued → Bool = λ x. is_out x.standing && is_reply_to x.body reply in
     left-false _ _ (none-from test 0 issued k c (sym (position_from-zero test issued) ∙ none) e) fits
+
+-- ---- the command that is handed out
+
+waiting-at : (out : Bool) (issued : List Issued) (p : ℕ) → cond out None (position (λ c. is_waiting c.standing) issued) ≡ Some p → (c : Issued) × (slice_get issued p ≡ Some c) × (is_waiting c.standing ≡ true)
+waiting-at true issued p e = absurd cc
+waiting-at false issued p e =
+    let none : Issued = record { body = []; standing = Waiting } in
+    let at = position-Some (λ c. is_waiting c.standing) issued p none e in
+    (get_or issued p none, slice_get-get_or issued p none at.0, at.1)
+
+pub first-waiting : (issued : List Issued) (p : ℕ) → next_place issued ≡ Some p → (c : Issued) × (slice_get issued p ≡ Some c) × (is_waiting c.standing ≡ true)
+first-waiting issued p e = waiting-at (list_any (λ c. is_out c.standing) issued) issued p e
 
 -- ---- the bodies stay, at the initiator
 

@@ -3,6 +3,8 @@ pub mod CommandBodies
 pub mod HandedOut
 pub mod InitiatorProgress
 pub mod InitiatorSteps
+pub mod IssuedCommands
+pub mod KeptCommands
 pub mod MessageLengths
 pub mod NodeSteps
 pub mod OneDirection
@@ -10,4 +12,6 @@ pub mod RisingPlaces
 pub mod StationReplies
 pub mod Sublists
 pub mod ToldLines
+pub mod ToldOutcomes
+pub mod ToldReplies
 pub mod TwoNodes

@@ -6,7 +6,7 @@ use Rattle.std.proofs.lemmas.Option.{slice_get-map, slice_get_within}
 use Rattle.pccc_envelope.specs.Envelope.{tns_of}
 use Rattle.df1_node.specs.Initiator.{Issued}
 use Rattle.each_once.specs.Direction.{AreSomeOf}
-use Rattle.each_once.specs.Once.{body_at, AreApart, AreInOrder}
+use Rattle.each_once.specs.Once.{AreApart}
 use Rattle.each_once.proofs.Sublists.{IsWithin, nothing, skips, keeps, from-map, get-seam}
 use Rattle.each_once.proofs.HandedOut.{AreNumbered, numbered-at, numbered-apart}
 
@@ -56,19 +56,10 @@ some-of some all within = let places = places-of [] some all within in (places.0
 
 -- ---- commands
 
-map-same : {A B : Type 0} (f g : A → B) (xs : List A) → ((x : A) → f x ≡ g x) → map f xs ≡ map g xs
-map-same f g [] same = refl
-map-same {B = B} f g (x ∷ xs) same = ap₂ (λ (b : B) (bs : List B). b ∷ bs) (same x) (map-same f g xs same)
-
-pub in-order : (issued : List Issued) (bodies : List (List ℕ)) → IsWithin bodies (map (λ c. c.body) issued) → AreInOrder issued bodies
-in-order issued bodies within =
-    let places = places-of [] bodies (map (λ (c : Issued). c.body) issued) within in
-    (places.0, increasing 0 places.0 places.1, places.2 ∙ map-same (slice_get (map (λ (c : Issued). c.body) issued)) (body_at issued) places.0 (λ p. slice_get-map (λ (c : Issued). c.body) issued p))
-
-pub are-apart : (tns : ℕ) (issued : List Issued) → length issued ≤ 65535 → AreNumbered tns 0 issued → AreApart issued
+pub are-apart : (tns : ℕ) (issued : List Issued) → length issued ≤ 65535 → AreNumbered tns 0 issued → AreApart (map (λ c. c.body) issued)
 are-apart tns issued few numbered p q body at-p at-q =
-    let c = from-map (λ (x : Issued). x.body) issued p body (slice_get-map (λ (x : Issued). x.body) issued p ∙ at-p) in
-    let d = from-map (λ (x : Issued). x.body) issued q body (slice_get-map (λ (x : Issued). x.body) issued q ∙ at-q) in
+    let c = from-map (λ (x : Issued). x.body) issued p body at-p in
+    let d = from-map (λ (x : Issued). x.body) issued q body at-q in
     let inside_p = slice_get_within issued p c.0 c.1 in
     let inside_q = slice_get_within issued q d.0 d.1 in
     let number_p = (numbered-at tns 0 issued p c.0 numbered c.1).0 in

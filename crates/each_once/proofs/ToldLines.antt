@@ -9,15 +9,15 @@ use Rattle.line_statement.specs.declared.who.Who.{Who}
 use Rattle.line_report.specs.declared.record.Line.{Line}
 use Rattle.each_once.specs.Exchanges.{exchanges, station_after}
 use Rattle.each_once.specs.Tells.{executed_at, answer_at, stray_at, executed_in, answers_in, strays_in}
-use Rattle.each_once.specs.Once.{is_given_up, IsReplyTo, IsAstray}
+use Rattle.each_once.proofs.KeptCommands.{is_given_up, IsReplyOf, IsOfLost}
 use Rattle.each_once.proofs.Sublists.{get-more}
 use Rattle.each_once.proofs.StationReplies.{exchanges-push}
 
 -- what lines tell: the station of one end executed these commands, and the other end accepted their replies
 pub record IsTold (from to : Who) (first : StationState) (issued : List Issued) (executed : List (List ℕ)) (lines : List Line) : Type 0 where
   pub executes : executed_in to lines ≡ executed
-  pub answered : All (λ a. IsReplyTo issued (exchanges first executed) a.0 a.1) (answers_in from lines)
-  pub astray : All (IsAstray issued (exchanges first executed)) (strays_in from lines)
+  pub answered : All (λ a. IsReplyOf issued (exchanges first executed) a.0 a.1) (answers_in from lines)
+  pub astray : All (IsOfLost issued (exchanges first executed)) (strays_in from lines)
 
 -- nothing is told before the first line
 pub told-start : (from to : Who) (first : StationState) (issued : List Issued) → IsTold from to first issued [] []
@@ -43,14 +43,14 @@ stays-more issued more k c is = (c, get-more issued more k c is, refl, λ given_
 
 -- ---- more commands, and another standing of some
 
-answer-stays : (before issued : List Issued) (answered : List (List ℕ × List ℕ)) (number : ℕ) (reply : List ℕ) → Stays before issued → (r : IsReplyTo before answered number reply)
-    → (now : IsReplyTo issued answered number reply) × (is_given_up r.command.standing ≡ true → now.command.standing ≡ r.command.standing)
+answer-stays : (before issued : List Issued) (answered : List (List ℕ × List ℕ)) (number : ℕ) (reply : List ℕ) → Stays before issued → (r : IsReplyOf before answered number reply)
+    → (now : IsReplyOf issued answered number reply) × (is_given_up r.command.standing ≡ true → now.command.standing ≡ r.command.standing)
 answer-stays before issued answered zero reply stays r = absurd (let no = r.is_command in cc)
 answer-stays before issued answered (suc place) reply stays r =
     let d = stays place r.command r.is_command in
     (record { command = d.0; is_command = d.1; is_answer = subst (λ body. Contains answered (body, reply)) (sym d.2) r.is_answer }, d.3)
 
-astray-stays : (before issued : List Issued) (answered : List (List ℕ × List ℕ)) (reply : List ℕ) → Stays before issued → IsAstray before answered reply → IsAstray issued answered reply
+astray-stays : (before issued : List Issued) (answered : List (List ℕ × List ℕ)) (reply : List ℕ) → Stays before issued → IsOfLost before answered reply → IsOfLost issued answered reply
 astray-stays before issued answered reply stays a =
     let now = answer-stays before issued answered a.number reply stays a.replies in
     record { number = a.number; replies = now.0; given_up = rw (now.1 a.given_up) a.given_up }
@@ -94,10 +94,10 @@ told-silent from to first issued executed lines more silent t = record {
 }
 
 -- a command more is executed
-answer-more : (issued : List Issued) (answered more : List (List ℕ × List ℕ)) (number : ℕ) (reply : List ℕ) → IsReplyTo issued answered number reply → IsReplyTo issued (answered ++ more) number reply
+answer-more : (issued : List Issued) (answered more : List (List ℕ × List ℕ)) (number : ℕ) (reply : List ℕ) → IsReplyOf issued answered number reply → IsReplyOf issued (answered ++ more) number reply
 answer-more issued answered more number reply r = record { command = r.command; is_command = r.is_command; is_answer = Contains-append_left answered more (r.command.body, reply) r.is_answer }
 
-astray-more : (issued : List Issued) (answered more : List (List ℕ × List ℕ)) (reply : List ℕ) → IsAstray issued answered reply → IsAstray issued (answered ++ more) reply
+astray-more : (issued : List Issued) (answered more : List (List ℕ × List ℕ)) (reply : List ℕ) → IsOfLost issued answered reply → IsOfLost issued (answered ++ more) reply
 unfolding answer-more
 astray-more issued answered more reply a = record { number = a.number; replies = answer-more issued answered more a.number reply a.replies; given_up = a.given_up }
 
@@ -113,19 +113,19 @@ told-executes from to first issued executed lines more body executes answers str
 
 -- a reply more is accepted
 pub told-answers : (from to : Who) (first : StationState) (issued : List Issued) (executed : List (List ℕ)) (lines more : List Line) (number : ℕ) (reply : List ℕ)
-    → executed_in to more ≡ [] → answers_in from more ≡ (number, reply) ∷ [] → strays_in from more ≡ [] → IsReplyTo issued (exchanges first executed) number reply
+    → executed_in to more ≡ [] → answers_in from more ≡ (number, reply) ∷ [] → strays_in from more ≡ [] → IsReplyOf issued (exchanges first executed) number reply
     → IsTold from to first issued executed lines → IsTold from to first issued executed (lines ++ more)
 told-answers from to first issued executed lines more number reply executes answers strays is t = record {
   executes = adds-none (executed_at to) lines more executes ∙ t.executes;
-  answered = rw (adds (answer_at from) lines more ((number, reply) ∷ []) answers) (All-push (λ a. IsReplyTo issued (exchanges first executed) a.0 a.1) (answers_in from lines) (number, reply) t.answered is);
+  answered = rw (adds (answer_at from) lines more ((number, reply) ∷ []) answers) (All-push (λ a. IsReplyOf issued (exchanges first executed) a.0 a.1) (answers_in from lines) (number, reply) t.answered is);
   astray = rw (adds-none (stray_at from) lines more strays) t.astray;
 }
 
 pub told-strays : (from to : Who) (first : StationState) (issued : List Issued) (executed : List (List ℕ)) (lines more : List Line) (reply : List ℕ)
-    → executed_in to more ≡ [] → answers_in from more ≡ [] → strays_in from more ≡ reply ∷ [] → IsAstray issued (exchanges first executed) reply
+    → executed_in to more ≡ [] → answers_in from more ≡ [] → strays_in from more ≡ reply ∷ [] → IsOfLost issued (exchanges first executed) reply
     → IsTold from to first issued executed lines → IsTold from to first issued executed (lines ++ more)
 told-strays from to first issued executed lines more reply executes answers strays is t = record {
   executes = adds-none (executed_at to) lines more executes ∙ t.executes;
   answered = rw (adds-none (answer_at from) lines more answers) t.answered;
-  astray = rw (adds (stray_at from) lines more (reply ∷ []) strays) (All-push (IsAstray issued (exchanges first executed)) (strays_in from lines) reply t.astray is);
+  astray = rw (adds (stray_at from) lines more (reply ∷ []) strays) (All-push (IsOfLost issued (exchanges first executed)) (strays_in from lines) reply t.astray is);
 }

@@ -1,5 +1,7 @@
+pub mod Commands
 pub mod Direction
 pub mod Exchanges
 pub mod NodeHost
+pub mod NodeLines
 pub mod Once
 pub mod Tells

@@ -1,6 +1,8 @@
--- What the lines of a report tell of an end: the commands that it executed, and the replies that it accepted.
+-- What the lines of a report tell of an end: the commands that it executed, the replies that it accepted, and what became of
+-- its own commands.
 use Rattle.std.specs.Prelude.{ℕ, Bool, true, false, List, Option, Some, None, ◌==◌, if◌then◌else◌}
 use Rattle.std.specs.List.{filter_map}
+use Rattle.df1_node.specs.Initiator.{Standing, Answered, Undelivered, Unanswered}
 use Rattle.line_statement.specs.declared.who.Who.{Who}
 use Rattle.line_statement.specs.declared.who.Who.TheVariants.{A, B, M, S}
 use Rattle.line_report.specs.declared.record.Line.{Line}
@@ -33,6 +35,23 @@ abbrev pub stray_at : Who → Line → Option (List ℕ)
 stray_at who (line.Stray by body) = where_of who by body
 stray_at who other = None
 
+-- an outcome, where it is of command n of this end
+abbrev pub where_of_command : Who → ℕ → Who → ℕ → Standing → Option Standing
+where_of_command who n by number outcome = if is_who who by then (if number == n then Some outcome else None) else None
+
+-- how command n of the end ended: by this reply, undelivered, or unanswered
+abbrev pub outcome_at : Who → ℕ → Line → Option Standing
+outcome_at who n (line.Answered by number body) = where_of_command who n by number (Answered body)
+outcome_at who n (line.Undelivered by number) = where_of_command who n by number Undelivered
+outcome_at who n (line.Unanswered by number) = where_of_command who n by number Unanswered
+outcome_at who n other = None
+
+-- the number of a command of the end that was given up: it is undelivered or unanswered
+abbrev pub given_up_at : Who → Line → Option ℕ
+given_up_at who (line.Undelivered by number) = where_of who by number
+given_up_at who (line.Unanswered by number) = where_of who by number
+given_up_at who other = None
+
 -- all of these, in their order
 abbrev pub executed_in : Who → List Line → List (List ℕ)
 executed_in who lines = filter_map (executed_at who) lines
@@ -42,3 +61,9 @@ answers_in who lines = filter_map (answer_at who) lines
 
 abbrev pub strays_in : Who → List Line → List (List ℕ)
 strays_in who lines = filter_map (stray_at who) lines
+
+abbrev pub outcomes_in : Who → ℕ → List Line → List Standing
+outcomes_in who n lines = filter_map (outcome_at who n) lines
+
+abbrev pub given_up_in : Who → List Line → List ℕ
+given_up_in who lines = filter_map (given_up_at who) lines

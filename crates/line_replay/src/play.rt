@@ -13,15 +13,15 @@ use line_report::Record;
 use line_script::Script;
 use std::alloc::Global;
 
-/// Plays a script that can be read, and answers the record of its run. Where no end was deceived, each command was
-/// executed once at most, in order, and each accepted reply was the one to that very command. Where nothing disturbed the
-/// line, all commands were executed and answered.
+/// Plays a script that can be read, and answers the record of its run. Where no end was deceived, each command of the
+/// script was executed once at most, in order, the words are those that the executed ones make, and each accepted reply
+/// was the one to that very command. Where nothing disturbed the line, all commands were executed and answered.
 #[tactic(auto, unfolding(duplex_line::specs::Run::record_of))]
 pub fn replay(alloc: Global, script: &Script) -> Result<Record, NoMemory>
     requires { IsPlayable script.now }
     ensures record { IfOk result (λ r. r ≡ record_of script.now) }
-    ensures complete { IfOk result (λ r. IsPrompt script.now → EndsQuiet script.now → IsComplete script.now r.lines) }
-    ensures once { IfOk result (λ r. r.deceived ≡ 0 → EachOnce script.now r.lines) }
+    ensures complete { IfOk result (λ r. IsPrompt script.now → EndsQuiet script.now → IsComplete script.now r) }
+    ensures once { IfOk result (λ r. r.deceived ≡ 0 → EachOnce script.now r) }
 {
     let mut world = World::new(alloc, script)?;
     for event in script.events.as_slice() {

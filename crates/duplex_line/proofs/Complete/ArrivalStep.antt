@@ -4,7 +4,6 @@ use Rattle.std.specs.Prelude.{◌⊎◌, slice_get, if◌then◌else◌}
 use Rattle.std.specs.Option.{option_map}
 use Rattle.std.specs.List.{filter}
 use Rattle.std.specs.Str.{bytes_eq}
-use Rattle.std.proofs.lemmas.List.Elements.{filter_map-append}
 use Rattle.std.proofs.lemmas.Slice.Eq.{bytes_eq-Decides}
 use Rattle.std.proofs.lemmas.Bool.{lt-ltb}
 use Rattle.df1_base.specs.declared.host.Fate.{Fate}
@@ -33,8 +32,9 @@ use Rattle.duplex_line.specs.declared.cell.Cell.{Cell}
 use Rattle.duplex_line.specs.declared.cell.Ending.{Ending}
 use Rattle.each_once.specs.NodeHost.{node_host}
 use Rattle.duplex_line.specs.Deception.{deceptions}
-use Rattle.duplex_line.specs.Acts.{SideState, LineState, deceptions_at, did_lines, news_lines, cell_lines}
-use Rattle.each_once.specs.Tells.{executed_in, executed_at}
+use Rattle.each_once.specs.NodeLines.{news_lines}
+use Rattle.duplex_line.specs.Acts.{SideState, LineState, deceptions_at, cell_lines}
+use Rattle.each_once.specs.Tells.{executed_in, answers_in}
 use Rattle.duplex_line.proofs.Once.IssueLimits.{byte-commands}
 use Rattle.each_once.proofs.Sublists.{filter-keeps, filter-drops}
 use Rattle.duplex_line.proofs.Once.SentMessages.{Sends, sends-byte}
@@ -49,6 +49,7 @@ use Rattle.duplex_line.proofs.Complete.MessageUnderWay.{awaits, heard_by, byte-a
 use Rattle.each_once.proofs.InitiatorProgress.{IsUnderWay, under-reply}
 use Rattle.each_once.proofs.TwoNodes.{answer-fits, no-reply-waits, key-is-new}
 use Rattle.each_once.proofs.MessageLengths.{AreBodies}
+use Rattle.duplex_line.proofs.Complete.ToldMessages.{tells-silent, tells-nothing, tells-accept, none-accepted}
 use Rattle.duplex_line.proofs.Complete.Invariant.{IsAhead, Flows}
 
 -- ---- what is heard
@@ -88,29 +89,6 @@ whole-sent h (Some ending) body is =
     none true = refl
     none false = refl
 
--- ---- the lines
-
-adds : (who : Who) (lines more : List Line) (bodies old : List (List ℕ)) → executed_in who more ≡ bodies → executed_in who lines ≡ old → executed_in who (lines ++ more) ≡ old ++ bodies
-adds who lines more bodies old is before = filter_map-append (executed_at who) lines more ∙ ap (λ (xs : List (List ℕ)). executed_in who lines ++ xs) is ∙ ap (λ (xs : List (List ℕ)). xs ++ bodies) before
-
-adds-none : (who : Who) (lines more : List Line) (old : List (List ℕ)) → executed_in who more ≡ [] → executed_in who lines ≡ old → executed_in who (lines ++ more) ≡ old
-adds-none who lines more old is before = adds who lines more [] old is before ∙ append-nil old
-
--- the line of an accepted message
-reply-line : (near far who : Who) (place : Option ℕ) (body : List ℕ) → executed_in who (did_lines far (Some (did_reply place)) body ++ []) ≡ []
-reply-line near far who None body = refl
-reply-line near far who (Some place) body = refl
-
-accept-line : (near far : Who) → AreTwo near far → (heard : List (List ℕ)) (lines : List Line) (body : List ℕ) (place : Option ℕ) (reply : Bool) → is_reply body ≡ reply → executed_in far lines ≡ filter is_command heard
-    → executed_in far (lines ++ (did_lines far (Some (if reply then did_reply place else did.Executed)) body ++ [])) ≡ filter is_command (heard ++ body ∷ [])
-accept-line near far two heard lines body place true is before = adds-none far lines _ (filter is_command heard) (reply-line near far far place body) before ∙ sym (filter-drops is_command heard body (ap not is))
-accept-line near far two heard lines body place false is before = adds far lines (line.Exec far body ∷ []) (body ∷ []) (filter is_command heard) (rw two.far_itself refl) before ∙ sym (filter-keeps is_command heard body (ap not is))
-
-accept-other : (near far : Who) → AreTwo near far → (lines : List Line) (old : List (List ℕ)) (body : List ℕ) (place : Option ℕ) (reply : Bool) → executed_in near lines ≡ old
-    → executed_in near (lines ++ (did_lines far (Some (if reply then did_reply place else did.Executed)) body ++ [])) ≡ old
-accept-other near far two lines old body place true before = adds-none near lines _ old (reply-line near far near place body) before
-accept-other near far two lines old body place false before = adds-none near lines (line.Exec far body ∷ []) old (rw two.other refl) before
-
 -- ---- the end at which it arrives
 
 -- the line after a cell has arrived with this act
@@ -141,8 +119,8 @@ reach-silent near far first far_first end cell cells b count after late lines ac
   };
   flow = flow-silent node_host end b.end cell cells b.lane h.sent h.far_heard late.a is h.flow;
   far_flow = far-silent node_host end b.end cell cells b.lane h.far_sent h.heard late.b is h.far_flow;
-  executes = adds-none far lines [] (filter is_command h.far_heard) refl h.executes;
-  far_executes = adds-none near lines [] (filter is_command h.heard) refl h.far_executes;
+  tells = tells-silent near h.heard lines [] (tells-nothing near) h.tells;
+  far_tells = tells-silent far h.far_heard lines [] (tells-nothing far) h.far_tells;
   honest = none;
 }
 
@@ -160,7 +138,8 @@ reach-ack near far first far_first end cell cells b count after late lines acts 
     let is_fate = delivered b.end.sender.limits b.end.sender.activity acked.1 in
     let told : NodeState = after_told b.end.host fate.Delivered in
     let is_host : told ≡ host_told node_host (ack_fate b.end.sender) b.end.host = ap (λ (o : Option Fate). host_told node_host o b.end.host) (sym is_fate) in
-    let no_news : news_lines far (news_of node_host (ack_fate b.end.sender) b.end.host) ≡ [] = ap (λ (o : Option Fate). news_lines far (news_of node_host o b.end.host)) is_fate in
+    let news = news_lines far (news_of node_host (ack_fate b.end.sender) b.end.host) in
+    let no_news : news ≡ [] = ap (λ (o : Option Fate). news_lines far (news_of node_host o b.end.host)) is_fate in
     record {
       sent = h.sent;
       heard = h.heard;
@@ -178,8 +157,8 @@ reach-ack near far first far_first end cell cells b count after late lines acts 
       };
       flow = flow-acked node_host end b.end cell cells b.lane h.sent h.far_heard late.a is h.flow;
       far_flow = acked.0;
-      executes = adds-none far lines _ (filter is_command h.far_heard) (ap (executed_in far) no_news) h.executes;
-      far_executes = adds-none near lines _ (filter is_command h.heard) (ap (executed_in near) no_news) h.far_executes;
+      tells = tells-silent near h.heard lines news (record { executes = ap (executed_in near) no_news; answers = ap (answers_in near) no_news }) h.tells;
+      far_tells = tells-silent far h.far_heard lines news (record { executes = ap (executed_in far) no_news; answers = ap (answers_in far) no_news }) h.far_tells;
       honest = none;
     }
 
@@ -219,6 +198,15 @@ accepted-ahead near far first far_first end cell cells b count late lines body h
     reply-ahead b.end.host h.far_heard body late.b fits.2.0 fits.0 reply a fits.1 fits.2.1 fits.2.2
 accepted-ahead near far first far_first end cell cells b count late lines body h arrives false command = command-ahead b.end.host h.far_heard body late.b command h.far_end.ahead
 
+-- the command that a reply answers is the first that wasn't answered before
+accepted-place : (near far : Who) (first far_first : StationState) (end : EndState NodeState) (cell : Cell) (cells : List Cell) (b : SideState) (count : ℕ) (late : Late) (lines : List Line) (body : List ℕ) → (h : Flows near far first far_first (coming end cell cells b count) late lines)
+    → h.sent ≡ h.far_heard ++ body ∷ [] → is_reply body ≡ true → answered_place b.end.host.initiator.issued body ≡ Some (length (filter is_reply h.far_heard))
+accepted-place near far first far_first end cell cells b count late lines body h arrives reply =
+    let a = h.far_end.ahead in
+    let fits = answer-fits h.end.hosts h.far_end.hosts body arrives _ h.far_flow.flight reply a.done a.out a.answers a.under_way in
+    let under = subst (IsUnderWay b.end.host.initiator.issued a.done) fits.1 a.under_way in
+    (under-reply b.end.host.initiator a.done fits.0 fits.2.0 body under fits.2.1 fits.2.2).0 ∙ ap Some (sym a.answers)
+
 -- there is room for it
 has-room : (near far : Who) (first far_first : StationState) (end : EndState NodeState) (cell : Cell) (cells : List Cell) (b : SideState) (count : ℕ) (late : Late) (lines : List Line) (body : List ℕ) → (h : Flows near far first far_first (coming end cell cells b count) late lines)
     → h.sent ≡ h.far_heard ++ body ∷ [] → (reply : Bool) → is_reply body ≡ reply → has_room b.end.host body ≡ true
@@ -257,8 +245,8 @@ reach-good near far two first far_first end cell cells b count after late lines 
       };
       flow = flow-accepted node_host end b.end cell cells b.lane h.sent h.far_heard late.a is h.flow;
       far_flow = far-accepted node_host end b.end cell cells b.lane h.far_sent h.heard late.b is h.far_flow;
-      executes = accept-line near far two h.far_heard lines body place (is_reply body) refl h.executes;
-      far_executes = accept-other near far two lines (filter is_command h.heard) body place (is_reply body) h.far_executes;
+      tells = tells-silent near h.heard lines _ (none-accepted near far two.other body place (is_reply body)) h.tells;
+      far_tells = tells-accept far two.far_itself h.far_heard lines body place (is_reply body) refl (accepted-place near far first far_first end cell cells b count late lines body h arrives) h.far_tells;
       honest = none;
     }
 

@@ -60,8 +60,8 @@ flows-issue near far first far_first s late lines dst payload may command few h 
       far_end = h.far_end;
       flow = flow-host s.a.end s.b.end after s.a.lane s.b.lane h.sent h.far_heard late.a h.flow;
       far_flow = far-host s.a.end s.b.end after s.b.lane s.a.lane h.far_sent h.heard late.b h.far_flow;
-      executes = h.executes;
-      far_executes = h.far_executes;
+      tells = h.tells;
+      far_tells = h.far_tells;
       honest = h.honest;
     }
 
@@ -171,8 +171,8 @@ take-some near far first far_first s late lines out is h =
       far_end = h.far_end;
       flow = both.0;
       far_flow = both.1;
-      executes = h.executes;
-      far_executes = h.far_executes;
+      tells = h.tells;
+      far_tells = h.far_tells;
       honest = h.honest;
     }
 

@@ -9,11 +9,11 @@ use Rattle.duplex_end.specs.End.{EndState}
 use Rattle.line_statement.specs.declared.who.Who.{Who}
 use Rattle.line_report.specs.declared.record.Line.{Line}
 use Rattle.duplex_line.specs.Acts.{LineState, swapped}
-use Rattle.each_once.specs.Tells.{executed_in}
 use Rattle.duplex_line.proofs.Once.SentMessages.{Sends}
 use Rattle.each_once.proofs.HandedOut.{is_command, Hosts}
 use Rattle.duplex_line.specs.Prompt.{Late}
 use Rattle.duplex_line.proofs.Complete.MessageUnderWay.{Flow}
+use Rattle.duplex_line.proofs.Complete.ToldMessages.{TellsOf}
 use Rattle.each_once.proofs.InitiatorProgress.{IsUnderWay, under-hand_out}
 use Rattle.each_once.proofs.MessageLengths.{AreBodies, bodies-front}
 
@@ -40,7 +40,7 @@ pub record IsEnd (first : StationState) (e : EndState NodeState) (sent heard : L
   pub room : 2 ≤ e.host.room
   pub few : length e.host.initiator.issued ≤ 65535
 
--- both ends, both directions, and the commands that were told as executed
+-- both ends, both directions, and what was told of the accepted messages
 pub record Flows (near far : Who) (first far_first : StationState) (s : LineState) (late : Late) (lines : List Line) : Type 0 where
   pub sent : List (List ℕ)
   pub heard : List (List ℕ)
@@ -50,8 +50,8 @@ pub record Flows (near far : Who) (first far_first : StationState) (s : LineStat
   pub far_end : IsEnd far_first s.b.end far_sent far_heard late.b
   pub flow : Flow s.a.end s.b.end s.a.lane s.b.lane sent far_heard late.a
   pub far_flow : Flow s.b.end s.a.end s.b.lane s.a.lane far_sent heard late.b
-  pub executes : executed_in far lines ≡ filter is_command far_heard
-  pub far_executes : executed_in near lines ≡ filter is_command heard
+  pub tells : TellsOf near heard lines
+  pub far_tells : TellsOf far far_heard lines
   pub honest : s.deceived ≡ 0
 
 abbrev pub late_swapped : Late → Late
@@ -67,8 +67,8 @@ flows-swapped near far first far_first s late lines h = record {
   far_end = h.end;
   flow = h.far_flow;
   far_flow = h.flow;
-  executes = h.far_executes;
-  far_executes = h.executes;
+  tells = h.far_tells;
+  far_tells = h.tells;
   honest = h.honest;
 }
 

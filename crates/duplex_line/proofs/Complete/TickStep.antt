@@ -2,7 +2,6 @@
 use Rattle.std.proofs.Common.{◌≡◌, ◌∙◌, ℕ, zero, suc, ◌+◌, ◌-◌, ◌<◌, ◌≤◌, Bool, true, false, List, [], ◌∷◌, ◌++◌, length, Option, Some, None, is_none, min, refl, ap, sym, subst, arith, append-nil}
 use Rattle.std.specs.Prelude.{slice_get, ◌&&◌, if◌then◌else◌}
 use Rattle.std.specs.List.{filter}
-use Rattle.std.proofs.lemmas.List.Elements.{filter_map-append}
 use Rattle.df1_node.specs.Answer.{StationState}
 use Rattle.df1_node.specs.Initiator.{Issued, Standing, Waiting, Out, Answered, Undelivered, Unanswered, next_command}
 use Rattle.df1_base.specs.declared.host.Fate.{Fate}
@@ -18,8 +17,8 @@ use Rattle.line_statement.specs.declared.who.Who.{Who}
 use Rattle.line_report.specs.declared.record.Line.{Line}
 use Rattle.duplex_line.specs.declared.cell.Cell.{Cell}
 use Rattle.each_once.specs.NodeHost.{node_host}
-use Rattle.duplex_line.specs.Acts.{LineState, Tick, after_deed, lines_at, turn_lines, gone_lines}
-use Rattle.each_once.specs.Tells.{executed_in, executed_at}
+use Rattle.each_once.specs.NodeLines.{turn_lines, gone_lines}
+use Rattle.duplex_line.specs.Acts.{LineState, Tick, after_deed, lines_at}
 use Rattle.duplex_line.proofs.Once.IssueLimits.{tick-commands}
 use Rattle.each_once.proofs.Sublists.{same-some, none-is}
 use Rattle.duplex_line.proofs.Once.SentMessages.{Sends, sends-tick}
@@ -33,6 +32,7 @@ use Rattle.duplex_line.proofs.Complete.QuietEnd.{GivesNothing, gives-nothing, aw
 use Rattle.each_once.proofs.InitiatorProgress.{IsUnderWay, IsDone, IsOutFor, under-busy, under-at, under-tick-out, under-tick-none}
 use Rattle.each_once.proofs.TwoNodes.{all-answered}
 use Rattle.each_once.proofs.MessageLengths.{AreBodies}
+use Rattle.duplex_line.proofs.Complete.ToldMessages.{TellsOf, tells-silent}
 use Rattle.duplex_line.proofs.Complete.Invariant.{IsInTime, IsAhead, IsEnd, Flows}
 
 -- ---- nothing is under way
@@ -181,8 +181,8 @@ flows-late near far first far_first s late later lines still h =
       far_end = later-end far_first s.b.end h.far_sent h.far_heard late.b later.b h.far_end rest.far_none_out;
       flow = flow-late s.a.end s.b.end s.a.lane s.b.lane h.sent h.far_heard late.a later.a (awaits-trivial s.a.end.sender.activity s.a.end.sender.limits.ack_ticks later.a rest.awaits_none) h.flow;
       far_flow = flow-late s.b.end s.a.end s.b.lane s.a.lane h.far_sent h.heard late.b later.b (awaits-trivial s.b.end.sender.activity s.b.end.sender.limits.ack_ticks later.b rest.far_awaits_none) h.far_flow;
-      executes = h.executes;
-      far_executes = h.far_executes;
+      tells = h.tells;
+      far_tells = h.far_tells;
       honest = h.honest;
     }
 
@@ -291,11 +291,11 @@ later-in-time near far first far_first s late lines h false is steady left out =
     let time = subst (IsInTime s.a.end.host.initiator.reply_ticks late.a) out h.end.ahead.in_time in
     (more, omega (arith, more, time))
 
-executes-tick : (who near far : Who) (e : EndState NodeState) (lines : List Line) (old : List (List ℕ)) → executed_in who lines ≡ old → executed_in who (lines ++ ((turn_lines near (turn_at_tick node_host e) ++ gone_lines near (gone_at_tick node_host e)) ++ [])) ≡ old
-executes-tick who near far e lines old before =
+tells-tick : (who near : Who) (e : EndState NodeState) (heard : List (List ℕ)) (lines : List Line) → TellsOf who heard lines → TellsOf who heard (lines ++ ((turn_lines near (turn_at_tick node_host e) ++ gone_lines near (gone_at_tick node_host e)) ++ []))
+tells-tick who near e heard lines t =
     let more = turn_lines near (turn_at_tick node_host e) ++ gone_lines near (gone_at_tick node_host e) in
     let silent = tick-silent who who near e in
-    filter_map-append (executed_at who) lines (more ++ []) ∙ ap (λ (xs : List Line). executed_in who lines ++ executed_in who xs) (append-nil more) ∙ ap (λ (xs : List (List ℕ)). executed_in who lines ++ xs) silent.executes ∙ append-nil (executed_in who lines) ∙ before
+    rw (append-nil more) (tells-silent who heard lines more (record { executes = silent.executes; answers = silent.answers }) t)
 
 pub flows-tick : (near far : Who) (first far_first : StationState) (s : LineState) (late : Late) (lines : List Line) → AreFew (late_after late s Tick) (after_deed s Tick) → Flows near far first far_first s late lines
     → Flows near far first far_first (after_deed s Tick) (late_with late (is_quiet s) Tick) (lines ++ lines_at near far s Tick)
@@ -321,7 +321,7 @@ flows-tick near far first far_first s late lines few h =
       far_end = h.far_end;
       flow = flow-ticks node_host a s.b.end s.a.lane s.b.lane h.sent h.far_heard late.a later.a (later-patient near far first far_first s late lines h (is_quiet s) refl ready.steady) h.flow;
       far_flow = far-ticks node_host a s.b.end s.b.lane s.a.lane h.far_sent h.heard late.b h.far_flow;
-      executes = executes-tick far near far a lines (filter is_command h.far_heard) h.executes;
-      far_executes = executes-tick near near far a lines (filter is_command h.heard) h.far_executes;
+      tells = tells-tick near near a h.heard lines h.tells;
+      far_tells = tells-tick far near a h.far_heard lines h.far_tells;
       honest = h.honest;
     })

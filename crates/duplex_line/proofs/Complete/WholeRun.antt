@@ -1,12 +1,12 @@
 -- Over a whole run that nothing disturbs, and that ends with nothing under way: each command executed and answered.
 use Rattle.std.proofs.Common.{◌≡◌, ◌∙◌, ℕ, ◌+◌, ◌<◌, ◌≤◌, Bool, true, false, List, [], ◌∷◌, ◌++◌, map, None, refl, ap, sym, subst, arith, append-nil, append_assoc}
 use Rattle.std.specs.Prelude.{IsTrue, All, replicate, count_by, slice_get, slice_index_or, if◌then◌else◌}
-use Rattle.std.specs.List.{filter}
-use Rattle.std.proofs.lemmas.List.Elements.{All-head, All-tail, filter_map-append}
-use Rattle.std.proofs.lemmas.Option.{slice_get-get_or}
+use Rattle.std.specs.List.{filter, enumerate_from}
+use Rattle.std.proofs.lemmas.List.Elements.{All-head, All-tail}
 use Rattle.df1_check.specs.declared.Check.{Check}
+use Rattle.pccc_envelope.specs.Envelope.{is_reply}
 use Rattle.df1_node.specs.Answer.{StationState}
-use Rattle.df1_node.specs.Initiator.{Standing, Waiting, Out, Answered, Undelivered, Unanswered, next_command}
+use Rattle.df1_node.specs.Initiator.{next_command}
 use Rattle.df1_node.specs.Node.{NodeState}
 use Rattle.line_statement.specs.declared.who.Who.{Who}
 use Rattle.line_statement.specs.declared.who.Who.TheVariants.{A, B, M, S}
@@ -20,23 +20,24 @@ use Rattle.line_script.specs.Playable.{IsPossible, IsPlayable, AreEnds, issues, 
 use Rattle.line_report.specs.declared.record.Line.{Line}
 use Rattle.duplex_line.specs.declared.cell.Cell.{Cell}
 use Rattle.duplex_line.specs.Acts.{SideState, LineState, swapped, Deed, Issue, Take, Deliver, Lose, Alter, Foreign, Tick, altered, after_leaving, after_alter, after_deed, after_deeds, lines_at, lines_over, given_over}
-use Rattle.duplex_line.specs.Run.{first_station, first_side, first_node, setup_of, plan_of_a, plan_of_b, start, who_of, deeds_of, other, seen_from, after_event, sent_lines, deed_lines, lines_of, state_after, lines_after, last_state}
+use Rattle.duplex_line.specs.Run.{first_station, first_side, first_node, setup_of, plan_of_a, plan_of_b, start, who_of, deeds_of, other, seen_from, after_event, sent_lines, deed_lines, lines_of, state_after, lines_after, last_state, record_from}
 use Rattle.duplex_line.specs.Plays.{issued_by, IsUnspent}
-use Rattle.each_once.specs.Tells.{executed_in, executed_at}
+use Rattle.each_once.specs.Exchanges.{exchanges}
 use Rattle.duplex_line.proofs.Steps.EventsToCome.{room-of-a, room-of-b, unspent}
 use Rattle.duplex_line.proofs.Steps.NothingToGive.{leave-none}
 use Rattle.duplex_line.proofs.Once.SentMessages.{sends-start}
 use Rattle.each_once.proofs.HandedOut.{is_command, Hosts}
 use Rattle.each_once.proofs.NodeSteps.{hosts-start}
-use Rattle.duplex_line.proofs.Once.Invariant.{AreTwo, two-swapped}
+use Rattle.duplex_line.proofs.Once.Invariant.{AreTwo, two-swapped, joins-end, a-and-b}
 use Rattle.duplex_line.proofs.Once.LineSteps.{payload-command}
-use Rattle.duplex_line.proofs.Once.WholeRun.{IsPlain, ArePlain, plain-again, plain-foreign, sent-silent, joins-end, a-and-b}
+use Rattle.duplex_line.proofs.Once.WholeRun.{IsPlain, ArePlain, plain-again, plain-foreign}
+use Rattle.duplex_line.proofs.Once.ToldCommands.{recounts-run}
 use Rattle.duplex_line.specs.Prompt.{Late, none_late, late_seen, ticks_of, late_with, late_after, is_quiet, AreFew, IsGentle, late_over, IsPromptOver, late_event, IsPromptAfter, IsPrompt, EndsQuiet}
-use Rattle.duplex_line.specs.Complete.{is_answered, AreAllDone, IsComplete}
+use Rattle.duplex_line.specs.Complete.{AreAllDone, IsComplete}
 use Rattle.duplex_line.proofs.Complete.DecoderPlace.{sync-start}
 use Rattle.duplex_line.proofs.Complete.MessageUnderWay.{Flow}
-use Rattle.each_once.proofs.InitiatorProgress.{IsDone}
 use Rattle.each_once.proofs.TwoNodes.{all-answered}
+use Rattle.duplex_line.proofs.Complete.ToldMessages.{TellsOf, TellsNone, tells-silent, tells-nothing}
 use Rattle.duplex_line.proofs.Complete.Invariant.{IsAhead, IsEnd, Flows, flows-swapped}
 use Rattle.duplex_line.proofs.Complete.GivingStep.{flows-issue, flows-take}
 use Rattle.duplex_line.proofs.Complete.ArrivalStep.{flows-arrival}
@@ -106,8 +107,8 @@ moves-issue s late dst payload may few near far two first far_first lines h =
 
 -- ---- events
 
--- more lines that tell of no command
-flows-silent : (near far : Who) (first far_first : StationState) (s : LineState) (late : Late) (lines more : List Line) → executed_in far more ≡ [] → executed_in near more ≡ [] → Flows near far first far_first s late lines → Flows near far first far_first s late (lines ++ more)
+-- more lines that tell of no message
+flows-silent : (near far : Who) (first far_first : StationState) (s : LineState) (late : Late) (lines more : List Line) → TellsNone near more → TellsNone far more → Flows near far first far_first s late lines → Flows near far first far_first s late (lines ++ more)
 flows-silent near far first far_first s late lines more none far_none h = record {
   sent = h.sent;
   heard = h.heard;
@@ -117,13 +118,14 @@ flows-silent near far first far_first s late lines more none far_none h = record
   far_end = h.far_end;
   flow = h.flow;
   far_flow = h.far_flow;
-  executes = silent far none ∙ h.executes;
-  far_executes = silent near far_none ∙ h.far_executes;
+  tells = tells-silent near h.heard lines more none h.tells;
+  far_tells = tells-silent far h.far_heard lines more far_none h.far_tells;
   honest = h.honest;
 }
-  where
-    silent : (who : Who) → executed_in who more ≡ [] → executed_in who (lines ++ more) ≡ executed_in who lines
-    silent who none = filter_map-append (executed_at who) lines more ∙ ap (λ (xs : List (List ℕ)). executed_in who lines ++ xs) none ∙ append-nil (executed_in who lines)
+
+none-sent : (who by : Who) (bytes : List ℕ) → TellsNone who (sent_lines by bytes)
+none-sent who by [] = tells-nothing who
+none-sent who by (byte ∷ bytes) = record { executes = refl; answers = refl }
 
 moves-deeds : (near far : Who) → AreTwo near far → (first far_first : StationState) (s : LineState) (late : Late) (deeds : List Deed) (bytes : List ℕ) (lines : List Line) → Moves s late deeds → Flows near far first far_first s late lines
     → Flows near far first far_first (after_deeds s deeds) (late_over late s deeds) (lines ++ (lines_over near far s deeds ++ sent_lines near bytes))
@@ -131,7 +133,7 @@ moves-deeds near far two first far_first s late deeds bytes lines moves h =
     let over = lines_over near far s deeds in
     let sent = sent_lines near bytes in
     subst (λ (all : List Line). Flows near far first far_first (after_deeds s deeds) (late_over late s deeds) all) (append_assoc lines over sent)
-    (flows-silent near far first far_first (after_deeds s deeds) (late_over late s deeds) (lines ++ over) sent (sent-silent far far near bytes).executes (sent-silent near near near bytes).executes (moves near far two first far_first lines h))
+    (flows-silent near far first far_first (after_deeds s deeds) (late_over late s deeds) (lines ++ over) sent (none-sent near near bytes) (none-sent far near bytes) (moves near far two first far_first lines h))
 
 moves-seen : (who : Who) → IsTrue (is_end who) → (first_a first_b : StationState) (s : LineState) (late : Late) (deeds : List Deed) (lines : List Line) → Moves (seen_from who s) (late_seen who late) deeds → Flows A B first_a first_b s late lines
     → Flows A B first_a first_b (seen_from who (after_deeds (seen_from who s) deeds)) (late_seen who (late_over (late_seen who late) (seen_from who s) deeds)) (lines ++ deed_lines who (seen_from who s) deeds)
@@ -206,28 +208,24 @@ flows-start script playable =
       far_end = start-end b script rooms.1;
       flow = start-flow a b script.check;
       far_flow = start-flow b a script.check;
-      executes = refl;
-      far_executes = refl;
+      tells = record { executes = refl; answers = refl };
+      far_tells = record { executes = refl; answers = refl };
       honest = refl;
     }
 
-done-answered : (s : Standing) → IsDone s → is_answered s ≡ true
-done-answered Waiting done = absurd done
-done-answered (Out left) done = absurd done
-done-answered (Answered reply) done = refl
-done-answered Undelivered done = absurd done
-done-answered Unanswered done = absurd done
-
-all-done : (first other : StationState) (station initiator : NodeState) (sent heard commands told executed : List (List ℕ)) (late : ℕ) → Hosts first station sent heard → Hosts other initiator commands told → commands ≡ heard → sent ≡ told → station.replies ≡ [] → next_command initiator.initiator.issued ≡ None
-    → IsAhead initiator.initiator told late → executed ≡ filter is_command heard → AreAllDone initiator.initiator.issued executed
-all-done first other station initiator sent heard commands told executed late s i all_heard all_told none nothing a is =
+-- the commands of one end, where nothing is under way
+all-done : (from to : Who) (first other : StationState) (station initiator : NodeState) (sent heard commands told : List (List ℕ)) (late : ℕ) (lines : List Line) → Hosts first station sent heard → Hosts other initiator commands told → commands ≡ heard → sent ≡ told
+    → station.replies ≡ [] → next_command initiator.initiator.issued ≡ None → IsAhead initiator.initiator told late → TellsOf to heard lines → TellsOf from told lines → AreAllDone from to (map (λ c. c.body) initiator.initiator.issued) first lines
+all-done from to first other station initiator sent heard commands told late lines s i all_heard all_told none nothing a executes answers =
     let all = all-answered s i all_heard all_told none a.done a.out a.answers a.under_way nothing in
+    let replies : filter is_reply told ≡ map (λ e. e.1) (exchanges first (filter is_command heard)) =
+    sym (s.replies ∙ ap (λ (rest : List (List ℕ)). filter is_reply sent ++ rest) none ∙ append-nil (filter is_reply sent) ∙ ap (filter is_reply) all_told) in
     record {
-      executed_all = is ∙ sym all.0;
-      answered_all = λ k d inside. done-answered _ (all.1 k _ (slice_get-get_or initiator.initiator.issued k d inside));
+      executed = executes.executes ∙ sym all.0;
+      answered = answers.answers ∙ ap (enumerate_from 1) replies ∙ ap (λ (bodies : List (List ℕ)). enumerate_from 1 (map (λ e. e.1) (exchanges first bodies))) (sym all.0);
     }
 
-pub is-complete : (script : Script) → IsPlayable script → IsPrompt script → EndsQuiet script → IsComplete script (lines_after (start script) script.events)
+pub is-complete : (script : Script) → IsPlayable script → IsPrompt script → EndsQuiet script → IsComplete script (record_from (last_state script) (lines_after (start script) script.events))
 is-complete script playable prompt quiet =
     let a = first_station (plan_of_a script) in
     let b = first_station (plan_of_b script) in
@@ -236,8 +234,11 @@ is-complete script playable prompt quiet =
     let lines = lines_after (start script) script.events in
     let h = flows-events a b script.events (start script) none_late [] playable.events (omega (arith, playable.commands_of_a)) (omega (arith, playable.commands_of_b)) prompt (flows-start script playable) in
     let rest = at-rest A B a b s late lines h (quiet-still s quiet) in
+    let r = recounts-run script playable in
     record {
       honest = h.honest;
-      of_a = all-done b a s.b.end.host s.a.end.host h.far_sent h.far_heard h.sent h.heard (executed_in B lines) late.a h.far_end.hosts h.end.hosts rest.all_heard rest.far_all_heard rest.far_nothing_waits.0 rest.nothing_waits.1 h.end.ahead h.executes;
-      of_b = all-done a b s.a.end.host s.b.end.host h.sent h.heard h.far_sent h.far_heard (executed_in A lines) late.b h.end.hosts h.far_end.hosts rest.far_all_heard rest.all_heard rest.nothing_waits.0 rest.far_nothing_waits.1 h.far_end.ahead h.far_executes;
+      of_a = subst (λ (bodies : List (List ℕ)). AreAllDone A B bodies b lines) r.recounts.issued.bodies
+          (all-done A B b a s.b.end.host s.a.end.host h.far_sent h.far_heard h.sent h.heard late.a lines h.far_end.hosts h.end.hosts rest.all_heard rest.far_all_heard rest.far_nothing_waits.0 rest.nothing_waits.1 h.end.ahead h.far_tells h.tells);
+      of_b = subst (λ (bodies : List (List ℕ)). AreAllDone B A bodies a lines) r.far_recounts.issued.bodies
+          (all-done B A a b s.a.end.host s.b.end.host h.sent h.heard h.far_sent h.far_heard late.b lines h.end.hosts h.far_end.hosts rest.far_all_heard rest.all_heard rest.nothing_waits.0 rest.far_nothing_waits.1 h.far_end.ahead h.tells h.far_tells);
     }

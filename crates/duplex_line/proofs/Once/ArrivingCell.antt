@@ -27,10 +27,11 @@ use Rattle.duplex_line.specs.declared.cell.Cell.{Cell}
 use Rattle.duplex_line.specs.declared.cell.Ending.{Ending}
 use Rattle.each_once.specs.NodeHost.{node_host}
 use Rattle.duplex_line.specs.Deception.{deceptions}
-use Rattle.duplex_line.specs.Acts.{SideState, LineState, after_cell, body_heard, deceptions_at, act_lines, did_lines, news_lines, cell_lines}
+use Rattle.each_once.specs.NodeLines.{act_lines, did_lines, news_lines}
+use Rattle.duplex_line.specs.Acts.{SideState, LineState, after_cell, body_heard, deceptions_at, cell_lines}
 use Rattle.duplex_line.proofs.Once.IssueLimits.{byte-commands}
 use Rattle.each_once.specs.Exchanges.{exchanges}
-use Rattle.each_once.specs.Once.{IsReplyTo, IsAstray}
+use Rattle.each_once.proofs.KeptCommands.{IsReplyOf, IsOfLost}
 use Rattle.each_once.proofs.Sublists.{IsWithin, within-has, within-filter, within-front, Differ, differ-within, get-last, filter-keeps, filter-drops}
 use Rattle.each_once.proofs.OneDirection.{Lane, Way, way-leaves, way-accepts, way-within}
 use Rattle.duplex_line.proofs.Once.SentMessages.{accept-heard, sends-byte}
@@ -126,8 +127,8 @@ executes-act near far two first issued heard lines act.Nothing sender host body 
 
 -- the replies to the far end's commands: it accepts one more at the accept of a reply
 abbrev IsToldReply : List Issued → List (List ℕ × List ℕ) → List ℕ → Option ℕ → Type 0
-IsToldReply issued answered body (Some place) = IsReplyTo issued answered (place + 1) body
-IsToldReply issued answered body None = IsAstray issued answered body
+IsToldReply issued answered body (Some place) = IsReplyOf issued answered (place + 1) body
+IsToldReply issued answered body None = IsOfLost issued answered body
 
 replies-reply : (near far : Who) → AreTwo near far → (first : StationState) (issued : List Issued) (executed : List (List ℕ)) (lines : List Line) (body : List ℕ) (place : Option ℕ) → IsToldReply issued (exchanges first executed) body place → IsTold far near first issued executed lines
     → IsTold far near first issued executed (lines ++ did_lines far (Some (did_reply place)) body)

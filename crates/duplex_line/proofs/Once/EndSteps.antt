@@ -12,7 +12,7 @@ use Rattle.df1_node.specs.Node.{NodeState, Step, Accept, Next, Told, Tick, after
 use Rattle.df1_node.proofs.Final.{final_step}
 use Rattle.duplex_end.specs.End.{host_after, host_told}
 use Rattle.each_once.specs.NodeHost.{node_host}
-use Rattle.each_once.specs.Once.{is_given_up}
+use Rattle.each_once.proofs.KeptCommands.{is_given_up}
 use Rattle.each_once.proofs.Sublists.{from-map}
 use Rattle.each_once.proofs.CommandBodies.{bodies-accept, bodies-after_told, bodies-after_tick, bodies-next}
 use Rattle.each_once.proofs.HandedOut.{Hosts}

@@ -1,9 +1,12 @@
 -- What holds at each point of a run that deceives no end: of each end, of both directions, and of what was told.
-use Rattle.std.proofs.Common.{◌≡◌, ℕ, ◌≤◌, true, false, List, map}
+use Rattle.std.proofs.Common.{◌≡◌, ℕ, ◌≤◌, true, false, List, map, refl}
+use Rattle.std.specs.Prelude.{IsTrue}
 use Rattle.std.specs.Option.{option_map}
 use Rattle.std.specs.List.{filter}
 use Rattle.df1_node.specs.Answer.{StationState}
 use Rattle.line_statement.specs.declared.who.Who.{Who}
+use Rattle.line_statement.specs.declared.who.Who.TheVariants.{A, B, M, S}
+use Rattle.line_script.specs.Playable.{is_end, joins}
 use Rattle.line_report.specs.declared.record.Line.{Line}
 use Rattle.duplex_line.specs.declared.cell.Cell.{Cell}
 use Rattle.duplex_line.specs.Acts.{LineState, swapped}
@@ -27,6 +30,15 @@ pub record AreTwo (near far : Who) : Type 0 where
 
 pub two-swapped : (near far : Who) → AreTwo near far → AreTwo far near
 two-swapped near far two = record { itself = two.far_itself; far_itself = two.itself; other = two.far_other; far_other = two.other }
+
+pub a-and-b : AreTwo A B
+a-and-b = record { itself = refl; far_itself = refl; other = refl; far_other = refl }
+
+pub joins-end : (from to : Who) → IsTrue (joins from to) → IsTrue (is_end from)
+joins-end A to h = refl
+joins-end B to h = refl
+joins-end M to h = absurd cc
+joins-end (S station) to h = absurd cc
 
 -- what each end handed out and accepted, and what follows for the ends, the lanes and the lines
 pub record Holds (near far : Who) (first far_first : StationState) (s : LineState) (lines : List Line) : Type 0 where

@@ -21,7 +21,8 @@ use Rattle.line_report.specs.declared.record.Line.TheVariants as line
 use Rattle.duplex_line.specs.declared.cell.Cell.{Cell}
 use Rattle.duplex_line.specs.declared.cell.Ending.{Ending}
 use Rattle.each_once.specs.NodeHost.{node_host}
-use Rattle.duplex_line.specs.Acts.{SideState, LineState, Issue, Take, Deliver, Lose, Alter, Foreign, Tick, after_deed, lines_at, cell_of, altered, bare, deceptions_at, turn_lines, gone_lines}
+use Rattle.each_once.specs.NodeLines.{turn_lines, gone_lines}
+use Rattle.duplex_line.specs.Acts.{SideState, LineState, Issue, Take, Deliver, Lose, Alter, Foreign, Tick, after_deed, lines_at, cell_of, altered, bare, deceptions_at}
 use Rattle.duplex_line.specs.Plays.{issued_by}
 use Rattle.duplex_line.proofs.Once.IssueLimits.{take-commands, tick-commands}
 use Rattle.each_once.proofs.OneDirection.{Lane, Way, way-more, way-put, way-end, way-leaves, way-bare}

@@ -1,9 +1,11 @@
 -- Over a whole run: each command once, both ways.
-use Rattle.std.proofs.Common.{◌≡◌, ◌∙◌, ℕ, zero, suc, ◌+◌, ◌<◌, ◌≤◌, List, [], ◌∷◌, ◌++◌, length, map, Option, Some, None, refl, ap, sym, subst, arith, append-nil, append_assoc, drop, Result, Ok, Err}
+use Rattle.std.proofs.Common.{◌≡◌, ◌∙◌, ℕ, zero, suc, ◌+◌, ◌<◌, ◌≤◌, List, [], ◌∷◌, ◌++◌, length, map, Option, Some, None, refl, ap, ap₂, sym, subst, arith, append-nil, append_assoc, drop, Result, Ok, Err}
 use Rattle.std.specs.Prelude.{IsTrue, IfOk, All, replicate, count_by}
 use Rattle.std.specs.List.{filter}
 use Rattle.std.proofs.lemmas.List.Elements.{All-head, All-tail}
 use Rattle.df1_node.specs.Answer.{StationState}
+use Rattle.df1_node.specs.Initiator.{Issued}
+use Rattle.df1_node.specs.Tables.{DataTables}
 use Rattle.line_statement.specs.declared.who.Who.{Who}
 use Rattle.line_statement.specs.declared.who.Who.TheVariants.{A, B, M, S}
 use Rattle.line_script.specs.declared.script.Event.{Event}
@@ -15,11 +17,13 @@ use Rattle.line_report.specs.declared.record.Line.{Line}
 use Rattle.line_report.specs.declared.record.Record.{Record}
 use Rattle.duplex_line.specs.declared.cell.Cell.{Cell}
 use Rattle.duplex_line.specs.Acts.{SideState, LineState, swapped, Deed, Issue, Take, Deliver, Lose, Alter, Foreign, Tick, arriving, deceived_after, after_deed, after_deeds, lines_at, lines_over, given_over}
-use Rattle.duplex_line.specs.Run.{first_station, setup_of, first_node, plan_of_a, plan_of_b, start, who_of, seen_from, after_event, sent_lines, deed_lines, lines_of, state_after, lines_after, last_state, record_from}
+use Rattle.duplex_line.specs.Run.{first_station, setup_of, first_node, plan_of_a, plan_of_b, start, who_of, seen_from, after_event, sent_lines, deed_lines, lines_of, state_after, lines_after, last_state, words_of, tables_of, record_from}
 use Rattle.duplex_line.specs.Plays.{Played, issued_by, IsUnspent}
 use Rattle.duplex_line.proofs.Steps.EventsToCome.{room-of-a, room-of-b, unspent}
-use Rattle.each_once.specs.Tells.{executed_in, answers_in, strays_in}
-use Rattle.each_once.specs.Once.{Once}
+use Rattle.each_once.specs.Commands.{AreOutcomesTold}
+use Rattle.each_once.specs.Exchanges.{exchanges, station_after}
+use Rattle.each_once.specs.Tells.{executed_in, answers_in, strays_in, given_up_in}
+use Rattle.each_once.specs.Once.{Once, IsReplyTo, IsAstray}
 use Rattle.duplex_line.specs.Once.{EachOnce}
 use Rattle.each_once.proofs.Sublists.{IsWithin, within-filter, within-front}
 use Rattle.each_once.proofs.OneDirection.{way-start, way-within}
@@ -27,9 +31,11 @@ use Rattle.duplex_line.proofs.Once.SentMessages.{sends-start}
 use Rattle.each_once.proofs.HandedOut.{is_command, handed-front}
 use Rattle.each_once.proofs.NodeSteps.{hosts-start}
 use Rattle.each_once.proofs.ToldLines.{told-start, AreSilent, silent-none, told-silent}
-use Rattle.each_once.proofs.AcceptedReplies.{is-outcome}
-use Rattle.each_once.proofs.RisingPlaces.{in-order, are-apart}
-use Rattle.duplex_line.proofs.Once.Invariant.{lane_of, AreTwo, two-swapped, Holds, holds-swapped}
+use Rattle.each_once.proofs.KeptCommands.{IsReplyOf, IsOfLost}
+use Rattle.each_once.proofs.ToldReplies.{reply-to, one-outcome, astray-told}
+use Rattle.each_once.proofs.RisingPlaces.{some-of, are-apart}
+use Rattle.duplex_line.proofs.Once.Invariant.{lane_of, AreTwo, two-swapped, a-and-b, joins-end, Holds, holds-swapped}
+use Rattle.duplex_line.proofs.Once.ToldCommands.{recounts-run}
 use Rattle.duplex_line.proofs.Once.LineSteps.{holds-issue, holds-take, holds-deliver, holds-lose, holds-alter, holds-foreign, holds-tick}
 
 -- it holds as long as no end was deceived
@@ -120,9 +126,6 @@ kept-deeds near far two first far_first s deeds bytes lines goes k none =
     subst (λ (all : List Line). Holds near far first far_first (after_deeds s deeds) all) (append_assoc lines over sent)
     (holds-silent near far first far_first (after_deeds s deeds) (lines ++ over) sent (sent-silent near far near bytes) (sent-silent far near near bytes) (goes near far two first far_first lines k none))
 
-pub a-and-b : AreTwo A B
-a-and-b = record { itself = refl; far_itself = refl; other = refl; far_other = refl }
-
 kept-seen : (who : Who) → IsTrue (is_end who) → (first_a first_b : StationState) (s : LineState) (deeds : List Deed) (lines : List Line) → Goes (seen_from who s) deeds → Kept A B first_a first_b s lines
     → Kept A B first_a first_b (seen_from who (after_deeds (seen_from who s) deeds)) (lines ++ deed_lines who (seen_from who s) deeds)
 kept-seen A end first_a first_b s deeds lines goes k none = kept-deeds A B a-and-b first_a first_b s deeds (given_over s.a deeds) lines goes k none
@@ -131,12 +134,6 @@ kept-seen B end first_a first_b s deeds lines goes k none =
     (kept-deeds B A (two-swapped A B a-and-b) first_b first_a (swapped s) deeds (given_over s.b deeds) lines goes (λ zero. holds-swapped A B first_a first_b s lines (k zero)) none)
 kept-seen M end first_a first_b s deeds lines goes k none = absurd cc
 kept-seen (S station) end first_a first_b s deeds lines goes k none = absurd cc
-
-pub joins-end : (from to : Who) → IsTrue (joins from to) → IsTrue (is_end from)
-joins-end A to h = refl
-joins-end B to h = refl
-joins-end M to h = absurd cc
-joins-end (S station) to h = absurd cc
 
 kept-event : (first_a first_b : StationState) (e : Event) (s : LineState) (lines : List Line) → IsPossible e → IsUnspent (seen_from (who_of e) s).a e → Kept A B first_a first_b s lines
     → Kept A B first_a first_b (after_event s e) (lines ++ lines_of s e)
@@ -181,34 +178,48 @@ holds-start script =
       far_told = told-start B A (first_station a) [];
     }
 
--- each command once, where it holds
-once-of : (near far : Who) (first far_first : StationState) (s : LineState) (lines : List Line) → Holds near far first far_first s lines
-    → Once s.a.end.host.initiator.issued (executed_in far lines) far_first s.b.end.host.station (answers_in near lines) (strays_in near lines)
-once-of near far first far_first s lines h =
+-- ---- what holds shows each command once
+
+all-as : {X : Type 0} (P Q : X → Type 0) (xs : List X) → ((x : X) → P x → Q x) → All P xs → All Q xs
+all-as P Q xs each all k d inside = each _ (all k d inside)
+
+once-of : (near far : Who) (first far_first : StationState) (s : LineState) (lines : List Line) → AreOutcomesTold near s.a.end.host.initiator.issued lines → Holds near far first far_first s lines
+    → Once near far (map (λ c. c.body) s.a.end.host.initiator.issued) far_first lines
+once-of near far first far_first s lines told h =
     let issued = s.a.end.host.initiator.issued in
+    let bodies = map (λ (c : Issued). c.body) issued in
     let executed = filter is_command h.far_heard in
+    let answered = exchanges far_first executed in
     let front = handed-front issued (filter is_command h.sent) h.hosts.initiates.in_order in
     let accepted = way-within h.sent (lane_of s.a.lane) s.b.end.receiver.kept h.far_heard h.way in
-    let answers = way-within h.far_sent (lane_of s.b.lane) s.a.end.receiver.kept h.heard h.back in
     let within = within-front executed (filter is_command h.sent) front.0 (within-filter is_command h.far_heard h.sent accepted) in
-    subst (λ (bodies : List (List ℕ)). Once issued bodies far_first s.b.end.host.station (answers_in near lines) (strays_in near lines)) (sym h.told.executes)
-    (record {
+    let same : executed_in far lines ≡ executed = h.told.executes in
+    record {
       apart = are-apart s.a.end.host.initiator.tns issued h.few h.hosts.initiates.numbered;
-      in_order = in-order issued executed (subst (λ (bodies : List (List ℕ)). IsWithin executed bodies) (sym front.1) within);
-      tables = h.far_hosts.station;
-      outcomes = is-outcome far_first first s.b.end.host s.a.end.host h.far_sent h.far_heard h.sent h.heard h.far_hosts h.hosts accepted answers h.few;
-      answered = h.told.answered;
-      astray = h.told.astray;
-    })
+      in_order = rw same (some-of executed bodies (subst (λ (all : List (List ℕ)). IsWithin executed all) (sym front.1) within));
+      answers = rw same (all-as (λ a. IsReplyOf issued answered a.0 a.1) (λ a. IsReplyTo bodies answered a.0 a.1) (answers_in near lines) (λ a. reply-to issued answered a.0 a.1) h.told.answered);
+      outcomes = one-outcome near issued lines told;
+      strays = rw same (all-as (IsOfLost issued answered) (IsAstray bodies answered (given_up_in near lines)) (strays_in near lines) (λ reply. astray-told near issued lines answered reply told) h.told.astray);
+    }
 
-pub each-once : (script : Script) → IsPlayable script → (last_state script).deceived ≡ 0 → EachOnce script (lines_after (start script) script.events)
+-- the tables of a station are what the commands make of the first ones that it is told to have executed
+tables-of : (near far : Who) (first far_first : StationState) (s : LineState) (lines : List Line) → Holds near far first far_first s lines → tables_of s.b ≡ (station_after far_first (executed_in far lines)).tables
+tables-of near far first far_first s lines h = rw h.told.executes (ap (λ (station : StationState). station.tables) h.far_hosts.station)
+
+pub each-once : (script : Script) → IsPlayable script → (last_state script).deceived ≡ 0 → EachOnce script (record_from (last_state script) (lines_after (start script) script.events))
 each-once script playable none =
     let a = first_station (plan_of_a script) in
     let b = first_station (plan_of_b script) in
     let s = last_state script in
     let lines = lines_after (start script) script.events in
     let h = kept-events a b script.events (start script) [] playable.events (omega (arith, playable.commands_of_a)) (omega (arith, playable.commands_of_b)) (λ zero. holds-start script) none in
-    record { to_b = once-of A B a b s lines h; to_a = once-of B A b a (swapped s) lines (holds-swapped A B a b s lines h) }
+    let back = holds-swapped A B a b s lines h in
+    let r = recounts-run script playable in
+    record {
+      to_b = subst (λ (bodies : List (List ℕ)). Once A B bodies b lines) r.recounts.issued.bodies (once-of A B a b s lines r.recounts.outcomes h);
+      to_a = subst (λ (bodies : List (List ℕ)). Once B A bodies a lines) r.far_recounts.issued.bodies (once-of B A b a (swapped s) lines r.far_recounts.outcomes back);
+      words = ap₂ (λ (x y : DataTables). words_of A x ++ words_of B y) (tables-of B A b a (swapped s) lines back) (tables-of A B a b s lines h);
+    }
 
 pub drop-past : (n : ℕ) (events : List Event) → length events ≤ n → drop n events ≡ []
 drop-past zero [] past = refl

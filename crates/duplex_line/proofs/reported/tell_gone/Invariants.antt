@@ -1,5 +1,5 @@
 use Rattle.std.proofs.Common.{◌≡◌, ◌++◌, drop}
-use Rattle.duplex_line.specs.Acts.{gone_lines}
+use Rattle.each_once.specs.NodeLines.{gone_lines}
 use Rattle.duplex_line.proofs.reported.tell_gone.Given as goal
 
 -- what is told and what is still to be told

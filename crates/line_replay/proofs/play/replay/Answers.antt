@@ -49,11 +49,11 @@ loop-event-preserved c =
 pub returns-clause-once : goal.returns-clause-once
 returns-clause-once c =
     let over = rw c.as_slice-event-items.ensures at c.loop-event-test.false in
-    record-played (λ (r : Record). r.deceived ≡ 0 → EachOnce c.args.script.now r.lines) c.args.script.now c.loop-event.event-index c.loop-event.world over c.loop-event.invariant.state c.loop-event.invariant.lines c.finish.result c.finish.ensures
+    record-played (λ (r : Record). r.deceived ≡ 0 → EachOnce c.args.script.now r) c.args.script.now c.loop-event.event-index c.loop-event.world over c.loop-event.invariant.state c.loop-event.invariant.lines c.finish.result c.finish.ensures
     (each-once c.args.script.now c.requires)
 
 pub returns-clause-complete : goal.returns-clause-complete
 returns-clause-complete c =
     let over = rw c.as_slice-event-items.ensures at c.loop-event-test.false in
-    record-played (λ (r : Record). IsPrompt c.args.script.now → EndsQuiet c.args.script.now → IsComplete c.args.script.now r.lines) c.args.script.now c.loop-event.event-index c.loop-event.world over c.loop-event.invariant.state c.loop-event.invariant.lines c.finish.result c.finish.ensures
+    record-played (λ (r : Record). IsPrompt c.args.script.now → EndsQuiet c.args.script.now → IsComplete c.args.script.now r) c.args.script.now c.loop-event.event-index c.loop-event.world over c.loop-event.invariant.state c.loop-event.invariant.lines c.finish.result c.finish.ensures
     (is-complete c.args.script.now c.requires)
