@@ -17,9 +17,13 @@ bcc bytes = (256 - sum bytes % 256) % 256
 abbrev pub crc_bit : ℕ → ℕ
 crc_bit register = if register % 2 == 1 then bit_xor (register / 2) 0xA001 else register / 2
 
+-- shifts eight times
+unfoldable pub eight_shifts : ℕ → ℕ
+eight_shifts register = crc_bit (crc_bit (crc_bit (crc_bit (crc_bit (crc_bit (crc_bit (crc_bit register)))))))
+
 -- combines a byte into the low 8 bits, and shifts eight times
-unfoldable pub crc_byte : ℕ → ℕ → ℕ
-crc_byte register b = crc_bit (crc_bit (crc_bit (crc_bit (crc_bit (crc_bit (crc_bit (crc_bit (bit_xor register b))))))))
+abbrev pub crc_byte : ℕ → ℕ → ℕ
+crc_byte register b = eight_shifts (bit_xor register b)
 
 -- the CRC-16, from a register of 0
 abbrev pub crc : List ℕ → ℕ

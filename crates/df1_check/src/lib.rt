@@ -2,14 +2,14 @@
 //! CRC-16 with the polynomial x^16 + x^15 + x^2 + 1, in its reflected form A001, from a register of 0.
 #![tactic(auto)]
 
-ghost use Rattle.std.specs.Prelude.{◌≡◌, ◌<◌, ◌^◌, ℕ, List, [], ◌∷◌};
-ghost use Rattle.df1_check.specs.Checks.{IsBcc, bcc, crc, crc_bit, crc_byte};
+ghost use Rattle.std.specs.Prelude.{◌≡◌, ◌<◌, ℕ, List, [], ◌∷◌, Some, slice_get};
+ghost use Rattle.df1_check.specs.Checks.{IsBcc, bcc, crc, crc_byte, eight_shifts};
 
 mod running;
+mod table;
 
 pub use running::Running;
-
-const POLYNOMIAL: u16 = 0xA001;
+pub use table::CRC_TABLE;
 
 /// Which check ends a message: one byte, or two.
 #[derive(Clone, Copy, Debug, PartialEq, Eq)]
@@ -41,24 +41,28 @@ pub fn crc(bytes: &[u8]) -> u16
     register
 }
 
-#[tactic(auto, unfolding(crate::specs::Checks::crc_byte))]
+/// The register after one more byte, by one look-up.
 fn crc_byte(register: u16, b: u8) -> u16
     ensures { result ≡ crc_byte register b }
 {
     let register = register ^ u16::from(b);
-    let register = crc_bit(crc_bit(crc_bit(crc_bit(register))));
-    crc_bit(crc_bit(crc_bit(crc_bit(register))))
+    entry(register % 256) ^ register / 256
 }
 
-fn crc_bit(register: u16) -> u16
-    ensures { result ≡ crc_bit register }
+/// The entry of a register below 256.
+fn entry(register: u16) -> u16
+    requires { register < 256 }
+    ensures { result ≡ eight_shifts register }
 {
-    if register % 2 == 1 {
-        register / 2 ^ POLYNOMIAL
-    } else {
-        register / 2
-    }
+    CRC_TABLE[register as usize]
 }
+
+/// Each entry of the table is what eight shifts make of its index as the register.
+pub fn table_entries()
+    ensures entries { (register : ℕ) → register < 256 → slice_get CRC_TABLE register ≡ Some (eight_shifts register) }
+    ensures first { slice_get CRC_TABLE 0 ≡ Some 0x0000 }
+    ensures second { slice_get CRC_TABLE 1 ≡ Some 0xC0C1 }
+{}
 
 /// The BCC of any bytes is the only number below 256 that makes their sum a multiple of 256.
 pub fn one_bcc()

@@ -6,6 +6,7 @@ fn checks_of_known_bytes(rt: HostRuntime) {
     assert_eq!(rt; bcc(&message), 0xE0);
     assert_eq!(rt; bcc(&[]), 0);
     assert_eq!(rt; crc(b"123456789"), 0xBB3D);
+    assert_eq!(rt; CRC_TABLE[1], 0xC0C1);
     assert_eq!(rt;
         crc(&[0x08, 0x09, 0x06, 0x00, 0x02, 0x04, 0x03, 0x03]),
         0x4898

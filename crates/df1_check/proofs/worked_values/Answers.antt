@@ -1,7 +1,7 @@
 use Rattle.std.proofs.Common.{refl}
-use Rattle.df1_check.specs.Checks.{crc_byte}
+use Rattle.df1_check.specs.Checks.{eight_shifts}
 use Rattle.df1_check.proofs.worked_values.Goals as goal
 
 pub returns-clause-digits : goal.returns-clause-digits
-unfolding crc_byte
+unfolding eight_shifts
 returns-clause-digits c = refl

@@ -1,0 +1,6 @@
+pub mod Files
+pub mod Held
+pub mod Made
+pub mod NoFault
+pub mod Placed
+pub mod Words

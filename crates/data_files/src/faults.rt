@@ -1,0 +1,50 @@
+//! What is wrong with files that tables are to be made of.
+ghost use Rattle.std.specs.Prelude.{◌≡◌, ◌==◌};
+ghost use Rattle.std.specs.List.{list_any};
+ghost use Rattle.data_files.specs.Tables.{fault_of, faults};
+
+use crate::{FileSpec, MakeFault};
+
+/// The most files that tables may have.
+const MAX_FILES: usize = 256;
+
+/// The most elements that a file may have.
+const MAX_ELEMENTS: u16 = 1000;
+
+/// The first fault of these files.
+pub(crate) fn first_fault(specs: &[FileSpec]) -> Option<MakeFault>
+    ensures { result ≡ faults specs.now }
+{
+    if specs.len() > MAX_FILES {
+        return Some(MakeFault::TooMany);
+    }
+    for (place, spec) in specs.iter().enumerate() {
+        let fault = fault_after(&specs[..place], *spec);
+        if fault.is_some() {
+            return fault;
+        }
+    }
+    None
+}
+
+/// What is wrong with a file that follows others.
+fn fault_after(before: &[FileSpec], spec: FileSpec) -> Option<MakeFault>
+    ensures { result ≡ fault_of before.now spec }
+{
+    if spec.count == 0 {
+        Some(MakeFault::Empty(spec.number))
+    } else if spec.count > MAX_ELEMENTS {
+        Some(MakeFault::Large(spec.number))
+    } else if has_number(before, spec.number) {
+        Some(MakeFault::Twice(spec.number))
+    } else {
+        None
+    }
+}
+
+/// Whether one of the files has this number.
+fn has_number(specs: &[FileSpec], number: u16) -> bool
+    ensures { result ≡ list_any (λ other. other.number == number) specs.now }
+{
+    specs.iter().any(|other| other.number == number)
+}

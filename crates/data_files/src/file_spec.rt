@@ -1,0 +1,36 @@
+//! What a data file is (manual topic: addressing).
+ghost use Rattle.std.specs.Prelude.{◌≡◌, ◌*◌};
+ghost use Rattle.data_files.specs.Words.{words_per_element};
+
+use df1_base::FileType;
+
+/// A data file: its number, its type, and how many elements it has.
+#[derive(Clone, Copy, Debug, PartialEq, Eq)]
+pub struct FileSpec {
+    /// The number of the file.
+    pub number: u16,
+    /// The type of its elements.
+    pub kind: FileType,
+    /// How many elements it has.
+    pub count: u16,
+}
+
+impl FileSpec {
+    /// How many words the file has.
+    pub fn words(&self) -> u32
+        ensures { result ≡ self.now.count * words_per_element self.now.kind }
+    {
+        self.count as u32 * words_of(self.kind)
+    }
+}
+
+/// How many words an element of this type has.
+fn words_of(kind: FileType) -> u32
+    ensures { result ≡ words_per_element kind }
+{
+    match kind {
+        FileType::Timer | FileType::Counter | FileType::Control => 3,
+        FileType::Float => 2,
+        FileType::Status | FileType::Bit | FileType::Integer => 1,
+    }
+}

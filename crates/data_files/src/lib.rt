@@ -1,0 +1,15 @@
+//! The data tables of a controller (manual topic: addressing): its files in the order in which they were given, and the
+//! words of each, which lie in one vector, file after file, beside a directory of where each file begins.
+#![tactic(auto)]
+
+mod faults;
+mod file_spec;
+pub mod laws;
+mod make_fault;
+mod tables;
+#[cfg(test)]
+mod tests;
+
+pub use file_spec::FileSpec;
+pub use make_fault::MakeFault;
+pub use tables::Tables;

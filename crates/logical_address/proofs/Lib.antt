@@ -1,0 +1,4 @@
+pub mod Fronts
+pub mod Values
+pub mod Addresses
+pub mod Parameters

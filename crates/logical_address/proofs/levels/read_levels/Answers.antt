@@ -1,0 +1,14 @@
+use Rattle.std.proofs.Common.{rules, arith}
+use Rattle.logical_address.proofs.Addresses.{levels_at_spelled, levels_at_known}
+use Rattle.logical_address.proofs.levels.read_levels.Goals as goal
+
+pub returns-in-Ok-clause-spelled : goal.returns-in-Ok-clause-spelled
+returns-in-Ok-clause-spelled c = levels_at_spelled c.args.bytes.now _ (λ i. omega (arith, c.type_inv.bytes i)) (search rules)
+
+pub returns-in-Ok-clause-known : goal.returns-in-Ok-clause-known
+returns-in-Ok-clause-known c at front rest s parts =
+    rw (← levels_at_known at c.args.bytes.now front rest s parts) (search rules)
+
+pub returns-in-Err-clause-known : goal.returns-in-Err-clause-known
+returns-in-Err-clause-known c at front rest s parts =
+    rw (← levels_at_known at c.args.bytes.now front rest s parts) (search rules)

@@ -1,0 +1,4 @@
+pub mod Spelling
+pub mod Shortest
+pub mod Reading
+pub mod Parameter
