@@ -1,6 +1,9 @@
 //! What holds of every text. The function does nothing.
-ghost use Rattle.std.specs.Prelude.{◌≡◌, ◌<◌, ◌++◌, ℕ, List, Err, length};
+ghost use Rattle.std.specs.Prelude.{◌≡◌, ◌<◌, ◌++◌, ℕ, List, [], Err, IfOk, length};
 ghost use Rattle.line_script.specs.declared.cause.Cause.{Cause as Fault};
+ghost use Rattle.line_script.specs.Drafts.{fresh};
+ghost use Rattle.line_script.specs.Left.{IsLeft, after_lines};
+ghost use Rattle.line_script.specs.Lines.{TextLine};
 ghost use Rattle.line_script.specs.ScriptText.{script_of};
 
 /// A text of more than 16,777,216 bytes is no script, and its first 16,777,217 bytes show its first faulty line and the
@@ -8,4 +11,10 @@ ghost use Rattle.line_script.specs.ScriptText.{script_of};
 pub fn refused_over_the_limit()
     ensures { (text more : List ℕ) → 16777216 < length text
         → (number : ℕ) × (fault : Fault) × (script_of text ≡ Err (number, fault)) × (script_of (text ++ more) ≡ Err (number, fault)) }
+{}
+
+/// After any lines that were accepted, what is left of the commands of each end is 65,535 less those that the lines issued,
+/// and what is left of the events is 4,000,000 less what the lines' events sum to.
+pub fn what_is_left_is_what_the_lines_leave()
+    ensures { (lines : List TextLine) → IfOk (after_lines fresh [] lines) (λ read. IsLeft read.0 read.1) }
 {}

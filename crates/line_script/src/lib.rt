@@ -13,7 +13,7 @@ mod reader;
 mod script;
 
 pub use cause::{Cause, LineFault, ScriptFault};
-pub use laws::refused_over_the_limit;
+pub use laws::{refused_over_the_limit, what_is_left_is_what_the_lines_leave};
 pub use line_statement::{Bytes, Items, Who};
 pub use read::read_script;
 pub use reader::Reader;
