@@ -36,11 +36,16 @@ pub enum News {
 }
 
 /// The host of an end.
+///
+/// A message is *out* from its hand-out until its fate is told, and each fate is told once: where no message is out a
+/// fate changes nothing, and its answer is Nothing.
 pub trait Host {
-    ghost use Rattle.std.specs.Prelude.{◌≡◌, ℕ, List, Bool, Option, is_some, IsTrue, IfSome, MatchOption};
+    ghost use Rattle.std.specs.Prelude.{◌≡◌, ℕ, List, Bool, true, false, Option, None, is_some, IsSome, IsTrue, IfSome, MatchOption};
+    ghost use Rattle.std.specs.List.Sorted.{IsStrictlyIncreasing};
     ghost use Rattle.df1_base.specs.declared.host.Fate.{Fate};
     ghost use Rattle.df1_base.specs.declared.host.Did.{Did};
     ghost use Rattle.df1_base.specs.declared.host.News.{News};
+    ghost use Rattle.df1_base.specs.declared.host.News.TheVariants.{Nothing};
     ghost use Rattle.df1_base.specs.Host.{IsBody};
 
     /// Whether there is room for a body.
@@ -56,7 +61,10 @@ pub trait Host {
 
     ghost after_next: { Self → Self };
 
-    /// What the host answers to the fate of the message handed out last, and the host after it.
+    /// Whether a message was handed out whose fate wasn't told.
+    ghost is_out: { Self → Bool };
+
+    /// What the host answers to the fate of the message that is out, and the host after it.
     ghost news: { Self → Fate → News };
 
     ghost after_told: { Self → Fate → Self };
@@ -68,6 +76,9 @@ pub trait Host {
 
     /// The host after what waits was dropped.
     ghost after_clear: { Self → Self };
+
+    /// Each message that may be handed out has 6 to 250 bytes. It is so of every host that code can have.
+    ghost holds_bodies: { Self → Type 0 };
 
     /// Whether there is room for a body of 6 to 250 bytes.
     fn has_room(&self, body: &[u8]) -> bool
@@ -81,9 +92,11 @@ pub trait Host {
         ensures did { result ≡ did self.old body.now }
         ensures after { self.new ≡ after_accept self.old body.now };
 
-    /// Whether a message waits to be handed out.
+    /// Whether a message waits to be handed out. It has 6 to 250 bytes.
     fn ready(&self) -> bool
-        ensures { result ≡ is_some (next_body self.now) };
+        ensures ready { result ≡ is_some (next_body self.now) }
+        ensures fits { IfSome (next_body self.now) IsBody }
+        ensures holds { holds_bodies self.now };
 
     /// Hands out the next message, each message once: true exactly where the host was ready, and then `into` is
     /// replaced by a body of 6 to 250 bytes. Else nothing changes.
@@ -108,4 +121,42 @@ pub trait Host {
     /// Drops every message that waits and wasn't handed out, replies and commands alike.
     fn clear(&mut self)
         ensures { self.new ≡ after_clear self.old };
+
+    /// Where no message waits, a hand-out changes nothing.
+    ghost next_of_none: { (h : Self) → next_body h ≡ None → after_next h ≡ h };
+
+    /// A message that is handed out is out.
+    ghost out_at_next: { (h : Self) → IsSome (next_body h) → is_out (after_next h) ≡ true };
+
+    /// Where no message is out, a fate is answered by Nothing and changes nothing.
+    ghost told_of_none: { (h : Self) (fate : Fate) → is_out h ≡ false → (news h fate ≡ Nothing) × (after_told h fate ≡ h) };
+
+    /// A message whose fate was told isn't out.
+    ghost out_at_told: { (h : Self) (fate : Fate) → is_out (after_told h fate) ≡ false };
+
+    /// What is accepted, a tick and a clearing leave the message out that is out, and no other.
+    ghost out_at_accept: { (h : Self) (body : List ℕ) → is_out (after_accept h body) ≡ is_out h };
+
+    ghost out_at_tick: { (h : Self) → is_out (after_tick h) ≡ is_out h };
+
+    ghost out_at_clear: { (h : Self) → is_out (after_clear h) ≡ is_out h };
+
+    /// The commands that are unanswered are told in rising order.
+    ghost unanswered_rise: { (h : Self) → IsStrictlyIncreasing (unanswered h) };
+
+    /// Nothing waits after a clearing.
+    ghost none_at_clear: { (h : Self) → next_body (after_clear h) ≡ None };
+
+    /// A message that is handed out is a body, and those that may be handed out stay such.
+    ghost body_at_next: { (h : Self) → holds_bodies h → IfSome (next_body h) IsBody };
+
+    ghost bodies_at_accept: { (h : Self) (body : List ℕ) → holds_bodies h → IsBody body → IsTrue (room_for h body) → holds_bodies (after_accept h body) };
+
+    ghost bodies_at_next: { (h : Self) → holds_bodies h → holds_bodies (after_next h) };
+
+    ghost bodies_at_told: { (h : Self) (fate : Fate) → holds_bodies h → holds_bodies (after_told h fate) };
+
+    ghost bodies_at_tick: { (h : Self) → holds_bodies h → holds_bodies (after_tick h) };
+
+    ghost bodies_at_clear: { (h : Self) → holds_bodies h → holds_bodies (after_clear h) };
 }
