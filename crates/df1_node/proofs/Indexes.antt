@@ -1,7 +1,7 @@
 -- What the places kept beside the commands tell of all commands.
-use Rattle.std.proofs.Common.{◌≡◌, ◌<◌, ◌≤◌, ℕ, suc, zero, ◌+◌, ◌-◌, ◌∙◌, Bool, Option, true, false, not, ◌&&◌, ◌||◌, cond, List, [], ◌∷◌, ◌++◌, length, Some, None, refl, sym, ap, subst, arith, get_or, set, find, slice_get, nat_lt, ◌==◌, position, is_some, MatchOption, add-zero, length-append, length-set}
+use Rattle.std.proofs.Common.{◌≡◌, ◌<◌, ◌≤◌, ℕ, suc, zero, ◌+◌, ◌-◌, ◌∙◌, Bool, Option, true, false, ◌&&◌, ◌||◌, cond, List, [], ◌∷◌, ◌++◌, length, Some, None, refl, sym, ap, subst, arith, get_or, set, find, slice_get, nat_lt, ◌==◌, position, is_some, MatchOption, add-zero, length-append, length-set}
 use Rattle.std.specs.Option.{option_map, option_map_or}
-use Rattle.std.specs.List.{All, list_any, prefix_len}
+use Rattle.std.specs.List.{All, list_any}
 use Rattle.std.proofs.lemmas.List.{map_push}
 use Rattle.std.proofs.lemmas.List.Elements.{All-append, All-set}
 use Rattle.std.proofs.lemmas.Bool.Decides.{nat_tests}
@@ -10,6 +10,7 @@ use Rattle.df1_node.specs.declared.command.Command.{Command}
 use Rattle.df1_node.specs.Initiator.{InitiatorState, command, Standing, Waiting, Out, Answered, Undelivered, Unanswered, Issued, is_waiting, is_out, restated, after_hand_out, after_reply, after_give_up, next_place, next_command, is_reply_to, answered_place, is_out_at, ticked, is_last_tick, unanswered_from, all_ticked, cleared, all_cleared}
 use Rattle.df1_node.specs.Commands.{Indexed, is_place, AreCommands, issued_of, all_issued}
 use Rattle.df1_base.specs.Host.{IsBody}
+use Rattle.df1_node.specs.HostLaws.{position-cons}
 
 -- ---- how commands stand
 
@@ -89,18 +90,6 @@ shifted false n = refl
 
 tied_zero : true ≡ (0 == 0)
 tied_zero = refl
-
--- ---- places
-
-position-cons : (t : Issued → Bool) (c : Issued) (cs : List Issued) → position t (c ∷ cs) ≡ cond (t c) (Some 0) (option_map suc (position t cs))
-position-cons t c cs =
-    elim (t c) as (λ b. cond (nat_lt (cond (not b) (1 + prefix_len (λ x. not (t x)) cs) 0) (suc (length cs))) (Some (cond (not b) (1 + prefix_len (λ x. not (t x)) cs) 0)) None ≡ cond b (Some 0) (option_map suc (position t cs))) [
-      | true ↦ ap (λ (b : Bool). cond {A = Option ℕ} b (Some 0) None) (first_below (length cs))
-      | false ↦
-          ap (λ (b : Bool). cond {A = Option ℕ} b (Some (1 + prefix_len (λ x. not (t x)) cs)) None) (below_more (prefix_len (λ x. not (t x)) cs) (length cs))
-          ∙ ap (λ m. cond (nat_lt (prefix_len (λ x. not (t x)) cs) (length cs)) (Some m) None) (more_is_suc (prefix_len (λ x. not (t x)) cs))
-          ∙ sym (shifted (nat_lt (prefix_len (λ x. not (t x)) cs) (length cs)) (prefix_len (λ x. not (t x)) cs))
-    ]
 
 -- ---- what is kept tells what a look at all commands would
 
@@ -350,9 +339,6 @@ ready_is cs n out i free =
     ap (λ b. is_some (cond b None (option_map (λ c. c.body) (find (λ c. is_waiting c.standing) cs)))) (any_out cs n out i ∙ free)
     ∙ is_some-map (find (λ c. is_waiting c.standing) cs)
     ∙ found_is cs n (subst (Indexed cs n) (is_some-None out free) i)
-
-pub hands_nothing : (s : InitiatorState) → next_place s.issued ≡ None → s ≡ after_hand_out s
-hands_nothing s e = ap (λ o. record s { issued = option_map_or (λ place. restated s.issued place (Out s.reply_ticks)) o s.issued }) (sym e)
 
 pub hands_at : (s : InitiatorState) (n : ℕ) → next_place s.issued ≡ Some n → record s { issued = restated s.issued n (Out s.reply_ticks) } ≡ after_hand_out s
 hands_at s n e = ap (λ o. record s { issued = option_map_or (λ place. restated s.issued place (Out s.reply_ticks)) o s.issued }) (sym e)

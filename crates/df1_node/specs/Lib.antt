@@ -1,5 +1,6 @@
 pub mod Answer
 pub mod Commands
+pub mod HostLaws
 pub mod Initiator
 pub mod Node
 pub mod TableFiles

@@ -1,5 +1,5 @@
 -- A node: the station, the replies that wait, the commands that it issued, and what it handed out last.
-use Rattle.std.specs.Prelude.{ℕ, ◌+◌, Bool, true, List, [], ◌∷◌, ◌++◌, length, drop, is_some, nat_lt, slice_get, if◌then◌else◌, Option, refl}
+use Rattle.std.specs.Prelude.{ℕ, ◌+◌, Bool, true, false, All, List, [], ◌∷◌, ◌++◌, length, drop, is_some, nat_lt, slice_get, if◌then◌else◌, Option, refl}
 use Rattle.std.specs.Coded.{Coded, code_by, coded×, coded_list, coded_ℕ}
 use Rattle.std.specs.Option.{option_map_or, option_or}
 use Rattle.df1_base.specs.declared.host.Fate.{Fate}
@@ -8,6 +8,7 @@ use Rattle.df1_base.specs.declared.host.Did.{Did}
 use Rattle.df1_base.specs.declared.host.Did.TheVariants as did
 use Rattle.df1_base.specs.declared.host.News.{News}
 use Rattle.df1_base.specs.declared.host.News.TheVariants as news
+use Rattle.df1_base.specs.Host.{IsBody}
 use Rattle.pccc_envelope.specs.Envelope.{is_reply}
 use Rattle.df1_node.specs.declared.handed.Handed.{Handed}
 use Rattle.df1_node.specs.declared.handed.Handed.TheVariants as handed
@@ -62,6 +63,19 @@ after_next node = record node {
   initiator = if is_some (slice_get node.replies 0) then node.initiator else after_hand_out node.initiator;
   last = next_handed node;
 }
+
+-- a message was handed out whose fate wasn't told
+abbrev pub is_handed : Handed → Bool
+is_handed handed.Nothing = false
+is_handed handed.Reply = true
+is_handed (handed.Command place) = true
+
+abbrev pub is_out : NodeState → Bool
+is_out node = is_handed node.last
+
+-- each reply that waits, and each command, has 6 to 250 bytes
+abbrev pub holds_bodies : NodeState → Type 0
+holds_bodies node = All IsBody node.replies × All (λ c. IsBody c.body) node.initiator.issued
 
 -- what is told of a body that was given up: of a command only while it is out
 abbrev pub news_of : InitiatorState → Handed → News

@@ -3,7 +3,7 @@
 //!
 //! The place of the command that is out, and the place from which on the commands wait, are kept beside the commands,
 //! so no step looks at all of them.
-ghost use Rattle.std.specs.Prelude.{◌≡◌, ◌+◌, ◌≤◌, ◌<◌, [], ◌++◌, ◌∷◌, length, IfOk, IfErr, OnOk, OnErr, Err, IfSome, MatchOption, is_some, nat_lt, slice_get, ◌==◌, IfNone, IsTrue, if◌then◌else◌};
+ghost use Rattle.std.specs.Prelude.{◌≡◌, ◌+◌, ◌≤◌, ◌<◌, [], ◌++◌, ◌∷◌, length, All, IfOk, IfErr, OnOk, OnErr, Err, IfSome, MatchOption, is_some, nat_lt, slice_get, ◌==◌, IfNone, IsTrue, if◌then◌else◌};
 ghost use Rattle.std.specs.Option.{option_copied, option_map};
 ghost use Rattle.std.specs.Int.{bit_at};
 ghost use Rattle.df1_base.specs.Host.{IsBody};
@@ -111,7 +111,8 @@ impl Initiator {
 
     /// Whether a command is to be handed out.
     pub(crate) fn ready(&self) -> bool
-        ensures { result ≡ is_some (next_command self.now.issued) }
+        ensures ready { result ≡ is_some (next_command self.now.issued) }
+        ensures bodies { All (λ c. IsBody c.body) self.now.issued }
     {
         if self.out.is_some() {
             return false;

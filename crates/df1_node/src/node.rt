@@ -96,7 +96,9 @@ impl Node {
 }
 
 impl Host for Node {
-    ghost use Rattle.df1_node.specs.Node.{has_room, did_accept, after_accept, next_body, after_next, news_told, after_told, gone_unanswered, after_tick, after_clear};
+    ghost use Rattle.df1_node.specs.Node.{has_room, did_accept, after_accept, next_body, after_next, is_out, news_told, after_told, gone_unanswered, after_tick, after_clear, holds_bodies};
+    ghost use Rattle.std.proofs.Common.{refl};
+    ghost use Rattle.df1_node.specs.HostLaws as laws_of;
 
     ghost room_for = { has_room };
 
@@ -108,6 +110,8 @@ impl Host for Node {
 
     ghost after_next = { after_next };
 
+    ghost is_out = { is_out };
+
     ghost news = { news_told };
 
     ghost after_told = { after_told };
@@ -117,6 +121,8 @@ impl Host for Node {
     ghost after_tick = { after_tick };
 
     ghost after_clear = { after_clear };
+
+    ghost holds_bodies = { holds_bodies };
 
     fn has_room(&self, body: &[u8]) -> bool {
         is_reply(body) || self.replies.len() < self.replies.capacity()
@@ -136,7 +142,7 @@ impl Host for Node {
     }
 
     fn ready(&self) -> bool {
-        !self.replies.is_empty() || self.initiator.ready()
+        self.initiator.ready() || !self.replies.is_empty()
     }
 
     fn next(&mut self, into: &mut ArrayVec<u8, 250>) -> bool {
@@ -176,4 +182,34 @@ impl Host for Node {
         self.replies.clear();
         self.initiator.clear();
     }
+
+    ghost next_of_none = { laws_of.none_changes };
+
+    ghost out_at_next = { laws_of.next_hands };
+
+    ghost told_of_none = { laws_of.told_nothing };
+
+    ghost out_at_told = { laws_of.fate_told };
+
+    ghost out_at_accept = { λ _ _. refl };
+
+    ghost out_at_tick = { λ _. refl };
+
+    ghost out_at_clear = { λ _. refl };
+
+    ghost unanswered_rise = { laws_of.unanswered_rise };
+
+    ghost none_at_clear = { laws_of.none_at_clear };
+
+    ghost body_at_next = { laws_of.next_is_body };
+
+    ghost bodies_at_accept = { laws_of.bodies_at_accept };
+
+    ghost bodies_at_next = { laws_of.bodies_at_next };
+
+    ghost bodies_at_told = { laws_of.bodies_at_told };
+
+    ghost bodies_at_tick = { laws_of.bodies_at_tick };
+
+    ghost bodies_at_clear = { laws_of.bodies_at_clear };
 }

@@ -3,7 +3,8 @@ use Rattle.df1_node.specs.Initiator.{InitiatorState, Issued, Out, next_command, 
 use Rattle.df1_node.specs.Commands.{all_issued, issued_of, Indexed}
 use Rattle.df1_node.specs.declared.command.Command.{Command}
 use Rattle.std.proofs.lemmas.Grind.{common_steps}
-use Rattle.df1_node.proofs.Indexes.{busy, idle_past, idle_at, hands_nothing, hands_at, at_None, at_Some, length-issued, are-set, body_at, Indexed-out, is_some-None, restated-set, get_or-issued}
+use Rattle.df1_node.specs.HostLaws.{hands_nothing}
+use Rattle.df1_node.proofs.Indexes.{busy, idle_past, idle_at, hands_at, at_None, at_Some, length-issued, are-set, body_at, Indexed-out, is_some-None, restated-set, get_or-issued}
 use Rattle.df1_node.proofs.initiator.Initiator.hand_out.Goals as goal
 
 pub returns-then-is_some-clause-place : goal.returns-then-is_some-clause-place
