@@ -11,7 +11,8 @@ struct Gate {
 }
 
 impl Host for Gate {
-    ghost use Rattle.std.specs.Prelude.{[], None};
+    ghost use Rattle.std.specs.Prelude.{[], None, false};
+    ghost use Rattle.std.proofs.Common.{refl, rules};
     ghost use Rattle.df1_base.specs.declared.host.Did.TheVariants as did_of;
     ghost use Rattle.df1_base.specs.declared.host.News.TheVariants as news_of;
 
@@ -25,6 +26,8 @@ impl Host for Gate {
 
     ghost after_next = { λ g. g };
 
+    ghost is_out = { λ _. false };
+
     ghost news = { λ _ _. news_of.Nothing };
 
     ghost after_told = { λ g _. g };
@@ -34,6 +37,8 @@ impl Host for Gate {
     ghost after_tick = { λ g. g };
 
     ghost after_clear = { λ g. g };
+
+    ghost holds_bodies = { λ _. Unit {0} };
 
     fn has_room(&self, _body: &[u8]) -> bool {
         self.open
@@ -60,6 +65,36 @@ impl Host for Gate {
     }
 
     fn clear(&mut self) {}
+
+    ghost next_of_none = { λ _ _. refl };
+
+    ghost out_at_next = { Prim.search rules };
+
+    ghost told_of_none = { λ _ _ _. (refl, refl) };
+
+    ghost out_at_told = { λ _ _. refl };
+
+    ghost out_at_accept = { λ _ _. refl };
+
+    ghost out_at_tick = { λ _. refl };
+
+    ghost out_at_clear = { λ _. refl };
+
+    ghost unanswered_rise = { Prim.search rules };
+
+    ghost none_at_clear = { λ _. refl };
+
+    ghost body_at_next = { λ _ _. tt };
+
+    ghost bodies_at_accept = { λ _ _ _ _ _. tt };
+
+    ghost bodies_at_next = { λ _ _. tt };
+
+    ghost bodies_at_told = { λ _ _ _. tt };
+
+    ghost bodies_at_tick = { λ _ _. tt };
+
+    ghost bodies_at_clear = { λ _ _. tt };
 }
 
 const BODY: [u8; 14] = [

@@ -69,7 +69,7 @@ on_nak s = record s {
   ];
 }
 
--- the fate that a NAK decides: only the last one that is counted gives the message up
+-- the fate that a NAK decides: the message is given up where max_naks were counted before
 abbrev pub nak_fate : SenderState → Option Fate
 nak_fate s = elim s.activity [
   | Idle ↦ None

@@ -63,7 +63,7 @@ pub struct EndPlan {
     pub tns: u16,
     /// Ticks until an ENQ asks for a missing response: 1 to 1,000,000.
     pub ack_ticks: u32,
-    /// NAKs after which a message is given up: 0 to 255.
+    /// NAKs at which a message is sent again, and the next gives it up: 0 to 255.
     pub max_naks: u32,
     /// ENQs after which a message is given up: 0 to 255.
     pub max_enqs: u32,

@@ -22,7 +22,7 @@ pub enum Setting {
     Tns(u16),
     /// Ticks until an ENQ asks for a missing response: 1 to 1,000,000.
     AckTicks(u32),
-    /// NAKs after which a message is given up: 0 to 255.
+    /// NAKs at which a message is sent again, and the next gives it up: 0 to 255.
     MaxNaks(u32),
     /// ENQs after which a message is given up: 0 to 255.
     MaxEnqs(u32),
