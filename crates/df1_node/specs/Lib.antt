@@ -2,6 +2,3 @@ pub mod Answer
 pub mod Commands
 pub mod Initiator
 pub mod Node
-pub mod TableFiles
-pub mod Tables
-pub mod Words

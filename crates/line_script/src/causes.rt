@@ -4,7 +4,7 @@ ghost use Rattle.line_script.specs.Drafts.{cause_of as the_cause, is_misplaced a
 
 use crate::Cause;
 use crate::reader::{Reader, Stage};
-use df1_node::FileSpec;
+use data_files::FileSpec;
 use line_statement::{EndName, Statement};
 
 /// The most files of an end.

@@ -6,7 +6,7 @@ ghost use Rattle.line_script.specs.Plans.{is_given as the_given, with_setting as
 
 use crate::given_words::GivenWords;
 use crate::{EndPlan, Specs};
-use df1_node::FileSpec;
+use data_files::FileSpec;
 use line_statement::{Items, Setting, Who};
 use std::alloc::Global;
 

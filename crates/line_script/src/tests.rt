@@ -1,9 +1,9 @@
 //! Texts with their first faulty line and its cause, and one script field by field.
 
 use crate::{Cause, Event, Lane, LineFault, Reader, ScriptFault, Who, WordOf, read_script};
+use data_files::FileSpec;
 use df1_base::FileType;
 use df1_check::Check;
-use df1_node::FileSpec;
 use std::alloc::{AllocError, Global};
 use std::test::Fail;
 

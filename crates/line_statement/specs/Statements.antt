@@ -5,7 +5,7 @@ use Rattle.df1_base.specs.declared.file_type.FileType.{FileType}
 use Rattle.df1_base.specs.declared.file_type.FileType.TheVariants.{Integer}
 use Rattle.df1_check.specs.declared.Check.{Check}
 use Rattle.df1_check.specs.declared.Check.TheVariants.{Bcc, Crc}
-use Rattle.df1_node.specs.declared.file_spec.FileSpec.{FileSpec}
+use Rattle.data_files.specs.declared.file_spec.FileSpec.{FileSpec}
 use Rattle.line_statement.specs.declared.who.Who.{Who}
 use Rattle.line_statement.specs.declared.who.Who.TheVariants as who
 use Rattle.line_statement.specs.declared.set_line.Setting.{Setting}

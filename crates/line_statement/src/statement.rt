@@ -8,9 +8,9 @@ use crate::event_line::{bare_event, operand_event};
 use crate::set_line::{Setting, set_line};
 use crate::words::{is, number_of, register_of, within};
 use crate::{Bytes, Who};
+use data_files::FileSpec;
 use df1_base::{FileType, NoMemory};
 use df1_check::Check;
-use df1_node::FileSpec;
 use std::alloc::Global;
 
 /// The most events that one line, and a whole script, may count.
