@@ -120,7 +120,7 @@ impl Reader {
         ensures { result ≡ the_full self.now end }
     {
         match end {
-            EndName::Known(side) => self.end(side).files.as_slice().len() >= FILES,
+            EndName::Known(side) => self.end(side).files.len() >= FILES,
             EndName::Absent => false,
         }
     }
