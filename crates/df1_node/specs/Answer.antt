@@ -7,8 +7,8 @@ use Rattle.df1_base.specs.declared.code.Code.TheVariants.{Done, Sts, Ext}
 use Rattle.df1_base.specs.declared.file_type.FileType.{FileType}
 use Rattle.df1_base.specs.declared.file_type.FileType.TheVariants.{Status, Bit, Timer, Counter, Control, Integer, Float}
 use Rattle.pccc_envelope.specs.Envelope.{spelling, envelope_of, reply_form}
-use Rattle.df1_node.specs.declared.file_spec.FileSpec.{FileSpec}
-use Rattle.df1_node.specs.Tables.{DataTables, file_of, has_word, with_word}
+use Rattle.data_files.specs.declared.file_spec.FileSpec.{FileSpec}
+use Rattle.data_files.specs.Tables.{DataTables, file_of, has_word, with_word}
 
 -- a station: its tables, its compatibility file, and the block that its status reply holds
 pub record StationState : Type 0 where

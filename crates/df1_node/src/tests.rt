@@ -1,7 +1,5 @@
-//! Worked tables, answers and exchanges.
-use crate::{
-    FileSpec, Initiator, IssueFault, MakeFault, Node, NodeSetup, Outcome, Station, Tables,
-};
+//! Worked answers and exchanges.
+use crate::{FileSpec, Initiator, IssueFault, Node, NodeSetup, Outcome, Station, Tables};
 use arrayvec::ArrayVec;
 use df1_base::{Did, Fate, FileType, Host, News};
 use std::test::Fail;
@@ -11,54 +9,6 @@ const INTEGERS: FileSpec = FileSpec {
     kind: FileType::Integer,
     count: 16,
 };
-
-#[test]
-fn tables_are_refused_at_their_first_fault(rt: HostRuntime) {
-    let many = [INTEGERS; 257];
-    let none = FileSpec {
-        count: 0,
-        ..INTEGERS
-    };
-    let large = FileSpec {
-        count: 1001,
-        ..INTEGERS
-    };
-    assert_eq!(rt;
-        Tables::new(rt.alloc(), &many).err(),
-        Some(MakeFault::TooMany)
-    );
-    assert_eq!(rt;
-        Tables::new(rt.alloc(), &[none]).err(),
-        Some(MakeFault::Empty(7))
-    );
-    assert_eq!(rt;
-        Tables::new(rt.alloc(), &[large]).err(),
-        Some(MakeFault::Large(7))
-    );
-    assert_eq!(rt;
-        Tables::new(rt.alloc(), &[INTEGERS, INTEGERS]).err(),
-        Some(MakeFault::Twice(7))
-    );
-}
-
-#[test]
-fn words_are_read_and_set_where_they_are(rt: HostRuntime) -> Result<(), Fail> {
-    let timers = FileSpec {
-        number: 4,
-        kind: FileType::Timer,
-        count: 2,
-    };
-    let mut tables = Tables::new(rt.alloc(), &[INTEGERS, timers])?;
-    assert_eq!(rt; tables.files(), 2);
-    assert_eq!(rt; tables.spec_at(1), Some(timers));
-    assert_eq!(rt; tables.spec(9), None);
-    assert!(rt; tables.set(4, 5, 0xABCD));
-    assert!(rt; !tables.set(4, 6, 1));
-    assert_eq!(rt; tables.word(4, 5), Some(0xABCD));
-    assert_eq!(rt; tables.word(7, 5), Some(0));
-    assert_eq!(rt; tables.word(7, 16), None);
-    Ok(())
-}
 
 /// Commands to node 1, and the replies to them.
 const ANSWERS: [(&[u8], &[u8]); 6] = [

@@ -76,6 +76,11 @@ fn a_script_is_played_and_reported(rt: HostRuntime) -> Result<(), Fail> {
         ),
         // Nothing happens.
         played("end\n", "deceived 0\n"),
+        // Words of files of every type.
+        played(
+            "file b 2 84 1\nfile b 3 85 1\nfile b 4 86 2\nfile b 5 87 1\nfile b 8 8A 2\nfile b 6 88 1\nfile b 7 89 1\nfile a 8 8A 1\nword b 7 0 abcd\nword b 2 0 0001\nword b 3 0 8000\nword b 4 5 00FF\nword b 4 0 E000\nword b 5 2 0102\nword b 8 3 3F80\nword b 6 1 1000\nword a 8 1 4048\nend\n",
+            "a word 8 1 4048\nb word 2 0 0001\nb word 3 0 8000\nb word 4 0 E000\nb word 4 5 00FF\nb word 5 2 0102\nb word 8 3 3F80\nb word 6 1 1000\nb word 7 0 ABCD\ndeceived 0\n",
+        ),
         // An ordinary exchange.
         played(
             "file b 7 89 16\nai 0FAA02078900003412\nak 99\nad 99\nbk 99\nbd 99\nak 99\nad 99\nend\n",

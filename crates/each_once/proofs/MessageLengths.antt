@@ -8,8 +8,8 @@ use Rattle.std.proofs.lemmas.List.{length-drop, map-append}
 use Rattle.std.proofs.lemmas.Option.{same_Some}
 use Rattle.df1_base.specs.declared.code.Code.{Code}
 use Rattle.df1_base.specs.declared.code.Code.TheVariants.{Done, Sts, Ext}
-use Rattle.df1_node.specs.declared.file_spec.FileSpec.{FileSpec}
-use Rattle.df1_node.specs.Tables.{DataTables, file_of, has_word}
+use Rattle.data_files.specs.declared.file_spec.FileSpec.{FileSpec}
+use Rattle.data_files.specs.Tables.{DataTables, file_of, has_word}
 use Rattle.df1_node.specs.Answer.{StationState, Order, Effect, not_integer, is_write, order_of, refused, written, effect_of, extension_of, after_answer, reply_to}
 use Rattle.df1_node.specs.Initiator.{Issued, InitiatorState, is_waiting, is_out, next_issued, next_command, after_issue}
 use Rattle.df1_node.specs.Node.{NodeState, next_body}

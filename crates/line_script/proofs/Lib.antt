@@ -1,5 +1,6 @@
 pub mod Cuts
 pub mod EndStanding
+pub mod Numbered
 pub mod Ranges
 pub mod Reading
 pub mod Seen

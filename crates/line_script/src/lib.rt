@@ -6,6 +6,7 @@ mod apply;
 mod cause;
 mod causes;
 mod end_draft;
+mod given_files;
 mod given_words;
 mod laws;
 mod read;

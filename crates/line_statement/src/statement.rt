@@ -8,9 +8,9 @@ use crate::event_line::{bare_event, operand_event};
 use crate::set_line::{Setting, set_line};
 use crate::words::{is, number_of, register_of, within};
 use crate::{Bytes, Who};
+use data_files::FileSpec;
 use df1_base::{FileType, NoMemory};
 use df1_check::Check;
-use df1_node::FileSpec;
 use std::alloc::Global;
 
 /// The most events that one line, and a whole script, may count.
@@ -241,12 +241,24 @@ fn file_number(number: u32) -> Option<u16>
     Some(number as u16)
 }
 
-/// The type that a word names.
+/// The type that a word names, letter for letter.
 fn file_type(word: &[u8]) -> Option<FileType>
     ensures { result ≡ the_type word.now }
 {
-    if is(word, "89") {
+    if is(word, "84") {
+        Some(FileType::Status)
+    } else if is(word, "85") {
+        Some(FileType::Bit)
+    } else if is(word, "86") {
+        Some(FileType::Timer)
+    } else if is(word, "87") {
+        Some(FileType::Counter)
+    } else if is(word, "88") {
+        Some(FileType::Control)
+    } else if is(word, "89") {
         Some(FileType::Integer)
+    } else if is(word, "8A") {
+        Some(FileType::Float)
     } else {
         None
     }
