@@ -1,8 +1,7 @@
 -- A body that is accepted has 6 to N bytes, and there is room for it.
-use Rattle.std.proofs.Common.{◌≡◌, ℕ, ◌+◌, ◌≤◌, Bool, true, false, List, [], ◌∷◌, ◌++◌, length, nat_lt, Option, Some, None, ap, sym, subst, ◌∙◌, refl, arith}
+use Rattle.std.proofs.Common.{◌≡◌, ℕ, ◌+◌, ◌≤◌, Bool, true, false, List, [], ◌∷◌, ◌++◌, length, nat_lt, Option, Some, None, sym, subst, refl, arith}
 use Rattle.std.proofs.lemmas.Bool.Decides.{nat_tests}
 use Rattle.std.specs.Prelude.{IsTrue, ◌||◌, ◌==◌, if◌then◌else◌}
-use Rattle.df1_base.specs.declared.link.Act.{Act}
 use Rattle.df1_base.specs.declared.link.Act.TheVariants as act
 use Rattle.df1_check.specs.declared.Check.{Check}
 use Rattle.df1_check.specs.Checks.{Taken}
@@ -15,7 +14,7 @@ use Rattle.df1_frame.specs.Gathered.{Gathered}
 use Rattle.df1_frame.specs.Standing.{Standing, Outside, Ended, AfterDle, Inside, InsideDle, AtCheck, Decoding, decoding, standing, ended, ended_by, lent_at}
 use Rattle.df1_frame.specs.Step.{step, outside_next, left_by, response_next}
 use Rattle.pccc_envelope.specs.declared.key.Key.{Key}
-use Rattle.pccc_envelope.specs.Accepted.{Verdict, Repeated, Accepted, Refused, judged, is_kept}
+use Rattle.pccc_envelope.specs.Accepted.{Repeated, Accepted, Refused, is_kept}
 use Rattle.pccc_envelope.specs.Envelope.{key_of}
 use Rattle.duplex_receiver.specs.Receiver.{Hearing, ReceiverState, verdict_act, act_of, body_at, hearing, act_at, after_byte}
 
