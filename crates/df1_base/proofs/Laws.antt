@@ -1,45 +1,40 @@
 -- Calls one after another.
-use Rattle.std.proofs.Common.{◌≡◌, List, [], ◌++◌, ℕ, Bool, false, Option, None, Some, refl, subst, ap, sym, ◌∙◌, arith, append_assoc, append-nil, take, drop, length, ◌-◌, ◌+◌, ◌≤◌, map, take-append-drop}
+use Rattle.std.proofs.Common.{◌≡◌, List, [], ◌++◌, ℕ, Bool, false, Option, refl, subst, ap, sym, ◌∙◌, arith, append_assoc, append-nil, take, drop, length, ◌-◌, ◌+◌, ◌≤◌, map, take-append-drop}
 use Rattle.std.proofs.lemmas.List.{map-append, take_rest, take_at, drop-drop, length-take-le}
 use Rattle.std.specs.Prelude.{◌==◌}
 use Rattle.std.specs.List.{list_any}
-use Rattle.std.specs.Io.KnownBytes.{prepend_known, append_known}
+use Rattle.std.specs.Io.KnownBytes.{Keeps}
+use Rattle.std.proofs.KnownBytes.{Consumes-nil, Consumes-trans, Consumes-kept, Appends-nil, Appends-trans, Appends-kept}
 use Rattle.df1_base.specs.Outside.{Took, Put, Wrote, WrotePart}
-
-pub prepend_known-nil : (known : Option (List ℕ)) → prepend_known [] known ≡ known
-prepend_known-nil None = refl
-prepend_known-nil (Some xs) = refl
-
-pub append_known-nil : (known : Option (List ℕ)) → append_known known [] ≡ known
-append_known-nil None = refl
-append_known-nil (Some xs) = ap Some (append-nil xs)
-
-pub prepend_known-append : (xs ys : List ℕ) (known : Option (List ℕ)) → prepend_known (xs ++ ys) known ≡ prepend_known xs (prepend_known ys known)
-prepend_known-append xs ys None = refl
-prepend_known-append xs ys (Some zs) = ap Some (append_assoc xs ys zs)
-
-pub append_known-append : (known : Option (List ℕ)) (xs ys : List ℕ) → append_known known (xs ++ ys) ≡ append_known (append_known known xs) ys
-append_known-append None xs ys = refl
-append_known-append (Some zs) xs ys = ap Some (sym (append_assoc zs xs ys))
 
 -- one read after another
 pub took_more : (a b c : Option (List ℕ)) (xs ys : List ℕ) → Took a b xs → Took b c ys → Took a c (xs ++ ys)
-took_more a b c xs ys first second = first ∙ ap (prepend_known xs) second ∙ sym (prepend_known-append xs ys c)
+took_more a b c xs ys first second = Consumes-trans a b c xs ys first second
 
 -- nothing is written yet
 pub wrote_none : (a : Option (List ℕ)) (text : List ℕ) → Wrote a a text text
-wrote_none a text = record { part = []; text_is = refl; put = sym (append_known-nil a) }
+wrote_none a text = record { part = []; text_is = refl; put = Appends-nil a }
+
+-- a call that fails writes nothing more, and takes nothing more
+pub wrote_kept : (a b c : Option (List ℕ)) (text rest : List ℕ) → Wrote a b text rest → Keeps b c → Wrote a c text rest
+wrote_kept a b c text rest w kept = record { part = w.part; text_is = w.text_is; put = Appends-kept a b c w.part w.put kept }
+
+pub took_kept : (a b c : Option (List ℕ)) (xs : List ℕ) → Took a b xs → Keeps b c → Took a c xs
+took_kept a b c xs took kept = Consumes-kept a b c xs took kept
+
+pub took_none : (a : Option (List ℕ)) → Took a a []
+took_none a = Consumes-nil a
 
 -- all is written
 pub wrote_all : (a b : Option (List ℕ)) (text : List ℕ) → Wrote a b text [] → Put a b text
-wrote_all a b text w = w.put ∙ ap (append_known a) (sym (w.text_is ∙ append-nil w.part))
+wrote_all a b text w = subst (λ (part : List ℕ). Put a b part) (sym (w.text_is ∙ append-nil w.part)) w.put
 
 -- one write after another
 pub wrote_more : (a b c : Option (List ℕ)) (text rest : List ℕ) (n : ℕ) → Wrote a b text rest → Put b c (take n rest) → Wrote a c text (drop n rest)
 wrote_more a b c text rest n w put = record {
   part = w.part ++ take n rest;
   text_is = grind (arith, append_assoc, take-append-drop n rest);
-  put = put ∙ ap (λ k. append_known k (take n rest)) w.put ∙ sym (append_known-append a w.part (take n rest));
+  put = Appends-trans a b c w.part (take n rest) w.put put;
 }
 
 -- the same, as a loop over `&rest[n..]` says it
@@ -51,7 +46,7 @@ pub put_wrote : (a b c : Option (List ℕ)) (text more rest : List ℕ) → Put 
 put_wrote a b c text more rest put w = record {
   part = text ++ w.part;
   text_is = ap (λ k. text ++ k) w.text_is ∙ sym (append_assoc text w.part rest);
-  put = w.put ∙ ap (λ k. append_known k w.part) put ∙ sym (append_known-append a text w.part);
+  put = Appends-trans a b c text w.part put w.put;
 }
 
 -- what is put is written
@@ -82,7 +77,7 @@ pub wrote_on : (a b c : Option (List ℕ)) (text rest more rest' : List ℕ) →
 wrote_on a b c text rest more rest' w v = record {
   part = w.part ++ v.part;
   text_is = ap (λ k. k ++ more) w.text_is ∙ append_assoc w.part rest more ∙ ap (λ k. w.part ++ k) v.text_is ∙ sym (append_assoc w.part v.part rest');
-  put = v.put ∙ ap (λ k. append_known k v.part) w.put ∙ sym (append_known-append a w.part v.part);
+  put = Appends-trans a b c w.part v.part w.put v.put;
 }
 
 pub part_on : (a b c : Option (List ℕ)) (text rest more : List ℕ) → Wrote a b text rest → WrotePart b c (rest ++ more) → WrotePart a c (text ++ more)
@@ -90,7 +85,7 @@ part_on a b c text rest more w (left, v) = (left, wrote_on a b c text rest more 
 
 -- what was left of the text goes on
 pub put_rest : (a b c : Option (List ℕ)) (text rest : List ℕ) → Wrote a b text rest → Put b c rest → Put a c text
-put_rest a b c text rest w put = put ∙ ap (λ k. append_known k rest) w.put ∙ sym (append_known-append a w.part rest) ∙ ap (append_known a) (sym w.text_is)
+put_rest a b c text rest w put = subst (λ (all : List ℕ). Put a c all) (sym w.text_is) (Appends-trans a b c w.part rest w.put put)
 
 pub part_rest : (a b c : Option (List ℕ)) (text rest : List ℕ) → Wrote a b text rest → WrotePart b c rest → WrotePart a c text
 part_rest a b c text rest w (left, v) = (
@@ -98,7 +93,7 @@ part_rest a b c text rest w (left, v) = (
   record {
     part = w.part ++ v.part;
     text_is = w.text_is ∙ ap (λ k. w.part ++ k) v.text_is ∙ sym (append_assoc w.part v.part left);
-    put = v.put ∙ ap (λ k. append_known k v.part) w.put ∙ sym (append_known-append a w.part v.part);
+    put = Appends-trans a b c w.part v.part w.put v.put;
   },
 )
 

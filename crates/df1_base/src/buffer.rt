@@ -31,10 +31,12 @@ impl Buffer {
         }
     }
 
-    /// Sends a piece by way of the buffer.
+    /// Sends a piece by way of the buffer. Where the sink fails, what waits is given up, and it holds a first part.
     pub fn put<K: Sink>(&mut self, sink: &mut K, piece: &[u8]) -> Result<(), Failed>
         ensures ok { OnOk result (Wrote (K.held sink.old) (K.held sink.new) (self.old ++ piece.now) self.new) }
         ensures part { WrotePart (K.held sink.old) (K.held sink.new) (self.old ++ piece.now) }
+        ensures given_up { OnErr result (self.new ≡ []) }
+        ensures calm { OnOk result (K.faults sink.new ≡ K.faults sink.old) }
         ensures later { K.faults sink.old ≤ K.faults sink.new }
         ensures cause { OnErr result (Rose (K.faults sink.old) (K.faults sink.new)) }
     {
@@ -48,11 +50,12 @@ impl Buffer {
         write_all(sink, piece)
     }
 
-    /// Sends what waits.
+    /// Sends what waits. Nothing waits then, also where the sink fails and holds a first part.
     pub fn flush<K: Sink>(&mut self, sink: &mut K) -> Result<(), Failed>
         ensures ok { OnOk result (Put (K.held sink.old) (K.held sink.new) self.old) }
         ensures part { WrotePart (K.held sink.old) (K.held sink.new) self.old }
         ensures empty { self.new ≡ [] }
+        ensures calm { OnOk result (K.faults sink.new ≡ K.faults sink.old) }
         ensures later { K.faults sink.old ≤ K.faults sink.new }
         ensures cause { OnErr result (Rose (K.faults sink.old) (K.faults sink.new)) }
     {

@@ -1,6 +1,7 @@
 //! A source in memory, which fails at the calls that it is told to fail at.
-ghost use Rattle.std.specs.Prelude.{◌≡◌, ◌<◌, ◌≤◌, ◌↔◌, List, [], Some, ℕ, Result, min, max, length, take, drop, IsTrue, IsErr, IfOk, OnErr};
-ghost use Rattle.df1_base.specs.Outside.{Rose, Took, IsAtEnd};
+ghost use Rattle.std.specs.Prelude.{◌≡◌, ◌<◌, ◌≤◌, ◌↔◌, List, [], Some, ℕ, Result, min, max, length, take, drop, IsTrue, IsErr, IfOk, OnOk, OnErr};
+ghost use Rattle.std.specs.Io.KnownBytes.{Keeps, IsAtEnd};
+ghost use Rattle.df1_base.specs.Outside.{Rose, Took};
 ghost use Rattle.df1_base.specs.InMemory.{fails_next, given, after_read};
 
 use crate::{Failed, NoMemory, Source};
@@ -65,7 +66,8 @@ impl Source for BytesIn {
         ensures bound { IfOk result (λ count. count ≤ length into.new) }
         ensures took { IfOk result (λ count. Took (Some self.old.left) (Some self.new.left) (take count into.new)) }
         ensures end { IfOk result (λ count. count ≡ 0 → 0 < length into.new → IsAtEnd (Some self.new.left)) }
-        ensures failed { OnErr result (self.new.left ≡ self.old.left) }
+        ensures failed { OnErr result (Keeps (Some self.old.left) (Some self.new.left)) }
+        ensures calm { OnOk result (self.new.faults ≡ self.old.faults) }
         ensures later { self.old.faults ≤ self.new.faults }
         ensures cause { OnErr result (Rose self.old.faults self.new.faults) }
     {

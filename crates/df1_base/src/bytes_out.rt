@@ -1,5 +1,6 @@
 //! A sink in memory, which fails where it is full and at the calls that it is told to fail at.
-ghost use Rattle.std.specs.Prelude.{◌≡◌, ◌<◌, ◌≤◌, ◌↔◌, List, [], Some, ℕ, Result, min, max, length, take, IsTrue, IsErr, IfOk, OnErr, nat_lt, ◌==◌, ◌&&◌};
+ghost use Rattle.std.specs.Prelude.{◌≡◌, ◌<◌, ◌≤◌, ◌↔◌, List, [], Some, ℕ, Result, min, max, length, take, IsTrue, IsErr, IfOk, OnOk, OnErr, nat_lt, ◌==◌, ◌&&◌};
+ghost use Rattle.std.specs.Io.KnownBytes.{Keeps};
 ghost use Rattle.df1_base.specs.Outside.{Rose, Put};
 ghost use Rattle.df1_base.specs.InMemory.{refuses_next, taken, after_write};
 
@@ -65,7 +66,8 @@ impl Sink for BytesOut {
         ensures bound { IfOk result (λ count. count ≤ length from.now) }
         ensures some { IfOk result (λ count. 0 < length from.now → 0 < count) }
         ensures put { IfOk result (λ count. Put (Some self.old.held) (Some self.new.held) (take count from.now)) }
-        ensures failed { OnErr result (self.new.held ≡ self.old.held) }
+        ensures failed { OnErr result (Keeps (Some self.old.held) (Some self.new.held)) }
+        ensures calm { OnOk result (self.new.faults ≡ self.old.faults) }
         ensures later { self.old.faults ≤ self.new.faults }
         ensures cause { OnErr result (Rose self.old.faults self.new.faults) }
     {

@@ -1,6 +1,7 @@
 //! The outside as every layer sees it: where bytes come from and where they go, each with a count of its faults.
-ghost use Rattle.std.specs.Prelude.{◌≡◌, ◌<◌, ◌≤◌, List, ℕ, Option, length, take, IfOk, OnErr};
-ghost use Rattle.df1_base.specs.Outside.{Rose, Took, Put, IsAtEnd};
+ghost use Rattle.std.specs.Prelude.{◌≡◌, ◌<◌, ◌≤◌, List, ℕ, Option, length, take, IfOk, OnOk, OnErr};
+ghost use Rattle.std.specs.Io.KnownBytes.{Keeps, IsAtEnd};
+ghost use Rattle.df1_base.specs.Outside.{Rose, Took, Put};
 
 use std::alloc::{AllocError, AllocFailed};
 use thiserror::Error;
@@ -36,12 +37,14 @@ pub trait Source {
     ghost faults: { Self → ℕ };
 
     /// Moves the next bytes to the front of `into`, and answers how many: 0 for an `into` that isn't empty only at the
-    /// end of the input. `Failed` comes only where the count of faults rose, and then nothing was taken.
+    /// end of the input. `Failed` comes only where the count of faults rose, and then nothing was taken. Else the count
+    /// stands still.
     fn read(&mut self, into: &mut [u8]) -> Result<usize, Failed>
         ensures bound { IfOk result (λ count. count ≤ length into.new) }
         ensures took { IfOk result (λ count. Took (left self.old) (left self.new) (take count into.new)) }
         ensures end { IfOk result (λ count. count ≡ 0 → 0 < length into.new → IsAtEnd (left self.new)) }
-        ensures failed { OnErr result (left self.new ≡ left self.old) }
+        ensures failed { OnErr result (Keeps (left self.old) (left self.new)) }
+        ensures calm { OnOk result (faults self.new ≡ faults self.old) }
         ensures later { faults self.old ≤ faults self.new }
         ensures cause { OnErr result (Rose (faults self.old) (faults self.new)) };
 }
@@ -55,12 +58,13 @@ pub trait Sink {
     ghost faults: { Self → ℕ };
 
     /// Takes bytes from the front of `from`, at least one where there is one, and answers how many. `Failed` comes only
-    /// where the count of faults rose, and then nothing was taken.
+    /// where the count of faults rose, and then nothing was taken. Else the count stands still.
     fn write(&mut self, from: &[u8]) -> Result<usize, Failed>
         ensures bound { IfOk result (λ count. count ≤ length from.now) }
         ensures some { IfOk result (λ count. 0 < length from.now → 0 < count) }
         ensures put { IfOk result (λ count. Put (held self.old) (held self.new) (take count from.now)) }
-        ensures failed { OnErr result (held self.new ≡ held self.old) }
+        ensures failed { OnErr result (Keeps (held self.old) (held self.new)) }
+        ensures calm { OnOk result (faults self.new ≡ faults self.old) }
         ensures later { faults self.old ≤ faults self.new }
         ensures cause { OnErr result (Rose (faults self.old) (faults self.new)) };
 }

@@ -1,7 +1,10 @@
 //! The calls of each source and sink, one by one.
 ghost use Rattle.std.specs.Prelude.{◌≤◌, IfOk};
 
-use crate::{Buffer, BytesIn, BytesOut, Failed, ReadFault, Sink, Source, StdIn, StdOut, read_all};
+use crate::{
+    Buffer, BytesIn, BytesOut, Failed, ReadFault, Sink, Source, StdIn, StdOut, read_all, write_all,
+};
+use std::alloc::Global;
 use std::io::{self, ErrorKind, Read, Write};
 use std::test::Fail;
 
@@ -33,22 +36,55 @@ fn a_sink_in_memory_fails_where_it_is_full_and_as_told(rt: HostRuntime) -> Resul
     Ok(())
 }
 
+/// How a reading of `abcde` by pieces of two bytes is to end, and what it has taken.
+#[derive(Drop)]
+struct Reading {
+    limit: usize,
+    fail: &'static [u64],
+    ended: Result<(), ReadFault>,
+    taken: &'static [u8],
+}
+
 #[test]
-fn an_input_is_read_to_its_end_or_to_its_limit(rt: HostRuntime) -> Result<(), Fail> {
-    let mut source = BytesIn::new(rt.alloc(), b"abcde", 2, &[])?;
-    assert_eq!(rt;
-        read_all(rt.alloc(), &mut source, 5)?.as_slice(),
-        b"abcde".as_slice()
-    );
-    let mut source = BytesIn::new(rt.alloc(), b"abcde", 2, &[])?;
-    assert!(rt;
-        matches!(
-            read_all(rt.alloc(), &mut source, 4),
-            Err(ReadFault::TooLong)
-        )
-    );
-    let mut source = BytesIn::new(rt.alloc(), b"abcde", 2, &[3])?;
-    assert!(rt; matches!(read_all(rt.alloc(), &mut source, 5), Err(ReadFault::Failed)));
+fn an_input_is_read_to_its_end_or_its_limit_or_a_fault(rt: HostRuntime) -> Result<(), Fail> {
+    let cases = [
+        Reading {
+            limit: 5,
+            fail: &[],
+            ended: Ok(()),
+            taken: b"abcde",
+        },
+        Reading {
+            limit: 4,
+            fail: &[],
+            ended: Err(ReadFault::TooLong),
+            taken: b"abcde",
+        },
+        Reading {
+            limit: 2,
+            fail: &[],
+            ended: Err(ReadFault::TooLong),
+            taken: b"abcd",
+        },
+        Reading {
+            limit: 5,
+            fail: &[3],
+            ended: Err(ReadFault::Failed),
+            taken: b"abcd",
+        },
+        Reading {
+            limit: 5,
+            fail: &[4],
+            ended: Err(ReadFault::Failed),
+            taken: b"abcde",
+        },
+    ];
+    for case in &cases {
+        let mut source = BytesIn::new(rt.alloc(), b"abcde", 2, case.fail)?;
+        let mut bytes = Vec::new(rt.alloc());
+        assert_eq!(rt; read_all(&mut source, &mut bytes, case.limit), case.ended);
+        assert_eq!(rt; bytes.as_slice(), case.taken);
+    }
     Ok(())
 }
 
@@ -66,27 +102,79 @@ fn small_pieces_make_few_calls(rt: HostRuntime) -> Result<(), Fail> {
 }
 
 #[test]
-fn a_reader_in_memory_gives_all_its_bytes_and_then_none(rt: HostRuntime) -> Result<(), Fail> {
-    let mut bytes = Vec::new(rt.alloc());
+fn what_waits_is_given_up_where_the_sink_fails(rt: HostRuntime) -> Result<(), Fail> {
+    // The first call fails: the text that waited and the piece that came are gone, and a later one is sent alone.
+    let mut sink = BytesOut::new(rt.alloc(), 2000, 2000, &[1])?;
+    let mut buffer = Buffer::new();
+    assert_eq!(rt; buffer.put(&mut sink, &[1; 512]), Ok(()));
+    assert_eq!(rt; buffer.put(&mut sink, &[2; 512]), Err(Failed));
+    assert_eq!(rt; buffer.put(&mut sink, b"end"), Ok(()));
+    assert_eq!(rt; buffer.flush(&mut sink), Ok(()));
+    assert_eq!(rt; sink.held(), b"end".as_slice());
+    Ok(())
+}
+
+/// The numbers 0 to 4,999, each less a multiple of 251.
+fn five_thousand(alloc: Global) -> Result<Vec<u8>, Fail> {
+    let mut bytes = Vec::new(alloc);
     for i in 0..5000u32 {
         bytes.push((i % 251) as u8)?;
     }
+    Ok(bytes)
+}
+
+#[test]
+fn a_reader_in_memory_gives_all_its_bytes_and_then_none(rt: HostRuntime) -> Result<(), Fail> {
+    let bytes = five_thousand(rt.alloc())?;
     let mut source = StdIn::new(bytes.as_slice());
-    let read = read_all(rt.alloc(), &mut source, 5000)?;
+    let mut read = Vec::new(rt.alloc());
+    assert_eq!(rt; read_all(&mut source, &mut read, 5000), Ok(()));
     assert!(rt; read.as_slice() == bytes.as_slice());
     let mut into = [0; 4];
     assert_eq!(rt; source.read(&mut into), Ok(0));
+    assert_eq!(rt; source.faults, 0);
     Ok(())
 }
 
 #[test]
 fn a_writer_in_memory_holds_all_that_was_written(rt: HostRuntime) -> Result<(), Fail> {
+    let bytes = five_thousand(rt.alloc())?;
     let mut written = Vec::new(rt.alloc());
     {
         let mut sink = StdOut::new(&mut written);
-        assert_eq!(rt; sink.write(b"deceived 0\n"), Ok(11));
+        assert_eq!(rt; sink.write(&bytes), Ok(5000));
+        assert_eq!(rt; sink.faults, 0);
     }
-    assert_eq!(rt; written.as_slice(), b"deceived 0\n".as_slice());
+    assert!(rt; written.as_slice() == bytes.as_slice());
+    Ok(())
+}
+
+/// A writer that takes at most two bytes at a call.
+#[derive(Drop)]
+struct Narrow {
+    taken: Vec<u8>,
+}
+
+impl Write for Narrow {
+    fn write(&mut self, from: &[u8]) -> io::Result<usize> {
+        let count = from.len().min(2);
+        self.taken.extend_from_slice(&from[..count])?;
+        Ok(count)
+    }
+
+    fn flush(&mut self) -> io::Result<()> {
+        Ok(())
+    }
+}
+
+#[test]
+fn short_writes_go_on_where_they_ended(rt: HostRuntime) -> Result<(), Fail> {
+    let taken = Vec::new(rt.alloc());
+    let mut sink = StdOut::new(Narrow { taken });
+    assert_eq!(rt; sink.write(b"abcde"), Ok(2));
+    assert_eq!(rt; write_all(&mut sink, b"cde"), Ok(()));
+    assert_eq!(rt; sink.writer.taken.as_slice(), b"abcde".as_slice());
+    assert_eq!(rt; sink.faults, 0);
     Ok(())
 }
 
@@ -129,12 +217,16 @@ impl Write for Moody {
 fn a_stream_of_std_is_asked_once_at_a_call(rt: HostRuntime) -> Result<(), Fail> {
     let mut input = StdIn::new(Moody { calls: 0 });
     let mut into = [0; 4];
-    assert_eq!(rt; input.read(&mut into), Ok(1));
-    assert_eq!(rt; input.read(&mut into), Err(Failed));
-    assert_eq!(rt; input.read(&mut into), Ok(0));
+    let reads = [(Ok(1), 0), (Err(Failed), 1), (Ok(0), 1), (Ok(1), 1)];
+    for (answer, faults) in reads {
+        assert_eq!(rt; input.read(&mut into), answer);
+        assert_eq!(rt; input.faults, faults);
+    }
     let mut out = StdOut::new(Moody { calls: 0 });
-    assert_eq!(rt; out.write(b"ab"), Ok(1));
-    assert_eq!(rt; out.write(b"ab"), Err(Failed));
-    assert_eq!(rt; out.write(b"ab"), Err(Failed));
+    let writes = [(Ok(1), 0), (Err(Failed), 1), (Err(Failed), 2), (Ok(1), 2)];
+    for (answer, faults) in writes {
+        assert_eq!(rt; out.write(b"ab"), answer);
+        assert_eq!(rt; out.faults, faults);
+    }
     Ok(())
 }

@@ -1,16 +1,27 @@
 //! Calls that go on until all is read or written.
-ghost use Rattle.std.specs.Prelude.{◌≡◌, ◌<◌, ◌≤◌, List, ℕ, length, IfOk, OnOk, OnErr, IsErrOf};
-ghost use Rattle.df1_base.specs.Outside.{Rose, Took, Put, IsAtEnd, WrotePart};
+ghost use Rattle.std.specs.Prelude.{◌≡◌, ◌⊎◌, ◌+◌, ◌<◌, ◌≤◌, List, ℕ, [], ◌++◌, length, OnOk, OnErr, IsErrOf};
+ghost use Rattle.std.specs.Io.KnownBytes.{IsAtEnd};
+ghost use Rattle.df1_base.specs.Outside.{Rose, Took, Put, WrotePart};
 ghost use Rattle.df1_base.specs.declared.whole.ReadFault.TheVariants.{NoMemory};
 
 use crate::{Failed, Sink, Source};
-use std::alloc::{AllocError, Global};
+use std::alloc::AllocError;
+use thiserror::Error;
 
-/// Why an input was not read.
-#[derive(Clone, Copy, Debug, PartialEq, Eq)]
+/// How many bytes one read asks for.
+const PIECE: usize = 4096;
+
+/// Why an input was not read to its end.
+#[derive(Clone, Copy, Debug, PartialEq, Eq, Error)]
 pub enum ReadFault {
+    /// The input failed, and its count of faults rose.
+    #[error("the input failed")]
     Failed,
+    /// The input has more bytes than were asked for.
+    #[error("the input is too long")]
     TooLong,
+    /// There is no memory left.
+    #[error("no memory")]
     NoMemory,
 }
 
@@ -22,34 +33,42 @@ impl From<AllocError> for ReadFault {
     }
 }
 
-/// Reads to the end, where that comes within `limit` bytes.
-pub fn read_all<S: Source>(alloc: Global, input: &mut S, limit: usize) -> Result<Vec<u8>, ReadFault>
-    ensures took { IfOk result (λ bytes. Took (S.left input.old) (S.left input.new) bytes.items) }
-    ensures end { OnOk result (IsAtEnd (S.left input.new)) }
-    ensures within { IfOk result (λ bytes. length bytes.items ≤ limit) }
+/// Reads into `bytes`, which is empty, to the end of the input or until more than `limit` bytes are read, at most 4,096
+/// of them at a call. What was taken stands in `bytes`, but for a last piece where there is no memory for it.
+pub fn read_all<S: Source>(
+    input: &mut S,
+    bytes: &mut Vec<u8>,
+    limit: usize,
+) -> Result<(), ReadFault>
+    requires { bytes.old.items ≡ [] }
+    ensures ok { OnOk result (Took (S.left input.old) (S.left input.new) bytes.new.items × IsAtEnd (S.left input.new) × (length bytes.new.items ≤ limit)) }
+    ensures failed { IsErrOf result ReadFault.Failed →
+        Took (S.left input.old) (S.left input.new) bytes.new.items × Rose (S.faults input.old) (S.faults input.new) }
     ensures too_long { IsErrOf result ReadFault.TooLong →
-        (bytes : List ℕ) × (limit < length bytes) × Took (S.left input.old) (S.left input.new) bytes }
-    ensures later { S.faults input.old ≤ S.faults input.new }
-    ensures failed { IsErrOf result ReadFault.Failed → Rose (S.faults input.old) (S.faults input.new) }
+        Took (S.left input.old) (S.left input.new) bytes.new.items × (limit < length bytes.new.items) }
+    ensures no_memory { IsErrOf result ReadFault.NoMemory →
+        (last : List ℕ) × Took (S.left input.old) (S.left input.new) (bytes.new.items ++ last) × (length last ≤ 4096) }
+    ensures few { length bytes.new.items ≤ limit + 4096 }
+    ensures calm { IsErrOf result ReadFault.Failed ⊎ (S.faults input.new ≡ S.faults input.old) }
 {
-    let mut bytes = Vec::new(alloc);
-    let mut piece = [0; 4096];
+    let mut piece = [0; PIECE];
     while bytes.len() <= limit {
         let Ok(count) = input.read(&mut piece) else {
             return Err(ReadFault::Failed);
         };
         if count == 0 {
-            return Ok(bytes);
+            return Ok(());
         }
         bytes.extend_from_slice(&piece[..count])?;
     }
     Err(ReadFault::TooLong)
 }
 
-/// Writes all the bytes.
+/// Writes all the bytes. Where the sink fails, it holds a first part of them.
 pub fn write_all<K: Sink>(sink: &mut K, bytes: &[u8]) -> Result<(), Failed>
     ensures ok { OnOk result (Put (K.held sink.old) (K.held sink.new) bytes.now) }
     ensures part { WrotePart (K.held sink.old) (K.held sink.new) bytes.now }
+    ensures calm { OnOk result (K.faults sink.new ≡ K.faults sink.old) }
     ensures later { K.faults sink.old ≤ K.faults sink.new }
     ensures cause { OnErr result (Rose (K.faults sink.old) (K.faults sink.new)) }
 {

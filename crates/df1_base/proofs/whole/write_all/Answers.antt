@@ -1,9 +1,9 @@
-use Rattle.std.proofs.Common.{arith}
+use Rattle.std.proofs.Common.{◌∙◌}
 use Rattle.df1_base.proofs.Laws.{wrote_rest}
 use Rattle.df1_base.proofs.whole.write_all.Goals as goal
 
 pub loop-rest-preserved : goal.loop-rest-preserved
 loop-rest-preserved g c = record {
   wrote = wrote_rest _ _ _ _ _ c.in_ok-count.count c.loop-rest.invariant.wrote c.in_ok-count.ensures.put;
-  later = omega (arith, c.write.ensures.later);
+  calm = c.in_ok-count.ensures.calm ∙ c.loop-rest.invariant.calm;
 }
