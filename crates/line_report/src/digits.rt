@@ -13,6 +13,8 @@ pub(crate) fn put_hex<K: Sink>(
 ) -> Result<(), Failed>
     ensures ok { OnOk result (Wrote (K.held sink.old) (K.held sink.new) (buffer.old ++ encode_upper bytes.now) buffer.new) }
     ensures part { WrotePart (K.held sink.old) (K.held sink.new) (buffer.old ++ encode_upper bytes.now) }
+    ensures given_up { OnErr result (buffer.new ≡ []) }
+    ensures calm { OnOk result (K.faults sink.new ≡ K.faults sink.old) }
     ensures later { K.faults sink.old ≤ K.faults sink.new }
     ensures cause { OnErr result (Rose (K.faults sink.old) (K.faults sink.new)) }
 {

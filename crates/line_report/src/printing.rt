@@ -14,7 +14,7 @@
 //! | `deceived N` | the last line |
 //!
 //! WHO is `a`, `b`, `m` or the station's decimal number. Hexadecimal digits are upper case.
-ghost use Rattle.std.specs.Prelude.{◌≡◌, ◌≤◌, ◌++◌, codes, OnOk, OnErr};
+ghost use Rattle.std.specs.Prelude.{◌≡◌, ◌≤◌, [], ◌++◌, codes, OnOk, OnErr};
 ghost use Rattle.std.specs.List.{flat_map};
 ghost use Rattle.df1_base.specs.Outside.{Rose, Put, Wrote, WrotePart};
 ghost use Rattle.hex.specs.Hex.{encode_upper};
@@ -31,6 +31,7 @@ use line_script::WordOf;
 pub fn print<K: Sink>(record_of: &Record, sink: &mut K) -> Result<(), Failed>
     ensures ok { OnOk result (Put (K.held sink.old) (K.held sink.new) (report record_of.now)) }
     ensures part { WrotePart (K.held sink.old) (K.held sink.new) (report record_of.now) }
+    ensures calm { OnOk result (K.faults sink.new ≡ K.faults sink.old) }
     ensures later { K.faults sink.old ≤ K.faults sink.new }
     ensures cause { OnErr result (Rose (K.faults sink.old) (K.faults sink.new)) }
 {
@@ -43,6 +44,7 @@ pub fn print<K: Sink>(record_of: &Record, sink: &mut K) -> Result<(), Failed>
 fn put_report<K: Sink>(buffer: &mut Buffer, sink: &mut K, record_of: &Record) -> Result<(), Failed>
     ensures ok { OnOk result (Wrote (K.held sink.old) (K.held sink.new) (buffer.old ++ report record_of.now) buffer.new) }
     ensures part { WrotePart (K.held sink.old) (K.held sink.new) (buffer.old ++ report record_of.now) }
+    ensures calm { OnOk result (K.faults sink.new ≡ K.faults sink.old) }
     ensures later { K.faults sink.old ≤ K.faults sink.new }
     ensures cause { OnErr result (Rose (K.faults sink.old) (K.faults sink.new)) }
 {
@@ -55,6 +57,7 @@ fn put_report<K: Sink>(buffer: &mut Buffer, sink: &mut K, record_of: &Record) ->
 fn put_lines<K: Sink>(buffer: &mut Buffer, sink: &mut K, lines: &[Line]) -> Result<(), Failed>
     ensures ok { OnOk result (Wrote (K.held sink.old) (K.held sink.new) (buffer.old ++ flat_map line_text lines.now) buffer.new) }
     ensures part { WrotePart (K.held sink.old) (K.held sink.new) (buffer.old ++ flat_map line_text lines.now) }
+    ensures calm { OnOk result (K.faults sink.new ≡ K.faults sink.old) }
     ensures later { K.faults sink.old ≤ K.faults sink.new }
     ensures cause { OnErr result (Rose (K.faults sink.old) (K.faults sink.new)) }
 {
@@ -65,10 +68,13 @@ fn put_lines<K: Sink>(buffer: &mut Buffer, sink: &mut K, lines: &[Line]) -> Resu
 }
 
 /// Sends one line of a report by way of the caller's buffer, which may keep the end of it until it is flushed.
-/// `Failed` comes where the sink failed; then it holds a first part of what waited and of the line.
+/// `Failed` comes where the sink failed; then it holds a first part of what waited and of the line, and the rest is
+/// given up.
 pub fn put_line<K: Sink>(buffer: &mut Buffer, sink: &mut K, line: &Line) -> Result<(), Failed>
     ensures ok { OnOk result (Wrote (K.held sink.old) (K.held sink.new) (buffer.old ++ line_text line.now) buffer.new) }
     ensures part { WrotePart (K.held sink.old) (K.held sink.new) (buffer.old ++ line_text line.now) }
+    ensures given_up { OnErr result (buffer.new ≡ []) }
+    ensures calm { OnOk result (K.faults sink.new ≡ K.faults sink.old) }
     ensures later { K.faults sink.old ≤ K.faults sink.new }
     ensures cause { OnErr result (Rose (K.faults sink.old) (K.faults sink.new)) }
 {
@@ -109,6 +115,8 @@ fn put_bytes<K: Sink>(
 ) -> Result<(), Failed>
     ensures ok { OnOk result (Wrote (K.held sink.old) (K.held sink.new) (buffer.old ++ (head.now ++ encode_upper bytes.now ++ codes "\n")) buffer.new) }
     ensures part { WrotePart (K.held sink.old) (K.held sink.new) (buffer.old ++ (head.now ++ encode_upper bytes.now ++ codes "\n")) }
+    ensures given_up { OnErr result (buffer.new ≡ []) }
+    ensures calm { OnOk result (K.faults sink.new ≡ K.faults sink.old) }
     ensures later { K.faults sink.old ≤ K.faults sink.new }
     ensures cause { OnErr result (Rose (K.faults sink.old) (K.faults sink.new)) }
 {
@@ -121,6 +129,7 @@ fn put_bytes<K: Sink>(
 fn put_words<K: Sink>(buffer: &mut Buffer, sink: &mut K, words: &[WordOf]) -> Result<(), Failed>
     ensures ok { OnOk result (Wrote (K.held sink.old) (K.held sink.new) (buffer.old ++ flat_map word_text words.now) buffer.new) }
     ensures part { WrotePart (K.held sink.old) (K.held sink.new) (buffer.old ++ flat_map word_text words.now) }
+    ensures calm { OnOk result (K.faults sink.new ≡ K.faults sink.old) }
     ensures later { K.faults sink.old ≤ K.faults sink.new }
     ensures cause { OnErr result (Rose (K.faults sink.old) (K.faults sink.new)) }
 {
@@ -134,6 +143,7 @@ fn put_words<K: Sink>(buffer: &mut Buffer, sink: &mut K, words: &[WordOf]) -> Re
 fn put_word<K: Sink>(buffer: &mut Buffer, sink: &mut K, word: WordOf) -> Result<(), Failed>
     ensures ok { OnOk result (Wrote (K.held sink.old) (K.held sink.new) (buffer.old ++ word_text word) buffer.new) }
     ensures part { WrotePart (K.held sink.old) (K.held sink.new) (buffer.old ++ word_text word) }
+    ensures calm { OnOk result (K.faults sink.new ≡ K.faults sink.old) }
     ensures later { K.faults sink.old ≤ K.faults sink.new }
     ensures cause { OnErr result (Rose (K.faults sink.old) (K.faults sink.new)) }
 {
@@ -144,6 +154,7 @@ fn put_word<K: Sink>(buffer: &mut Buffer, sink: &mut K, word: WordOf) -> Result<
 fn put_deceived<K: Sink>(buffer: &mut Buffer, sink: &mut K, count: u64) -> Result<(), Failed>
     ensures ok { OnOk result (Wrote (K.held sink.old) (K.held sink.new) (buffer.old ++ deceived_text count) buffer.new) }
     ensures part { WrotePart (K.held sink.old) (K.held sink.new) (buffer.old ++ deceived_text count) }
+    ensures calm { OnOk result (K.faults sink.new ≡ K.faults sink.old) }
     ensures later { K.faults sink.old ≤ K.faults sink.new }
     ensures cause { OnErr result (Rose (K.faults sink.old) (K.faults sink.new)) }
 {

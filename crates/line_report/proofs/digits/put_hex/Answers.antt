@@ -1,4 +1,4 @@
-use Rattle.std.proofs.Common.{arith}
+use Rattle.std.proofs.Common.{◌∙◌}
 use Rattle.line_report.proofs.Pairs.{pair_of, by_bytes}
 use Rattle.line_report.proofs.Writing.{wrote_item, part_item, part_of_items, wrote_items}
 use Rattle.line_report.proofs.digits.put_hex.Goals as goal
@@ -6,7 +6,7 @@ use Rattle.line_report.proofs.digits.put_hex.Goals as goal
 pub loop-byte-preserved : goal.loop-byte-preserved
 loop-byte-preserved g c = record {
   wrote = wrote_item pair_of _ _ _ c.args.buffer.now c.loop-byte.buffer _ c.args.bytes.now c.loop-byte.byte-index 0 c.loop-byte-test.true c.loop-byte.invariant.wrote (rw c.pair.ensures at c.in_ok-put.ensures.ok);
-  later = omega (arith, c.put.ensures.later);
+  calm = c.in_ok-put.ensures.calm ∙ c.loop-byte.invariant.calm;
 }
 
 pub returns-in_err-put-clause-part : goal.returns-in_err-put-clause-part
