@@ -1,3 +1,4 @@
 pub mod Host
 pub mod InMemory
 pub mod Outside
+pub mod Reading

@@ -24,4 +24,4 @@ pub use host::{Did, Fate, Host, News};
 pub use link::{Act, Out, Resp, Step, Turn};
 pub use outside::{Failed, NoMemory, Sink, Source};
 pub use standard::{StdIn, StdOut};
-pub use whole::{ReadFault, read_all, write_all};
+pub use whole::{Reached, ReadFault, read_all, write_all};

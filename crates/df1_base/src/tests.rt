@@ -2,7 +2,8 @@
 ghost use Rattle.std.specs.Prelude.{◌≤◌, IfOk};
 
 use crate::{
-    Buffer, BytesIn, BytesOut, Failed, ReadFault, Sink, Source, StdIn, StdOut, read_all, write_all,
+    Buffer, BytesIn, BytesOut, Failed, Reached, ReadFault, Sink, Source, StdIn, StdOut, read_all,
+    write_all,
 };
 use std::alloc::Global;
 use std::io::{self, ErrorKind, Read, Write};
@@ -41,7 +42,7 @@ fn a_sink_in_memory_fails_where_it_is_full_and_as_told(rt: HostRuntime) -> Resul
 struct Reading {
     limit: usize,
     fail: &'static [u64],
-    ended: Result<(), ReadFault>,
+    ended: Result<Reached, ReadFault>,
     taken: &'static [u8],
 }
 
@@ -51,19 +52,19 @@ fn an_input_is_read_to_its_end_or_its_limit_or_a_fault(rt: HostRuntime) -> Resul
         Reading {
             limit: 5,
             fail: &[],
-            ended: Ok(()),
+            ended: Ok(Reached::End),
             taken: b"abcde",
         },
         Reading {
             limit: 4,
             fail: &[],
-            ended: Err(ReadFault::TooLong),
+            ended: Ok(Reached::Limit),
             taken: b"abcde",
         },
         Reading {
             limit: 2,
             fail: &[],
-            ended: Err(ReadFault::TooLong),
+            ended: Ok(Reached::Limit),
             taken: b"abcd",
         },
         Reading {
@@ -128,7 +129,7 @@ fn a_reader_in_memory_gives_all_its_bytes_and_then_none(rt: HostRuntime) -> Resu
     let bytes = five_thousand(rt.alloc())?;
     let mut source = StdIn::new(bytes.as_slice());
     let mut read = Vec::new(rt.alloc());
-    assert_eq!(rt; read_all(&mut source, &mut read, 5000), Ok(()));
+    assert_eq!(rt; read_all(&mut source, &mut read, 5000), Ok(Reached::End));
     assert!(rt; read.as_slice() == bytes.as_slice());
     let mut into = [0; 4];
     assert_eq!(rt; source.read(&mut into), Ok(0));

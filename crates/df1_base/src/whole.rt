@@ -1,7 +1,7 @@
 //! Calls that go on until all is read or written.
-ghost use Rattle.std.specs.Prelude.{◌≡◌, ◌⊎◌, ◌+◌, ◌<◌, ◌≤◌, List, ℕ, [], ◌++◌, length, OnOk, OnErr, IsErrOf};
-ghost use Rattle.std.specs.Io.KnownBytes.{IsAtEnd};
+ghost use Rattle.std.specs.Prelude.{◌≡◌, ◌⊎◌, ◌+◌, ◌<◌, ◌≤◌, List, ℕ, [], ◌++◌, length, IfOk, OnOk, OnErr, IsErrOf};
 ghost use Rattle.df1_base.specs.Outside.{Rose, Took, Put, WrotePart};
+ghost use Rattle.df1_base.specs.Reading.{Stopped};
 ghost use Rattle.df1_base.specs.declared.whole.ReadFault.TheVariants.{NoMemory};
 
 use crate::{Failed, Sink, Source};
@@ -11,15 +11,21 @@ use thiserror::Error;
 /// How many bytes one read asks for.
 const PIECE: usize = 4096;
 
-/// Why an input was not read to its end.
+/// Where a reading stopped.
+#[derive(Clone, Copy, Debug, PartialEq, Eq)]
+pub enum Reached {
+    /// At the end of the input.
+    End,
+    /// Beyond its limit.
+    Limit,
+}
+
+/// Why an input was not read.
 #[derive(Clone, Copy, Debug, PartialEq, Eq, Error)]
 pub enum ReadFault {
     /// The input failed, and its count of faults rose.
     #[error("the input failed")]
     Failed,
-    /// The input has more bytes than were asked for.
-    #[error("the input is too long")]
-    TooLong,
     /// There is no memory left.
     #[error("no memory")]
     NoMemory,
@@ -34,20 +40,20 @@ impl From<AllocError> for ReadFault {
 }
 
 /// Reads into `bytes`, which is empty, to the end of the input or until more than `limit` bytes are read, at most 4,096
-/// of them at a call. What was taken stands in `bytes`, but for a last piece where there is no memory for it.
+/// of them at a call. What was taken stands in `bytes`, but for a last piece where there is no memory for it. Nothing is
+/// read after a fault.
 pub fn read_all<S: Source>(
     input: &mut S,
     bytes: &mut Vec<u8>,
     limit: usize,
-) -> Result<(), ReadFault>
+) -> Result<Reached, ReadFault>
     requires { bytes.old.items ≡ [] }
-    ensures ok { OnOk result (Took (S.left input.old) (S.left input.new) bytes.new.items × IsAtEnd (S.left input.new) × (length bytes.new.items ≤ limit)) }
+    ensures took { OnOk result (Took (S.left input.old) (S.left input.new) bytes.new.items) }
+    ensures stopped { IfOk result (λ reached. Stopped reached (S.left input.new) bytes.new.items limit) }
     ensures failed { IsErrOf result ReadFault.Failed →
         Took (S.left input.old) (S.left input.new) bytes.new.items × Rose (S.faults input.old) (S.faults input.new) }
-    ensures too_long { IsErrOf result ReadFault.TooLong →
-        Took (S.left input.old) (S.left input.new) bytes.new.items × (limit < length bytes.new.items) }
     ensures no_memory { IsErrOf result ReadFault.NoMemory →
-        (last : List ℕ) × Took (S.left input.old) (S.left input.new) (bytes.new.items ++ last) × (length last ≤ 4096) }
+        (last : List ℕ) × Took (S.left input.old) (S.left input.new) (bytes.new.items ++ last) × (length (bytes.new.items ++ last) ≤ limit + 4096) }
     ensures few { length bytes.new.items ≤ limit + 4096 }
     ensures calm { IsErrOf result ReadFault.Failed ⊎ (S.faults input.new ≡ S.faults input.old) }
 {
@@ -57,11 +63,11 @@ pub fn read_all<S: Source>(
             return Err(ReadFault::Failed);
         };
         if count == 0 {
-            return Ok(());
+            return Ok(Reached::End);
         }
         bytes.extend_from_slice(&piece[..count])?;
     }
-    Err(ReadFault::TooLong)
+    Ok(Reached::Limit)
 }
 
 /// Writes all the bytes. Where the sink fails, it holds a first part of them.
