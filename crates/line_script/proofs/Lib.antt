@@ -5,3 +5,4 @@ pub mod Reading
 pub mod Seen
 pub mod Standing
 pub mod LongTexts
+pub mod Unfinished

@@ -5,3 +5,4 @@ pub mod Playable
 pub mod Plans
 pub mod Refusal
 pub mod ScriptText
+pub mod Unfinished
