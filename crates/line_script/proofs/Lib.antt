@@ -7,3 +7,4 @@ pub mod Seen
 pub mod Standing
 pub mod LongTexts
 pub mod Counts
+pub mod Unfinished

@@ -6,3 +6,4 @@ pub mod Plans
 pub mod Refusal
 pub mod ScriptText
 pub mod Left
+pub mod Unfinished

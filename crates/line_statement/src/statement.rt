@@ -1,6 +1,6 @@
 //! What one line of a script says, by the table of the forms. A value, number or length that is out of its range
 //! leaves its field None: such a line still is one of the forms.
-ghost use Rattle.std.specs.Prelude.{◌≡◌, map, IfOk, Some};
+ghost use Rattle.std.specs.Prelude.{◌≡◌, map, IfOk, OnErr, length, Some};
 ghost use Rattle.line_statement.specs.Words.{within as the_bounded};
 ghost use Rattle.line_statement.specs.Statements.{end_of as the_end, other_end, who_of, statement_of as the_statement, one_word as the_one, three_words as the_three, file_line as the_file, word_line as the_word, five_words as the_five, file_spec as the_spec, file_type as the_type};
 
@@ -122,10 +122,11 @@ pub enum Statement {
     End,
 }
 
-/// What the words of a line say, if they are one of the forms.
+/// What the words of a line say, if they are one of the forms. Lines of two words alone take memory.
 #[tactic(auto, unfolding(crate::specs::Statements::statement_of))]
 pub fn statement_of(alloc: Global, words: &[&[u8]]) -> Result<Option<Statement>, NoMemory>
-    ensures { IfOk result (λ s. s ≡ the_statement (map (λ x. x.now) words.now)) }
+    ensures value { IfOk result (λ s. s ≡ the_statement (map (λ x. x.now) words.now)) }
+    ensures memory { OnErr result (length words.now ≡ 2) }
 {
     match words {
         [word] => Ok(one_word(word)),
