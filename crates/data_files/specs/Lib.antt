@@ -1,3 +1,5 @@
 pub mod Directory
+pub mod Effect
+pub mod Place
 pub mod Tables
 pub mod Words

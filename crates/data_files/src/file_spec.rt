@@ -25,7 +25,7 @@ impl FileSpec {
 }
 
 /// How many words an element of this type has.
-fn words_of(kind: FileType) -> u32
+pub(crate) fn words_of(kind: FileType) -> u32
     ensures { result ≡ words_per_element kind }
 {
     match kind {

@@ -6,10 +6,12 @@ mod faults;
 mod file_spec;
 pub mod laws;
 mod make_fault;
+mod place;
 mod tables;
 #[cfg(test)]
 mod tests;
 
 pub use file_spec::FileSpec;
 pub use make_fault::MakeFault;
+pub use place::{Place, locate, type_byte};
 pub use tables::Tables;

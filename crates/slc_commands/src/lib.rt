@@ -1,0 +1,24 @@
+//! The logical commands of an SLC: reads and writes of the words of a data file, by file, type, element and sub-element
+//! (manual topics: commands, status codes).
+//!
+//! | FNC | Command | What follows |
+//! |---|---|---|
+//! | A1 | read with two fields | size, address |
+//! | A2 | read with three fields | size, address |
+//! | A9 | write with two fields | size, address, data |
+//! | AA | write with three fields | size, address, data |
+//! | AB | masked write with three fields | size, address, mask of 2 bytes low first, data |
+//!
+//! A field that is cut off, bytes after a read, or a write whose data isn't size bytes is refused with STS 10; then a
+//! size of 0 or an odd one with F0/01; a size over 244 with F0/09; then comes what the place of the words refuses.
+#![tactic(auto)]
+
+mod execute;
+pub mod laws;
+mod order;
+#[cfg(test)]
+mod tests;
+mod words;
+
+pub use execute::do_slc;
+pub use order::{SlcFnc, SlcOrder, read_slc};

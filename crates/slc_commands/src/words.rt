@@ -1,0 +1,40 @@
+//! Words in data, each low byte first.
+ghost use Rattle.std.specs.Prelude.{◌≡◌, ◌+◌, ◌*◌, ◌≤◌, ◌++◌, length};
+ghost use Rattle.slc_commands.specs.Words.{bytes_of, masked, masked_word, words_of};
+ghost use Rattle.arrayvec.specs.ArrayVec.{array_vec_len};
+
+use arrayvec::ArrayVec;
+
+/// The words that a write makes of `old`, whose new bits are in `bytes`.
+pub(crate) fn masked_words(mask: u16, old: &[u16], bytes: &[u8]) -> ArrayVec<u16, 122>
+    requires room { length old.now ≤ 122 }
+    requires data { length bytes.now ≡ 2 * length old.now }
+    ensures words { result.items ≡ masked mask old.now (words_of bytes.now) }
+    ensures count { length result.items ≡ length old.now }
+{
+    let mut words = ArrayVec::new();
+    for (place, word) in old.iter().enumerate() {
+        let new = u16::from_le_bytes([bytes[2 * place], bytes[2 * place + 1]]);
+        words.push(masked_word(mask, *word, new));
+    }
+    words
+}
+
+/// Where a bit of the mask is set the bit of `new`, else the bit of `old`.
+fn masked_word(mask: u16, old: u16, new: u16) -> u16
+    ensures { result ≡ masked_word mask old new }
+{
+    (old & !mask) | (new & mask)
+}
+
+/// Writes the bytes of words at the end of `out`.
+pub(crate) fn push_words(words: &[u16], out: &mut ArrayVec<u8, 244>)
+    requires { array_vec_len out.old + 2 * length words.now ≤ 244 }
+    ensures { out.new.items ≡ out.old.items ++ bytes_of words.now }
+{
+    for word in words {
+        let [low, high] = word.to_le_bytes();
+        out.push(low);
+        out.push(high);
+    }
+}
