@@ -3,14 +3,9 @@ use Rattle.std.specs.Prelude.{◌≡◌, ◌≢◌, ℕ, ◌*◌, ◌≤◌, Boo
 use Rattle.logical_address.specs.declared.levels.Levels.{Levels}
 use Rattle.logical_address.specs.declared.param.Param.{Param}
 use Rattle.plc_commands.specs.declared.order.Set.{Set}
+use Rattle.plc_commands.specs.declared.order.Window.{Window}
 use Rattle.plc_commands.specs.declared.order.PlcOrder.{PlcOrder}
 use Rattle.plc_commands.specs.declared.order.PlcOrder.TheVariants as plc
-
--- a part of a range: where the range begins, how much of it stands before the part, and how much it is in all
-pub record Window : Type 0 where
-  pub offset : ℕ
-  pub total : ℕ
-  pub at : Levels
 
 -- an order without where its bytes lie in memory
 pub data Order : Type 0 where

@@ -5,18 +5,10 @@ ghost use Rattle.std.specs.Prelude.{◌≡◌, ◌≤◌, length, Ok};
 ghost use Rattle.std.specs.Result.{result_map_both};
 ghost use Rattle.plc_commands.specs.Fields as field;
 
+use crate::codes::{ILLEGAL, TOO_FEW_LEVELS, TOO_MANY_LEVELS};
 use crate::{Set, Sets};
 use df1_base::Code;
 use logical_address::{LevelFault, Levels, Param, read_levels, read_param};
-
-/// What an order is refused with that isn't spelled as its command asks.
-pub(crate) const ILLEGAL: Code = Code::Sts(0x10);
-
-/// The address has too few levels.
-const TOO_FEW_LEVELS: Code = Code::Ext(0x02);
-
-/// The address has too many levels.
-const TOO_MANY_LEVELS: Code = Code::Ext(0x03);
 
 /// The kind of an array.
 const ARRAY: u16 = 9;

@@ -16,11 +16,19 @@
 //! ones.
 #![tactic(auto)]
 
+mod change;
+mod codes;
+mod execute;
 mod fields;
 mod order;
+mod range;
 mod read;
 mod sets;
+mod span;
+mod typed;
+mod unprotected;
 
+pub use execute::do_plc;
 pub use order::{PlcOrder, Set};
 pub use read::read_plc;
 pub use sets::Sets;

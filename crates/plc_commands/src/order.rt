@@ -97,3 +97,14 @@ pub enum PlcOrder<'a> {
         count: u16,
     },
 }
+
+/// A part of a range of words or elements.
+#[derive(Clone, Copy)]
+pub(crate) struct Window {
+    /// How much of the range stands before the part.
+    pub offset: u16,
+    /// How much the range has.
+    pub total: u16,
+    /// Where the range begins.
+    pub at: Levels,
+}

@@ -5,9 +5,8 @@ ghost use Rattle.plc_commands.specs.Order.{IsOrder, seen};
 ghost use Rattle.plc_commands.specs.Reading.{order_of};
 
 use crate::PlcOrder;
-use crate::fields::{
-    ILLEGAL, all, last_byte, last_word, levels, nothing, parameter, sets, word, words,
-};
+use crate::codes::ILLEGAL;
+use crate::fields::{all, last_byte, last_word, levels, nothing, parameter, sets, word, words};
 use df1_base::Code;
 
 /// Layouts of commands, one a row: what a command begins with, its order, its fields in their order, and its last field,
