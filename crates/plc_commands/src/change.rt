@@ -1,7 +1,6 @@
 //! Read-modify-writes: sets of bits of words, which are changed one after the other, all of them or none.
-ghost use Rattle.std.specs.Prelude.{◌≡◌, [], None};
-ghost use Rattle.df1_base.specs.declared.code.Code.TheVariants.{Done};
-ghost use Rattle.data_files.specs.Effect.{refusal};
+ghost use Rattle.std.specs.Prelude.{◌≡◌, [], None, IsTrue};
+ghost use Rattle.data_files.specs.Effect.{is_refusal, refusal};
 ghost use Rattle.plc_commands.specs.Order.{Change};
 ghost use Rattle.plc_commands.specs.Tests.{change_tests, set_place, set_tests};
 ghost use Rattle.plc_commands.specs.Meaning.{changed_word, meaning, with_set};
@@ -15,6 +14,8 @@ use df1_base::Code;
 pub(crate) fn change(tables: &mut Tables, sets: &[Set]) -> Code
     ensures code { result ≡ (meaning tables.old None [] (Change sets.now)).code }
     ensures tables { tables.new ≡ (meaning tables.old None [] (Change sets.now)).tables }
+    ensures refused { IsTrue (is_refusal result) → tables.new ≡ tables.old }
+    ensures files { tables.new.specs ≡ tables.old.specs }
 {
     if let Some(code) = first_refusal(tables, sets) {
         return code;

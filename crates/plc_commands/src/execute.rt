@@ -41,6 +41,8 @@ pub fn do_plc(
     ensures code { result ≡ (meaning tables.old compat status.now (seen order.now)).code }
     ensures tables { tables.new ≡ (meaning tables.old compat status.now (seen order.now)).tables }
     ensures reply { out.new.items ≡ (meaning tables.old compat status.now (seen order.now)).reply }
+    ensures refused { IsTrue (is_refusal result) → (tables.new ≡ tables.old) × (out.new.items ≡ []) }
+    ensures files { tables.new.specs ≡ tables.old.specs }
 {
     out.clear();
     match *order {
@@ -110,6 +112,7 @@ fn read_elements(tables: &Tables, window: &Window, count: u16, out: &mut ArrayVe
     requires { out.old.items ≡ [] }
     ensures code { result ≡ (read_after tables.now (array_param tables.now.specs window.now.at count) (checked (typed_read_tests tables.now.specs window.now count) (element_span tables.now.specs window.now count))).code }
     ensures reply { out.new.items ≡ (read_after tables.now (array_param tables.now.specs window.now.at count) (checked (typed_read_tests tables.now.specs window.now count) (element_span tables.now.specs window.now count))).reply }
+    ensures refused { IsTrue (is_refusal result) → out.new.items ≡ [] }
 {
     match typed::read_span(tables, window, count) {
         Ok((array, span)) => {

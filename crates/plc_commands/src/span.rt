@@ -1,6 +1,7 @@
 //! Words of a file that an order reads or writes.
-ghost use Rattle.std.specs.Prelude.{◌≡◌, ◌+◌, ◌*◌, ◌/◌, ◌≤◌, ◌++◌, [], length, true, IfOk};
+ghost use Rattle.std.specs.Prelude.{◌≡◌, ◌+◌, ◌*◌, ◌/◌, ◌≤◌, ◌++◌, [], length, true, IfOk, IsTrue};
 ghost use Rattle.arrayvec.specs.ArrayVec.{array_vec_len};
+ghost use Rattle.data_files.specs.Effect.{is_refusal};
 ghost use Rattle.data_files.specs.Tables.{has_words, words_at};
 ghost use Rattle.plc_commands.specs.Meaning.{read_after, written};
 
@@ -33,6 +34,7 @@ pub(crate) fn read_words(
     requires none { out.old.items ≡ [] }
     ensures code { result ≡ (read_after tables.now [] span).code }
     ensures reply { out.new.items ≡ (read_after tables.now [] span).reply }
+    ensures refused { IsTrue (is_refusal result) → out.new.items ≡ [] }
 {
     match span {
         Ok(span) => {
@@ -59,6 +61,8 @@ pub(crate) fn write_words(tables: &mut Tables, span: Result<Span, Code>, bytes: 
     requires size { length bytes.now ≤ 244 }
     ensures code { result ≡ (written tables.old bytes.now span).code }
     ensures tables { tables.new ≡ (written tables.old bytes.now span).tables }
+    ensures refused { IsTrue (is_refusal result) → tables.new ≡ tables.old }
+    ensures files { tables.new.specs ≡ tables.old.specs }
 {
     match span {
         Ok(span) => {
