@@ -3,4 +3,5 @@ pub mod Held
 pub mod Made
 pub mod NoFault
 pub mod Placed
+pub mod WordLists
 pub mod Words

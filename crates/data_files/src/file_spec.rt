@@ -22,6 +22,13 @@ impl FileSpec {
     {
         self.count as u32 * words_of(self.kind)
     }
+
+    /// How many words an element of the file has.
+    pub fn width(&self) -> u32
+        ensures { result ≡ words_per_element self.now.kind }
+    {
+        words_of(self.kind)
+    }
 }
 
 /// How many words an element of this type has.

@@ -10,8 +10,10 @@ mod place;
 mod tables;
 #[cfg(test)]
 mod tests;
+mod word_bytes;
 
 pub use file_spec::FileSpec;
 pub use make_fault::MakeFault;
 pub use place::{Place, locate, type_byte};
 pub use tables::Tables;
+pub use word_bytes::{push_words, words_of};

@@ -1,0 +1,110 @@
+//! Orders of the commands.
+use crate::Sets;
+use logical_address::{Levels, Param};
+
+/// One change of a read-modify-write: the word becomes its old value AND one mask, OR the other.
+#[derive(Clone, Copy, Debug, PartialEq, Eq)]
+pub struct Set {
+    /// Where the word is.
+    pub at: Levels,
+    /// The mask of the bits that stay.
+    pub and: u16,
+    /// The mask of the bits that are set.
+    pub or: u16,
+}
+
+impl Default for Set {
+    fn default() -> Set {
+        let at = Levels {
+            area: 0,
+            file: 0,
+            element: 0,
+            sub: 0,
+        };
+        Set { at, and: 0, or: 0 }
+    }
+}
+
+/// An order of one of the commands.
+#[derive(Debug, Drop)]
+pub enum PlcOrder<'a> {
+    /// Gives these bytes back.
+    Echo(&'a [u8]),
+    /// Reads the station's status.
+    Status,
+    /// Reads bytes of the compatibility file.
+    Peek {
+        /// The first byte; word w is bytes 2w and 2w + 1.
+        address: u16,
+        /// How many bytes.
+        size: u8,
+    },
+    /// Writes words of the compatibility file.
+    Poke {
+        /// The first byte.
+        address: u16,
+        /// The words, each low byte first.
+        bytes: &'a [u8],
+    },
+    /// Writes a part of a range of words.
+    RangeWrite {
+        /// How many words of the range stand before the part.
+        offset: u16,
+        /// How many words the range has.
+        total: u16,
+        /// Where the range begins.
+        at: Levels,
+        /// The words, each low byte first.
+        bytes: &'a [u8],
+    },
+    /// Reads a part of a range of words.
+    RangeRead {
+        /// How many words of the range stand before the part.
+        offset: u16,
+        /// How many words the range has.
+        total: u16,
+        /// Where the range begins.
+        at: Levels,
+        /// How many bytes are read.
+        size: u8,
+    },
+    /// Changes bits of words, one after the other, all of them or none.
+    Change(Sets),
+    /// Writes a part of a range of elements.
+    TypedWrite {
+        /// How many elements of the range stand before the part.
+        offset: u16,
+        /// How many elements the range has.
+        total: u16,
+        /// Where the range begins.
+        at: Levels,
+        /// The parameter of an element.
+        element: Param,
+        /// Whether the data is an array of elements.
+        array: bool,
+        /// The words of the elements, each low byte first.
+        bytes: &'a [u8],
+    },
+    /// Reads a part of a range of elements.
+    TypedRead {
+        /// How many elements of the range stand before the part.
+        offset: u16,
+        /// How many elements the range has.
+        total: u16,
+        /// Where the range begins.
+        at: Levels,
+        /// How many elements are read.
+        count: u16,
+    },
+}
+
+/// A part of a range of words or elements.
+#[derive(Clone, Copy)]
+pub(crate) struct Window {
+    /// How much of the range stands before the part.
+    pub offset: u16,
+    /// How much the range has.
+    pub total: u16,
+    /// Where the range begins.
+    pub at: Levels,
+}

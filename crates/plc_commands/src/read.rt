@@ -1,0 +1,59 @@
+//! How orders are read.
+ghost use Rattle.std.specs.Prelude.{◌≡◌, ◌≤◌, length, IfOk};
+ghost use Rattle.std.specs.Result.{result_map_both};
+ghost use Rattle.plc_commands.specs.Order.{IsOrder, seen};
+ghost use Rattle.plc_commands.specs.Reading.{order_of};
+
+use crate::PlcOrder;
+use crate::codes::ILLEGAL;
+use crate::fields::{all, last_byte, last_word, levels, nothing, parameter, sets, word, words};
+use df1_base::Code;
+
+/// Layouts of commands, one a row: what a command begins with, its order, its fields in their order, and its last field,
+/// which is all that is left.
+macro_rules! layouts {
+    (
+        $command:expr, $left:ident;
+        $($begins:pat => $order:expr, [$($field:pat = $front:ident),*] $last:pat = $whole:ident;)*
+    ) => {
+        match $command {
+            $($begins => {
+                $(let ($field, $left) = $front($left)?;)*
+                let $last = $whole($left)?;
+                Ok($order)
+            })*
+            _ => Err(ILLEGAL),
+        }
+    };
+}
+
+/// Reads the order of a command, whose payload is what follows TNS and has at most 244 bytes (manual topic: commands).
+///
+/// The first field that can't be read refuses the order, an address with too few levels with F0/02, one with too many
+/// with F0/03, and all else with STS 10, another CMD or FNC or a missing FNC among it.
+#[tactic(auto, unfolding(crate::specs::Reading::unprotected_read, crate::specs::Reading::unprotected_write, crate::specs::Reading::range_write, crate::specs::Reading::range_read, crate::specs::Reading::change, crate::specs::Reading::typed_write, crate::specs::Reading::typed_read))]
+pub fn read_plc(cmd: u8, payload: &[u8]) -> Result<PlcOrder<'_>, Code>
+    requires { length payload.now ≤ 244 }
+    ensures reads { result_map_both seen (λ code. code) result ≡ order_of cmd payload.now }
+    ensures order { IfOk result (λ order. IsOrder (seen order)) }
+{
+    use PlcOrder::{
+        Change, Echo, Peek, Poke, RangeRead, RangeWrite, Status, TypedRead, TypedWrite,
+    };
+    layouts! {
+        (cmd, payload), left;
+        (0x06, [0x00, left @ ..]) => Echo(bytes), [] bytes = all;
+        (0x06, [0x03, left @ ..]) => Status, [] () = nothing;
+        (0x01, left) => Peek { address, size }, [address = word] size = last_byte;
+        (0x08, left) => Poke { address, bytes }, [address = word] bytes = words;
+        (0x0F, [0x00, left @ ..]) => RangeWrite { offset, total, at, bytes },
+            [offset = word, total = word, at = levels] bytes = words;
+        (0x0F, [0x01, left @ ..]) => RangeRead { offset, total, at, size },
+            [offset = word, total = word, at = levels] size = last_byte;
+        (0x0F, [0x26, left @ ..]) => Change(changes), [] changes = sets;
+        (0x0F, [0x67, left @ ..]) => TypedWrite { offset, total, at, element, array, bytes },
+            [offset = word, total = word, at = levels, (element, array) = parameter] bytes = all;
+        (0x0F, [0x68, left @ ..]) => TypedRead { offset, total, at, count },
+            [offset = word, total = word, at = levels] count = last_word;
+    }
+}
