@@ -71,9 +71,9 @@ impl GivenFiles {
         self.files.push(spec)?;
         match self.numbers.insert(spec.number, first) {
             Ok(_) => Ok(()),
-            Err(_) => {
+            Err(refused) => {
                 self.files.pop();
-                Err(NoMemory)
+                Err(refused.into())
             }
         }
     }
