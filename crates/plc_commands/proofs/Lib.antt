@@ -1,3 +1,4 @@
 pub mod Changes
 pub mod Orders
+pub mod Replies
 pub mod SetLists

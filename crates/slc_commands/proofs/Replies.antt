@@ -10,8 +10,8 @@ use Rattle.data_files.specs.Place.{place_tests}
 use Rattle.data_files.specs.Tables.{DataTables, file_of}
 use Rattle.slc_commands.specs.Meaning.{place_of, tests, words_before, effect_of, meaning}
 use Rattle.slc_commands.specs.Order.{Order, writes}
-use Rattle.slc_commands.specs.Words.{bytes_of}
-use Rattle.slc_commands.proofs.WordLists.{length-bytes_of}
+use Rattle.data_files.specs.WordBytes.{bytes_of}
+use Rattle.data_files.proofs.WordLists.{length-bytes_of}
 
 -- where no test refuses, the second held
 second : (a b : Bool) (x y : Code) (rest : List Test) → refusal ((a, x) ∷ (b, y) ∷ rest) ≡ None → b ≡ true

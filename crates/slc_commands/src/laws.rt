@@ -3,7 +3,8 @@ ghost use Rattle.std.specs.Prelude.{◌≡◌, ◌<◌, ◌^◌, ◌∷◌, [], 
 ghost use Rattle.df1_base.specs.declared.code.Code.TheVariants.{Sts};
 ghost use Rattle.slc_commands.specs.declared.order.SlcFnc.TheVariants.{Masked};
 ghost use Rattle.slc_commands.specs.Order.{IsOrder, Order, SpellsOrder, order_of};
-ghost use Rattle.slc_commands.specs.Words.{bytes_of, masked, masked_word, words_of};
+ghost use Rattle.data_files.specs.WordBytes.{bytes_of, words_of};
+ghost use Rattle.slc_commands.specs.Words.{masked, masked_word};
 
 /// A payload spells one order at most.
 pub fn one_order()

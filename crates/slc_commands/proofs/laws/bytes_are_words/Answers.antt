@@ -1,4 +1,4 @@
-use Rattle.slc_commands.proofs.WordLists.{words_of-bytes_of}
+use Rattle.data_files.proofs.WordLists.{words_of-bytes_of}
 use Rattle.slc_commands.proofs.laws.bytes_are_words.Goals as goal
 
 pub returns : goal.returns
