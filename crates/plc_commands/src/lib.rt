@@ -25,6 +25,8 @@ mod range;
 mod read;
 mod sets;
 mod span;
+#[cfg(test)]
+mod tests;
 mod typed;
 mod unprotected;
 
