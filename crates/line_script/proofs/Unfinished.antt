@@ -82,8 +82,8 @@ stays_from (x ∷ text) more front d events number start k c settled other is =
     let cut = split-first (λ byte. eqb byte 10) text in
     let cut' = split-first (λ byte. eqb byte 10) (text ++ more) in
     elim (eqb x 10) as (λ b. ((unfinished_after (cond b 0 (length front + 1)) text ≡ 0) ⊎ (1024 < unfinished_after (cond b 0 (length front + 1)) text))
-        → read_on d events number start (onto_all front (cond b ([] ∷ parts text) (onto_first x (parts text)))) ≡ Err (k, c)
-        → read_on d events number start (onto_all front (cond b ([] ∷ parts (text ++ more)) (onto_first x (parts (text ++ more))))) ≡ Err (k, c)) [
+    → read_on d events number start (onto_all front (cond b ([] ∷ parts text) (onto_first x (parts text)))) ≡ Err (k, c)
+    → read_on d events number start (onto_all front (cond b ([] ∷ parts (text ++ more)) (onto_first x (parts (text ++ more))))) ≡ Err (k, c)) [
       | true ↦ λ settled' is'.
           rw (append-nil front, cut'.2)
           (after_both number k c (with_event events (after_line d (text_line start front true)))
