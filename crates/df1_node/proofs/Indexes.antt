@@ -6,7 +6,7 @@ use Rattle.std.proofs.lemmas.List.{map_push}
 use Rattle.std.proofs.lemmas.List.Elements.{All-append, All-set}
 use Rattle.std.proofs.lemmas.Bool.Decides.{nat_tests}
 use Rattle.std.proofs.lemmas.Bool.{eqb-true}
-use Rattle.df1_node.specs.declared.command.Command.{Command}
+use Rattle.df1_node.specs.declared.issued.Command.{Command}
 use Rattle.df1_node.specs.Initiator.{InitiatorState, command, Standing, Waiting, Out, Answered, Undelivered, Unanswered, Issued, is_waiting, is_out, restated, after_hand_out, after_reply, after_give_up, next_place, next_command, is_reply_to, answered_place, is_out_at, ticked, is_last_tick, unanswered_from, all_ticked, cleared, all_cleared}
 use Rattle.df1_node.specs.Commands.{Indexed, is_place, AreCommands, issued_of, all_issued}
 use Rattle.df1_base.specs.Host.{IsBody}
@@ -371,8 +371,8 @@ are-set xs n m out later p r k s are e within is indexed =
       few = subst (λ l. l ≤ 65535) (sym (length-set xs p k)) are.few;
     }
 
-pub body_at : (xs : List Command) (n : ℕ) (out : Option ℕ) (p : ℕ) (r : Command) → AreCommands xs n out → r ≡ get_or xs p r → p < length xs → IsBody r.body.items
-body_at xs n out p r are e within = subst (λ c. IsBody c.body.items) (sym e) (are.bodies p r within)
+pub issued_body : (xs : List Command) (n : ℕ) (out : Option ℕ) (p : ℕ) (r : Command) → AreCommands xs n out → r ≡ get_or xs p r → p < length xs → IsBody r.body.items
+issued_body xs n out p r are e within = subst (λ c. IsBody c.body.items) (sym e) (are.bodies p r within)
 
 pub length-issued : (xs : List Command) → length (all_issued xs) ≡ length xs
 length-issued [] = refl

@@ -1,9 +1,9 @@
 -- How an initiator keeps its commands, with the place of the one that is out and the place from which on they wait.
 use Rattle.std.specs.Prelude.{◌≡◌, ℕ, suc, zero, ◌≤◌, Bool, true, false, ◌==◌, List, [], ◌∷◌, map, length, All, Option, None, Some}
 use Rattle.df1_base.specs.Host.{IsBody}
-use Rattle.df1_node.specs.declared.command.Command.{Command}
-use Rattle.df1_node.specs.declared.command.State.{State}
-use Rattle.df1_node.specs.declared.command.State.TheVariants as kept
+use Rattle.df1_node.specs.declared.issued.Command.{Command}
+use Rattle.df1_node.specs.declared.issued.State.{State}
+use Rattle.df1_node.specs.declared.issued.State.TheVariants as kept
 use Rattle.df1_node.specs.Initiator.{Standing, Waiting, Out, Answered, Undelivered, Unanswered, Issued, is_waiting, is_out}
 
 -- how a command stands, with the reply that is kept beside it

@@ -11,7 +11,7 @@ ghost use Rattle.pccc_envelope.specs.Envelope.{is_reply, spelling};
 ghost use Rattle.df1_node.specs.Initiator.{InitiatorState, after_give_up, after_hand_out, after_issue, after_reply, all_cleared, all_ticked, answered_place, is_out_at, unanswered_from, issue_fault, next_issued, outcome_of, reply_of, next_command, next_place, command};
 ghost use Rattle.df1_node.specs.Commands.{is_place, issued_of};
 
-use crate::command::{Command, State};
+use crate::issued::{Command, State};
 use crate::{IssueFault, Outcome};
 use arrayvec::ArrayVec;
 use pccc_envelope::{Envelope, read_envelope, write_envelope};

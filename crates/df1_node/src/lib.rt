@@ -2,10 +2,10 @@
 //! initiator that issues commands, and the node that joins the two.
 #![tactic(auto)]
 
-mod command;
 mod commands;
 mod handed;
 mod initiator;
+mod issued;
 pub mod laws;
 mod node;
 mod outcome;

@@ -1,9 +1,9 @@
 -- A script whose reading broke off.
 use Rattle.std.proofs.Common.{◌≡◌, ◌∙◌, ◌-◌, ℕ, Bool, true, false, cond, ltb, List, ◌++◌, length, take, drop, Err, refl, sym, ap, append_assoc, append-nil, [], take-append-drop}
-use Rattle.line_script.specs.declared.cause.Cause.{Cause}
-use Rattle.line_script.specs.declared.cause.Cause.TheVariants as cause
-use Rattle.line_script.specs.declared.cause.ScriptFault.{ScriptFault}
-use Rattle.line_script.specs.declared.cause.ScriptFault.TheVariants as script
+use Rattle.line_script.specs.declared.fault.Cause.{Cause}
+use Rattle.line_script.specs.declared.fault.Cause.TheVariants as cause
+use Rattle.line_script.specs.declared.fault.ScriptFault.{ScriptFault}
+use Rattle.line_script.specs.declared.fault.ScriptFault.TheVariants as script
 use Rattle.line_script.specs.Refusal.{IsRefused}
 use Rattle.line_script.specs.ScriptText.{script_of}
 use Rattle.line_script.specs.Unfinished.{IsOpen, IsSettled, settled, unfinished}

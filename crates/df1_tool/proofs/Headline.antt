@@ -1,7 +1,7 @@
 -- What a run of `replay` that ended well shows.
 use Rattle.std.proofs.Common.{◌≡◌, ◌∙◌, ℕ, List, Option, Some, Result, Ok, Err, OnOk, refl, sym, subst, arith}
 use Rattle.df1_base.specs.Outside.{Put}
-use Rattle.line_script.specs.declared.cause.Cause.{Cause}
+use Rattle.line_script.specs.declared.fault.Cause.{Cause}
 use Rattle.line_script.specs.declared.script.Script.{Script}
 use Rattle.line_script.specs.ScriptText.{script_of}
 use Rattle.line_script.specs.Playable.{IsPlayable}

@@ -8,7 +8,7 @@ use Rattle.df1_base.specs.declared.whole.ReadFault.{ReadFault}
 use Rattle.df1_base.specs.declared.whole.ReadFault.TheVariants as reading
 use Rattle.df1_base.specs.declared.whole.Reached.{Reached}
 use Rattle.df1_base.specs.declared.whole.Reached.TheVariants.{End, Limit}
-use Rattle.line_script.specs.declared.cause.Cause.{Cause}
+use Rattle.line_script.specs.declared.fault.Cause.{Cause}
 use Rattle.line_script.specs.ScriptText.{script_of}
 use Rattle.df1_base.proofs.Laws.{wrote_none}
 use Rattle.line_script.proofs.LongTexts.{refused_over}

@@ -2,7 +2,7 @@
 use Rattle.std.specs.Prelude.{◌≡◌, ◌⊎◌, ◌≤◌, ℕ, List, [], ◌++◌, length, unwrap_or, Option, Some, Err}
 use Rattle.std.specs.Io.KnownBytes.{IsAtEnd}
 use Rattle.df1_base.specs.Outside.{Rose, Took, Put, WrotePart}
-use Rattle.line_script.specs.declared.cause.Cause.{Cause}
+use Rattle.line_script.specs.declared.fault.Cause.{Cause}
 use Rattle.line_script.specs.ScriptText.{script_of}
 use Rattle.line_script.specs.Unfinished.{IsOpen}
 use Rattle.df1_tool.specs.declared.trouble.Trouble.{Trouble}

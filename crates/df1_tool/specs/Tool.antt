@@ -3,10 +3,10 @@ use Rattle.std.specs.Prelude.{◌≡◌, ◌⊎◌, ℕ, List, [], ◌∷◌, �
 use Rattle.std.specs.Str.{bytes_eq}
 use Rattle.df1_base.specs.declared.whole.ReadFault.{ReadFault}
 use Rattle.df1_base.specs.declared.whole.ReadFault.TheVariants as reading
-use Rattle.line_script.specs.declared.cause.Cause.{Cause}
-use Rattle.line_script.specs.declared.cause.ScriptFault.{ScriptFault}
-use Rattle.line_script.specs.declared.cause.ScriptFault.TheVariants as script
-use Rattle.line_script.specs.declared.cause.Cause.TheVariants as cause
+use Rattle.line_script.specs.declared.fault.Cause.{Cause}
+use Rattle.line_script.specs.declared.fault.ScriptFault.{ScriptFault}
+use Rattle.line_script.specs.declared.fault.ScriptFault.TheVariants as script
+use Rattle.line_script.specs.declared.fault.Cause.TheVariants as cause
 use Rattle.line_script.specs.declared.script.Script.{Script}
 use Rattle.line_script.specs.ScriptText.{script_of}
 use Rattle.line_report.specs.Report.{report}

@@ -16,7 +16,7 @@ ghost use Rattle.df1_tool.specs.Replayed.{Replayed};
 ghost use Rattle.df1_tool.specs.declared.form.Form.TheVariants.{Replay};
 ghost use Rattle.df1_tool.specs.declared.trouble.Trouble.{Trouble as Ending};
 ghost use Rattle.df1_tool.specs.Tool.{answer_of, form_of as the_form, IsStatus, line_note, note_at, note_of, status_of, status_for};
-ghost use Rattle.line_script.specs.declared.cause.Cause.{Cause as Fault};
+ghost use Rattle.line_script.specs.declared.fault.Cause.{Cause as Fault};
 
 use crate::form::{Form, form_of};
 use crate::replaying;

@@ -3,8 +3,8 @@ use Rattle.std.proofs.Common.{◌≡◌, ℕ, ◌+◌, ◌-◌, ◌<◌, ◌≤�
 use Rattle.std.specs.Prelude.{◌&&◌}
 use Rattle.std.specs.List.{onto_first}
 use Rattle.std.proofs.lemmas.Bool.{cases_lt, lt-ltb, le-ltb, le-leb, and_right}
-use Rattle.line_script.specs.declared.cause.Cause.{Cause}
-use Rattle.line_script.specs.declared.cause.Cause.TheVariants as cause
+use Rattle.line_script.specs.declared.fault.Cause.{Cause}
+use Rattle.line_script.specs.declared.fault.Cause.TheVariants as cause
 use Rattle.line_script.specs.declared.reader.Reader.{Reader}
 use Rattle.line_script.specs.declared.script.Event.{Event}
 use Rattle.line_script.specs.declared.script.Script.{Script}

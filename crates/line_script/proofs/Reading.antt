@@ -2,10 +2,10 @@
 use Rattle.std.proofs.Common.{◌≡◌, ℕ, ◌+◌, ◌≤◌, Bool, true, false, cond, List, [], ◌∷◌, length, Option, Result, Ok, Err, refl, arith, eqb}
 use Rattle.std.proofs.lemmas.Grind.{common_steps}
 use Rattle.std.proofs.lemmas.Bool.Decides.{nat_tests}
-use Rattle.line_script.specs.declared.cause.Cause.{Cause}
-use Rattle.line_script.specs.declared.cause.Cause.TheVariants as cause
-use Rattle.line_script.specs.declared.cause.LineFault.{LineFault}
-use Rattle.line_script.specs.declared.cause.LineFault.TheVariants.{Faulty, NoMemory}
+use Rattle.line_script.specs.declared.fault.Cause.{Cause}
+use Rattle.line_script.specs.declared.fault.Cause.TheVariants as cause
+use Rattle.line_script.specs.declared.fault.LineFault.{LineFault}
+use Rattle.line_script.specs.declared.fault.LineFault.TheVariants.{Faulty, NoMemory}
 use Rattle.line_script.specs.declared.reader.Reader.{Reader}
 use Rattle.line_script.specs.declared.script.Event.{Event}
 use Rattle.line_script.specs.Lines.{text_line, lines_from, last_line, after_line, after_words, reaches_limit, is_long, content}

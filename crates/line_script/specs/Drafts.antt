@@ -4,8 +4,8 @@ use Rattle.std.specs.List.{list_any}
 use Rattle.std.specs.Option.{option_map_or}
 use Rattle.data_files.specs.declared.file_spec.FileSpec.{FileSpec}
 use Rattle.data_files.specs.Tables.{word_count}
-use Rattle.line_script.specs.declared.cause.Cause.{Cause}
-use Rattle.line_script.specs.declared.cause.Cause.TheVariants as cause
+use Rattle.line_script.specs.declared.fault.Cause.{Cause}
+use Rattle.line_script.specs.declared.fault.Cause.TheVariants as cause
 use Rattle.line_script.specs.declared.script.Lane.{Lane}
 use Rattle.line_script.specs.declared.script.Event.{Event}
 use Rattle.line_script.specs.declared.script.Event.TheVariants as event

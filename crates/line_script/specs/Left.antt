@@ -2,7 +2,7 @@
 -- the events of those lines alone.
 use Rattle.std.specs.Prelude.{◌≡◌, ℕ, ◌-◌, List, [], ◌∷◌, count_by, sum_by, Result, Ok, Err}
 use Rattle.line_statement.specs.declared.who.Who.TheVariants.{A, B}
-use Rattle.line_script.specs.declared.cause.Cause.{Cause}
+use Rattle.line_script.specs.declared.fault.Cause.{Cause}
 use Rattle.line_script.specs.declared.script.Event.{Event}
 use Rattle.line_script.specs.declared.reader.Reader.{Reader}
 use Rattle.line_script.specs.Lines.{TextLine, after_line}

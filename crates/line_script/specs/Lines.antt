@@ -1,8 +1,8 @@
 -- The lines of a text, and what each says after those before it.
 use Rattle.std.specs.Prelude.{ℕ, ◌+◌, ◌-◌, Bool, true, false, List, [], ◌∷◌, length, take, min, slice_index, Option, None, Some, unwrap_or, Result, Ok, Err, nat_le, nat_lt, ◌==◌, ◌&&◌, if◌then◌else◌}
 use Rattle.df1_check.specs.declared.Check.TheVariants.{Bcc}
-use Rattle.line_script.specs.declared.cause.Cause.{Cause}
-use Rattle.line_script.specs.declared.cause.Cause.TheVariants as cause
+use Rattle.line_script.specs.declared.fault.Cause.{Cause}
+use Rattle.line_script.specs.declared.fault.Cause.TheVariants as cause
 use Rattle.line_statement.specs.declared.who.Who.TheVariants as who
 use Rattle.line_script.specs.declared.script.Event.{Event}
 use Rattle.line_script.specs.declared.script.EndPlan.{EndPlan}

@@ -1,10 +1,10 @@
 -- Why a line or a text is refused.
 use Rattle.std.specs.Prelude.{◌≡◌, ℕ, Result, Err}
-use Rattle.line_script.specs.declared.cause.Cause.{Cause}
-use Rattle.line_script.specs.declared.cause.LineFault.{LineFault}
-use Rattle.line_script.specs.declared.cause.LineFault.TheVariants as line
-use Rattle.line_script.specs.declared.cause.ScriptFault.{ScriptFault}
-use Rattle.line_script.specs.declared.cause.ScriptFault.TheVariants as script
+use Rattle.line_script.specs.declared.fault.Cause.{Cause}
+use Rattle.line_script.specs.declared.fault.LineFault.{LineFault}
+use Rattle.line_script.specs.declared.fault.LineFault.TheVariants as line
+use Rattle.line_script.specs.declared.fault.ScriptFault.{ScriptFault}
+use Rattle.line_script.specs.declared.fault.ScriptFault.TheVariants as script
 
 -- the fault tells the cause; want of memory says nothing
 abbrev pub IsFaulty : {T : Type 0} → LineFault → Result T Cause → Type 0

@@ -1,7 +1,7 @@
 -- What a text shows of which more may follow.
 use Rattle.std.specs.Prelude.{◌≡◌, ◌⊎◌, ℕ, ◌+◌, ◌-◌, ◌<◌, List, [], ◌∷◌, length, take, Result, Ok, Err, nat_lt, ◌==◌, if◌then◌else◌}
-use Rattle.line_script.specs.declared.cause.Cause.{Cause}
-use Rattle.line_script.specs.declared.cause.Cause.TheVariants as cause
+use Rattle.line_script.specs.declared.fault.Cause.{Cause}
+use Rattle.line_script.specs.declared.fault.Cause.TheVariants as cause
 use Rattle.line_script.specs.declared.script.Script.{Script}
 use Rattle.line_script.specs.ScriptText.{script_of}
 

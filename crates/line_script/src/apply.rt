@@ -2,7 +2,7 @@
 ghost use Rattle.std.specs.Prelude.{◌≡◌, ◌∷◌, ◌++◌, [], IfOk, OnOk, Some, None, ◌-◌};
 ghost use Rattle.line_script.specs.Drafts.{with_statement as the_draft, settled, stage_after as the_stage, event_of as the_event, address_of as the_address, with_end, end_at, lane_from, times_event as the_times};
 
-use crate::causes::steps_of;
+use crate::first_cause::steps_of;
 use crate::reader::{NODE_OF_A, NODE_OF_B, Reader, Stage};
 use crate::{Event, Lane, WordOf};
 use data_files::FileSpec;

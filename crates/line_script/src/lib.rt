@@ -3,24 +3,24 @@
 #![tactic(auto)]
 
 mod apply;
-mod cause;
-mod causes;
 mod end_draft;
+mod fault;
+mod first_cause;
 mod given_files;
 mod given_words;
 mod laws;
-mod read;
 mod reader;
 mod script;
+mod whole_text;
 
-pub use cause::{Cause, LineFault, ScriptFault};
+pub use fault::{Cause, LineFault, ScriptFault};
 pub use laws::{
     a_refused_line_stays_refused, refused_over_the_limit, what_is_left_is_what_the_lines_leave,
 };
 pub use line_statement::{Bytes, Items, Who};
-pub use read::read_script;
 pub use reader::{LINE, Reader, SCRIPT};
 pub use script::{EndPlan, Ends, Event, Events, Lane, Script, Specs, WordOf, Words};
+pub use whole_text::read_script;
 
 #[cfg(test)]
 mod tests;

@@ -4,7 +4,7 @@ ghost use Rattle.std.specs.Prelude.{◌≡◌, ◌∷◌, ◌+◌, MatchResult, 
 ghost use Rattle.line_script.specs.Drafts.{fresh, after_statement, end_at as the_end};
 ghost use Rattle.line_script.specs.Lines.{after_line, after_words, finished, reaches_limit as the_limit_test, content as the_content, is_passed_over as the_passed, ends as the_ends, text_line};
 ghost use Rattle.line_script.specs.Refusal.{IsFaulty};
-ghost use Rattle.line_script.specs.declared.cause.Cause.{Cause as TheCause};
+ghost use Rattle.line_script.specs.declared.fault.Cause.{Cause as TheCause};
 
 use crate::end_draft::EndDraft;
 use crate::{Cause, Ends, Event, Events, LineFault, Script};

@@ -1,10 +1,10 @@
 use Rattle.std.proofs.Common.{◌≡◌, ◌≤◌, ◌<◌, ◌+◌, suc, List, None, Some, ap, sym, ◌∙◌, subst, refl, arith, length, is_some}
 use Rattle.df1_node.specs.Initiator.{InitiatorState, Issued, Out, next_command, next_place, restated}
 use Rattle.df1_node.specs.Commands.{all_issued, issued_of, Indexed}
-use Rattle.df1_node.specs.declared.command.Command.{Command}
+use Rattle.df1_node.specs.declared.issued.Command.{Command}
 use Rattle.std.proofs.lemmas.Grind.{common_steps}
 use Rattle.df1_node.specs.HostLaws.{hands_nothing}
-use Rattle.df1_node.proofs.Indexes.{busy, idle_past, idle_at, hands_at, at_None, at_Some, length-issued, are-set, body_at, Indexed-out, is_some-None, restated-set, get_or-issued}
+use Rattle.df1_node.proofs.Indexes.{busy, idle_past, idle_at, hands_at, at_None, at_Some, length-issued, are-set, issued_body, Indexed-out, is_some-None, restated-set, get_or-issued}
 use Rattle.df1_node.proofs.initiator.Initiator.hand_out.Goals as goal
 
 pub returns-then-is_some-clause-place : goal.returns-then-is_some-clause-place
@@ -97,7 +97,7 @@ returns-clause-size c =
     (idle_at (all_issued c.self.inside.issued.items) c.self.inside.next c.self.inside.out (issued_of r) c.self.invariant.indexed (sym c.is_some.ensures ∙ c.if-is_some.false)
     (subst (λ l. c.self.inside.next < l) (sym (length-issued c.self.inside.issued.items)) within)
     (get_or-issued c.self.inside.issued.items c.self.inside.next r c.index_mut-command.ensures.value)) in
-    at_Some _ _ _ r.body.items found.1 (body_at c.self.inside.issued.items c.self.inside.next c.self.inside.out c.self.inside.next r c.self.invariant c.index_mut-command.ensures.value within)
+    at_Some _ _ _ r.body.items found.1 (issued_body c.self.inside.issued.items c.self.inside.next c.self.inside.out c.self.inside.next r c.self.invariant c.index_mut-command.ensures.value within)
 
 pub returns-clause-after : goal.returns-clause-after
 returns-clause-after c =

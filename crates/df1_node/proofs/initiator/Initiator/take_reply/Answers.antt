@@ -2,8 +2,8 @@ use Rattle.std.proofs.Common.{◌≡◌, ◌≤◌, ◌<◌, ℕ, List, None, So
 use Rattle.std.proofs.lemmas.Grind.{common_steps}
 use Rattle.df1_node.specs.Initiator.{InitiatorState, Issued, Answered, restated, answered_place}
 use Rattle.df1_node.specs.Commands.{all_issued, issued_of, Indexed}
-use Rattle.df1_node.specs.declared.command.Command.{Command}
-use Rattle.df1_node.proofs.Indexes.{within_items, are-set, body_at, Indexed-settled, restated-set, answered_none, answered_some, replies_nothing, replies_at, get_or-issued}
+use Rattle.df1_node.specs.declared.issued.Command.{Command}
+use Rattle.df1_node.proofs.Indexes.{within_items, are-set, issued_body, Indexed-settled, restated-set, answered_none, answered_some, replies_nothing, replies_at, get_or-issued}
 use Rattle.df1_node.proofs.initiator.Initiator.take_reply.Goals as goal
 
 pub returns-in_err-place-clause-place : goal.returns-in_err-place-clause-place
@@ -26,7 +26,7 @@ index-requires c =
 pub is_answered_by-requires-clause-command : goal.is_answered_by-requires-clause-command
 is_answered_by-requires-clause-command c =
     let within : c.in_ok-place.place < length c.self.inside.issued.items = within_items c.self.inside.issued.items c.self.inside.next c.self.inside.out c.in_ok-place.place c.self.invariant c.in_ok-place.was in
-    body_at c.self.inside.issued.items c.self.inside.next c.self.inside.out c.in_ok-place.place c.index.result.now c.self.invariant c.index.ensures within
+    issued_body c.self.inside.issued.items c.self.inside.next c.self.inside.out c.in_ok-place.place c.index.result.now c.self.invariant c.index.ensures within
 
 pub returns-then-not-is_answered_by-clause-place : goal.returns-then-not-is_answered_by-clause-place
 returns-then-not-is_answered_by-clause-place c =

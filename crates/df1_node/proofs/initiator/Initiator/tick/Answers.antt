@@ -1,7 +1,7 @@
 use Rattle.std.proofs.Common.{◌≡◌, ◌<◌, ◌+◌, List, [], ◌∷◌, ◌++◌, None, Some, ap, sym, ◌∙◌, subst, arith, length, get_or, cond, true, false}
 use Rattle.df1_node.specs.Initiator.{InitiatorState, Standing, Issued, restated, is_out, is_waiting, is_last_tick, all_ticked, ticked, unanswered_from}
 use Rattle.df1_node.specs.Commands.{all_issued, issued_of, standing_of, Indexed}
-use Rattle.df1_node.specs.declared.command.Command.{Command}
+use Rattle.df1_node.specs.declared.issued.Command.{Command}
 use Rattle.df1_node.proofs.Indexes.{within_items, are-set, Indexed-settled, Indexed-still, restated-set, get_or-issued, all_ticked-none, unanswered-none, ticked_some, unanswered_some, standing_out, ticked_still, ticked_last}
 use Rattle.df1_node.proofs.initiator.Initiator.tick.Goals as goal
 

@@ -68,7 +68,7 @@ pub enum LineFault {
 
 impl From<AllocError> for LineFault {
     ghost use Rattle.std.specs.Prelude.{◌≡◌};
-    ghost use Rattle.line_script.specs.declared.cause.LineFault.TheVariants.{NoMemory};
+    ghost use Rattle.line_script.specs.declared.fault.LineFault.TheVariants.{NoMemory};
 
     ghost from_gives = { λ _ e. e ≡ NoMemory };
 
@@ -79,7 +79,7 @@ impl From<AllocError> for LineFault {
 
 impl From<NoMemory> for LineFault {
     ghost use Rattle.std.specs.Prelude.{◌≡◌};
-    ghost use Rattle.line_script.specs.declared.cause.LineFault.TheVariants.{NoMemory};
+    ghost use Rattle.line_script.specs.declared.fault.LineFault.TheVariants.{NoMemory};
 
     ghost from_gives = { λ _ e. e ≡ NoMemory };
 

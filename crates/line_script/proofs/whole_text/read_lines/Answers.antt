@@ -2,7 +2,7 @@ use Rattle.std.proofs.Common.{◌≡◌, ◌∙◌, ◌+◌, ◌≤◌, true, le
 use Rattle.line_script.specs.Lines.{after_line, text_line}
 use Rattle.line_script.specs.ScriptText.{script_of, with_event}
 use Rattle.line_script.proofs.Reading.{goes_on, refused_at, stays_within}
-use Rattle.line_script.proofs.read.read_lines.Goals as goal
+use Rattle.line_script.proofs.whole_text.read_lines.Goals as goal
 
 pub returns-in-Err : goal.returns-in-Err
 unfolding script_of

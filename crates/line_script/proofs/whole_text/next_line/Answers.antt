@@ -1,7 +1,7 @@
 use Rattle.std.proofs.Common.{sym, arith, eqb}
 use Rattle.std.proofs.lemmas.Grind.{common_steps}
 use Rattle.line_script.proofs.Cuts.{split-at, split-none}
-use Rattle.line_script.proofs.read.next_line.Goals as goal
+use Rattle.line_script.proofs.whole_text.next_line.Goals as goal
 
 pub returns-in-Some : goal.returns-in-Some
 returns-in-Some c =

@@ -2,7 +2,7 @@ use Rattle.std.proofs.Common.{◌≡◌, ◌+◌, ◌≤◌, length, []}
 use Rattle.line_script.specs.Drafts.{fresh}
 use Rattle.line_script.specs.Lines.{lines_from}
 use Rattle.line_script.specs.ScriptText.{script_from, parts}
-use Rattle.line_script.proofs.read.read_lines.Given as goal
+use Rattle.line_script.proofs.whole_text.read_lines.Given as goal
 
 -- what is read so far goes on as the whole does
 abbrev pub invariant-loop-line : goal.invariant-loop-line
