@@ -1,13 +1,14 @@
 -- What is read as an order is spelled so, and what is spelled so is read.
-use Rattle.std.proofs.Common.{◌≡◌, ℕ, ◌+◌, ◌*◌, Bool, true, false, eqb, List, [], ◌∷◌, ◌++◌, length, take, drop, Option, Some, None, refl, sym, ap, subst, ◌∙◌, append_assoc}
+use Rattle.std.proofs.Common.{◌≡◌, ℕ, ◌+◌, ◌*◌, ◌/◌, ◌%◌, Bool, true, false, eqb, List, [], ◌∷◌, ◌++◌, length, take, drop, Option, Some, None, refl, sym, ap, subst, ◌∙◌, append_assoc, arith}
 use Rattle.std.proofs.lemmas.Bool.{cond_both, eqb-true, eq-eqb, true≢false}
 use Rattle.std.proofs.lemmas.List.{drop_at, take-append-drop}
 use Rattle.logical_address.specs.Spelling.{SpellsThree, SpellsOptional}
 use Rattle.logical_address.specs.Spelling as spelling
+use Rattle.logical_address.specs.Shortest.{shortest_three}
 use Rattle.logical_address.specs.Reading.{byte_front, three_at}
 use Rattle.logical_address.proofs.Fronts.{IsBytes, bind_some, some_is}
 use Rattle.logical_address.proofs.Values.{byte_takes}
-use Rattle.logical_address.proofs.Addresses.{three_at_spelled, three_at_known}
+use Rattle.logical_address.proofs.Addresses.{three_at_spelled, three_at_known, three_spelled}
 use Rattle.slc_commands.specs.declared.order.SlcFnc.{SlcFnc}
 use Rattle.slc_commands.specs.declared.order.SlcFnc.TheVariants.{Read2, Read3, Write2, Write3, Masked}
 use Rattle.slc_commands.specs.Order.{Order, fnc_byte, has_sub, has_mask, data_len, SpellsMask, given, left_out, SpellsOrder, fnc_of, mask_front, with_data, fields, spelled_order, IsOrder}
@@ -140,6 +141,20 @@ none_is_all_bits left_out e = refl
 pub spelled_is_order : (order : Order) (payload : List ℕ) → SpellsOrder order payload → IsOrder order
 spelled_is_order order payload s = record { of_data = s.of_data; of_sub = none_is_zero s.of_at.of_sub; of_mask = none_is_all_bits s.of_mask }
 
--- an order is read from one payload, and from one payload one order is read
+-- ---- every order is spelled by some payload
+
+mask_spelled : (is_given : Bool) (mask : ℕ) → (is_given ≡ false → mask ≡ 0xFFFF) → (bytes : List ℕ) × SpellsMask is_given mask bytes
+mask_spelled true mask all = (mask % 256 ∷ mask / 256 ∷ [], given (omega arith))
+mask_spelled false mask all = let P : ℕ → Type 0 = λ m. SpellsMask false m [] in ([], subst P (sym (all refl)) left_out)
+
+pub order_spelled : (order : Order) → IsOrder order → (payload : List ℕ) × SpellsOrder order payload
+order_spelled order is =
+    let at = shortest_three (has_sub order.fnc) order.at in
+    let mask = mask_spelled (has_mask order.fnc) order.mask is.of_mask in (
+      fnc_byte order.fnc ∷ order.size ∷ at ++ mask.0 ++ order.bytes,
+      record { at = at; mask = mask.0; of_at = three_spelled (has_sub order.fnc) order.at is.of_sub; of_mask = mask.1; of_data = is.of_data; whole = refl },
+    )
+
+-- ---- a payload spells one order
 pub one_order : (order other : Order) (payload : List ℕ) → SpellsOrder order payload → SpellsOrder other payload → order ≡ other
 one_order order other payload p q = some_is order other (sym (spelled_again order payload p) ∙ spelled_again other payload q)

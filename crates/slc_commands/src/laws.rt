@@ -2,12 +2,18 @@
 ghost use Rattle.std.specs.Prelude.{◌≡◌, ◌<◌, ◌^◌, ◌∷◌, [], ℕ, List, length, Ok, Err, All};
 ghost use Rattle.df1_base.specs.declared.code.Code.TheVariants.{Sts};
 ghost use Rattle.slc_commands.specs.declared.order.SlcFnc.TheVariants.{Masked};
-ghost use Rattle.slc_commands.specs.Order.{Order, SpellsOrder, order_of};
+ghost use Rattle.slc_commands.specs.Order.{IsOrder, Order, SpellsOrder, order_of};
 ghost use Rattle.slc_commands.specs.Words.{bytes_of, masked, masked_word, words_of};
 
 /// A payload spells one order at most.
 pub fn one_order()
     ensures { (order other : Order) (payload : List ℕ) → SpellsOrder order payload → SpellsOrder other payload → order ≡ other }
+{}
+
+/// What `do_slc` asks of an order is what every order is that some payload spells, and no more.
+pub fn orders_are_spelled()
+    ensures spelled { (order : Order) → IsOrder order → (payload : List ℕ) × SpellsOrder order payload }
+    ensures only { (order : Order) (payload : List ℕ) → SpellsOrder order payload → IsOrder order }
 {}
 
 /// A write without a mask replaces its words: with the mask FFFF each word is the new one.
