@@ -1,3 +1,5 @@
 pub mod Changes
+pub mod Known
 pub mod Orders
 pub mod SetLists
+pub mod Spelled

@@ -4,7 +4,6 @@ use Rattle.std.specs.Option.{option_map_or, unwrap_or}
 use Rattle.df1_base.specs.declared.code.Code.{Code}
 use Rattle.df1_base.specs.declared.code.Code.TheVariants.{Done}
 use Rattle.logical_address.specs.declared.levels.Levels.{Levels}
-use Rattle.logical_address.specs.declared.param.Param.{Param}
 use Rattle.logical_address.specs.Parameter.{written_array}
 use Rattle.data_files.specs.declared.file_spec.FileSpec.{FileSpec}
 use Rattle.data_files.specs.Words.{words_per_element}

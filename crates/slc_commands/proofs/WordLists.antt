@@ -1,37 +1,10 @@
--- Words and their bytes, one after the other.
-use Rattle.std.proofs.Common.{◌≡◌, ℕ, zero, suc, ◌+◌, ◌-◌, ◌*◌, ◌/◌, ◌%◌, ◌<◌, ◌≤◌, List, [], ◌∷◌, ◌++◌, length, get_or, drop, bit_and, bit_or, refl, sym, ap, ◌∙◌, append_assoc, arith}
+-- Words that a masked write makes, one after the other.
+use Rattle.std.proofs.Common.{◌≡◌, ℕ, suc, ◌+◌, ◌-◌, ◌*◌, ◌%◌, ◌<◌, ◌≤◌, List, [], ◌∷◌, ◌++◌, length, get_or, drop, bit_and, bit_or, refl, sym, ap, ◌∙◌, append_assoc, arith}
 use Rattle.std.specs.Int.Bits.{and_zero_r, or_zero_l}
 use Rattle.std.proofs.Math.Seq.{drop-cons}
 use Rattle.std.proofs.lemmas.Nat.{and_mask}
-use Rattle.std.proofs.lemmas.List.Concat.{flat_map-cons}
-use Rattle.slc_commands.specs.Words.{bytes_of, words_of, masked_word, masked}
-
--- ---- bytes
-
-pub bytes_of-cons : (word : ℕ) (words : List ℕ) → bytes_of (word ∷ words) ≡ word % 256 ∷ word / 256 ∷ bytes_of words
-bytes_of-cons word words = flat_map-cons (λ w. w % 256 ∷ w / 256 ∷ []) word words
-
-pub length-bytes_of : (words : List ℕ) → length (bytes_of words) ≡ 2 * length words
-length-bytes_of [] = refl
-length-bytes_of (word ∷ words) = let rest = length-bytes_of words in ap length (bytes_of-cons word words) ∙ omega arith
-
-pub words_of-bytes_of : (words : List ℕ) → words_of (bytes_of words) ≡ words
-words_of-bytes_of [] = refl
-words_of-bytes_of (word ∷ words) =
-    let cons : ℕ → List ℕ → List ℕ = λ w ws. w ∷ ws in
-    let low : word % 256 + 256 * (word / 256) ≡ word = omega arith in
-    ap words_of (bytes_of-cons word words) ∙ ap (λ w. cons w (words_of (bytes_of words))) low ∙ ap (cons word) (words_of-bytes_of words)
-
--- one more word at the end of what was written
-pub bytes_step : (words : List ℕ) (i : ℕ) (front whole : List ℕ) → i < length words → front ++ bytes_of (drop i words) ≡ whole
-    → ((front ++ get_or words i 0 % 256 ∷ []) ++ get_or words i 0 / 256 ∷ []) ++ bytes_of (drop (i + 1) words) ≡ whole
-bytes_step words i front whole lt so_far =
-    let word = get_or words i 0 in
-    let next : i + 1 ≡ suc i = omega arith in
-    let cut : bytes_of (drop i words) ≡ word % 256 ∷ word / 256 ∷ bytes_of (drop (suc i) words) = ap bytes_of (drop-cons words i 0 lt) ∙ bytes_of-cons word (drop (suc i) words) in
-    let here : front ++ (word % 256 ∷ word / 256 ∷ bytes_of (drop (suc i) words)) ≡ whole = ap (λ (xs : List ℕ). front ++ xs) (sym cut) ∙ so_far in
-    let regrouped : ((front ++ word % 256 ∷ []) ++ word / 256 ∷ []) ++ bytes_of (drop (suc i) words) ≡ front ++ (word % 256 ∷ word / 256 ∷ bytes_of (drop (suc i) words)) = simp append_assoc in
-    rw next (regrouped ∙ here)
+use Rattle.data_files.specs.WordBytes.{words_of}
+use Rattle.slc_commands.specs.Words.{masked_word, masked}
 
 -- ---- masks
 
@@ -55,13 +28,6 @@ pub length-masked : (mask : ℕ) (old new : List ℕ) → length old ≤ length 
 length-masked mask [] new le = refl
 length-masked mask (o ∷ old) [] le = absurd (omega arith)
 length-masked mask (o ∷ old) (n ∷ new) le = let tail : length old ≤ length new = omega arith in let rest = length-masked mask old new tail in omega arith
-
-pub length-words_of : (count : ℕ) (bytes : List ℕ) → length bytes ≡ 2 * count → length (words_of bytes) ≡ count
-length-words_of zero [] is = refl
-length-words_of zero (a ∷ bytes) is = absurd (omega arith)
-length-words_of (suc count) [] is = absurd (omega arith)
-length-words_of (suc count) (a ∷ []) is = absurd (omega arith)
-length-words_of (suc count) (a ∷ b ∷ bytes) is = let tail : length bytes ≡ 2 * count = omega arith in let rest = length-words_of count bytes tail in omega arith
 
 -- one more word at the end of what was made
 pub masked_step : (mask : ℕ) (old bytes : List ℕ) (i : ℕ) (front whole : List ℕ) → i < length old → length bytes ≡ 2 * length old → front ++ masked mask (drop i old) (words_of (drop (2 * i) bytes)) ≡ whole

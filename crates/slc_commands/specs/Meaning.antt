@@ -7,7 +7,8 @@ use Rattle.data_files.specs.Tables.{DataTables, file_of, words_at, with_words}
 use Rattle.data_files.specs.Effect.{Test, Effect, refusal, tested}
 use Rattle.data_files.specs.Place.{place_tests, first_of}
 use Rattle.slc_commands.specs.Order.{Order, writes}
-use Rattle.slc_commands.specs.Words.{bytes_of, words_of, masked}
+use Rattle.data_files.specs.WordBytes.{bytes_of, words_of}
+use Rattle.slc_commands.specs.Words.{masked}
 
 -- the words of an order
 abbrev pub place_of : Order → Place

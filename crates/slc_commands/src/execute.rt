@@ -6,9 +6,9 @@ ghost use Rattle.slc_commands.specs.Order.{IsOrder, seen};
 ghost use Rattle.slc_commands.specs.Meaning.{first_word, meaning, tests, words_after, words_before};
 
 use crate::order::{SlcOrder, writes};
-use crate::words::{masked_words, push_words};
+use crate::words::masked_words;
 use arrayvec::ArrayVec;
-use data_files::{Place, Tables, locate};
+use data_files::{Place, Tables, locate, push_words};
 use df1_base::Code;
 
 /// The most bytes that the data of a message has.

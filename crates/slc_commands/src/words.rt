@@ -1,7 +1,7 @@
-//! Words in data, each low byte first.
-ghost use Rattle.std.specs.Prelude.{◌≡◌, ◌+◌, ◌*◌, ◌≤◌, ◌++◌, length};
-ghost use Rattle.slc_commands.specs.Words.{bytes_of, masked, masked_word, words_of};
-ghost use Rattle.arrayvec.specs.ArrayVec.{array_vec_len};
+//! Words that a masked write makes.
+ghost use Rattle.std.specs.Prelude.{◌≡◌, ◌*◌, ◌≤◌, length};
+ghost use Rattle.data_files.specs.WordBytes.{words_of};
+ghost use Rattle.slc_commands.specs.Words.{masked, masked_word};
 
 use arrayvec::ArrayVec;
 
@@ -25,16 +25,4 @@ fn masked_word(mask: u16, old: u16, new: u16) -> u16
     ensures { result ≡ masked_word mask old new }
 {
     (old & !mask) | (new & mask)
-}
-
-/// Writes the bytes of words at the end of `out`.
-pub(crate) fn push_words(words: &[u16], out: &mut ArrayVec<u8, 244>)
-    requires { array_vec_len out.old + 2 * length words.now ≤ 244 }
-    ensures { out.new.items ≡ out.old.items ++ bytes_of words.now }
-{
-    for word in words {
-        let [low, high] = word.to_le_bytes();
-        out.push(low);
-        out.push(high);
-    }
 }

@@ -2,7 +2,8 @@ use Rattle.std.proofs.Common.{ℕ, List, ◌≡◌, ◌/◌, true, length, ap, �
 use Rattle.data_files.specs.Tables.{has_words, with_words}
 use Rattle.slc_commands.specs.Order.{seen}
 use Rattle.slc_commands.specs.Meaning.{words_after}
-use Rattle.slc_commands.specs.Words.{masked, words_of}
+use Rattle.data_files.specs.WordBytes.{words_of}
+use Rattle.slc_commands.specs.Words.{masked}
 use Rattle.slc_commands.proofs.execute.write_words.Goals as goal
 
 pub returns-clause-after : goal.returns-clause-after

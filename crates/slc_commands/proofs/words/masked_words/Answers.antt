@@ -1,5 +1,6 @@
 use Rattle.std.proofs.Common.{ℕ, List, ◌≡◌, ◌++◌, ◌∷◌, [], get_or, drop, ◌*◌, ◌+◌, ap, ◌∙◌, arith}
-use Rattle.slc_commands.specs.Words.{masked, words_of, masked_word}
+use Rattle.data_files.specs.WordBytes.{words_of}
+use Rattle.slc_commands.specs.Words.{masked, masked_word}
 use Rattle.slc_commands.proofs.WordLists.{masked_step}
 use Rattle.slc_commands.proofs.words.masked_words.Goals as goal
 

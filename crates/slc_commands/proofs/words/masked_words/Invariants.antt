@@ -1,5 +1,6 @@
 use Rattle.std.proofs.Common.{◌≡◌, ◌*◌, ◌++◌, length, drop}
-use Rattle.slc_commands.specs.Words.{masked, words_of}
+use Rattle.data_files.specs.WordBytes.{words_of}
+use Rattle.slc_commands.specs.Words.{masked}
 use Rattle.slc_commands.proofs.words.masked_words.Given as goal
 
 abbrev pub invariant-loop-place : goal.invariant-loop-place
