@@ -1,5 +1,5 @@
 -- What an order does: its tests, of which the first that fails refuses it, and its effect where none does.
-use Rattle.std.specs.Prelude.{ℕ, Bool, false, true, List, [], ◌∷◌, if◌then◌else◌, Option, None, Some, Result, Ok, Err}
+use Rattle.std.specs.Prelude.{◌≡◌, ℕ, ◌≤◌, Bool, false, true, IsTrue, List, [], ◌∷◌, length, if◌then◌else◌, Option, None, Some, Result, Ok, Err}
 use Rattle.df1_base.specs.declared.code.Code.{Code}
 use Rattle.df1_base.specs.declared.code.Code.TheVariants.{Done, Sts, Ext}
 use Rattle.data_files.specs.Tables.{DataTables}
@@ -38,3 +38,8 @@ abbrev pub is_refusal : Code → Bool
 is_refusal Done = false
 is_refusal (Sts status) = true
 is_refusal (Ext extension) = true
+
+-- the reply fits a message: at most 244 bytes of data, and none beside a code that refuses
+pub record FitsReply (effect : Effect) : Type 0 where
+  pub short : length effect.reply ≤ 244
+  pub alone : IsTrue (is_refusal effect.code) → effect.reply ≡ []

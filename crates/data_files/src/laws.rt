@@ -1,6 +1,5 @@
-//! What is true of words that were set, and of words in data.
+//! What is true of words that were set.
 ghost use Rattle.std.specs.Prelude.{◌≡◌, ℕ, ◌+◌, ◌-◌, ◌&&◌, ◌==◌, List, length, nat_le, nat_lt, slice_get, if◌then◌else◌};
-ghost use Rattle.data_files.specs.WordBytes.{bytes_of, words_of};
 ghost use Rattle.data_files.specs.Tables.{DataTables, with_word, with_words, word_at};
 
 /// After a word was set it is what was set, and every other word is as it was.
@@ -11,9 +10,4 @@ pub fn one_word_is_set()
 /// After several words were set each of them is what was set, and every other word is as it was.
 pub fn each_word_is_set()
     ensures { (tables : DataTables) (number first : ℕ) (words : List ℕ) (other place : ℕ) → word_at (with_words tables number first words) other place ≡ (if (other == number) && (nat_le first place && nat_lt place (first + length words)) then slice_get words (place - first) else word_at tables other place) }
-{}
-
-/// What is read of words that were written as bytes are these words.
-pub fn bytes_are_words()
-    ensures { (words : List ℕ) → words_of (bytes_of words) ≡ words }
 {}

@@ -1,5 +1,5 @@
 //! Calls that go on until all is read or written.
-ghost use Rattle.std.specs.Prelude.{◌≡◌, ◌⊎◌, ◌+◌, ◌<◌, ◌≤◌, List, ℕ, [], ◌++◌, length, IfOk, OnOk, OnErr, IsErrOf};
+ghost use Rattle.std.specs.Prelude.{◌≡◌, ◌+◌, ◌<◌, ◌≤◌, List, ℕ, [], ◌++◌, length, IfOk, OnOk, OnErr, IsErrOf};
 ghost use Rattle.df1_base.specs.Outside.{Rose, Took, Put, WrotePart};
 ghost use Rattle.df1_base.specs.Reading.{Stopped};
 ghost use Rattle.df1_base.specs.declared.whole.ReadFault.TheVariants.{NoMemory};
@@ -53,9 +53,10 @@ pub fn read_all<S: Source>(
     ensures failed { IsErrOf result ReadFault.Failed →
         Took (S.left input.old) (S.left input.new) bytes.new.items × Rose (S.faults input.old) (S.faults input.new) }
     ensures no_memory { IsErrOf result ReadFault.NoMemory →
-        (last : List ℕ) × Took (S.left input.old) (S.left input.new) (bytes.new.items ++ last) × (length (bytes.new.items ++ last) ≤ limit + 4096) }
+        (last : List ℕ) × Took (S.left input.old) (S.left input.new) (bytes.new.items ++ last)
+        × (length (bytes.new.items ++ last) ≤ limit + 4096) × (S.faults input.new ≡ S.faults input.old) }
     ensures few { length bytes.new.items ≤ limit + 4096 }
-    ensures calm { IsErrOf result ReadFault.Failed ⊎ (S.faults input.new ≡ S.faults input.old) }
+    ensures calm { OnOk result (S.faults input.new ≡ S.faults input.old) }
 {
     let mut piece = [0; PIECE];
     while bytes.len() <= limit {

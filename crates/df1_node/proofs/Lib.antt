@@ -1,3 +1,2 @@
 pub mod Final
 pub mod Indexes
-pub mod Places

@@ -1,5 +1,5 @@
 -- What a station answers to a command: the tables after it, and the body of the reply.
-use Rattle.std.specs.Prelude.{ℕ, ◌+◌, ◌*◌, Bool, false, true, ◌&&◌, List, [], ◌∷◌, ◌++◌, length, drop, nat_lt, ◌==◌, slice_index, if◌then◌else◌, Option, None, Some, Result, Ok, Err, refl}
+use Rattle.std.specs.Prelude.{ℕ, Bool, false, true, List, [], ◌∷◌, ◌++◌, drop, ◌==◌, slice_index, if◌then◌else◌, Option, Result, Ok, Err, refl}
 use Rattle.std.specs.Option.{option_map_or}
 use Rattle.std.specs.Coded.{Coded, code_by, coded×, coded_list, coded_option, coded_ℕ}
 use Rattle.df1_base.specs.declared.code.Code.{Code}
@@ -7,8 +7,11 @@ use Rattle.df1_base.specs.declared.code.Code.TheVariants.{Done, Sts, Ext}
 use Rattle.df1_base.specs.declared.file_type.FileType.{FileType}
 use Rattle.df1_base.specs.declared.file_type.FileType.TheVariants.{Status, Bit, Timer, Counter, Control, Integer, Float}
 use Rattle.pccc_envelope.specs.Envelope.{spelling, envelope_of, reply_form}
-use Rattle.df1_node.specs.declared.file_spec.FileSpec.{FileSpec}
-use Rattle.df1_node.specs.Tables.{DataTables, file_of, has_word, with_word}
+use Rattle.data_files.specs.declared.file_spec.FileSpec.{FileSpec}
+use Rattle.data_files.specs.Effect.{Effect, refused}
+use Rattle.data_files.specs.Tables.{DataTables, file_of}
+use Rattle.slc_commands.specs.Meaning.{meaning as meaning_of_order}
+use Rattle.slc_commands.specs.Order.{Order, order_of}
 
 -- a station: its tables, its compatibility file, and the block that its status reply holds
 pub record StationState : Type 0 where
@@ -36,69 +39,36 @@ holds_words Float = false
 abbrev pub fits_compat : List FileSpec → Option ℕ → Bool
 fits_compat specs compat = option_map_or (λ number. option_map_or (λ spec. holds_words spec.kind) (file_of specs number) false) compat true
 
--- the file holds no integers
-abbrev pub not_integer : FileType → Bool
-not_integer Integer = false
-not_integer Status = true
-not_integer Bit = true
-not_integer Timer = true
-not_integer Counter = true
-not_integer Control = true
-not_integer Float = true
+-- what a command asks for: its bytes again, or an order of the logical commands
+pub data Asked : Type 0 where
+  Echo : (bytes : List ℕ) → Asked
+  Logical : (order : Order) → Asked
 
--- what a command asks for
-pub data Order : Type 0 where
-  Echo : List ℕ → Order
-  WriteWord : ℕ → ℕ → ℕ → Order
+-- a diagnostic command, by what follows TNS
+abbrev pub diagnostic : List ℕ → Result Asked Code
+diagnostic [] = Err (Sts 0x10)
+diagnostic (fnc ∷ rest) = if fnc == 0x00 then Ok (Echo rest) else Err (Sts 0x10)
 
--- what follows FNC in a logical write of one word by three fields: the size 02, the file, the type 89, the element, the
--- sub-element 00, and the word with its low byte first
-abbrev pub is_write : List ℕ → Bool
-is_write rest =
-    (length rest == 7) && (slice_index rest 0 == 0x02) && nat_lt (slice_index rest 1) 0xFF && (slice_index rest 2 == 0x89)
-    && nat_lt (slice_index rest 3) 0xFF && (slice_index rest 4 == 0x00)
+-- a logical command that was read
+abbrev pub logical : Result Order Code → Result Asked Code
+logical (Ok order) = Ok (Logical order)
+logical (Err code) = Err code
 
--- the file, the element and the word of such a write
-abbrev pub write_order : List ℕ → Result Order Code
-write_order rest =
-    if is_write rest
-    then Ok (WriteWord (slice_index rest 1) (slice_index rest 3) (slice_index rest 5 + 256 * slice_index rest 6))
+-- the table of commands, by CMD and what follows TNS: what is asked for, or the code that refuses it
+abbrev pub asked_of : ℕ → List ℕ → Result Asked Code
+asked_of cmd payload =
+    if cmd == 0x06 then diagnostic payload
+    else if cmd == 0x0F then logical (order_of payload)
     else Err (Sts 0x10)
 
--- the table of commands, by CMD and what follows TNS: the order, or the code that refuses it
-abbrev pub order_of : ℕ → List ℕ → Result Order Code
-order_of cmd [] = Err (Sts 0x10)
-order_of cmd (fnc ∷ rest) =
-    if (cmd == 0x06) && (fnc == 0x00) then Ok (Echo rest)
-    else if (cmd == 0x0F) && (fnc == 0xAA) then write_order rest
-    else Err (Sts 0x10)
-
--- what a command did: the tables after it, its code, and the data of its reply
-pub record Effect : Type 0 where
-  pub tables : DataTables
-  pub code : Code
-  pub reply : List ℕ
-
--- a command that is refused changes nothing, and its reply has no data
-abbrev pub refused : DataTables → Code → Effect
-refused tables code = record { tables = tables; code = code; reply = [] }
-
--- a write of one word to a file: there has to be such a file, of integers, and such an element
-abbrev pub written : DataTables → Option FileSpec → ℕ → ℕ → ℕ → Effect
-written tables None number element word = refused tables (Ext 0x06)
-written tables (Some spec) number element word =
-    if not_integer spec.kind then refused tables (Ext 0x11)
-    else if has_word tables.specs number element then record { tables = with_word tables number element word; code = Done; reply = [] }
-    else refused tables (Ext 0x0A)
-
--- what an order does
-abbrev pub meaning : DataTables → Order → Effect
+-- what it does
+abbrev pub meaning : DataTables → Asked → Effect
 meaning tables (Echo bytes) = record { tables = tables; code = Done; reply = bytes }
-meaning tables (WriteWord number element word) = written tables (file_of tables.specs number) number element word
+meaning tables (Logical order) = meaning_of_order tables order
 
--- what a command does: its order is read, and what is read is done
-abbrev pub effect_of : DataTables → Result Order Code → Effect
-effect_of tables (Ok order) = meaning tables order
+-- what a command does: it is read, and what is read is done
+abbrev pub effect_of : DataTables → Result Asked Code → Effect
+effect_of tables (Ok asked) = meaning tables asked
 effect_of tables (Err code) = refused tables code
 
 -- STS of a code
@@ -115,7 +85,7 @@ extension_of (Ext extension) = extension ∷ []
 
 -- what the body of a command does
 abbrev pub done : DataTables → List ℕ → Effect
-done tables body = effect_of tables (order_of (slice_index body 2) (drop 6 body))
+done tables body = effect_of tables (asked_of (slice_index body 2) (drop 6 body))
 
 -- the body of the reply: the envelope's reply form with STS, then EXT STS where there is one, then the data
 abbrev pub reply_body : List ℕ → Effect → List ℕ

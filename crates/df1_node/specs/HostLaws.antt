@@ -13,11 +13,13 @@ use Rattle.df1_base.specs.declared.host.Fate.TheVariants as fate
 use Rattle.df1_base.specs.declared.host.News.TheVariants as news
 use Rattle.df1_base.specs.Host.{IsBody}
 use Rattle.pccc_envelope.specs.Envelope.{is_reply, spelling, reply_form, envelope_of}
-use Rattle.df1_node.specs.declared.file_spec.FileSpec.{FileSpec}
 use Rattle.df1_node.specs.declared.handed.Handed.{Handed}
 use Rattle.df1_node.specs.declared.handed.Handed.TheVariants as handed
-use Rattle.df1_node.specs.Tables.{DataTables, file_of, has_word}
-use Rattle.df1_node.specs.Answer.{StationState, Order, Echo, WriteWord, Effect, not_integer, is_write, order_of, effect_of, written, extension_of, status_of, done, reply_to}
+use Rattle.data_files.specs.Effect.{Effect, is_refusal}
+use Rattle.data_files.specs.Tables.{DataTables}
+use Rattle.slc_commands.specs.Order.{Order, order_of}
+use Rattle.slc_commands.proofs.Replies.{reply-fits}
+use Rattle.df1_node.specs.Answer.{StationState, Asked, Echo, Logical, diagnostic, logical, asked_of, meaning, effect_of, extension_of, status_of, done, reply_to}
 use Rattle.df1_node.specs.Initiator.{InitiatorState, Standing, Waiting, Out, Answered, Undelivered, Unanswered, Issued, is_waiting, is_out, is_last_tick, cleared, restated, next_place, next_command, answered_place, is_out_at, after_reply, after_hand_out, ticked, unanswered_from, all_cleared}
 use Rattle.df1_node.specs.Node.{NodeState, after_accept, next_body, after_next, is_handed, is_out as awaits, gone_unanswered, news_told, initiator_after, after_told, after_tick, after_clear, holds_bodies, has_room}
 
@@ -222,48 +224,47 @@ replies-either false xs ys first other = other
 -- ---- a reply is a body
 
 -- EXT STS and the data of a reply have at most 244 bytes
-abbrev FitsReply : Effect → Type 0
-FitsReply e = length (extension_of e.code) + length e.reply ≤ 244
-
-abbrev FitsOrder : Result Order Code → Type 0
-FitsOrder (Ok (Echo bytes)) = length bytes ≤ 244
-FitsOrder (Ok (WriteWord number element word)) = Unit {0}
-FitsOrder (Err code) = Unit {0}
+abbrev IsShort : Effect → Type 0
+IsShort e = length (extension_of e.code) + length e.reply ≤ 244
 
 code-short : (code : Code) → length (extension_of code) ≤ 1
 code-short Done = omega arith
 code-short (Sts status) = omega arith
 code-short (Ext extension) = omega arith
 
-effect-either : (b : Bool) (e f : Effect) → FitsReply e → FitsReply f → FitsReply (cond b e f)
-effect-either true e f first other = first
-effect-either false e f first other = other
+pub code-done : (code : Code) (reply : List ℕ) → length reply ≤ 244 → (IsTrue (is_refusal code) → reply ≡ []) → length (extension_of code) + length reply ≤ 244
+code-done Done reply short alone = omega (arith, short)
+code-done (Sts status) reply short alone = rw (alone refl) (omega arith)
+code-done (Ext extension) reply short alone = rw (alone refl) (omega arith)
 
-written-fits : (tables : DataTables) (file : Option FileSpec) (number element word : ℕ) → FitsReply (written tables file number element word)
-written-fits tables None number element word = omega arith
-written-fits tables (Some spec) number element word =
-    effect-either (not_integer spec.kind) _ _ (omega arith) (effect-either (has_word tables.specs number element) _ _ (omega arith) (omega arith))
+order-short : (tables : DataTables) (order : Order) → IsShort (meaning tables (Logical order))
+order-short tables order = let fits = reply-fits tables order in code-done (meaning tables (Logical order)).code (meaning tables (Logical order)).reply fits.short fits.alone
 
-effect-fits : (tables : DataTables) (order : Result Order Code) → FitsOrder order → FitsReply (effect_of tables order)
-effect-fits tables (Ok (Echo bytes)) fits = omega (arith, fits)
-effect-fits tables (Ok (WriteWord number element word)) fits = written-fits tables (file_of tables.specs number) number element word
-effect-fits tables (Err code) fits = let short = code-short code in omega (arith, short)
+read-short : (tables : DataTables) (read : Result Order Code) → IsShort (effect_of tables (logical read))
+read-short tables (Ok order) = order-short tables order
+read-short tables (Err code) = let short = code-short code in omega (arith, short)
 
-order-either : (b : Bool) (o p : Result Order Code) → FitsOrder o → FitsOrder p → FitsOrder (cond b o p)
-order-either true o p first other = first
-order-either false o p first other = other
+diagnostic-short : (tables : DataTables) (payload : List ℕ) → length payload ≤ 244 → IsShort (effect_of tables (diagnostic payload))
+diagnostic-short tables [] few = omega arith
+diagnostic-short tables (fnc ∷ rest) few = at (fnc == 0x00)
+  where
+    at : (echo : Bool) → IsShort (effect_of tables (cond echo (Ok (Echo rest)) (Err (Sts 0x10))))
+    at true = omega (arith, few)
+    at false = omega arith
 
-order-fits : (cmd : ℕ) (rest : List ℕ) → length rest ≤ 244 → FitsOrder (order_of cmd rest)
-order-fits cmd [] short = tt
-order-fits cmd (fnc ∷ rest) short =
-    order-either ((cmd == 0x06) && (fnc == 0x00)) _ _ (omega arith)
-    (order-either ((cmd == 0x0F) && (fnc == 0xAA)) _ _ (order-either (is_write rest) _ _ tt tt) tt)
+either-short : (tables : DataTables) (b : Bool) (x y : Result Asked Code) → IsShort (effect_of tables x) → IsShort (effect_of tables y) → IsShort (effect_of tables (cond b x y))
+either-short tables true x y first other = first
+either-short tables false x y first other = other
+
+effect-short : (tables : DataTables) (cmd : ℕ) (payload : List ℕ) → length payload ≤ 244 → IsShort (effect_of tables (asked_of cmd payload))
+effect-short tables cmd payload few =
+    either-short tables (cmd == 0x06) _ _ (diagnostic-short tables payload few) (either-short tables (cmd == 0x0F) _ _ (read-short tables (order_of payload)) (omega arith))
 
 -- the reply to a body is one
-reply-body : (station : StationState) (body : List ℕ) → IsBody body → IsBody (reply_to station body)
+pub reply-body : (station : StationState) (body : List ℕ) → IsBody body → IsBody (reply_to station body)
 reply-body station body is =
     let rest : length (drop 6 body) ≤ 244 = omega (arith, length-drop 6 body, is.1) in
-    let fits : FitsReply (done station.tables body) = effect-fits station.tables (order_of (slice_index body 2) (drop 6 body)) (order-fits (slice_index body 2) (drop 6 body) rest) in
+    let fits : IsShort (done station.tables body) = effect-short station.tables (slice_index body 2) (drop 6 body) rest in
     let effect = done station.tables body in
     let front = spelling (reply_form (envelope_of body) (status_of effect.code)) in
     let whole : length (front ++ extension_of effect.code ++ effect.reply) ≡ 6 + length (extension_of effect.code) + length effect.reply =

@@ -3,6 +3,3 @@ pub mod Commands
 pub mod HostLaws
 pub mod Initiator
 pub mod Node
-pub mod TableFiles
-pub mod Tables
-pub mod Words

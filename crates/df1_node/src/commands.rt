@@ -3,15 +3,18 @@
 //! | CMD, FNC | Command |
 //! |---|---|
 //! | 06, 00 | echo: the reply's data is what follows FNC |
-//! | 0F, AA | logical write of one word of an integer file, by three fields |
+//! | 0F, A1, A2, A9, AA, AB | the logical commands |
 //!
 //! Every other command is refused with STS 10.
 ghost use Rattle.std.specs.Prelude.{◌≡◌, ◌+◌, ◌≤◌, [], length};
-ghost use Rattle.df1_node.specs.Answer.{effect_of, extension_of, order_of, write_order};
+ghost use Rattle.data_files.specs.Tables.{DataTables};
+ghost use Rattle.df1_node.specs.Answer.{asked_of, diagnostic, effect_of, extension_of, logical};
+ghost use Rattle.slc_commands.specs.Order.{order_of};
 
 use crate::Tables;
 use arrayvec::ArrayVec;
-use df1_base::{Code, FileType};
+use df1_base::Code;
+use slc_commands::{do_slc, read_slc};
 
 /// CMD of the diagnostic commands.
 const DIAGNOSTIC: u8 = 0x06;
@@ -19,23 +22,11 @@ const DIAGNOSTIC: u8 = 0x06;
 /// FNC of the echo.
 const ECHO: u8 = 0x00;
 
-/// CMD of the commands with a function byte.
-const EXTENDED: u8 = 0x0F;
+/// CMD of the logical commands.
+const LOGICAL: u8 = 0x0F;
 
-/// FNC of the logical write by three fields.
-const LOGICAL_WRITE_3: u8 = 0xAA;
-
-/// STS: the command is none of the table, or is not formed as its row says.
+/// STS: the command is none of the table.
 const ILLEGAL: Code = Code::Sts(0x10);
-
-/// EXT STS: there is no such file.
-const NO_SUCH_FILE: Code = Code::Ext(0x06);
-
-/// EXT STS: the element is past the end of the file.
-const PAST_THE_END: Code = Code::Ext(0x0A);
-
-/// EXT STS: the file is of another type.
-const OTHER_TYPE: Code = Code::Ext(0x11);
 
 /// Executes a command of this CMD, whose payload is what follows TNS, and replaces `out` by the data of its reply.
 pub(crate) fn execute(
@@ -45,45 +36,51 @@ pub(crate) fn execute(
     out: &mut ArrayVec<u8, 244>,
 ) -> Code
     requires { length payload.now ≤ 244 }
-    ensures code { result ≡ (effect_of tables.old (order_of cmd payload.now)).code }
-    ensures tables { tables.new ≡ (effect_of tables.old (order_of cmd payload.now)).tables }
-    ensures reply { out.new.items ≡ (effect_of tables.old (order_of cmd payload.now)).reply }
+    ensures code { result ≡ (effect_of tables.old (asked_of cmd payload.now)).code }
+    ensures tables { tables.new ≡ (effect_of tables.old (asked_of cmd payload.now)).tables }
+    ensures reply { out.new.items ≡ (effect_of tables.old (asked_of cmd payload.now)).reply }
     ensures files { tables.new.specs ≡ tables.old.specs }
     ensures fits { length (extension_of result) + length out.new.items ≤ 244 }
 {
     out.clear();
-    let [fnc, rest @ ..] = payload else {
-        return ILLEGAL;
-    };
-    match (cmd, *fnc) {
-        (DIAGNOSTIC, ECHO) => {
-            out.try_extend_from_slice(rest).unwrap();
-            Code::Done
-        }
-        (EXTENDED, LOGICAL_WRITE_3) => write_word(tables, rest),
+    match cmd {
+        DIAGNOSTIC => diagnose(payload, out),
+        LOGICAL => execute_logical(tables, payload, out),
         _ => ILLEGAL,
     }
 }
 
-/// A logical write of one word: the size 02, the file, the type 89, the element, the sub-element 00 and the word.
-fn write_word(tables: &mut Tables, rest: &[u8]) -> Code
-    ensures code { result ≡ (effect_of tables.old (write_order rest.now)).code }
-    ensures tables { tables.new ≡ (effect_of tables.old (write_order rest.now)).tables }
-    ensures reply { (effect_of tables.old (write_order rest.now)).reply ≡ [] }
-    ensures files { tables.new.specs ≡ tables.old.specs }
-    ensures fits { length (extension_of result) ≤ 1 }
+/// Executes a diagnostic command, and writes the data of its reply into an empty `out`.
+fn diagnose(payload: &[u8], out: &mut ArrayVec<u8, 244>) -> Code
+    requires size { length payload.now ≤ 244 }
+    requires empty { out.old.items ≡ [] }
+    ensures code { (tables : DataTables) → result ≡ (effect_of tables (diagnostic payload.now)).code }
+    ensures tables { (tables : DataTables) → tables ≡ (effect_of tables (diagnostic payload.now)).tables }
+    ensures reply { (tables : DataTables) → out.new.items ≡ (effect_of tables (diagnostic payload.now)).reply }
+    ensures fits { length (extension_of result) + length out.new.items ≤ 244 }
 {
-    let [0x02, file, 0x89, element, 0x00, low, high] = rest else {
-        return ILLEGAL;
-    };
-    if *file == 0xFF || *element == 0xFF {
-        return ILLEGAL;
+    match payload {
+        [ECHO, bytes @ ..] => {
+            out.try_extend_from_slice(bytes).unwrap();
+            Code::Done
+        }
+        _ => ILLEGAL,
     }
-    let word = u16::from_le_bytes([*low, *high]);
-    match tables.spec(*file as u16) {
-        None => NO_SUCH_FILE,
-        Some(spec) if spec.kind != FileType::Integer => OTHER_TYPE,
-        Some(_) if tables.set(*file as u16, *element as u32, word) => Code::Done,
-        Some(_) => PAST_THE_END,
+}
+
+/// Executes a logical command, and replaces `out` by the data of its reply.
+fn execute_logical(tables: &mut Tables, payload: &[u8], out: &mut ArrayVec<u8, 244>) -> Code
+    ensures code { result ≡ (effect_of tables.old (logical (order_of payload.now))).code }
+    ensures tables { tables.new ≡ (effect_of tables.old (logical (order_of payload.now))).tables }
+    ensures reply { out.new.items ≡ (effect_of tables.old (logical (order_of payload.now))).reply }
+    ensures files { tables.new.specs ≡ tables.old.specs }
+    ensures fits { length (extension_of result) + length out.new.items ≤ 244 }
+{
+    match read_slc(payload) {
+        Ok(order) => do_slc(tables, &order, out),
+        Err(code) => {
+            out.clear();
+            code
+        }
     }
 }

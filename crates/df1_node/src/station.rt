@@ -30,8 +30,8 @@ pub struct Station {
 
 impl Model for Station {
     ghost use Rattle.df1_node.specs.Answer.{StationState, station_code, fits_compat};
-    ghost use Rattle.df1_node.specs.Tables.{tables_code};
-    ghost use Rattle.df1_node.specs.contracts.file_spec.FileSpec as spec;
+    ghost use Rattle.data_files.specs.Tables.{tables_code};
+    ghost use Rattle.data_files.specs.contracts.file_spec.FileSpec as spec;
     ghost use Rattle.std.specs.Prelude.{IsTrue};
 
     ghost Value = { StationState };

@@ -1,7 +1,5 @@
-//! Worked tables, answers and exchanges.
-use crate::{
-    FileSpec, Initiator, IssueFault, MakeFault, Node, NodeSetup, Outcome, Station, Tables,
-};
+//! Worked answers and exchanges.
+use crate::{FileSpec, Initiator, IssueFault, Node, NodeSetup, Outcome, Station, Tables};
 use arrayvec::ArrayVec;
 use df1_base::{Did, Fate, FileType, Host, News};
 use std::test::Fail;
@@ -12,56 +10,8 @@ const INTEGERS: FileSpec = FileSpec {
     count: 16,
 };
 
-#[test]
-fn tables_are_refused_at_their_first_fault(rt: HostRuntime) {
-    let many = [INTEGERS; 257];
-    let none = FileSpec {
-        count: 0,
-        ..INTEGERS
-    };
-    let large = FileSpec {
-        count: 1001,
-        ..INTEGERS
-    };
-    assert_eq!(rt;
-        Tables::new(rt.alloc(), &many).err(),
-        Some(MakeFault::TooMany)
-    );
-    assert_eq!(rt;
-        Tables::new(rt.alloc(), &[none]).err(),
-        Some(MakeFault::Empty(7))
-    );
-    assert_eq!(rt;
-        Tables::new(rt.alloc(), &[large]).err(),
-        Some(MakeFault::Large(7))
-    );
-    assert_eq!(rt;
-        Tables::new(rt.alloc(), &[INTEGERS, INTEGERS]).err(),
-        Some(MakeFault::Twice(7))
-    );
-}
-
-#[test]
-fn words_are_read_and_set_where_they_are(rt: HostRuntime) -> Result<(), Fail> {
-    let timers = FileSpec {
-        number: 4,
-        kind: FileType::Timer,
-        count: 2,
-    };
-    let mut tables = Tables::new(rt.alloc(), &[INTEGERS, timers])?;
-    assert_eq!(rt; tables.files(), 2);
-    assert_eq!(rt; tables.spec_at(1), Some(timers));
-    assert_eq!(rt; tables.spec(9), None);
-    assert!(rt; tables.set(4, 5, 0xABCD));
-    assert!(rt; !tables.set(4, 6, 1));
-    assert_eq!(rt; tables.word(4, 5), Some(0xABCD));
-    assert_eq!(rt; tables.word(7, 5), Some(0));
-    assert_eq!(rt; tables.word(7, 16), None);
-    Ok(())
-}
-
-/// Commands to node 1, and the replies to them.
-const ANSWERS: [(&[u8], &[u8]); 6] = [
+/// Commands to node 1, and the replies to them, in this order; the words 1234 and 5678 stand in N7:0 and N7:1 at first.
+const ANSWERS: [(&[u8], &[u8]); 12] = [
     (
         b"\x01\x00\x06\x00\x01\x00\x00\xE2",
         b"\x00\x01\x46\x00\x01\x00\xE2",
@@ -69,22 +19,44 @@ const ANSWERS: [(&[u8], &[u8]); 6] = [
     (b"\x01\x00\x06\x00\x01\x00\x04", b"\x00\x01\x46\x10\x01\x00"),
     (b"\x01\x00\x06\x00\x01\x00", b"\x00\x01\x46\x10\x01\x00"),
     (
+        b"\x01\x00\x0F\x00\x01\x00\xA1\x02\x07\x89\x01",
+        b"\x00\x01\x4F\x00\x01\x00\x78\x56",
+    ),
+    (
+        b"\x01\x00\x0F\x00\x01\x00\xA2\x04\x07\x89\x00\x00",
+        b"\x00\x01\x4F\x00\x01\x00\x34\x12\x78\x56",
+    ),
+    (
+        b"\x01\x00\x0F\x00\x01\x00\xA9\x02\x07\x89\x02\xCD\xAB",
+        b"\x00\x01\x4F\x00\x01\x00",
+    ),
+    (
         b"\x01\x00\x0F\x00\x01\x00\xAA\x02\x07\x89\x02\x00\xCD\xAB",
         b"\x00\x01\x4F\x00\x01\x00",
+    ),
+    (
+        b"\x01\x00\x0F\x00\x01\x00\xAB\x02\x07\x89\x00\x00\xFF\x00\xCD\xAB",
+        b"\x00\x01\x4F\x00\x01\x00",
+    ),
+    (
+        b"\x01\x00\x0F\x00\x01\x00\xA2\x02\x07\x89\x10\x00",
+        b"\x00\x01\x4F\xF0\x01\x00\x0A",
     ),
     (
         b"\x01\x00\x0F\x00\x01\x00\xAA\x02\x09\x89\x02\x00\xCD\xAB",
         b"\x00\x01\x4F\xF0\x01\x00\x06",
     ),
     (
-        b"\x01\x00\x0F\x00\x01\x00\xAA\x02\x07\x89\x10\x00\xCD\xAB",
-        b"\x00\x01\x4F\xF0\x01\x00\x0A",
+        b"\x01\x00\x0F\x00\x01\x00\xA3\x02\x07\x89\x00\x00",
+        b"\x00\x01\x4F\x10\x01\x00",
     ),
+    (b"\x01\x00\x0F\x00\x01\x00", b"\x00\x01\x4F\x10\x01\x00"),
 ];
 
 #[test]
 fn a_station_answers_by_the_table(rt: HostRuntime) -> Result<(), Fail> {
-    let tables = Tables::new(rt.alloc(), &[INTEGERS])?;
+    let mut tables = Tables::new(rt.alloc(), &[INTEGERS])?;
+    assert!(rt; tables.set(7, 0, 0x1234) && tables.set(7, 1, 0x5678));
     let mut station = Station::new(tables, None, b"");
     let mut reply = ArrayVec::new();
     for (body, wanted) in ANSWERS {
@@ -94,6 +66,7 @@ fn a_station_answers_by_the_table(rt: HostRuntime) -> Result<(), Fail> {
         assert_eq!(rt; reply.as_slice(), wanted);
     }
     assert_eq!(rt; station.tables().word(7, 2), Some(0xABCD));
+    assert_eq!(rt; station.tables().word(7, 0), Some(0x12CD));
     Ok(())
 }
 

@@ -1,5 +1,5 @@
 -- What a run of `replay` that ended well shows.
-use Rattle.std.proofs.Common.{◌≡◌, ◌∙◌, ◌⊎◌, ℕ, List, Option, Some, Result, Ok, Err, OnOk, refl, sym, subst, inl, inr, arith}
+use Rattle.std.proofs.Common.{◌≡◌, ◌∙◌, ℕ, List, Option, Some, Result, Ok, Err, OnOk, refl, sym, subst, arith}
 use Rattle.df1_base.specs.Outside.{Put}
 use Rattle.line_script.specs.declared.cause.Cause.{Cause}
 use Rattle.line_script.specs.declared.script.Script.{Script}
@@ -56,9 +56,6 @@ trouble-tells Input is = omega (arith, is)
 trouble-tells Output is = omega (arith, is)
 trouble-tells NoMemory is = omega (arith, is)
 
-pub ended-well : {P R : Type 0} (ended : Result (Unit {0}) Trouble) (status : ℕ) → (status ≡ status_of ended) ⊎ ((ended ≡ Ok tt) × (status ≡ 5) × R) → status ≡ 0 → OnOk ended P → P
-ended-well (Ok done) status how zero p = p
-ended-well (Err trouble) status how zero p = absurd (elim how [
-  | inl is ↦ trouble-tells trouble (sym zero ∙ is)
-  | inr other ↦ let wrong = other.0 in cc
-])
+pub ended-well : {P : Type 0} (ended : Result (Unit {0}) Trouble) (status : ℕ) → status ≡ status_of ended → status ≡ 0 → OnOk ended P → P
+ended-well (Ok done) status is zero p = p
+ended-well (Err trouble) status is zero p = absurd (trouble-tells trouble (sym zero ∙ is))

@@ -1,2 +1,4 @@
 pub mod Limits
 pub mod Headline
+pub mod LastLineFeed
+pub mod BrokenOff

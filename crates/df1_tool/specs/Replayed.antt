@@ -1,7 +1,8 @@
 -- What a run of `replay` shows that ended well: its script, the report, each command once, and all of them where nothing
 -- disturbs the line.
 use Rattle.std.specs.Prelude.{◌≡◌, ℕ, List, Option, Ok}
-use Rattle.df1_base.specs.Outside.{Took, Put, IsAtEnd}
+use Rattle.std.specs.Io.KnownBytes.{IsAtEnd}
+use Rattle.df1_base.specs.Outside.{Took, Put}
 use Rattle.line_script.specs.declared.script.Script.{Script}
 use Rattle.line_script.specs.ScriptText.{script_of}
 use Rattle.line_report.specs.Report.{report}

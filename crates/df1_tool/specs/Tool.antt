@@ -1,7 +1,11 @@
 -- What the program answers, and with which status and note.
 use Rattle.std.specs.Prelude.{◌≡◌, ◌⊎◌, ℕ, List, [], ◌∷◌, ◌++◌, Option, Some, None, Result, Ok, Err, if◌then◌else◌, ◌==◌, is_none, codes, decimal, option_and_then}
 use Rattle.std.specs.Str.{bytes_eq}
+use Rattle.df1_base.specs.declared.whole.ReadFault.{ReadFault}
+use Rattle.df1_base.specs.declared.whole.ReadFault.TheVariants as reading
 use Rattle.line_script.specs.declared.cause.Cause.{Cause}
+use Rattle.line_script.specs.declared.cause.ScriptFault.{ScriptFault}
+use Rattle.line_script.specs.declared.cause.ScriptFault.TheVariants as script
 use Rattle.line_script.specs.declared.cause.Cause.TheVariants as cause
 use Rattle.line_script.specs.declared.script.Script.{Script}
 use Rattle.line_script.specs.ScriptText.{script_of}
@@ -33,6 +37,15 @@ answer Replay = replayed
 -- the text that is defined for these words and an input
 abbrev pub answer_of : List (List ℕ) → List ℕ → Option (List ℕ)
 answer_of words input = option_and_then (λ form. answer form input) (form_of words)
+
+-- the trouble of an input that was not read, and of a text that is no script
+abbrev pub trouble_of_reading : ReadFault → Trouble
+trouble_of_reading reading.Failed = Input
+trouble_of_reading reading.NoMemory = NoMemory
+
+abbrev pub trouble_of_script : ScriptFault → Trouble
+trouble_of_script (script.At line cause) = Refusal line cause
+trouble_of_script script.NoMemory = NoMemory
 
 abbrev pub status_of_trouble : Trouble → ℕ
 status_of_trouble Usage = 2

@@ -2,11 +2,11 @@
 #![tactic(auto)]
 
 mod form;
-mod reading;
 mod replaying;
 #[cfg(test)]
 mod tests;
 mod top;
 mod trouble;
+mod unfinished;
 
 pub use top::{Ran, run};

@@ -1,7 +1,10 @@
 //! The program, over the outside in memory.
 use crate::run;
-use df1_base::{BytesIn, BytesOut};
+use df1_base::{BytesIn, BytesOut, Failed, NoMemory, ReadFault};
+use df1_node::{IssueFault, MakeFault};
+use line_script::{Cause, LineFault, ScriptFault};
 use std::alloc::Global;
+use std::fmt::Display;
 use std::process::Abort;
 use std::test::Fail;
 
@@ -74,8 +77,25 @@ fn a_script_is_played_and_reported(rt: HostRuntime) -> Result<(), Fail> {
             "file b 7 89 16\nai 0FAA02078900003412\nak 19\nad 19\nend\n",
             "a sent 100201000F000100AA0207890000341210036D\nb exec 01000F000100AA02078900003412\nb word 7 0 1234\ndeceived 0\n",
         ),
+        // An ordinary exchange with CRC.
+        played(
+            "set check crc\nai 060055\nak 99\nad 99\nbk 99\nbd 99\nak 99\nad 99\nend\n",
+            "a sent 1002010006000100005510032901\nb exec 0100060001000055\nb sent 1006100200014600010055100360CB\na answered 1 00014600010055\na sent 1006\ndeceived 0\n",
+        ),
+        // A frame with CRC.
+        played(
+            "set check crc\nset a.node 9\nset b.node 8\nset a.tns 1026\nai 0603\nak 99\nend\n",
+            "a sent 10020809060002040310039848\ndeceived 0\n",
+        ),
+        // As many replies as may wait.
+        played("set a.room 64\nset b.room 64\nend\n", "deceived 0\n"),
         // Nothing happens.
         played("end\n", "deceived 0\n"),
+        // Words of files of every type.
+        played(
+            "file b 2 84 1\nfile b 3 85 1\nfile b 4 86 2\nfile b 5 87 1\nfile b 8 8A 2\nfile b 6 88 1\nfile b 7 89 1\nfile a 8 8A 1\nword b 7 0 abcd\nword b 2 0 0001\nword b 3 0 8000\nword b 4 5 00FF\nword b 4 0 E000\nword b 5 2 0102\nword b 8 3 3F80\nword b 6 1 1000\nword a 8 1 4048\nend\n",
+            "a word 8 1 4048\nb word 2 0 0001\nb word 3 0 8000\nb word 4 0 E000\nb word 4 5 00FF\nb word 5 2 0102\nb word 8 3 3F80\nb word 6 1 1000\nb word 7 0 ABCD\ndeceived 0\n",
+        ),
         // An ordinary exchange.
         played(
             "file b 7 89 16\nai 0FAA02078900003412\nak 99\nad 99\nbk 99\nbd 99\nak 99\nad 99\nend\n",
@@ -182,6 +202,46 @@ fn a_run_that_does_not_end_well_tells_why(rt: HostRuntime) -> Result<(), Fail> {
             out: "",
             note: "df1: input cannot be read\n",
         },
+        // A read that fails behind a line that is refused: the line came first.
+        Case {
+            words: &["replay"],
+            input: "zz\nend\n",
+            read_fails: &[4],
+            room: 4000,
+            status: 3,
+            out: "",
+            note: "df1: line 1: form\n",
+        },
+        // A read that fails before the line feed of such a line.
+        Case {
+            words: &["replay"],
+            input: "zz\nend\n",
+            read_fails: &[3],
+            room: 4000,
+            status: 4,
+            out: "",
+            note: "df1: input cannot be read\n",
+        },
+        // A read that fails where only `end` is missing.
+        Case {
+            words: &["replay"],
+            input: "ai 0600\n",
+            read_fails: &[9],
+            room: 4000,
+            status: 4,
+            out: "",
+            note: "df1: input cannot be read\n",
+        },
+        // A read that fails at the end of a script.
+        Case {
+            words: &["replay"],
+            input: "end\n",
+            read_fails: &[5],
+            room: 4000,
+            status: 4,
+            out: "",
+            note: "df1: input cannot be read\n",
+        },
         // An output that is full.
         Case {
             words: &["replay"],
@@ -199,14 +259,123 @@ fn a_run_that_does_not_end_well_tells_why(rt: HostRuntime) -> Result<(), Fail> {
     Ok(())
 }
 
-/// A script of so many commands of end a.
-fn commands(alloc: Global, count: u32) -> Result<String, Fail> {
-    let mut text = String::new(alloc);
-    for _ in 0..count {
-        text.push_str("ai 0600\n")?;
+/// Runs `replay` over a script that ends well, and compares its report.
+fn plays<R: Abort + AllocGlobal>(rt: &R, script: &str, report: &[&str]) -> Result<(), Fail> {
+    let words = words(rt.alloc(), &["replay"])?;
+    let ran = run(
+        rt.alloc(),
+        &words,
+        BytesIn::new(rt.alloc(), script.as_bytes(), 4096, &[])?,
+        BytesOut::new(rt.alloc(), 4096, 4096, &[])?,
+        BytesOut::new(rt.alloc(), 100, 100, &[])?,
+    );
+    let mut expected = String::new(rt.alloc());
+    for part in report {
+        expected.push_str(part)?;
     }
-    text.push_str("end\n")?;
-    Ok(text)
+    assert_eq!(rt; ran.status, 0);
+    assert_eq!(rt; ran.out.held(), expected.as_bytes());
+    Ok(())
+}
+
+/// This text so many times.
+fn repeated(alloc: Global, text: &str, times: u32) -> Result<String, Fail> {
+    let mut all = String::new(alloc);
+    for _ in 0..times {
+        all.push_str(text)?;
+    }
+    Ok(all)
+}
+
+#[test]
+fn the_largest_payload_is_sent(rt: HostRuntime) -> Result<(), Fail> {
+    // 245 bytes, which make a body of 250. Those of the body sum up to 20,663, so the BCC is 49.
+    let fives = repeated(rt.alloc(), "55", 243)?;
+    let script = format!(in rt.alloc(); "ai 0600{fives}\nak 999\nend\n")?;
+    plays(
+        &rt,
+        &script,
+        &["a sent 100201000600010000", &fives, "100349\ndeceived 0\n"],
+    )
+}
+
+#[test]
+fn an_end_has_256_files_of_1000_words(rt: HostRuntime) -> Result<(), Fail> {
+    let mut script = String::new(rt.alloc());
+    for number in 0..256u32 {
+        script.push_str(&format!(in rt.alloc(); "file a {number} 89 1000\n")?)?;
+    }
+    script.push_str("word a 255 999 1234\nend\n")?;
+    plays(&rt, &script, &["a word 255 999 1234\ndeceived 0\n"])
+}
+
+#[test]
+fn a_script_of_a_million_bytes_is_played(rt: HostRuntime) -> Result<(), Fail> {
+    let ticks = repeated(rt.alloc(), "at 1\n", 200_000)?;
+    let script = format!(in rt.alloc(); "{ticks}end\n")?;
+    plays(&rt, &script, &["deceived 0\n"])
+}
+
+/// Compares the text of a fault.
+fn says<R: Abort + AllocGlobal, T: Display>(rt: &R, fault: &T, text: &str) -> Result<(), Fail> {
+    let told = format!(in rt.alloc(); "{fault}")?;
+    assert_eq!(rt; told.as_str(), text);
+    Ok(())
+}
+
+#[test]
+fn faults_of_the_outside_have_texts(rt: HostRuntime) -> Result<(), Fail> {
+    says(&rt, &Failed, "a source or a sink failed")?;
+    says(&rt, &NoMemory, "no memory")?;
+    says(&rt, &ReadFault::Failed, "the input failed")?;
+    says(&rt, &ReadFault::NoMemory, "no memory")
+}
+
+#[test]
+fn faults_of_a_node_have_texts(rt: HostRuntime) -> Result<(), Fail> {
+    for (fault, text) in [
+        (MakeFault::TooMany, "over 256 files"),
+        (MakeFault::Empty(7), "file 7 has no elements"),
+        (MakeFault::Large(7), "file 7 has over 1000 elements"),
+        (MakeFault::Twice(7), "file 7 is given twice"),
+        (MakeFault::NoMemory, "no memory"),
+    ] {
+        says(&rt, &fault, text)?;
+    }
+    for (fault, text) in [
+        (IssueFault::Empty, "the payload is empty"),
+        (IssueFault::TooLong, "the payload has over 245 bytes"),
+        (IssueFault::NotCommand, "the payload is no command"),
+        (IssueFault::Spent, "65535 commands were issued"),
+        (IssueFault::NoMemory, "no memory"),
+    ] {
+        says(&rt, &fault, text)?;
+    }
+    Ok(())
+}
+
+#[test]
+fn faults_of_a_script_have_texts(rt: HostRuntime) -> Result<(), Fail> {
+    for (cause, text) in [
+        (Cause::Size, "size"),
+        (Cause::Long, "long"),
+        (Cause::After, "after"),
+        (Cause::Form, "form"),
+        (Cause::Place, "place"),
+        (Cause::Missing, "missing"),
+        (Cause::Value, "value"),
+        (Cause::Twice, "twice"),
+        (Cause::Spent, "spent"),
+        (Cause::Events, "events"),
+        (Cause::NoEnd, "open"),
+    ] {
+        says(&rt, &cause, text)?;
+        says(&rt, &LineFault::Faulty(cause), text)?;
+    }
+    says(&rt, &LineFault::NoMemory, "no memory")?;
+    let cause = Cause::Form;
+    says(&rt, &ScriptFault::At { line: 3, cause }, "line 3: form")?;
+    says(&rt, &ScriptFault::NoMemory, "no memory")
 }
 
 #[test]
@@ -214,7 +383,8 @@ fn an_end_issues_65535_commands_and_no_more(rt: HostRuntime) -> Result<(), Fail>
     let words = words(rt.alloc(), &["replay"])?;
     let expected: [(u32, u8, &str); 2] = [(65_535, 0, ""), (65_536, 3, "df1: line 65536: spent\n")];
     for (count, status, note) in expected {
-        let text = commands(rt.alloc(), count)?;
+        let mut text = repeated(rt.alloc(), "ai 0600\n", count)?;
+        text.push_str("end\n")?;
         let ran = run(
             rt.alloc(),
             &words,

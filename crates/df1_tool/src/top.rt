@@ -5,27 +5,24 @@
 //! | 0 | the input was read to its end and all text was written |
 //! | 2 | exactly where the words are none of the forms |
 //! | 3 | exactly where the input is no script: the note tells its first faulty line and the cause |
-//! | 4 | only where the input's count of faults rose |
-//! | 5 | only where the count of faults of the output, or of the note, rose |
+//! | 4 | only where the input's count of faults rose, and no line was refused before |
+//! | 5 | only where the output's count of faults rose |
 //! | 7 | want of memory |
-ghost use Rattle.std.specs.Prelude.{◌≡◌, ◌⊎◌, ◌↔◌, ◌≤◌, List, ℕ, [], None, Ok, map, unwrap_or, string_bytes, OnOk, IfErr, IsErrOf, ◌≢◌, MatchResult, Some};
+ghost use Rattle.std.specs.Prelude.{◌≡◌, ◌⊎◌, ◌↔◌, ◌≤◌, ◌≢◌, List, ℕ, [], None, Some, Ok, map, string_bytes, OnOk, IfErr, IsErrOf, MatchResult};
 ghost use Rattle.std.specs.Option.{ForSome};
-ghost use Rattle.df1_base.specs.Outside.{Rose, Put, WrotePart};
-ghost use Rattle.df1_tool.specs.Outcome.{Answered, Refused, TellsRefusal};
+ghost use Rattle.df1_base.specs.Outside.{Rose};
+ghost use Rattle.df1_tool.specs.Outcome.{Answered, BrokenOff, IsNoted, Refused, TellsRefusal, Written};
 ghost use Rattle.df1_tool.specs.Replayed.{Replayed};
 ghost use Rattle.df1_tool.specs.declared.form.Form.TheVariants.{Replay};
+ghost use Rattle.df1_tool.specs.declared.trouble.Trouble.{Trouble as Ending};
 ghost use Rattle.df1_tool.specs.Tool.{answer_of, form_of as the_form, IsStatus, line_note, note_at, note_of, status_of, status_for};
 ghost use Rattle.line_script.specs.declared.cause.Cause.{Cause as Fault};
 
 use crate::form::{Form, form_of};
-use crate::reading::read_beyond;
 use crate::replaying;
 use crate::trouble::Trouble;
-use df1_base::{Failed, Sink, Source, write_all};
+use df1_base::{Sink, Source, write_all};
 use std::alloc::Global;
-
-/// The longest script, in bytes.
-const SCRIPT: usize = 16_777_216;
 
 /// How a run ended, with what it was given of the outside world, as the run left it.
 #[derive(Drop)]
@@ -48,41 +45,38 @@ fn perform<S: Source, K: Sink>(
     out: &mut K,
 ) -> Result<(), Trouble>
     ensures usage { IsErrOf result Trouble.Usage ↔ (the_form (map string_bytes words.now) ≡ None) }
-    ensures untouched { IsErrOf result Trouble.Usage → (input.new ≡ input.old) × (out.new ≡ out.old) }
+    ensures untouched { IsErrOf result Trouble.Usage → input.new ≡ input.old }
     ensures done { OnOk result (Answered (answer_of (map string_bytes words.now))
         (S.left input.old) (S.left input.new) (K.held out.old) (K.held out.new)) }
-    ensures refusal { IfErr result (TellsRefusal (λ line fault.
-        Refused (S.left input.old) (S.left input.new) line fault × (out.new ≡ out.old))) }
-    ensures input { IsErrOf result Trouble.Input → Rose (S.faults input.old) (S.faults input.new) }
-    ensures output { IsErrOf result Trouble.Output → Rose (K.faults out.old) (K.faults out.new) }
-    ensures part { ForSome (S.left input.old) (λ bytes. WrotePart (K.held out.old) (K.held out.new)
-        (unwrap_or (answer_of (map string_bytes words.now) bytes) [])) }
+    ensures calm { OnOk result ((S.faults input.new ≡ S.faults input.old) × (K.faults out.new ≡ K.faults out.old)) }
+    ensures refusal { IfErr result (TellsRefusal (Refused (S.left input.old) (S.left input.new) (S.faults input.old) (S.faults input.new))) }
+    ensures input { IsErrOf result Trouble.Input →
+        BrokenOff (S.left input.old) (S.left input.new) (S.faults input.old) (S.faults input.new) }
+    ensures output { IsErrOf result Trouble.Output →
+        Rose (K.faults out.old) (K.faults out.new) × (S.faults input.new ≡ S.faults input.old) }
+    ensures memory { IsErrOf result Trouble.NoMemory →
+        (S.faults input.new ≡ S.faults input.old) ⊎ Rose (S.faults input.old) (S.faults input.new) }
+    ensures silent { IfErr result (λ trouble. trouble ≢ Ending.Output → out.new ≡ out.old) }
+    ensures written { Written (answer_of (map string_bytes words.now))
+        (S.left input.old) (S.left input.new) (K.held out.old) (K.held out.new) }
 {
     let Some(form) = form_of(words) else {
         return Err(Trouble::Usage);
     };
-    let bytes = match read_beyond(alloc, input, SCRIPT) {
-        Ok(bytes) => bytes,
-        Err(trouble) => return Err(trouble),
-    };
     match form {
-        Form::Replay => replaying::answer(alloc, &bytes, out),
+        Form::Replay => replaying::answer(alloc, input, out),
     }
 }
 
-/// Writes the note of a run that ended so, once, and answers the status. Where the note fails, 5 stands in the place of 0.
+/// Writes the note of a run that ended so, where it has one, once, and answers the status. A note that fails changes no
+/// status.
 fn tell<N: Sink>(ended: Result<(), Trouble>, note: &mut N) -> u8
-    ensures status { (result ≡ status_of ended)
-        ⊎ ((ended ≡ Ok tt) × (result ≡ 5) × Rose (N.faults note.old) (N.faults note.new)) }
-    ensures note { ¬ Rose (N.faults note.old) (N.faults note.new) → MatchResult ended
-        (λ _. Put (N.held note.old) (N.held note.new) [])
-        (λ trouble. Put (N.held note.old) (N.held note.new) (note_of trouble)) }
+    ensures status { result ≡ status_of ended }
+    ensures note { MatchResult ended (λ _. note.new ≡ note.old)
+        (λ trouble. IsNoted (N.held note.old) (N.held note.new) (N.faults note.old) (N.faults note.new) (note_of trouble)) }
 {
     match ended {
-        Ok(()) => match write_all(note, b"") {
-            Ok(()) => 0,
-            Err(Failed) => Trouble::Output.status(),
-        },
+        Ok(()) => 0,
         Err(trouble) => {
             let _ = write_all(note, &trouble.note());
             trouble.status()
@@ -101,42 +95,49 @@ pub fn run<S: Source, K: Sink, N: Sink>(
 ) -> Ran<S, K, N>
     ensures status { IsStatus result.status }
 
-    // 2 is for words that are none of the forms, and nothing is touched.
+    // 2 is for words that are none of the forms.
     ensures usage { (result.status ≡ 2) ↔ (the_form (map string_bytes words.now) ≡ None) }
-    ensures untouched { result.status ≡ 2 → (result.input ≡ input) × (result.out ≡ out) }
+    ensures untouched { result.status ≡ 2 → result.input ≡ input }
 
-    // 0: the input is read to its end, and its answer written.
+    // The output is as it was but for 0 and 5.
+    ensures silent { result.status ≢ 0 → result.status ≢ 5 → result.out ≡ out }
+
+    // 0: the input is read to its end, and its answer written; nothing has failed, and no note is written.
     ensures done { result.status ≡ 0 → Answered (answer_of (map string_bytes words.now))
         (S.left input) (S.left result.input) (K.held out) (K.held result.out) }
+    ensures calm { result.status ≡ 0 →
+        (S.faults result.input ≡ S.faults input) × (K.faults result.out ≡ K.faults out) × (result.note ≡ note) }
 
-    // 0 of `replay`: the report of the script's run is written. Unless an end was deceived, each command was executed at
-    // most once, in order, and accepted replies are the station's to that very command. Where nothing disturbs the line,
-    // all commands were executed and answered.
+    // 0 of `replay`: the report of the script's run is written. Unless an end was deceived, each station executed commands
+    // that were issued to it, in their order, each once, and accepted replies are what it answered to that very command.
+    // Where nothing disturbs the line, all commands were executed and answered.
     ensures replayed { the_form (map string_bytes words.now) ≡ Some Replay → result.status ≡ 0 →
         Replayed (S.left input) (S.left result.input) (K.held out) (K.held result.out) }
 
     // 3: the bytes taken show the first faulty line and its cause, and the note tells them.
-    ensures refusal { result.status ≡ 3 → (line : ℕ) × (fault : Fault) × Refused (S.left input) (S.left result.input) line fault
-        × (result.out ≡ out)
-        × (¬ Rose (N.faults note) (N.faults result.note) → Put (N.held note) (N.held result.note) (line_note line fault)) }
+    ensures refusal { result.status ≡ 3 → (line : ℕ) × (fault : Fault)
+        × Refused (S.left input) (S.left result.input) (S.faults input) (S.faults result.input) line fault
+        × IsNoted (N.held note) (N.held result.note) (N.faults note) (N.faults result.note) (line_note line fault) }
 
-    // 4 and 5: something has failed.
-    ensures input { result.status ≡ 4 → Rose (S.faults input) (S.faults result.input) }
+    // 4 and 5: the input has failed, or the output.
+    ensures input { result.status ≡ 4 →
+        BrokenOff (S.left input) (S.left result.input) (S.faults input) (S.faults result.input) }
     ensures output { result.status ≡ 5 →
-        Rose (K.faults out) (K.faults result.out) ⊎ Rose (N.faults note) (N.faults result.note) }
+        Rose (K.faults out) (K.faults result.out) × (S.faults result.input ≡ S.faults input) }
+    ensures memory { result.status ≡ 7 →
+        (S.faults result.input ≡ S.faults input) ⊎ Rose (S.faults input) (S.faults result.input) }
 
-    // Where nothing has failed, the status is the one that is defined, or there was no memory.
+    // Where neither has failed, the status is the one that is defined, or there was no memory.
     ensures exact { ¬ Rose (S.faults input) (S.faults result.input)
         → ¬ Rose (K.faults out) (K.faults result.out)
-        → ¬ Rose (N.faults note) (N.faults result.note)
         → ForSome (S.left input) (λ bytes.
         (result.status ≡ status_for (map string_bytes words.now) bytes) ⊎ (result.status ≡ 7)) }
 
-    // Whatever the status, a part of the answer is written and nothing else.
-    ensures part { ForSome (S.left input) (λ bytes. WrotePart (K.held out) (K.held result.out)
-        (unwrap_or (answer_of (map string_bytes words.now) bytes) [])) }
-    ensures note { ¬ Rose (N.faults note) (N.faults result.note) → result.status ≢ 3
-        → Put (N.held note) (N.held result.note) (note_at result.status) }
+    // Whatever the status, a part of the answer to the bytes taken is written and nothing else, and so is the note.
+    ensures written { Written (answer_of (map string_bytes words.now))
+        (S.left input) (S.left result.input) (K.held out) (K.held result.out) }
+    ensures note { result.status ≢ 0 → result.status ≢ 3 →
+        IsNoted (N.held note) (N.held result.note) (N.faults note) (N.faults result.note) (note_at result.status) }
 {
     let ended = perform(alloc, words, &mut input, &mut out);
     let status = tell(ended, &mut note);

@@ -12,7 +12,8 @@ ghost use Rattle.arrayvec.specs.ArrayVec.{array_vec_len};
 ghost use Rattle.df1_tool.specs.Tool.{status_of_trouble, note_of, cause_text, line_note};
 
 use arrayvec::ArrayVec;
-use line_script::Cause;
+use df1_base::{NoMemory, ReadFault};
+use line_script::{Cause, ScriptFault};
 
 /// Room for a note, in bytes.
 const NOTE: usize = 96;
@@ -26,10 +27,49 @@ pub(crate) enum Trouble {
     Refusal(u32, Cause),
     /// The input has failed.
     Input,
-    /// The output, or the note, has failed.
+    /// The output has failed.
     Output,
     /// There is no memory left.
     NoMemory,
+}
+
+impl From<ReadFault> for Trouble {
+    ghost use Rattle.std.specs.Prelude.{◌≡◌};
+    ghost use Rattle.df1_tool.specs.Tool.{trouble_of_reading};
+
+    ghost from_gives = { λ fault e. e ≡ trouble_of_reading fault };
+
+    fn from(fault: ReadFault) -> Self {
+        match fault {
+            ReadFault::Failed => Trouble::Input,
+            ReadFault::NoMemory => Trouble::NoMemory,
+        }
+    }
+}
+
+impl From<ScriptFault> for Trouble {
+    ghost use Rattle.std.specs.Prelude.{◌≡◌};
+    ghost use Rattle.df1_tool.specs.Tool.{trouble_of_script};
+
+    ghost from_gives = { λ fault e. e ≡ trouble_of_script fault };
+
+    fn from(fault: ScriptFault) -> Self {
+        match fault {
+            ScriptFault::At { line, cause } => Trouble::Refusal(line, cause),
+            ScriptFault::NoMemory => Trouble::NoMemory,
+        }
+    }
+}
+
+impl From<NoMemory> for Trouble {
+    ghost use Rattle.std.specs.Prelude.{◌≡◌};
+    ghost use Rattle.df1_tool.specs.declared.trouble.Trouble.TheVariants.{NoMemory as Wanting};
+
+    ghost from_gives = { λ _ e. e ≡ Wanting };
+
+    fn from(_: NoMemory) -> Self {
+        Trouble::NoMemory
+    }
 }
 
 impl Trouble {

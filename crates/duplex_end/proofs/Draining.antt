@@ -1,55 +1,26 @@
 -- Takes until nothing is given.
-use Rattle.std.proofs.Common.{◌≡◌, ℕ, zero, suc, ◌+◌, ◌≤◌, Bool, true, false, List, length, Option, Some, None, IsSome, IsNone, is_some, is_none, ap, ◌∙◌, refl, arith, length-append}
+use Rattle.std.proofs.Common.{◌≡◌, ℕ, zero, suc, ◌+◌, ◌≤◌, Bool, true, false, List, length, Option, Some, None, IsSome, IsNone, is_some, is_none, [], ◌∷◌, ◌++◌, ap, sym, subst, ◌∙◌, refl, arith, length-append}
 use Rattle.std.specs.Prelude.{option_to_list, if◌then◌else◌}
 use Rattle.df1_base.specs.declared.host.Host.{Ghosts}
 use Rattle.df1_base.specs.declared.link.Out.{Out}
 use Rattle.duplex_sender.specs.declared.Limits.{Limits}
 use Rattle.duplex_sender.specs.declared.Phase.{Phase}
 use Rattle.duplex_sender.specs.declared.Phase.TheVariants as phase
-use Rattle.duplex_sender.specs.Sender.{SenderState, Activity, Idle, Sending, Waiting, phase_of, body_of, sent_last}
-use Rattle.embedded_response.specs.Giving.{Giving, Choice, Second, Respond, Give, Enquire, chosen, given, take}
-use Rattle.duplex_end.specs.End.{EndState, after_out, ends_here, begun_at, begun_next, prepared, given_next, end_after_take, out_at_take}
+use Rattle.duplex_sender.specs.Sender.{Activity, Idle, Sending, Waiting, phase_of, body_of, sent_last}
+use Rattle.embedded_response.specs.Giving.{Giving, Choice, chosen, take}
+use Rattle.duplex_end.specs.End.{EndState, Place, taken, next_place, ends_here, begun_at, begun_next, prepared, given_next, end_after_take, out_at_take}
 use Rattle.duplex_end.specs.Joined.{Joined, IsShort, most_left}
-use Rattle.duplex_end.specs.Emission.{Take, end_after_all, emission, takes, drain, BodiesFit}
-use Rattle.duplex_end.proofs.Joining.{begin-fewer, begin-gives, take-fewer, most}
+use Rattle.duplex_end.specs.Emission.{Take, end_after_all, emission, takes, Drains, gives_none, gives_one}
+use Rattle.duplex_end.specs.Reached.{BodiesFit}
+use Rattle.duplex_end.proofs.Joining.{begin-fewer, take-fewer, most}
+use Rattle.duplex_end.proofs.Order.{end-is, out-is, nothing-there}
 use Rattle.duplex_end.proofs.Runs.{next-fits, prepared-joined, signal-joined}
 
 -- ---- nothing to give
 
-given-none : (g : Giving) (c : Option Choice) → IsNone (given g c).1 → (given g c).0 ≡ g
-given-none g None none = refl
-given-none g (Some (Second out)) none = absurd (grind arith)
-given-none g (Some (Respond r)) none = absurd (grind arith)
-given-none g (Some (Give unit)) none = absurd (grind arith)
-given-none g (Some Enquire) none = absurd (grind arith)
-
--- a transmission that is begun gives a byte
-begun-same : {H : Type 0} (m : Ghosts H) (e : EndState H) (at : Phase) (next : Option (List ℕ)) → chosen e.mouth ≡ None → IsNone (take (begun_at m e at next).mouth).1 → begun_at m e at next ≡ e
-begun-same m e phase.Idle None is none = refl
-begun-same m e phase.Idle (Some body) is none = absurd (let gives = begin-gives e.mouth body is in grind arith)
-begun-same m e phase.Sending next is none = absurd (let gives = begin-gives e.mouth (body_of e.sender) is in grind arith)
-begun-same m e phase.Waiting next is none = refl
-
-chosen-same : {H : Type 0} (m : Ghosts H) (e : EndState H) (c : Option Choice) → chosen e.mouth ≡ c → IsNone (take (if is_none c then begun_next m e else e).mouth).1 → (if is_none c then begun_next m e else e) ≡ e
-chosen-same m e None is none = begun-same m e (phase_of e.sender) (m.next_body e.host) is none
-chosen-same m e (Some c) is none = refl
-
-prepared-same : {H : Type 0} (m : Ghosts H) (e : EndState H) → IsNone (out_at_take m e) → prepared m e ≡ e
-prepared-same m e none = chosen-same m e (chosen e.mouth) refl none
-
-out-none : (out : Option Out) (s : SenderState) → IsNone out → after_out out s ≡ s
-out-none None s none = refl
-out-none (Some out) s none = absurd (grind arith)
-
-given-same : {H : Type 0} (e : EndState H) → IsNone (take e.mouth).1 → given_next e ≡ e
-given-same {H} e none =
-    let from : Giving → SenderState → EndState H = λ g s. record { receiver = e.receiver; sender = s; mouth = g; sending = e.sending; host = e.host } in
-    ap (λ (g : Giving). from g (after_out (take e.mouth).1 e.sender)) (given-none e.mouth (chosen e.mouth) none)
-    ∙ ap (λ (s : SenderState). from e.mouth s) (out-none (take e.mouth).1 e.sender none)
-
 -- where nothing is to be given, a take changes nothing
 pub quiet-same : {H : Type 0} (m : Ghosts H) (e : EndState H) → IsNone (out_at_take m e) → end_after_take m e ≡ e
-quiet-same m e none = given-same (prepared m e) none ∙ prepared-same m e none
+quiet-same {H} m e none = ap (λ (p : Option Place). (taken m e p).0) (nothing-there m e none)
 
 -- ---- fewer are left
 
@@ -71,11 +42,12 @@ prepared-no-more m e fits = chosen-no-more m e (chosen e.mouth) refl fits
 
 -- a take that gives a byte leaves fewer
 pub take-lowers : {H : Type 0} (m : Ghosts H) (e : EndState H) → Joined e.mouth e.sender → BodiesFit m e → IsSome (out_at_take m e) → most_left m (end_after_take m e) + 1 ≤ most_left m e
-take-lowers m e j fits some =
+take-lowers {H} m e j fits some =
     let p = prepared m e in
-    let fewer : most_left m (given_next p) + 1 ≤ most_left m p = take-fewer p.mouth p.sender (is_some (m.next_body p.host)) (prepared-joined m e (is_none (chosen e.mouth)) j) some in
+    let given : IsSome (take p.mouth).1 = subst (λ (out : Option Out). IsSome out) (out-is m e) some in
+    let fewer : most_left m (given_next p) + 1 ≤ most_left m p = take-fewer p.mouth p.sender (is_some (m.next_body p.host)) (prepared-joined m e (is_none (chosen e.mouth)) j) given in
     let no_more = prepared-no-more m e fits in
-    omega (arith, fewer, no_more)
+    subst (λ (x : EndState H). most_left m x + 1 ≤ most_left m e) (sym (end-is m e)) (omega (arith, fewer, no_more))
 
 pub most-left : {H : Type 0} (m : Ghosts H) (e : EndState H) → IsShort e.mouth → most_left m e ≤ 511
 most-left m e short = most e.mouth e.sender (is_some (m.next_body e.host)) short
@@ -112,7 +84,9 @@ prepared-fits m e false fits = fits
 
 -- takes hand out at most one message, so bodies that fit still do
 pub take-fits : {H : Type 0} (m : Ghosts H) (e : EndState H) → BodiesFit m e → BodiesFit m (end_after_take m e)
-take-fits m e fits = given-fits m (prepared m e) (ends_here (out_at_take m e)) (take (prepared m e).mouth).0 (prepared-fits m e (is_none (chosen e.mouth)) fits)
+take-fits {H} m e fits =
+    subst (λ (x : EndState H). BodiesFit m x) (sym (end-is m e))
+    (given-fits m (prepared m e) (ends_here (take (prepared m e).mouth).1) (take (prepared m e).mouth).0 (prepared-fits m e (is_none (chosen e.mouth)) fits))
 
 -- ---- so many takes
 
@@ -133,10 +107,6 @@ drained-by m (suc n) e (Some out) is j fits left =
 pub drained : {H : Type 0} (m : Ghosts H) (e : EndState H) (n : ℕ) → Joined e.mouth e.sender → BodiesFit m e → most_left m e ≤ n → IsNone (out_at_take m (end_after_all m e (takes n)))
 drained m e n j fits left = drained-by m n e (out_at_take m e) refl j fits left
 
-pub drain-ends : {H : Type 0} (m : Ghosts H) (e : EndState H) → Joined e.mouth e.sender → IsShort e.mouth → BodiesFit m e → IsNone (out_at_take m (end_after_all m e drain))
-unfolding drain
-drain-ends m e j short fits = drained m e 511 j fits (most-left m e short)
-
 given-by : {H : Type 0} (m : Ghosts H) (n : ℕ) (e : EndState H) (out : Option Out) → out_at_take m e ≡ out → Joined e.mouth e.sender → BodiesFit m e → length (emission m e (takes n)) ≤ most_left m e
 given-by m zero e out is j fits = omega arith
 given-by {H} m (suc n) e None is j fits =
@@ -153,3 +123,64 @@ given-by m (suc n) e (Some out) is j fits =
 -- takes give at most as many bytes as are left
 pub takes-give : {H : Type 0} (m : Ghosts H) (e : EndState H) (n : ℕ) → Joined e.mouth e.sender → BodiesFit m e → length (emission m e (takes n)) ≤ most_left m e
 takes-give m e n j fits = given-by m n e (out_at_take m e) refl j fits
+
+-- ---- takes until one gives nothing
+
+drains-by : {H : Type 0} (m : Ghosts H) (n : ℕ) (e : EndState H) (out : Option Out) → out_at_take m e ≡ out → Joined e.mouth e.sender → BodiesFit m e → most_left m e ≤ n
+    → (outs : List Out) × (last : EndState H) × Drains m e outs last × (length outs ≤ most_left m e)
+drains-by m n e None is j fits left = ([], end_after_take m e, gives_none e is, omega arith)
+drains-by m zero e (Some out) is j fits left = absurd (let fewer = take-lowers m e j fits (rw is refl) in omega (arith, fewer))
+drains-by m (suc n) e (Some out) is j fits left =
+    let after = end_after_take m e in
+    let fewer = take-lowers m e j fits (rw is refl) in
+    let rest = drains-by m n after (out_at_take m after) refl (signal-joined m e Take j) (take-fits m e fits) (omega (arith, fewer, left)) in
+    (out ∷ rest.0, rest.1, gives_one e out rest.0 rest.1 is rest.2, omega (arith, fewer, rest.3))
+
+-- an end is drained, and gives at most as many bytes as are left
+pub drains : {H : Type 0} (m : Ghosts H) (e : EndState H) → Joined e.mouth e.sender → BodiesFit m e
+    → (outs : List Out) × (last : EndState H) × Drains m e outs last × (length outs ≤ most_left m e)
+drains m e j fits = drains-by m (most_left m e) e (out_at_take m e) refl j fits (omega arith)
+
+some-none : {A : Type 0} (o : Option A) (x : A) → o ≡ Some x → o ≡ None → ⊥
+some-none None x some none = cc
+some-none (Some y) x some none = cc
+
+-- takes until one gives nothing come to one end
+pub drains-only : {H : Type 0} (m : Ghosts H) (e last other : EndState H) (outs others : List Out) → Drains m e outs last → Drains m e others other → (outs ≡ others) × (last ≡ other)
+drains-only m e last other outs others (gives_none e1 is) (gives_none e2 same) = (refl, refl)
+drains-only m e last other outs others (gives_none e1 none) (gives_one e2 out rest l some d) = absurd (some-none (out_at_take m e) out some none)
+drains-only m e last other outs others (gives_one e1 out rest l some d) (gives_none e2 none) = absurd (some-none (out_at_take m e) out some none)
+drains-only m e last other outs others (gives_one e1 out rest l some d) (gives_one e2 next more k same f) =
+    let both = drains-only m (end_after_take m e) last other rest more d f in
+    let out_is : out ≡ next = cc in
+    let rest_is : rest ≡ more = both.0 in
+    (cc, both.1)
+
+-- after them nothing is to be given
+pub drained-quiet : {H : Type 0} (m : Ghosts H) (e last : EndState H) (outs : List Out) → Drains m e outs last → next_place m last ≡ None
+drained-quiet {H} m e last outs (gives_none e1 none) =
+    let is_none : IsNone (out_at_take m e) = rw none refl in
+    subst (λ (x : EndState H). next_place m x ≡ None) (sym (quiet-same m e is_none)) (nothing-there m e is_none)
+drained-quiet m e last outs (gives_one e1 out rest l some d) = drained-quiet m (end_after_take m e) last rest d
+
+none-gives : {A : Type 0} (o : Option A) → IsNone o → o ≡ None
+none-gives None none = refl
+none-gives (Some x) none = cc
+
+quiet-gives : {H : Type 0} (m : Ghosts H) (e : EndState H) (n : ℕ) → IsNone (out_at_take m e) → emission m e (takes n) ≡ []
+quiet-gives m e zero none = refl
+quiet-gives {H} m e (suc n) none =
+    let none_given : option_to_list (out_at_take m e) ≡ [] = rw (none-gives (out_at_take m e) none) refl in
+    ap (λ (x : List Out). x ++ emission m (end_after_take m e) (takes n)) none_given
+    ∙ ap (λ (x : EndState H). emission m x (takes n)) (quiet-same m e none) ∙ quiet-gives m e n none
+
+-- as many takes as bytes are given, and more, come to the same
+pub drained-takes : {H : Type 0} (m : Ghosts H) (e last : EndState H) (outs : List Out) (n : ℕ) → Drains m e outs last → length outs ≤ n
+    → (end_after_all m e (takes n) ≡ last) × (emission m e (takes n) ≡ outs)
+drained-takes m e last outs n (gives_none e1 none) few =
+    let is_none : IsNone (out_at_take m e) = rw none refl in
+    (quiet-takes m e n is_none ∙ sym (quiet-same m e is_none), quiet-gives m e n is_none)
+drained-takes m e last outs zero (gives_one e1 out rest l some d) few = absurd (omega arith)
+drained-takes m e last outs (suc n) (gives_one e1 out rest l some d) few =
+    let later = drained-takes m (end_after_take m e) last rest n d (omega arith) in
+    (later.0, ap (λ (o : Option Out). option_to_list o ++ emission m (end_after_take m e) (takes n)) some ∙ ap (λ (x : List Out). out ∷ x) later.1)

@@ -1,5 +1,10 @@
 pub mod FrameUnits
 pub mod Choices
 pub mod Joining
+pub mod Order
 pub mod Runs
 pub mod Draining
+pub mod Arriving
+pub mod Fates
+pub mod Responses
+pub mod Reaching

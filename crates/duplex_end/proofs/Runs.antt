@@ -22,9 +22,11 @@ use Rattle.df1_frame.specs.Standing.{Outside}
 use Rattle.embedded_response.specs.Giving.{Giving, chosen, offer, forget, answer_enq, unask}
 use Rattle.duplex_end.specs.End.{EndState, end_after_take, begun_at, begun_next, prepared, new_end, sender_after, responded, asked, is_waiting, act_of_byte}
 use Rattle.duplex_end.specs.Joined.{Joined}
-use Rattle.duplex_end.specs.Emission.{Letter, Byte, Tick, Take, end_after, given_at, end_after_all, emission, bytes_among, hearings, BodiesFit}
+use Rattle.duplex_end.specs.Emission.{Letter, Byte, Tick, Take, end_after, given_at, end_after_all, emission, bytes_among, hearings}
+use Rattle.duplex_end.specs.Reached.{BodiesFit}
 use Rattle.duplex_end.specs.declared.Setup.{Setup}
 use Rattle.duplex_end.proofs.Joining.{begin-joined, take-joined}
+use Rattle.duplex_end.proofs.Order.{end-is}
 
 -- ---- one signal more
 
@@ -59,8 +61,8 @@ prepared-receiver m e true = begun-receiver m e (phase_of e.sender) (m.next_body
 prepared-receiver m e false = refl
 
 -- a take leaves the receiver as it was
-take-receiver : {H : Type 0} (m : Ghosts H) (e : EndState H) → (end_after_take m e).receiver ≡ e.receiver
-take-receiver m e = prepared-receiver m e (is_none (chosen e.mouth))
+pub take-receiver : {H : Type 0} (m : Ghosts H) (e : EndState H) → (end_after_take m e).receiver ≡ e.receiver
+take-receiver {H} m e = ap (λ (x : EndState H). x.receiver) (end-is m e) ∙ prepared-receiver m e (is_none (chosen e.mouth))
 
 pub signals-stand : {H : Type 0} (m : Ghosts H) (check : Check) (e : EndState H) (bytes : List ℕ) (before : List Hearing) (signals : List Letter)
     → Stands check 250 bytes before e.receiver → Stands check 250 (bytes ++ bytes_among signals) (before ++ hearings m e signals) (end_after_all m e signals).receiver
@@ -146,7 +148,8 @@ prepared-joined m e false j = j
 pub signal-joined : {H : Type 0} (m : Ghosts H) (e : EndState H) (signal : Letter) → Joined e.mouth e.sender → Joined (end_after m e signal).mouth (end_after m e signal).sender
 signal-joined m e (Byte b) j = byte-joined (act_of_byte m e b) (is_waiting (phase_of e.sender) && not (is_waiting (phase_of (sender_after (act_of_byte m e b) e.sender)))) e.mouth e.sender j
 signal-joined m e Tick j = tick-joined (tick_turn e.sender) (is_waiting (phase_of e.sender) && not (is_waiting (phase_of (on_tick e.sender)))) e.mouth e.sender j
-signal-joined m e Take j = take-joined (prepared m e).mouth (prepared m e).sender (prepared-joined m e (is_none (chosen e.mouth)) j)
+signal-joined {H} m e Take j =
+    subst (λ (x : EndState H). Joined x.mouth x.sender) (sym (end-is m e)) (take-joined (prepared m e).mouth (prepared m e).sender (prepared-joined m e (is_none (chosen e.mouth)) j))
 
 pub new-joined : {H : Type 0} (setup : Setup) (host : H) → Joined (new_end setup host).mouth (new_end setup host).sender
 new-joined setup host = record { second_is_plain = λ out is. absurd cc; last_ends = tt; sends = λ begun. absurd cc }

@@ -1,11 +1,10 @@
 -- What an end hears and gives over a list of signals.
-use Rattle.std.specs.Prelude.{◌≡◌, ◌≤◌, ℕ, List, [], ◌∷◌, ◌++◌, length, option_to_list, replicate, IfSome}
+use Rattle.std.specs.Prelude.{◌≡◌, ℕ, List, [], ◌∷◌, ◌++◌, Some, None, option_to_list, replicate}
 use Rattle.df1_base.specs.declared.host.Host.{Ghosts}
+use Rattle.df1_base.specs.declared.link.Act.{Act}
 use Rattle.df1_base.specs.declared.link.Out.{Out}
-use Rattle.duplex_sender.specs.declared.Phase.TheVariants as phase
-use Rattle.duplex_sender.specs.Sender.{phase_of, body_of}
 use Rattle.duplex_receiver.specs.Receiver.{Hearing, hearing}
-use Rattle.duplex_end.specs.End.{EndState, end_after_byte, end_after_tick, end_after_take, out_at_take}
+use Rattle.duplex_end.specs.End.{EndState, act_of_byte, end_after_byte, end_after_tick, end_after_take, out_at_take}
 
 -- what comes to an end: a byte, a unit of time, or the wish for a byte
 pub data Letter : Type 0 where
@@ -49,15 +48,18 @@ hearings m e (Byte b ∷ signals) = hearing (m.room_for e.host) 250 e.receiver b
 hearings m e (Tick ∷ signals) = hearings m (end_after_tick m e) signals
 hearings m e (Take ∷ signals) = hearings m (end_after_take m e) signals
 
+-- the acts at each of these bytes
+abbrev pub acts : {H : Type 0} → Ghosts H → EndState H → List Letter → List Act
+acts m e [] = []
+acts m e (Byte b ∷ signals) = act_of_byte m e b ∷ acts m (end_after_byte m e b) signals
+acts m e (Tick ∷ signals) = acts m (end_after_tick m e) signals
+acts m e (Take ∷ signals) = acts m (end_after_take m e) signals
+
 -- so many takes
 abbrev pub takes : ℕ → List Letter
 takes n = replicate n Take
 
--- takes until nothing is given: a take that gives nothing changes nothing, so these are as many as an end can have bytes to give
-unfoldable pub drain : List Letter
-drain = takes 511
-
--- the message of the sender, and the one that an idle sender is given next, have at most 250 bytes
-pub record BodiesFit {H : Type 0} (m : Ghosts H) (e : EndState H) : Type 0 where
-  pub sender_fits : length (body_of e.sender) ≤ 250
-  pub next_fits : phase_of e.sender ≡ phase.Idle → IfSome (m.next_body e.host) (λ body. length body ≤ 250)
+-- takes until one gives nothing: what they give, and the end after them
+pub data Drains {H : Type 0} (m : Ghosts H) : EndState H → List Out → EndState H → Type 0 where
+  gives_none : (e : EndState H) → out_at_take m e ≡ None → Drains m e [] (end_after_take m e)
+  gives_one : (e : EndState H) (out : Out) (others : List Out) (last : EndState H) → out_at_take m e ≡ Some out → Drains m (end_after_take m e) others last → Drains m e (out ∷ others) last

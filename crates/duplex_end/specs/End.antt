@@ -1,5 +1,6 @@
 -- An end of a full-duplex link over any host: what a byte, a tick and a take do to it. A host's meaning is the record of its ghost members.
-use Rattle.std.specs.Prelude.{ℕ, Bool, true, false, List, [], Option, Some, None, is_some, is_none, not, ◌&&◌, if◌then◌else◌}
+use Rattle.std.specs.Prelude.{ℕ, Bool, true, false, List, [], ◌∷◌, ◌++◌, map, Option, Some, None, is_some, is_none, not, ◌&&◌, if◌then◌else◌}
+use Rattle.std.specs.Option.{option_map}
 use Rattle.df1_base.specs.declared.host.Host.{Ghosts}
 use Rattle.df1_base.specs.declared.host.Did.{Did}
 use Rattle.df1_base.specs.declared.host.Fate.{Fate}
@@ -19,7 +20,7 @@ use Rattle.duplex_sender.specs.declared.SendTurn.{SendTurn}
 use Rattle.duplex_sender.specs.declared.SendTurn.TheVariants as sends
 use Rattle.duplex_sender.specs.Sender.{SenderState, idle, phase_of, body_of, load, sent_last, on_ack, ack_fate, on_nak, nak_fate, on_tick, tick_turn}
 use Rattle.duplex_receiver.specs.Receiver.{ReceiverState, hearing, act_at, after_byte, body_at, is_good, response_for, Offers, Forgets, Again, Silent}
-use Rattle.embedded_response.specs.Giving.{Giving, nothing, offer, forget, answer_enq, ask, unask, begin, chosen, take}
+use Rattle.embedded_response.specs.Giving.{Giving, Choice, nothing, offer, forget, answer_enq, ask, unask, begin, order, first_there, chosen, given, take}
 use Rattle.duplex_end.specs.declared.Setup.{Setup}
 
 -- an end: its receiver, its sender, what it has to give, the body of the transmission that was begun last (empty where none was), and its host
@@ -181,6 +182,28 @@ gone_at_tick m e = m.unanswered (host_at_tick m e)
 
 -- ---- a take
 
+-- what may be given next: one of what the mouth has, the frame of the sender's message again, or the frame of a new message
+pub data Place : Type 0 where
+  OfMouth : (choice : Choice) → Place
+  FrameAgain : (body : List ℕ) → Place
+  FrameOfNew : (body : List ℕ) → Place
+
+-- the message of a sender that is in Sending
+abbrev pub sent_again : SenderState → Option (List ℕ)
+sent_again s = elim (phase_of s) [ phase.Idle ↦ None | phase.Sending ↦ Some (body_of s) | phase.Waiting ↦ None ]
+
+-- the host's next message, where the sender is idle
+abbrev pub sent_new : {H : Type 0} → Ghosts H → EndState H → Option (List ℕ)
+sent_new m e = elim (phase_of e.sender) [ phase.Idle ↦ m.next_body e.host | phase.Sending ↦ None | phase.Waiting ↦ None ]
+
+-- in this order: the second byte of a begun pair; in a frame a response where it may stand; the frame's next unit; a response; an ENQ; the frame of a sender that is in Sending; the frame of a new message
+abbrev pub order_of : {H : Type 0} → Ghosts H → EndState H → List (Option Place)
+order_of m e = map (option_map OfMouth) (order e.mouth) ++ option_map FrameAgain (sent_again e.sender) ∷ option_map FrameOfNew (sent_new m e) ∷ []
+
+-- the first that is there
+abbrev pub next_place : {H : Type 0} → Ghosts H → EndState H → Option Place
+next_place m e = first_there (order_of m e)
+
 -- a transmission of this body begins
 abbrev pub transmitted : {H : Type 0} → EndState H → List ℕ → EndState H
 transmitted e body = record { receiver = e.receiver; sender = e.sender; mouth = begin e.mouth body; sending = body; host = e.host }
@@ -188,6 +211,27 @@ transmitted e body = record { receiver = e.receiver; sender = e.sender; mouth = 
 -- the host's next message is handed out and loaded
 abbrev pub loaded : {H : Type 0} → Ghosts H → EndState H → List ℕ → EndState H
 loaded m e body = record { receiver = e.receiver; sender = load e.sender body; mouth = e.mouth; sending = e.sending; host = m.after_next e.host }
+
+-- the end after a byte was given by its mouth, and that byte
+abbrev pub gives : {H : Type 0} → EndState H → Giving × Option Out → EndState H × Option Out
+gives e to = (record { receiver = e.receiver; sender = after_out to.1 e.sender; mouth = to.0; sending = e.sending; host = e.host }, to.1)
+
+-- the end after what is next was given, and the byte: of a frame that is next, it is the first
+abbrev pub taken : {H : Type 0} → Ghosts H → EndState H → Option Place → EndState H × Option Out
+taken m e None = (e, None)
+taken m e (Some (OfMouth choice)) = gives e (given e.mouth (Some choice))
+taken m e (Some (FrameAgain body)) = gives (transmitted e body) (take (begin e.mouth body))
+taken m e (Some (FrameOfNew body)) = gives (transmitted (loaded m e body) body) (take (begin e.mouth body))
+
+-- the end after a take
+abbrev pub end_after_take : {H : Type 0} → Ghosts H → EndState H → EndState H
+end_after_take m e = (taken m e (next_place m e)).0
+
+-- the byte that a take gives
+abbrev pub out_at_take : {H : Type 0} → Ghosts H → EndState H → Option Out
+out_at_take m e = (taken m e (next_place m e)).1
+
+-- ---- a take in two steps: a frame that is next is begun, and then the mouth gives a byte
 
 -- by the sender's phase and the host's next message: a sender that is in Sending has its frame begun; an idle one is given a new message, and that one's frame is begun
 abbrev pub begun_at : {H : Type 0} → Ghosts H → EndState H → Phase → Option (List ℕ) → EndState H
@@ -207,11 +251,3 @@ prepared m e = if is_none (chosen e.mouth) then begun_next m e else e
 -- the next byte is given of what there is
 abbrev pub given_next : {H : Type 0} → EndState H → EndState H
 given_next e = record { receiver = e.receiver; sender = after_out (take e.mouth).1 e.sender; mouth = (take e.mouth).0; sending = e.sending; host = e.host }
-
--- the end after a take
-abbrev pub end_after_take : {H : Type 0} → Ghosts H → EndState H → EndState H
-end_after_take m e = given_next (prepared m e)
-
--- the byte that a take gives
-abbrev pub out_at_take : {H : Type 0} → Ghosts H → EndState H → Option Out
-out_at_take m e = (take (prepared m e).mouth).1

@@ -1,3 +1,6 @@
 pub mod End
 pub mod Joined
 pub mod Emission
+pub mod Reached
+pub mod Fates
+pub mod Arrived

@@ -1,11 +1,18 @@
 //! What holds of an end over every list of signals. The functions do nothing.
 
-ghost use Rattle.std.specs.Prelude.{◌≡◌, ◌≤◌, ◌+◌, ◌∷◌, ◌++◌, [], ℕ, List, length, IsNone, IsSome};
+ghost use Rattle.std.specs.Prelude.{◌≡◌, ◌≤◌, ◌+◌, ◌∷◌, ◌++◌, [], ℕ, List, length, false, None, IsNone, IsSome};
+ghost use Rattle.std.specs.List.{fold};
+ghost use Rattle.df1_base.specs.declared.link.Out.{Out as Given};
+ghost use Rattle.df1_check.specs.declared.Check.{Check as CheckKind};
 ghost use Rattle.duplex_receiver.specs.Hearing.{Stands};
+ghost use Rattle.duplex_receiver.specs.Receiver.{response_after, last_response};
 ghost use Rattle.duplex_end.specs.declared.Setup.{Setup as Settings};
-ghost use Rattle.duplex_end.specs.End.{EndState, new_end, end_after_take, out_at_take};
+ghost use Rattle.duplex_end.specs.End.{EndState, new_end, with_host, step_at_byte, next_place, end_after_take, out_at_take};
 ghost use Rattle.duplex_end.specs.Joined.{Joined, IsShort, most_left};
-ghost use Rattle.duplex_end.specs.Emission.{Letter, Take, end_after, given_at, end_after_all, emission, bytes_among, hearings, takes, drain, BodiesFit};
+ghost use Rattle.duplex_end.specs.Reached.{Reached, BodiesFit};
+ghost use Rattle.duplex_end.specs.Fates.{InTurn, events, has_message};
+ghost use Rattle.duplex_end.specs.Arrived.{Arrival, StandsFor, HeardByGrammar, bytes_arrived};
+ghost use Rattle.duplex_end.specs.Emission.{Letter, Take, end_after, given_at, end_after_all, emission, bytes_among, hearings, acts, takes, Drains};
 
 use df1_base::Host;
 
@@ -21,20 +28,51 @@ pub fn hears_what_the_grammar_hears<H: Host>()
         → Stands setup.check 250 (bytes_among signals) (hearings H.Host (new_end setup host) signals) (end_after_all H.Host (new_end setup host) signals).receiver }
 {}
 
-/// A frame that is begun stays the sender's, over every signal.
-pub fn parts_stay_joined<H: Host>()
-    ensures start { (setup : Settings) (host : H) → Joined (new_end setup host).mouth (new_end setup host).sender }
-    ensures goes_on { (e : EndState H) (signal : Letter) → Joined e.mouth e.sender → Joined (end_after H.Host e signal).mouth (end_after H.Host e signal).sender }
+/// At each byte that arrives at an end a whole frame is heard exactly where the grammar of the line, over all bytes that
+/// arrived so far, hears one at its last. An end stands for what arrived from its beginning on, over every signal, and a
+/// change of the host changes nothing of it.
+pub fn arrivals_are_heard<H: Host>()
+    ensures none { (check : CheckKind) → HeardByGrammar check [] }
+    ensures more { (check : CheckKind) (arrivals : List Arrival) (e : EndState H) (b : ℕ) → StandsFor check (bytes_arrived arrivals) e → HeardByGrammar check arrivals
+        → HeardByGrammar check (arrivals ++ record { byte = b; whole = (step_at_byte H.Host e b).whole } ∷ []) }
+    ensures start { (setup : Settings) (host : H) → StandsFor setup.check [] (new_end setup host) }
+    ensures goes_on { (check : CheckKind) (bytes : List ℕ) (e : EndState H) (signal : Letter) → StandsFor check bytes e → StandsFor check (bytes ++ bytes_among (signal ∷ [])) (end_after H.Host e signal) }
+    ensures changes { (check : CheckKind) (bytes : List ℕ) (e : EndState H) (host : H) → StandsFor check bytes e → StandsFor check bytes (with_host e host) }
 {}
 
-/// Where nothing is to be given, takes change nothing. A take that gives a byte leaves fewer, of at most 511. After as many
-/// takes nothing is to be given, and they gave no more.
+/// The last response of an end is the last that an act offered or set, NAK before any.
+pub fn last_response_is_by_the_acts<H: Host>()
+    ensures start { (setup : Settings) (host : H) (signals : List Letter) → (end_after_all H.Host (new_end setup host) signals).mouth.last ≡ last_response (acts H.Host (new_end setup host) signals) }
+    ensures goes_on { (e : EndState H) (signals : List Letter) → (end_after_all H.Host e signals).mouth.last ≡ fold response_after e.mouth.last (acts H.Host e signals) }
+{}
+
+/// A message is handed out where the fate of the one before was told, and its own fate is told once, after that. Where the
+/// host and the sender agree on whether a message is out, as at a new end over a host with none out, they do so after
+/// every signal, so each fate is told of a message that is out.
+pub fn a_fate_is_told_once<H: Host>()
+    ensures in_turn { (e : EndState H) (signals : List Letter) → InTurn (has_message e.sender) (events H.Host e signals) }
+    ensures start { (setup : Settings) (host : H) → has_message (new_end setup host).sender ≡ false }
+    ensures agree { (e : EndState H) (signals : List Letter) → H.Host.is_out e.host ≡ has_message e.sender
+        → H.Host.is_out (end_after_all H.Host e signals).host ≡ has_message (end_after_all H.Host e signals).sender }
+{}
+
+/// Of every end that is reached: a frame that is begun is the sender's, and short, and what is sent or handed out fits.
+pub fn parts_stay_joined<H: Host>()
+    ensures joined { (e : EndState H) → Reached H.Host e → Joined e.mouth e.sender }
+    ensures short { (e : EndState H) → Reached H.Host e → IsShort e.mouth }
+    ensures fits { (e : EndState H) → Reached H.Host e → BodiesFit H.Host e }
+    ensures holds { (e : EndState H) → Reached H.Host e → H.Host.holds_bodies e.host }
+{}
+
+/// Of every end that is reached: a take gives a byte exactly where something is to be given, and leaves fewer then, of at
+/// most 511; else it changes nothing. Takes until one gives nothing give at most 511 bytes, come to one end, and leave
+/// nothing to be given, however many more takes follow.
 pub fn a_drain_ends<H: Host>()
-    ensures quiet { (e : EndState H) → IsNone (out_at_take H.Host e) → end_after_take H.Host e ≡ e }
-    ensures fewer { (e : EndState H) → Joined e.mouth e.sender → BodiesFit H.Host e → IsSome (out_at_take H.Host e) → most_left H.Host (end_after_take H.Host e) + 1 ≤ most_left H.Host e }
-    ensures fits { (e : EndState H) → BodiesFit H.Host e → BodiesFit H.Host (end_after_take H.Host e) }
-    ensures most { (e : EndState H) → IsShort e.mouth → most_left H.Host e ≤ 511 }
-    ensures ends { (e : EndState H) (n : ℕ) → Joined e.mouth e.sender → BodiesFit H.Host e → most_left H.Host e ≤ n → IsNone (out_at_take H.Host (end_after_all H.Host e (takes n))) }
-    ensures gives { (e : EndState H) (n : ℕ) → Joined e.mouth e.sender → BodiesFit H.Host e → length (emission H.Host e (takes n)) ≤ most_left H.Host e }
-    ensures drained { (e : EndState H) → Joined e.mouth e.sender → IsShort e.mouth → BodiesFit H.Host e → IsNone (out_at_take H.Host (end_after_all H.Host e drain)) }
+    ensures quiet { (e : EndState H) → IsNone (out_at_take H.Host e) → (next_place H.Host e ≡ None) × (end_after_take H.Host e ≡ e) }
+    ensures fewer { (e : EndState H) → Reached H.Host e → IsSome (out_at_take H.Host e) → most_left H.Host (end_after_take H.Host e) + 1 ≤ most_left H.Host e }
+    ensures most { (e : EndState H) → Reached H.Host e → most_left H.Host e ≤ 511 }
+    ensures drains { (e : EndState H) → Reached H.Host e → (outs : List Given) × (last : EndState H) × Drains H.Host e outs last × (length outs ≤ 511) }
+    ensures only { (e last other : EndState H) (outs others : List Given) → Drains H.Host e outs last → Drains H.Host e others other → (outs ≡ others) × (last ≡ other) }
+    ensures drained { (e last : EndState H) (outs : List Given) → Drains H.Host e outs last → next_place H.Host last ≡ None }
+    ensures by_takes { (e last : EndState H) (outs : List Given) (n : ℕ) → Drains H.Host e outs last → length outs ≤ n → (end_after_all H.Host e (takes n) ≡ last) × (emission H.Host e (takes n) ≡ outs) }
 {}

@@ -17,14 +17,22 @@
 //! 7. the frame of a new message of the host.
 //!
 //! With the last byte of a frame the sender begins to wait (manual topic: full-duplex protocol).
+//!
+//! An end stands for the bytes that arrived at it: a whole frame is heard exactly where the grammar of the line hears one
+//! at the last of all these bytes, whatever else happened to the end and to its host.
 #![tactic(auto)]
 
-ghost use Rattle.std.specs.Prelude.{◌≡◌, ◌≤◌, ◌+◌, length, is_none, IsSome};
+ghost use Rattle.std.specs.Prelude.{◌≡◌, ◌≤◌, ◌+◌, ◌↔◌, ◌∷◌, ◌++◌, [], ℕ, List, length, is_none, IsSome, IsTrue};
 ghost use Rattle.std.specs.Borrow.{Lends, sem};
+ghost use Rattle.df1_check.specs.declared.Check.{Check as CheckKind};
+ghost use Rattle.df1_frame.specs.Line.{ReadOff};
+ghost use Rattle.df1_frame.specs.Grammar.{full_duplex};
+ghost use Rattle.df1_frame.specs.Standing.{lent};
 ghost use Rattle.duplex_receiver.specs.Receiver.{body_at};
 ghost use Rattle.embedded_response.specs.Giving.{chosen, take};
-ghost use Rattle.duplex_end.specs.End.{new_end, with_host, end_after_byte, step_at_byte, end_after_tick, turn_at_tick, gone_at_tick, begun_next, prepared, given_next, end_after_take, out_at_take};
+ghost use Rattle.duplex_end.specs.End.{new_end, with_host, end_after_byte, step_at_byte, end_after_tick, turn_at_tick, gone_at_tick, next_place, begun_next, prepared, given_next, end_after_take, out_at_take};
 ghost use Rattle.duplex_end.specs.Joined.{most_left};
+ghost use Rattle.duplex_end.specs.Arrived.{StandsFor, HearsWhole};
 ghost use Rattle.duplex_end.specs.contracts.End.{the_row};
 
 mod laws;
@@ -38,7 +46,10 @@ use df1_check::Check;
 use duplex_receiver::Receiver;
 use duplex_sender::{Limits, Phase, Sender};
 use embedded_response::Mouth;
-pub use laws::{a_drain_ends, hears_what_the_grammar_hears, parts_stay_joined, signals_go_on};
+pub use laws::{
+    a_drain_ends, a_fate_is_told_once, arrivals_are_heard, hears_what_the_grammar_hears,
+    last_response_is_by_the_acts, parts_stay_joined, signals_go_on,
+};
 use parts::{drop_wish, fill, hear_peer, is_whole, note_out, respond, take_in, tell, tick_sender};
 use std::marker::Model;
 
@@ -78,7 +89,8 @@ impl<H: Host + Drop> End<H> {
     /// An end over a host that has heard and given nothing.
     pub fn new(setup: Setup, host: H) -> End<H>
         requires { 1 ≤ setup.limits.ack_ticks }
-        ensures { result ≡ new_end setup host }
+        ensures value { result ≡ new_end setup host }
+        ensures stands { StandsFor setup.check [] result }
     {
         End {
             receiver: Receiver::new(setup.check),
@@ -100,6 +112,7 @@ impl<H: Host + Drop> End<H> {
     pub fn host_mut(&mut self) -> &mut H
         ensures* writes_back { sem 𝓛 (Lends (the_row H.row H.Host) H.row self.entry result (with_host self.old)) }
         ensures value { result.now ≡ self.old.host }
+        ensures stands { (check : CheckKind) (bytes : List ℕ) (host : H) → StandsFor check bytes self.old → StandsFor check bytes (with_host self.old host) }
     {
         &mut self.host
     }
@@ -110,6 +123,8 @@ impl<H: Host + Drop> End<H> {
     pub fn on_byte(&mut self, b: u8) -> Step
         ensures state { self.new ≡ end_after_byte H.Host self.old b }
         ensures step { result ≡ step_at_byte H.Host self.old b }
+        ensures stands { (check : CheckKind) (bytes : List ℕ) → StandsFor check bytes self.old → StandsFor check (bytes ++ b ∷ []) self.new }
+        ensures whole { (check : CheckKind) (bytes : List ℕ) → StandsFor check bytes self.old → IsTrue result.whole ↔ HearsWhole check (bytes ++ b ∷ []) }
     {
         let act = self.receiver.on_byte(b, &self.host);
         let did = take_in(&mut self.host, act, self.receiver.body());
@@ -134,6 +149,7 @@ impl<H: Host + Drop> End<H> {
         ensures state { self.new ≡ end_after_tick H.Host self.old }
         ensures turn { result ≡ turn_at_tick H.Host self.old }
         ensures gone { gone.new.items ≡ gone_at_tick H.Host self.old }
+        ensures stands { (check : CheckKind) (bytes : List ℕ) → StandsFor check bytes self.old → StandsFor check bytes self.new }
     {
         let before = self.sender.phase();
         let turn = tick_sender(&mut self.sender, &mut self.mouth, &mut self.host);
@@ -146,6 +162,7 @@ impl<H: Host + Drop> End<H> {
     pub fn take(&mut self) -> Option<Out>
         ensures state { self.new ≡ end_after_take H.Host self.old }
         ensures out { result ≡ out_at_take H.Host self.old }
+        ensures stands { (check : CheckKind) (bytes : List ℕ) → StandsFor check bytes self.old → StandsFor check bytes self.new }
         ensures fewer { IsSome result → most_left H.Host self.new + 1 ≤ most_left H.Host self.old }
         ensures most { most_left H.Host self.old ≤ 511 }
     {
@@ -155,7 +172,8 @@ impl<H: Host + Drop> End<H> {
 
     /// Whether `take` would give nothing.
     pub fn quiet(&self) -> bool
-        ensures { result ≡ is_none (out_at_take H.Host self.now) }
+        ensures none_there { result ≡ is_none (next_place H.Host self.now) }
+        ensures gives_none { result ≡ is_none (out_at_take H.Host self.now) }
     {
         self.mouth.idle()
             && match self.sender.phase() {
@@ -169,6 +187,7 @@ impl<H: Host + Drop> End<H> {
     /// a wrong check; empty after every other byte.
     pub fn body(&self) -> &[u8]
         ensures body { result.now ≡ body_at self.now.receiver }
+        ensures lent { (check : CheckKind) (bytes : List ℕ) → StandsFor check bytes self.now → ReadOff (full_duplex check 250) bytes (lent check 250) result.now }
         ensures fits { length result.now ≤ 250 }
     {
         self.receiver.body()

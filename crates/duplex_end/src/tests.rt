@@ -23,10 +23,12 @@ const REPLY_FRAME: [u8; 11] = [
 #[derive(Drop)]
 struct OneCommand {
     waits: bool,
+    is_out: bool,
 }
 
 impl Host for OneCommand {
     ghost use Rattle.std.specs.Prelude.{true, false, [], Some, None, if◌then◌else◌};
+    ghost use Rattle.std.proofs.Common.{refl, rules};
     ghost use Rattle.df1_base.specs.declared.host.Did.TheVariants as did_of;
     ghost use Rattle.df1_base.specs.declared.host.Fate.TheVariants as fate_of;
     ghost use Rattle.df1_base.specs.declared.host.News.TheVariants as news_of;
@@ -40,17 +42,21 @@ impl Host for OneCommand {
 
     ghost next_body = { λ h. if h.waits then Some COMMAND else None };
 
-    ghost after_next = { λ h. record { waits = false } };
+    ghost after_next = { λ h. if h.waits then record { waits = false; is_out = true } else h };
 
-    ghost news = { λ _ fate. elim fate [ fate_of.Delivered ↦ news_of.Nothing | fate_of.Undelivered ↦ news_of.Undelivered 1 ] };
+    ghost is_out = { λ h. h.is_out };
 
-    ghost after_told = { λ h _. h };
+    ghost news = { λ h fate. elim fate [ fate_of.Delivered ↦ news_of.Nothing | fate_of.Undelivered ↦ if h.is_out then news_of.Undelivered 1 else news_of.Nothing ] };
+
+    ghost after_told = { λ h _. record h { is_out = false } };
 
     ghost unanswered = { λ _. [] };
 
     ghost after_tick = { λ h. h };
 
-    ghost after_clear = { λ h. h };
+    ghost after_clear = { λ h. record h { waits = false } };
+
+    ghost holds_bodies = { λ _. Unit {0} };
 
     fn has_room(&self, _body: &[u8]) -> bool {
         true
@@ -69,6 +75,7 @@ impl Host for OneCommand {
             return false;
         }
         self.waits = false;
+        self.is_out = true;
         into.clear();
         let fits = into.try_extend_from_slice(&COMMAND).is_ok();
         prove!(fits);
@@ -76,9 +83,11 @@ impl Host for OneCommand {
     }
 
     fn told(&mut self, fate: Fate) -> News {
+        let was_out = self.is_out;
+        self.is_out = false;
         match fate {
-            Fate::Delivered => News::Nothing,
-            Fate::Undelivered => News::Undelivered(1),
+            Fate::Undelivered if was_out => News::Undelivered(1),
+            Fate::Undelivered | Fate::Delivered => News::Nothing,
         }
     }
 
@@ -86,7 +95,39 @@ impl Host for OneCommand {
         gone.clear();
     }
 
-    fn clear(&mut self) {}
+    fn clear(&mut self) {
+        self.waits = false;
+    }
+
+    ghost next_of_none = { Prim.grind rules };
+
+    ghost out_at_next = { Prim.grind rules };
+
+    ghost told_of_none = { Prim.grind rules };
+
+    ghost out_at_told = { λ _ _. refl };
+
+    ghost out_at_accept = { λ _ _. refl };
+
+    ghost out_at_tick = { λ _. refl };
+
+    ghost out_at_clear = { λ _. refl };
+
+    ghost unanswered_rise = { Prim.search rules };
+
+    ghost none_at_clear = { λ _. refl };
+
+    ghost body_at_next = { Prim.grind rules };
+
+    ghost bodies_at_accept = { λ _ _ _ _ _. tt };
+
+    ghost bodies_at_next = { λ _ _. tt };
+
+    ghost bodies_at_told = { λ _ _ _. tt };
+
+    ghost bodies_at_tick = { λ _ _. tt };
+
+    ghost bodies_at_clear = { λ _ _. tt };
 }
 
 fn end_with_embedding() -> End<OneCommand> {
@@ -100,7 +141,10 @@ fn end_with_embedding() -> End<OneCommand> {
                 max_enqs: 1,
             },
         },
-        OneCommand { waits: true },
+        OneCommand {
+            waits: true,
+            is_out: false,
+        },
     )
 }
 

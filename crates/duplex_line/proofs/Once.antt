@@ -1,3 +1,5 @@
+-- In every run: each end stands for the bytes that arrived at it, and hears a whole frame exactly where the grammar does.
+pub mod Arrivals
 -- A cell arrives at an end, which isn't deceived by it: what was told still holds, with the lines that it makes.
 pub mod ArrivingCell
 -- What an act, a fate, a tick and a take leave of an end's node: its commands stay, and what it handed out and accepted goes on.

@@ -1,4 +1,5 @@
 pub mod Acts
+pub mod Arrivals
 pub mod Complete
 pub mod Deception
 pub mod Example

@@ -5,7 +5,7 @@ use Rattle.line_statement.specs.declared.who.Who.TheVariants.{A, B}
 use Rattle.line_script.specs.declared.script.EndPlan.{EndPlan}
 use Rattle.line_script.specs.declared.script.Script.{Script}
 use Rattle.line_report.specs.declared.record.Record.{Record}
-use Rattle.df1_node.specs.Tables.{DataTables}
+use Rattle.data_files.specs.Tables.{DataTables}
 use Rattle.each_once.specs.Once.{Once}
 use Rattle.each_once.specs.Exchanges.{station_after}
 use Rattle.each_once.specs.Tells.{executed_in}

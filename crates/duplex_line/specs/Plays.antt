@@ -1,5 +1,5 @@
 -- A world: what it holds while a script is played, and which event may come next.
-use Rattle.std.specs.Prelude.{ℕ, ◌+◌, ◌<◌, ◌≤◌, List, [], ◌++◌, length}
+use Rattle.std.specs.Prelude.{ℕ, ◌+◌, ◌<◌, ◌≤◌, Bool, true, false, List, [], ◌++◌, length}
 use Rattle.line_script.specs.declared.script.Event.{Event}
 use Rattle.line_script.specs.declared.script.Event.TheVariants as event
 use Rattle.line_script.specs.declared.script.Script.{Script}
@@ -41,3 +41,13 @@ pub record IsNext (p : Played) (e : Event) : Type 0 where
   pub possible : IsPossible e
   pub unspent : IsUnspent (seen_from (who_of e) p.state).a e
   pub sum : p.events + count_of e ≤ 5000000
+
+-- an event that takes bytes away or changes one: it takes no memory
+abbrev pub takes_no_memory : Event → Bool
+takes_no_memory (event.Issue who dst payload) = false
+takes_no_memory (event.Take who n) = false
+takes_no_memory (event.Deliver lane n) = false
+takes_no_memory (event.Lose lane n) = true
+takes_no_memory (event.Alter lane mask) = true
+takes_no_memory (event.Foreign lane bytes) = false
+takes_no_memory (event.Tick who n) = false

@@ -1,9 +1,9 @@
 //! Events at one end of the line, or with the bytes from it.
 
-ghost use Rattle.std.specs.Prelude.{◌≡◌, ◌+◌, ◌≤◌, ◌<◌, ◌++◌, OnOk, IfOk, map, length, replicate};
+ghost use Rattle.std.specs.Prelude.{◌≡◌, ◌+◌, ◌≤◌, ◌<◌, ◌++◌, OnOk, IfOk, IsOk, IsTrue, map, length, replicate};
 ghost use Rattle.duplex_line.specs.Acts.{Deed, Take, Deliver, Lose, Foreign, Tick, SideState, after_deeds, line_state, lines_over, given_over, tick_lines, after_tick};
 ghost use Rattle.duplex_line.specs.Run.{other, sent_lines, deeds_of, deed_lines};
-ghost use Rattle.duplex_line.specs.Plays.{IsUnspent};
+ghost use Rattle.duplex_line.specs.Plays.{IsUnspent, takes_no_memory};
 ghost use Rattle.duplex_line.specs.Steps.{near_over, near_lines_over};
 ghost use Rattle.line_script.specs.Playable.{IsPossible, count_of};
 
@@ -44,6 +44,7 @@ pub(crate) fn deal(
     ensures lines { OnOk result (reported.new.lines
         ≡ reported.old.lines ++ deed_lines who (line_state near.old far.old reported.old.deceived) (deeds_of event.now)) }
     ensures few { reported.new.deceived ≤ reported.old.deceived + count_of event.now }
+    ensures calm { IsTrue (takes_no_memory event.now) → IsOk result }
 {
     match event {
         Event::Issue { dst, payload, .. } => near.issue(*dst, payload.as_slice()),

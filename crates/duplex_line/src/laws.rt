@@ -4,6 +4,8 @@ ghost use Rattle.line_script.specs.declared.script.Script.{Script};
 ghost use Rattle.line_statement.specs.declared.who.Who.TheVariants.{A, B};
 ghost use Rattle.line_script.specs.Playable.{IsPlayable};
 ghost use Rattle.each_once.specs.Commands.{AreOutcomesTold};
+ghost use Rattle.duplex_end.specs.Arrived.{HeardByGrammar};
+ghost use Rattle.duplex_line.specs.Arrivals.{arrivals_in};
 ghost use Rattle.duplex_line.specs.Issues.{commands_of_a, commands_of_b, issued_of, bodies_of};
 ghost use Rattle.duplex_line.specs.Run.{start, last_state, lines_after, record_of};
 ghost use Rattle.duplex_line.specs.Once.{EachOnce};
@@ -11,6 +13,14 @@ ghost use Rattle.duplex_line.specs.Prompt.{IsPrompt, EndsQuiet};
 ghost use Rattle.duplex_line.specs.Complete.{IsComplete};
 ghost use Rattle.each_once.specs.Tells.{executed_in, answers_in};
 ghost use Rattle.duplex_line.specs.Example.{one_write, the_command, the_reply};
+
+/// A law: at each byte that arrives at an end in a run, a whole frame is heard exactly where the grammar of the line, over
+/// all bytes that arrived at that end so far, hears one at its last: so a deception is a frame by the grammar, which
+/// nobody sent so (manual topic: full-duplex protocol).
+pub fn whole_frames_are_heard_by_the_grammar()
+    ensures at_a { (script : Script) → IsPlayable script → HeardByGrammar script.check (arrivals_in A (start script) script.events) }
+    ensures at_b { (script : Script) → IsPlayable script → HeardByGrammar script.check (arrivals_in B (start script) script.events) }
+{}
 
 /// A law: in every run, whatever is heard, the commands that an end has issued are those of the script, and the lines tell of
 /// each how it ended, once, and of no other (manual topic: message packets).

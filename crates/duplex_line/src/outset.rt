@@ -1,7 +1,7 @@
 //! The two ends before the first event of a script.
 
 ghost use Rattle.std.specs.Prelude.{◌≡◌, ◌≤◌, IfOk, None, length, if◌then◌else◌};
-ghost use Rattle.df1_node.specs.Tables.{faults, fresh};
+ghost use Rattle.data_files.specs.Tables.{faults, fresh};
 ghost use Rattle.df1_node.specs.Answer.{fits_compat, holds_words};
 ghost use Rattle.line_script.specs.Playable.{IsPlanOf};
 ghost use Rattle.duplex_line.specs.Run.{first_side, first_node, first_station, first_tables, limits_of, setup_of, with_all};

@@ -1,7 +1,7 @@
 //! The words that are not 0 in the end.
 
 ghost use Rattle.std.specs.Prelude.{◌≡◌, ◌++◌, OnOk};
-ghost use Rattle.df1_node.specs.Tables.{word_at, word_count};
+ghost use Rattle.data_files.specs.Tables.{word_at, word_count};
 ghost use Rattle.duplex_line.specs.Run.{word_line, words_from, words_of};
 
 use df1_base::NoMemory;

@@ -1,9 +1,9 @@
 //! The world of a script: both ends, what is on its way between them, and what is told so far.
 
-ghost use Rattle.std.specs.Prelude.{◌≡◌, ◌++◌, IfOk, OnOk};
+ghost use Rattle.std.specs.Prelude.{◌≡◌, ◌++◌, IfOk, OnOk, IsOk, IsTrue};
 ghost use Rattle.line_script.specs.Playable.{IsPlayable, IsPossible, count_of};
 ghost use Rattle.duplex_line.specs.Run.{record_from, all_words, who_of};
-ghost use Rattle.duplex_line.specs.Plays.{IsNext, begun, played};
+ghost use Rattle.duplex_line.specs.Plays.{IsNext, begun, played, takes_no_memory};
 
 use crate::deal::deal;
 use crate::outset::side_of;
@@ -65,10 +65,11 @@ impl World {
 
     /// Does an event: one that may happen, at the end a or b, which issues at most 65,535 commands; the sum of the
     /// events, with this one, is at most 5,000,000. Takes, deliveries and losses end at the first that has nothing to
-    /// do.
+    /// do. Losing and altering take no memory.
     pub fn step(&mut self, event: &Event) -> Result<(), NoMemory>
         requires { IsNext self.old event.now }
-        ensures { OnOk result (self.new ≡ played self.old event.now) }
+        ensures ok { OnOk result (self.new ≡ played self.old event.now) }
+        ensures calm { IsTrue (takes_no_memory event.now) → IsOk result }
     {
         let alloc = self.alloc;
         self.events += count(event);

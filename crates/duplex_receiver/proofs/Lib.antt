@@ -1,3 +1,4 @@
 pub mod Keeping
 pub mod Answered
 pub mod Runs
+pub mod Accepting

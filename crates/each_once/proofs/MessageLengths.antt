@@ -1,26 +1,20 @@
 -- That messages have the length that a message may have: 6 to 250 bytes.
 use Rattle.std.proofs.Common.{◌≡◌, ℕ, ◌≤◌, Bool, true, false, IsTrue, ◌&&◌, ◌==◌, List, [], ◌∷◌, ◌++◌, drop, length, map, Option, Some, None, find, option_map, refl, sym, subst, arith}
-use Rattle.std.specs.Prelude.{slice_get, slice_index, bit_and, nat_le, Result}
+use Rattle.std.specs.Prelude.{slice_get, bit_and, nat_le}
 use Rattle.std.specs.List.{filter, list_any}
 use Rattle.std.specs.Option.{option_or}
 use Rattle.std.proofs.lemmas.Bool.{cond_both, leb-true}
-use Rattle.std.proofs.lemmas.List.{length-drop, map-append}
+use Rattle.std.proofs.lemmas.List.{map-append}
 use Rattle.std.proofs.lemmas.Option.{same_Some}
-use Rattle.df1_base.specs.declared.code.Code.{Code}
-use Rattle.df1_base.specs.declared.code.Code.TheVariants.{Done, Sts, Ext}
-use Rattle.df1_node.specs.declared.file_spec.FileSpec.{FileSpec}
-use Rattle.df1_node.specs.Tables.{DataTables, file_of, has_word}
-use Rattle.df1_node.specs.Answer.{StationState, Order, Effect, not_integer, is_write, order_of, refused, written, effect_of, extension_of, after_answer, reply_to}
+use Rattle.df1_base.specs.Host.{IsBody}
+use Rattle.df1_node.specs.Answer.{StationState, after_answer, reply_to}
+use Rattle.df1_node.specs.HostLaws.{reply-body}
 use Rattle.df1_node.specs.Initiator.{Issued, InitiatorState, is_waiting, is_out, next_issued, next_command, after_issue}
 use Rattle.df1_node.specs.Node.{NodeState, next_body}
 use Rattle.pccc_envelope.specs.Envelope.{is_reply}
 use Rattle.line_statement.specs.Statements.{is_payload}
 use Rattle.each_once.specs.Exchanges.{exchanges}
 use Rattle.each_once.proofs.HandedOut.{is_command, Hosts}
-
--- bodies of 6 to 250 bytes
-abbrev pub IsBody : List ℕ → Type 0
-IsBody body = (6 ≤ length body) × (length body ≤ 250)
 
 abbrev pub AreBodies : List (List ℕ) → Type 0
 AreBodies [] = Unit {0}
@@ -47,43 +41,11 @@ bodies-filter : (p : List ℕ → Bool) (xs : List (List ℕ)) → AreBodies xs 
 bodies-filter p [] h = tt
 bodies-filter p (x ∷ xs) h = cond_both (p x) (x ∷ filter p xs) (filter p xs) AreBodies (λ _. (h.0, bodies-filter p xs h.1)) (λ _. bodies-filter p xs h.1)
 
--- ---- a reply: after its envelope come at most 244 bytes, EXT STS and data
-
-abbrev IsShort : Effect → Type 0
-IsShort e = length (extension_of e.code ++ e.reply) ≤ 244
-
-refused-short : (tables : DataTables) (code : Code) → IsShort (refused tables code)
-refused-short tables Done = omega arith
-refused-short tables (Sts status) = omega arith
-refused-short tables (Ext extension) = omega arith
-
-written-short : (tables : DataTables) (spec : Option FileSpec) (number element word : ℕ) → IsShort (written tables spec number element word)
-written-short tables None number element word = refused-short tables (Ext 0x06)
-written-short tables (Some spec) number element word =
-    cond_both (not_integer spec.kind) _ _ IsShort (λ _. refused-short tables (Ext 0x11))
-    (λ _. cond_both (has_word tables.specs number element) _ _ IsShort (λ _. omega arith) (λ _. refused-short tables (Ext 0x0A)))
-
-abbrev HasShortEffect : DataTables → Result Order Code → Type 0
-HasShortEffect tables order = IsShort (effect_of tables order)
-
-order-short : (tables : DataTables) (cmd : ℕ) (rest : List ℕ) → length rest ≤ 244 → HasShortEffect tables (order_of cmd rest)
-order-short tables cmd [] few = refused-short tables (Sts 0x10)
-order-short tables cmd (fnc ∷ rest) few =
-    let no = refused-short tables (Sts 0x10) in
-    cond_both ((cmd == 0x06) && (fnc == 0x00)) _ _ (HasShortEffect tables) (λ _. omega arith)
-    (λ _. cond_both ((cmd == 0x0F) && (fnc == 0xAA)) _ _ (HasShortEffect tables)
-    (λ _. cond_both (is_write rest) _ _ (HasShortEffect tables) (λ _. written-short tables (file_of tables.specs _) _ _ _) (λ _. no)) (λ _. no))
-
-pub reply-fits : (station : StationState) (body : List ℕ) → length body ≤ 250 → (6 ≤ length (reply_to station body)) × (length (reply_to station body) ≤ 250)
-reply-fits station body few =
-    let short = order-short station.tables (slice_index body 2) (drop 6 body) (omega (arith, length-drop 6 body)) in
-    (omega arith, omega arith)
-
 -- ---- what is handed out next: a reply, or a command that was issued
 
 replies-fit : (first : StationState) (xs : List (List ℕ)) → AreBodies xs → AreBodies (map (λ e. e.1) (exchanges first xs))
 replies-fit first [] h = tt
-replies-fit first (x ∷ xs) h = (reply-fits first x h.0.1, replies-fit (after_answer first x) xs h.1)
+replies-fit first (x ∷ xs) h = (reply-body first x h.0, replies-fit (after_answer first x) xs h.1)
 
 first-waiting-fits : (cs : List Issued) (body : List ℕ) → AreBodies (map (λ c. c.body) cs) → option_map (λ c. c.body) (find (λ c. is_waiting c.standing) cs) ≡ Some body → IsBody body
 first-waiting-fits [] body h e = absurd cc

@@ -6,7 +6,8 @@ use Rattle.std.proofs.lemmas.Bool.{and_parts, eqb-true, eq-eqb}
 use Rattle.std.proofs.lemmas.Option.{same_Some}
 use Rattle.pccc_envelope.specs.Envelope.{envelope_of, is_reply, tns_of, key_of}
 use Rattle.pccc_envelope.proofs.Replies.{is_reply-reply_form}
-use Rattle.df1_node.specs.Answer.{StationState, Effect, after_answer, reply_to, reply_body, done, status_of, extension_of}
+use Rattle.data_files.specs.Effect.{Effect}
+use Rattle.df1_node.specs.Answer.{StationState, after_answer, reply_to, reply_body, done, status_of, extension_of}
 use Rattle.df1_node.specs.Initiator.{is_reply_to}
 use Rattle.each_once.specs.Exchanges.{exchanges}
 

@@ -6,10 +6,10 @@ use Rattle.std.specs.Option.{option_or, option_map_or}
 use Rattle.std.proofs.lemmas.Bool.Decides.{nat_tests}
 use Rattle.std.proofs.lemmas.List.Elements.{All-nil, All-push, All-weaker}
 use Rattle.std.proofs.lemmas.List.Folds.{find-append}
-use Rattle.df1_node.specs.declared.file_spec.FileSpec.{FileSpec}
-use Rattle.df1_node.specs.declared.tables.MakeFault.{MakeFault}
-use Rattle.df1_node.specs.declared.tables.MakeFault.TheVariants.{TooMany}
-use Rattle.df1_node.specs.Tables.{faults, first_fault, fault_of, has_word, word_count}
+use Rattle.data_files.specs.declared.file_spec.FileSpec.{FileSpec}
+use Rattle.data_files.specs.declared.make_fault.MakeFault.{MakeFault}
+use Rattle.data_files.specs.declared.make_fault.MakeFault.TheVariants.{TooMany}
+use Rattle.data_files.specs.Tables.{faults, first_fault, fault_of, has_word, word_count}
 use Rattle.line_statement.specs.declared.who.Who.{Who}
 use Rattle.line_script.specs.declared.script.WordOf.{WordOf}
 use Rattle.line_statement.specs.declared.set_line.Setting.{Setting}

@@ -1,7 +1,10 @@
 pub mod Cuts
 pub mod EndStanding
+pub mod Numbered
 pub mod Ranges
 pub mod Reading
 pub mod Seen
 pub mod Standing
 pub mod LongTexts
+pub mod Counts
+pub mod Unfinished

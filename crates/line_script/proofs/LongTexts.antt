@@ -38,22 +38,22 @@ over d start line ended le past = elim (cases_lt (16777216 - start) 1025) [
 ]
 
 -- parts with more at the front of the first
-abbrev onto_all : List ℕ → List (List ℕ) → List (List ℕ)
+abbrev pub onto_all : List ℕ → List (List ℕ) → List (List ℕ)
 onto_all front [] = front ∷ []
 onto_all front (part ∷ parts) = (front ++ part) ∷ parts
 
-onto_all-first : (front : List ℕ) (x : ℕ) (ps : List (List ℕ)) → onto_all front (onto_first x ps) ≡ onto_all (front ++ x ∷ []) ps
+pub onto_all-first : (front : List ℕ) (x : ℕ) (ps : List (List ℕ)) → onto_all front (onto_first x ps) ≡ onto_all (front ++ x ∷ []) ps
 onto_all-first front x [] = refl
 onto_all-first front x (part ∷ ps) = ap (λ (l : List ℕ). l ∷ ps) (sym (append_assoc front (x ∷ []) part))
 
-onto_all-nil : (ps : List (List ℕ)) (part : List ℕ) (more : List (List ℕ)) → ps ≡ part ∷ more → onto_all [] ps ≡ ps
+pub onto_all-nil : (ps : List (List ℕ)) (part : List ℕ) (more : List (List ℕ)) → ps ≡ part ∷ more → onto_all [] ps ≡ ps
 onto_all-nil ps part more is = rw is refl
 
 -- the reading from a place of the text on
-abbrev Read : Type 0
+abbrev pub Read : Type 0
 Read = Result Script (ℕ × Cause)
 
-abbrev read_on : Reader → List Event → ℕ → ℕ → List (List ℕ) → Read
+abbrev pub read_on : Reader → List Event → ℕ → ℕ → List (List ℕ) → Read
 read_on d events number start ps = script_from d events number (lines_from start ps)
 
 -- both are refused at one line for one cause

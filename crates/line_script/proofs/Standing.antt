@@ -40,7 +40,7 @@ pub record Stands (d : Reader) (events : List Event) : Type 0 where
   pub commands_of_b : count_by (issues who.B) events + d.b.commands_left ≡ 65535
   pub sum : sum_by count_of events + d.events_left ≡ 4000000
 
-stands_at_first : Stands fresh []
+pub stands_at_first : Stands fresh []
 stands_at_first = record { a = right_at_first; b = right_at_first; possible = All-nil _; commands_of_a = refl; commands_of_b = refl; sum = refl }
 
 -- ---- what no cause says
@@ -201,7 +201,7 @@ next d events End h sound none = quiet d (counted d End) events h h.a h.b refl r
 
 -- ---- any line
 
-abbrev IfNext : List Event → Result (Reader × Option Event) Cause → Type 0
+abbrev pub IfNext : List Event → Result (Reader × Option Event) Cause → Type 0
 IfNext events (Err cause) = Unit {0}
 IfNext events (Ok step) = Stands step.0 (events ++ option_to_list step.1)
 
@@ -229,7 +229,7 @@ sized true long d events line h = tt
 sized false true d events line h = tt
 sized false false d events line h = lines (is_passed_over line) (is_ended d.stage) d events line h
 
-lined : (d : Reader) (events : List Event) (line : TextLine) → Stands d events → IfNext events (after_line d line)
+pub lined : (d : Reader) (events : List Event) (line : TextLine) → Stands d events → IfNext events (after_line d line)
 lined d events line h = sized (reaches_limit line) (is_long line) d events (words (content line)) h
 
 -- ---- the whole text

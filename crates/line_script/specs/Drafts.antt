@@ -2,8 +2,8 @@
 use Rattle.std.specs.Prelude.{ℕ, ◌-◌, Bool, true, false, List, [], ◌∷◌, ◌++◌, length, find, Option, None, Some, is_none, is_some, Result, Ok, Err, nat_le, nat_lt, ◌==◌, ◌||◌, if◌then◌else◌}
 use Rattle.std.specs.List.{list_any}
 use Rattle.std.specs.Option.{option_map_or}
-use Rattle.df1_node.specs.declared.file_spec.FileSpec.{FileSpec}
-use Rattle.df1_node.specs.Tables.{word_count}
+use Rattle.data_files.specs.declared.file_spec.FileSpec.{FileSpec}
+use Rattle.data_files.specs.Tables.{word_count}
 use Rattle.line_script.specs.declared.cause.Cause.{Cause}
 use Rattle.line_script.specs.declared.cause.Cause.TheVariants as cause
 use Rattle.line_script.specs.declared.script.Lane.{Lane}

@@ -5,3 +5,5 @@ pub mod Playable
 pub mod Plans
 pub mod Refusal
 pub mod ScriptText
+pub mod Left
+pub mod Unfinished

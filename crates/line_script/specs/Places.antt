@@ -1,9 +1,11 @@
--- Places of words: the number of a file and the index of a word in it.
-use Rattle.std.specs.Prelude.{◌≡◌, ℕ, Bool, List, ◌==◌, ◌&&◌}
+-- Numbers of files, and places of words: the number of a file and the index of a word in it.
+use Rattle.std.specs.Prelude.{◌≡◌, ℕ, Bool, List, find, ◌==◌, ◌&&◌}
 use Rattle.std.specs.List.{list_any}
 use Rattle.std.specs.Ordering.{nat_cmp, ordering_then}
 use Rattle.std.specs.declared.cmp.Ordering.{Ordering}
+use Rattle.std.specs.BTreeMap.{BTreeMap, get}
 use Rattle.std.specs.BTreeSet.{BTreeSet, contains}
+use Rattle.data_files.specs.declared.file_spec.FileSpec.{FileSpec}
 use Rattle.line_script.specs.declared.script.WordOf.{WordOf}
 
 -- the word stands at this place
@@ -17,3 +19,7 @@ place_cmp a b = ordering_then (nat_cmp a.0 b.0) (nat_cmp a.1 b.1)
 -- a set holds the places of some words and no others
 pub record ArePlaces (places : BTreeSet (ℕ × ℕ)) (words : List WordOf) : Type 0 where
   pub same : (file index : ℕ) → contains place_cmp places (file, index) ≡ list_any (is_at file index) words
+
+-- a map has the first file of each number and no others
+pub record AreNumbers (numbers : BTreeMap ℕ FileSpec) (files : List FileSpec) : Type 0 where
+  pub same : (number : ℕ) → get nat_cmp numbers number ≡ find (λ spec. spec.number == number) files

@@ -1,6 +1,6 @@
 -- Scripts whose events can happen: what a script meets that was read.
 use Rattle.std.specs.Prelude.{◌≡◌, ℕ, ◌<◌, ◌≤◌, Bool, true, false, List, [], ◌∷◌, length, count_by, sum_by, All, None, IsTrue}
-use Rattle.df1_node.specs.Tables.{faults, has_word}
+use Rattle.data_files.specs.Tables.{faults, has_word}
 use Rattle.line_statement.specs.declared.who.Who.{Who}
 use Rattle.line_statement.specs.declared.who.Who.TheVariants.{A, B}
 use Rattle.line_script.specs.declared.script.Lane.{Lane}

@@ -5,8 +5,8 @@ ghost use Rattle.line_script.specs.Drafts.{with_statement as the_draft, settled,
 use crate::causes::steps_of;
 use crate::reader::{NODE_OF_A, NODE_OF_B, Reader, Stage};
 use crate::{Event, Lane, WordOf};
+use data_files::FileSpec;
 use df1_base::NoMemory;
-use df1_node::FileSpec;
 use line_statement::{EndName, Setting, Side, Statement, Verb};
 
 impl Reader {

@@ -4,7 +4,7 @@ ghost use Rattle.line_script.specs.Drafts.{cause_of as the_cause, is_misplaced a
 
 use crate::Cause;
 use crate::reader::{Reader, Stage};
-use df1_node::FileSpec;
+use data_files::FileSpec;
 use line_statement::{EndName, Statement};
 
 /// The most files of an end.
@@ -120,7 +120,7 @@ impl Reader {
         ensures { result ≡ the_full self.now end }
     {
         match end {
-            EndName::Known(side) => self.end(side).files.as_slice().len() >= FILES,
+            EndName::Known(side) => self.end(side).files.len() >= FILES,
             EndName::Absent => false,
         }
     }

@@ -4,9 +4,10 @@ ghost use Rattle.std.specs.Prelude.{◌≡◌, ◌==◌, find};
 ghost use Rattle.std.specs.List.{list_any};
 ghost use Rattle.line_script.specs.Plans.{is_given as the_given, with_setting as the_settings, no_settings, fresh_end, node_of as the_node, plan_of as the_plan};
 
+use crate::EndPlan;
+use crate::given_files::GivenFiles;
 use crate::given_words::GivenWords;
-use crate::{EndPlan, Specs};
-use df1_node::FileSpec;
+use data_files::FileSpec;
 use line_statement::{Items, Setting, Who};
 use std::alloc::Global;
 
@@ -95,7 +96,7 @@ impl Settings {
 #[derive(Drop)]
 pub(crate) struct EndDraft {
     pub settings: Settings,
-    pub files: Specs,
+    pub files: GivenFiles,
     pub words: GivenWords,
     pub commands_left: u32,
 }
@@ -107,7 +108,7 @@ impl EndDraft {
     {
         EndDraft {
             settings: Settings::new(),
-            files: Items::new(alloc),
+            files: GivenFiles::new(alloc),
             words: GivenWords::new(alloc),
             commands_left: COMMANDS,
         }
@@ -124,17 +125,14 @@ impl EndDraft {
     pub fn file(&self, number: u16) -> Option<FileSpec>
         ensures { result ≡ find (λ spec. spec.number == number) self.now.files }
     {
-        file_of(self.files.as_slice(), number)
+        self.files.file(number)
     }
 
     /// Whether a data file has this number.
     pub fn has_file(&self, number: u16) -> bool
         ensures { result ≡ list_any (λ spec. spec.number == number) self.now.files }
     {
-        self.files
-            .as_slice()
-            .iter()
-            .any(|spec| spec.number == number)
+        self.files.has(number)
     }
 
     /// The plan of the end, whose address is `standard` where no line sets it.
@@ -157,15 +155,8 @@ impl EndDraft {
             room: settings.room.unwrap_or(ROOM),
             compat: None,
             block: Items::new(alloc),
-            files: self.files,
+            files: self.files.into_files(),
             words: self.words.into_words(),
         }
     }
-}
-
-/// The data file of this number.
-fn file_of(files: &[FileSpec], number: u16) -> Option<FileSpec>
-    ensures { result ≡ find (λ spec. spec.number == number) files.now }
-{
-    files.iter().find(|spec| spec.number == number).copied()
 }

@@ -56,9 +56,9 @@ impl GivenWords {
         self.words.push(word)?;
         match self.places.insert((word.file, word.index)) {
             Ok(_) => Ok(()),
-            Err(_) => {
+            Err(refused) => {
                 self.words.pop();
-                Err(NoMemory)
+                Err(refused.into())
             }
         }
     }

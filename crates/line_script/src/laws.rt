@@ -1,11 +1,28 @@
-//! What holds of every text. The function does nothing.
-ghost use Rattle.std.specs.Prelude.{◌≡◌, ◌<◌, ◌++◌, ℕ, List, Err, length};
+//! What holds of every text. The functions do nothing.
+ghost use Rattle.std.specs.Prelude.{◌≡◌, ◌≢◌, ◌<◌, ◌++◌, ℕ, List, [], Err, IfOk, length};
 ghost use Rattle.line_script.specs.declared.cause.Cause.{Cause as Fault};
+ghost use Rattle.line_script.specs.Drafts.{fresh};
+ghost use Rattle.line_script.specs.Left.{IsLeft, after_lines};
+ghost use Rattle.line_script.specs.Lines.{TextLine};
 ghost use Rattle.line_script.specs.ScriptText.{script_of};
+ghost use Rattle.line_script.specs.Unfinished.{IsSettled};
 
 /// A text of more than 16,777,216 bytes is no script, and its first 16,777,217 bytes show its first faulty line and the
 /// cause: whatever follows them, line and cause are the same.
 pub fn refused_over_the_limit()
     ensures { (text more : List ℕ) → 16777216 < length text
         → (number : ℕ) × (fault : Fault) × (script_of text ≡ Err (number, fault)) × (script_of (text ++ more) ≡ Err (number, fault)) }
+{}
+
+/// A line that is refused is so whatever follows it: where a line feed ends all lines of a text, or its last line is over
+/// 1,024 bytes, every longer text has its first faulty line and cause, unless `end` alone was missing.
+pub fn a_refused_line_stays_refused()
+    ensures { (text more : List ℕ) (number : ℕ) (fault : Fault) → IsSettled text
+        → script_of text ≡ Err (number, fault) → fault ≢ Fault.NoEnd → script_of (text ++ more) ≡ Err (number, fault) }
+{}
+
+/// After any lines that were accepted, what is left of the commands of each end is 65,535 less those that the lines issued,
+/// and what is left of the events is 4,000,000 less what the lines' events sum to.
+pub fn what_is_left_is_what_the_lines_leave()
+    ensures { (lines : List TextLine) → IfOk (after_lines fresh [] lines) (λ read. IsLeft read.0 read.1) }
 {}

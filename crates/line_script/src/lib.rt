@@ -6,6 +6,7 @@ mod apply;
 mod cause;
 mod causes;
 mod end_draft;
+mod given_files;
 mod given_words;
 mod laws;
 mod read;
@@ -13,10 +14,12 @@ mod reader;
 mod script;
 
 pub use cause::{Cause, LineFault, ScriptFault};
-pub use laws::refused_over_the_limit;
+pub use laws::{
+    a_refused_line_stays_refused, refused_over_the_limit, what_is_left_is_what_the_lines_leave,
+};
 pub use line_statement::{Bytes, Items, Who};
 pub use read::read_script;
-pub use reader::Reader;
+pub use reader::{LINE, Reader, SCRIPT};
 pub use script::{EndPlan, Ends, Event, Events, Lane, Script, Specs, WordOf, Words};
 
 #[cfg(test)]

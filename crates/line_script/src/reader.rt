@@ -1,9 +1,10 @@
 //! Reads a script line by line: each by the limits of the text and of lines, by what its words say, and by what the
 //! lines before it said.
-ghost use Rattle.std.specs.Prelude.{◌≡◌, ◌∷◌, ◌+◌, MatchResult, IfOk, Ok, List, map, min, length, if◌then◌else◌};
+ghost use Rattle.std.specs.Prelude.{◌≡◌, ◌∷◌, ◌+◌, MatchResult, IfOk, Ok, Err, List, map, min, length, if◌then◌else◌};
 ghost use Rattle.line_script.specs.Drafts.{fresh, after_statement, end_at as the_end};
 ghost use Rattle.line_script.specs.Lines.{after_line, after_words, finished, reaches_limit as the_limit_test, content as the_content, is_passed_over as the_passed, ends as the_ends, text_line};
 ghost use Rattle.line_script.specs.Refusal.{IsFaulty};
+ghost use Rattle.line_script.specs.declared.cause.Cause.{Cause as TheCause};
 
 use crate::end_draft::EndDraft;
 use crate::{Cause, Ends, Event, Events, LineFault, Script};
@@ -13,10 +14,10 @@ use line_statement::{EVENTS, Items, Side, Statement, Who, statement_of, words_of
 use std::alloc::Global;
 
 /// The longest script, in bytes.
-const SCRIPT: usize = 16_777_216;
+pub const SCRIPT: usize = 16_777_216;
 
 /// The longest line, in bytes before its line feed.
-const LINE: usize = 1024;
+pub const LINE: usize = 1024;
 
 /// The address of end a, where no line sets it.
 pub(crate) const NODE_OF_A: u8 = 0;
@@ -101,9 +102,10 @@ impl Reader {
         }
     }
 
-    /// Takes a statement, if nothing is wrong with it.
+    /// Takes a statement, if nothing is wrong with it. One that is refused takes no memory.
     fn take(&mut self, statement: Statement) -> Result<Option<Event>, LineFault>
-        ensures { MatchResult result (λ event. after_statement self.old statement ≡ Ok (self.new, event))
+        ensures refused { (cause : TheCause) → after_statement self.old statement ≡ Err cause → result ≡ Err (LineFault.Faulty cause) }
+        ensures value { MatchResult result (λ event. after_statement self.old statement ≡ Ok (self.new, event))
             (λ fault. IsFaulty fault (after_statement self.old statement)) }
     {
         match self.cause_of(&statement) {

@@ -1,7 +1,7 @@
 //! What a script says: the plan of each end, and the events of the line between them.
 
+use data_files::FileSpec;
 use df1_check::Check;
-use df1_node::FileSpec;
 use line_statement::{Bytes, Items, Who};
 
 /// The data files of an end, in the order in which they were declared.

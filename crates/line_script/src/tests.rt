@@ -1,14 +1,14 @@
 //! Texts with their first faulty line and its cause, and one script field by field.
 
 use crate::{Cause, Event, Lane, LineFault, Reader, ScriptFault, Who, WordOf, read_script};
+use data_files::FileSpec;
 use df1_base::FileType;
 use df1_check::Check;
-use df1_node::FileSpec;
 use std::alloc::{AllocError, Global};
 use std::test::Fail;
 
 /// Faulty texts, each with its line and its cause.
-const FAULTY: [(&str, u32, Cause); 69] = [
+const FAULTY: [(&str, u32, Cause); 76] = [
     ("", 1, Cause::NoEnd),
     ("ak\n# end\n", 3, Cause::NoEnd),
     ("ak", 2, Cause::NoEnd),
@@ -60,11 +60,34 @@ const FAULTY: [(&str, u32, Cause); 69] = [
     ("set b.reply_ticks 32\n", 1, Cause::Value),
     ("set a.room 65\n", 1, Cause::Value),
     ("file b 1000 89 16\n", 1, Cause::Value),
-    ("file b 7 84 16\n", 1, Cause::Value),
+    ("file b 7 83 16\n", 1, Cause::Value),
+    ("file b 7 8a 16\n", 1, Cause::Value),
     ("file b 7 089 16\n", 1, Cause::Value),
     ("file b 7 89 0\n", 1, Cause::Value),
     ("file b 7 89 1001\n", 1, Cause::Value),
     ("file b 7 89 16\nword b 7 16 1234\n", 2, Cause::Value),
+    ("file b 7 84 2\nword b 7 2 1234\n", 2, Cause::Value),
+    ("file b 7 85 2\nword b 7 2 1234\n", 2, Cause::Value),
+    (
+        "file b 7 86 2\nword b 7 5 1234\nword b 7 6 1234\n",
+        3,
+        Cause::Value,
+    ),
+    (
+        "file b 7 87 2\nword b 7 5 1234\nword b 7 6 1234\n",
+        3,
+        Cause::Value,
+    ),
+    (
+        "file b 7 88 2\nword b 7 5 1234\nword b 7 6 1234\n",
+        3,
+        Cause::Value,
+    ),
+    (
+        "file b 7 8A 2\nword b 7 3 1234\nword b 7 4 1234\n",
+        3,
+        Cause::Value,
+    ),
     ("ak 0\n", 1, Cause::Value),
     ("ak 4000001\n", 1, Cause::Value),
     ("ac 00\n", 1, Cause::Value),

@@ -2,10 +2,10 @@
 use Rattle.std.specs.Prelude.{ℕ, Bool, false, true, List, [], ◌∷◌, length, take, drop, position, Option, Some, None, option_map, is_some, bit_and, nat_le, ◌==◌, ◌&&◌, ◌||◌, if◌then◌else◌, codes}
 use Rattle.std.specs.Str.{bytes_eq}
 use Rattle.df1_base.specs.declared.file_type.FileType.{FileType}
-use Rattle.df1_base.specs.declared.file_type.FileType.TheVariants.{Integer}
+use Rattle.df1_base.specs.declared.file_type.FileType.TheVariants.{Status, Bit, Timer, Counter, Control, Integer, Float}
 use Rattle.df1_check.specs.declared.Check.{Check}
 use Rattle.df1_check.specs.declared.Check.TheVariants.{Bcc, Crc}
-use Rattle.df1_node.specs.declared.file_spec.FileSpec.{FileSpec}
+use Rattle.data_files.specs.declared.file_spec.FileSpec.{FileSpec}
 use Rattle.line_statement.specs.declared.who.Who.{Who}
 use Rattle.line_statement.specs.declared.who.Who.TheVariants as who
 use Rattle.line_statement.specs.declared.set_line.Setting.{Setting}
@@ -81,8 +81,17 @@ set_line key value =
 
 -- ---- files and words
 
+-- the type that a word names, letter for letter
 abbrev pub file_type : List ℕ → Option FileType
-file_type word = if bytes_eq word (codes "89") then Some Integer else None
+file_type word =
+    if bytes_eq word (codes "84") then Some Status
+    else if bytes_eq word (codes "85") then Some Bit
+    else if bytes_eq word (codes "86") then Some Timer
+    else if bytes_eq word (codes "87") then Some Counter
+    else if bytes_eq word (codes "88") then Some Control
+    else if bytes_eq word (codes "89") then Some Integer
+    else if bytes_eq word (codes "8A") then Some Float
+    else None
 
 abbrev pub file_spec : Option ℕ → Option FileType → Option ℕ → Option FileSpec
 file_spec (Some number) (Some kind) (Some count) = Some (record { number = number; kind = kind; count = count })

@@ -48,7 +48,7 @@ impl<T> Items<T> {
     {
         match self.items.push(item) {
             Ok(()) => Ok(()),
-            Err(_) => Err(NoMemory),
+            Err(refused) => Err(refused.into()),
         }
     }
 

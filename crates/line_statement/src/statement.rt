@@ -1,6 +1,6 @@
 //! What one line of a script says, by the table of the forms. A value, number or length that is out of its range
 //! leaves its field None: such a line still is one of the forms.
-ghost use Rattle.std.specs.Prelude.{◌≡◌, map, IfOk, Some};
+ghost use Rattle.std.specs.Prelude.{◌≡◌, map, IfOk, OnErr, length, Some};
 ghost use Rattle.line_statement.specs.Words.{within as the_bounded};
 ghost use Rattle.line_statement.specs.Statements.{end_of as the_end, other_end, who_of, statement_of as the_statement, one_word as the_one, three_words as the_three, file_line as the_file, word_line as the_word, five_words as the_five, file_spec as the_spec, file_type as the_type};
 
@@ -8,9 +8,9 @@ use crate::event_line::{bare_event, operand_event};
 use crate::set_line::{Setting, set_line};
 use crate::words::{is, number_of, register_of, within};
 use crate::{Bytes, Who};
+use data_files::FileSpec;
 use df1_base::{FileType, NoMemory};
 use df1_check::Check;
-use df1_node::FileSpec;
 use std::alloc::Global;
 
 /// The most events that one line, and a whole script, may count.
@@ -122,10 +122,11 @@ pub enum Statement {
     End,
 }
 
-/// What the words of a line say, if they are one of the forms.
+/// What the words of a line say, if they are one of the forms. Lines of two words alone take memory.
 #[tactic(auto, unfolding(crate::specs::Statements::statement_of))]
 pub fn statement_of(alloc: Global, words: &[&[u8]]) -> Result<Option<Statement>, NoMemory>
-    ensures { IfOk result (λ s. s ≡ the_statement (map (λ x. x.now) words.now)) }
+    ensures value { IfOk result (λ s. s ≡ the_statement (map (λ x. x.now) words.now)) }
+    ensures memory { OnErr result (length words.now ≡ 2) }
 {
     match words {
         [word] => Ok(one_word(word)),
@@ -241,12 +242,24 @@ fn file_number(number: u32) -> Option<u16>
     Some(number as u16)
 }
 
-/// The type that a word names.
+/// The type that a word names, letter for letter.
 fn file_type(word: &[u8]) -> Option<FileType>
     ensures { result ≡ the_type word.now }
 {
-    if is(word, "89") {
+    if is(word, "84") {
+        Some(FileType::Status)
+    } else if is(word, "85") {
+        Some(FileType::Bit)
+    } else if is(word, "86") {
+        Some(FileType::Timer)
+    } else if is(word, "87") {
+        Some(FileType::Counter)
+    } else if is(word, "88") {
+        Some(FileType::Control)
+    } else if is(word, "89") {
         Some(FileType::Integer)
+    } else if is(word, "8A") {
+        Some(FileType::Float)
     } else {
         None
     }

@@ -1,6 +1,7 @@
 //! The words of a line, and the statement that they make.
 
 use crate::{Side, Statement, Verb, statement_of, words_of};
+use df1_base::FileType;
 use std::alloc::Global;
 use std::test::Fail;
 
@@ -44,4 +45,36 @@ fn a_line_says_its_statement(rt: HostRuntime) -> Result<(), Fail> {
     );
     assert!(rt; said(alloc, "").is_none());
     Ok(())
+}
+
+/// The words that name types, and the words beside them that name none.
+const TYPES: [(&str, Option<FileType>); 12] = [
+    ("84", Some(FileType::Status)),
+    ("85", Some(FileType::Bit)),
+    ("86", Some(FileType::Timer)),
+    ("87", Some(FileType::Counter)),
+    ("88", Some(FileType::Control)),
+    ("89", Some(FileType::Integer)),
+    ("8A", Some(FileType::Float)),
+    ("83", None),
+    ("8B", None),
+    ("8a", None),
+    ("089", None),
+    ("8", None),
+];
+
+/// The type of the file that a line declares, if it is such a line and its word names one.
+fn type_of(alloc: Global, word: &str) -> Option<Option<FileType>> {
+    let words = [b"file".as_slice(), b"a", b"7", word.as_bytes(), b"2"];
+    match statement_of(alloc, &words) {
+        Ok(Some(Statement::File { spec, .. })) => Some(spec.map(|file| file.kind)),
+        _ => None,
+    }
+}
+
+#[test]
+fn a_type_is_named_letter_for_letter(rt: HostRuntime) {
+    for (word, kind) in TYPES {
+        assert_eq!(rt; type_of(rt.alloc(), word), Some(kind));
+    }
 }

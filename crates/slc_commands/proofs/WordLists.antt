@@ -1,9 +1,10 @@
 -- Words that a masked write makes, one after the other.
-use Rattle.std.proofs.Common.{◌≡◌, ℕ, suc, ◌+◌, ◌-◌, ◌*◌, ◌%◌, ◌<◌, ◌≤◌, List, [], ◌∷◌, ◌++◌, length, get_or, drop, bit_and, bit_or, refl, sym, ap, ◌∙◌, append_assoc, arith}
+use Rattle.std.proofs.Common.{◌≡◌, ℕ, zero, suc, ◌+◌, ◌-◌, ◌*◌, ◌/◌, ◌%◌, ◌<◌, ◌≤◌, List, [], ◌∷◌, ◌++◌, length, get_or, drop, bit_and, bit_or, refl, sym, ap, ◌∙◌, append_assoc, arith}
 use Rattle.std.specs.Int.Bits.{and_zero_r, or_zero_l}
 use Rattle.std.proofs.Math.Seq.{drop-cons}
 use Rattle.std.proofs.lemmas.Nat.{and_mask}
-use Rattle.data_files.specs.WordBytes.{words_of}
+use Rattle.std.proofs.lemmas.List.Concat.{flat_map-cons}
+use Rattle.data_files.specs.WordBytes.{bytes_of, words_of}
 use Rattle.slc_commands.specs.Words.{masked_word, masked}
 
 -- ---- masks
@@ -29,7 +30,6 @@ length-masked mask [] new le = refl
 length-masked mask (o ∷ old) [] le = absurd (omega arith)
 length-masked mask (o ∷ old) (n ∷ new) le = let tail : length old ≤ length new = omega arith in let rest = length-masked mask old new tail in omega arith
 
--- one more word at the end of what was made
 pub masked_step : (mask : ℕ) (old bytes : List ℕ) (i : ℕ) (front whole : List ℕ) → i < length old → length bytes ≡ 2 * length old → front ++ masked mask (drop i old) (words_of (drop (2 * i) bytes)) ≡ whole
     → (front ++ masked_word mask (get_or old i 0) (get_or bytes (2 * i) 0 + 256 * get_or bytes (2 * i + 1) 0) ∷ []) ++ masked mask (drop (i + 1) old) (words_of (drop (2 * (i + 1)) bytes)) ≡ whole
 masked_step mask old bytes i front whole lt size so_far =

@@ -1,4 +1,4 @@
--- Words that a masked write makes. Words are numbers below 65536.
+-- The words that a masked write makes. Words are numbers below 65536.
 use Rattle.std.specs.Prelude.{ℕ, ◌-◌, List, [], ◌∷◌, bit_and, bit_or}
 
 -- (old and not mask) or (new and mask)

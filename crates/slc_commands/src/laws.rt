@@ -3,6 +3,7 @@ ghost use Rattle.std.specs.Prelude.{◌≡◌, ◌<◌, ◌^◌, ◌∷◌, [], 
 ghost use Rattle.df1_base.specs.declared.code.Code.TheVariants.{Sts};
 ghost use Rattle.slc_commands.specs.declared.order.SlcFnc.TheVariants.{Masked};
 ghost use Rattle.slc_commands.specs.Order.{IsOrder, Order, SpellsOrder, order_of};
+ghost use Rattle.data_files.specs.WordBytes.{bytes_of, words_of};
 ghost use Rattle.slc_commands.specs.Words.{masked, masked_word};
 
 /// A payload spells one order at most.
@@ -19,6 +20,11 @@ pub fn orders_are_spelled()
 /// A write without a mask replaces its words: with the mask FFFF each word is the new one.
 pub fn all_bits_replace()
     ensures { (old new : List ℕ) → length old ≡ length new → All (λ word. word < 2 ^ 16) new → masked 0xFFFF old new ≡ new }
+{}
+
+/// What is read of words that were written as bytes are these words.
+pub fn bytes_are_words()
+    ensures { (words : List ℕ) → words_of (bytes_of words) ≡ words }
 {}
 
 /// Orders of known payloads, and a masked write.

@@ -1,4 +1,4 @@
-//! Words that a masked write makes.
+//! The words that a write makes of the old ones.
 ghost use Rattle.std.specs.Prelude.{◌≡◌, ◌*◌, ◌≤◌, length};
 ghost use Rattle.data_files.specs.WordBytes.{words_of};
 ghost use Rattle.slc_commands.specs.Words.{masked, masked_word};

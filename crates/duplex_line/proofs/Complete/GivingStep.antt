@@ -14,6 +14,7 @@ use Rattle.df1_node.specs.Node.{NodeState, next_body, after_next, after_node_iss
 use Rattle.duplex_end.specs.End.{EndState, begun_at, begun_next, prepared, given_next, end_after_take, out_at_take, ends_here, after_out}
 use Rattle.duplex_end.proofs.Choices.{is-chosen}
 use Rattle.duplex_end.proofs.Joining.{take-sends}
+use Rattle.duplex_end.proofs.Order.{end-is, out-is}
 use Rattle.line_statement.specs.declared.who.Who.{Who}
 use Rattle.line_statement.specs.Statements.{is_payload}
 use Rattle.line_report.specs.declared.record.Line.{Line}
@@ -151,11 +152,14 @@ gave-flow e b lane back sent heard far_sent far_heard late far_late out is sends
     let now = flow-prepared e b lane back sent far_heard late idle refl next_fits (current-fits e sent sends bodies) f in
     let far_now = far-prepared e b back lane far_sent heard far_late idle far in
     let s = prepared-sends node_host e idle sends in
-    let gives = flow-gives p b lane back (sent ++ option_to_list (handed_at node_host e)) far_heard late out is
-    (λ ends. take-sends p.mouth p.sender s.joined (subst (λ (o : Option Out). IsTrue (ends_here o)) (sym is) ends))
-    (λ ends. s.begun (ends-begun p.mouth p.sender (chosen p.mouth) s.joined (is-chosen p.mouth) (subst (λ (o : Option Out). IsTrue (ends_here o)) (sym is) ends))) now in
-    let given : given_next p ≡ gave p out = ap (λ (o : Option Out). let g : EndState NodeState = record { receiver = p.receiver; sender = after_out o p.sender; mouth = (take p.mouth).0; sending = p.sending; host = p.host } in g) is in
-    rw given (gives, flow-back p b back lane far_sent heard far_late out is now.clear far_now)
+    let takes : (take p.mouth).1 ≡ Some out = sym (out-is node_host e) ∙ is in
+    let gives = flow-gives p b lane back (sent ++ option_to_list (handed_at node_host e)) far_heard late out takes
+    (λ ends. take-sends p.mouth p.sender s.joined (subst (λ (o : Option Out). IsTrue (ends_here o)) (sym takes) ends))
+    (λ ends. s.begun (ends-begun p.mouth p.sender (chosen p.mouth) s.joined (is-chosen p.mouth) (subst (λ (o : Option Out). IsTrue (ends_here o)) (sym takes) ends))) now in
+    let given : given_next p ≡ gave p out = ap (λ (o : Option Out). let g : EndState NodeState = record { receiver = p.receiver; sender = after_out o p.sender; mouth = (take p.mouth).0; sending = p.sending; host = p.host } in g) takes in
+    let Goes : EndState NodeState → Type 0 = λ x. Flow x b (lane ++ cell_of x.sending out ∷ []) back (sent ++ option_to_list (handed_at node_host e)) far_heard late
+    × Flow b x back (lane ++ cell_of x.sending out ∷ []) far_sent heard far_late in
+    subst Goes (sym (end-is node_host e ∙ given)) (gives, flow-back p b back lane far_sent heard far_late out takes now.clear far_now)
 
 take-some : (near far : Who) (first far_first : StationState) (s : LineState) (late : Late) (lines : List Line) (out : Out) → out_at_take node_host s.a.end ≡ Some out → Flows near far first far_first s late lines
     → Flows near far first far_first (record { a = record { end = end_after_take node_host s.a.end; lane = s.a.lane ++ cell_of (end_after_take node_host s.a.end).sending out ∷ [] }; b = s.b; deceived = s.deceived }) late lines

@@ -1,5 +1,5 @@
 -- An end that gives nothing, on a line on which nothing is on its way.
-use Rattle.std.proofs.Common.{◌≡◌, ◌∙◌, ℕ, Bool, true, false, List, [], ◌++◌, Option, Some, None, is_none, refl, ap, arith, append-nil}
+use Rattle.std.proofs.Common.{◌≡◌, ◌∙◌, ℕ, Bool, true, false, List, [], ◌++◌, Option, Some, None, is_none, refl, ap, sym, arith, append-nil}
 use Rattle.std.specs.Prelude.{if◌then◌else◌}
 use Rattle.df1_base.specs.declared.host.Host.{Ghosts}
 use Rattle.duplex_sender.specs.declared.Limits.{Limits}
@@ -9,6 +9,7 @@ use Rattle.duplex_sender.specs.Sender.{SenderState, Activity, Idle, Sending, Wai
 use Rattle.embedded_response.specs.Giving.{Giving, Choice, Second, Respond, Give, Enquire, begin, chosen, given}
 use Rattle.duplex_end.specs.End.{EndState, begun_next, prepared, begun_at, out_at_take}
 use Rattle.duplex_end.proofs.Joining.{none-left}
+use Rattle.duplex_end.proofs.Order.{out-is}
 use Rattle.duplex_line.specs.declared.cell.Cell.{Cell}
 use Rattle.duplex_line.proofs.Complete.DecoderPlace.{owed, sync-quiet}
 use Rattle.duplex_line.proofs.Complete.ClearLane.{goods}
@@ -41,7 +42,7 @@ prepared-nothing m e true is none = record { chooses = none-is (chosen e.mouth) 
 prepared-nothing m e false is none = absurd (let yes : is_none (chosen e.mouth) ≡ true = ap is_none none in cc)
 
 pub gives-nothing : {H : Type 0} (m : Ghosts H) (e : EndState H) → out_at_take m e ≡ None → GivesNothing m e
-gives-nothing m e none = prepared-nothing m e (is_none (chosen e.mouth)) refl (none-chosen (prepared m e).mouth (chosen (prepared m e).mouth) none)
+gives-nothing m e none = prepared-nothing m e (is_none (chosen e.mouth)) refl (none-chosen (prepared m e).mouth (chosen (prepared m e).mouth) (sym (out-is m e) ∙ none))
 
 -- a sender of which no frame and no response is on its way awaits none
 pub awaits-none : {H : Type 0} (a b : EndState H) (back_sent back_heard sent heard : List (List ℕ)) (late far_late : ℕ) → Flow a b [] [] sent heard late → Flow b a [] [] back_sent back_heard far_late → chosen b.mouth ≡ None → awaits a.sender.activity ≡ 0

@@ -19,6 +19,7 @@ use Rattle.duplex_sender.specs.declared.Phase.TheVariants as phase
 use Rattle.duplex_sender.specs.Sender.{phase_of, tick_turn}
 use Rattle.embedded_response.specs.Giving.{chosen}
 use Rattle.duplex_end.specs.End.{EndState, end_after_byte, end_after_tick, end_after_take, host_after, host_told, host_at_byte, act_of_byte, fate_at, fate_of_tick, begun_next, begun_at}
+use Rattle.duplex_end.proofs.Order.{end-is}
 use Rattle.line_statement.specs.declared.who.Who.{Who}
 use Rattle.line_statement.specs.declared.who.Who.TheVariants.{A, B, M, S}
 use Rattle.line_script.specs.declared.script.Event.{Event}
@@ -126,7 +127,7 @@ prepared-commands true e = begun-commands (phase_of e.sender) (next_body e.host)
 prepared-commands false e = refl
 
 pub take-commands : (e : EndState NodeState) → commands (end_after_take node_host e).host ≡ commands e.host
-take-commands e = prepared-commands (is_none (chosen e.mouth)) e
+take-commands e = ap (λ (x : EndState NodeState). commands x.host) (end-is node_host e) ∙ prepared-commands (is_none (chosen e.mouth)) e
 
 -- ---- the commands of an end of the line
 

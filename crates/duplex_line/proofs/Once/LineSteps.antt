@@ -26,7 +26,8 @@ use Rattle.duplex_line.specs.Acts.{SideState, LineState, Issue, Take, Deliver, L
 use Rattle.duplex_line.specs.Plays.{issued_by}
 use Rattle.duplex_line.proofs.Once.IssueLimits.{take-commands, tick-commands}
 use Rattle.each_once.proofs.OneDirection.{Lane, Way, way-more, way-put, way-end, way-leaves, way-bare}
-use Rattle.duplex_line.proofs.Once.SentMessages.{IsLast, handed_at, sends-host, sends-take, sends-tick, take-host, take-handed, take-receiver, take-ends}
+use Rattle.duplex_line.proofs.Once.SentMessages.{IsLast, handed_at, sends-host, sends-take, sends-tick, take-host, take-handed, take-ends}
+use Rattle.duplex_end.proofs.Runs.{take-receiver}
 use Rattle.each_once.proofs.HandedOut.{is_command, Hosts}
 use Rattle.each_once.proofs.NodeSteps.{hosts-issue, hosts-tick}
 use Rattle.each_once.proofs.ToldLines.{IsTold, stays-more, stays-both, told-stays, AreSilent, silent-none, silent-both, told-silent}

@@ -1,5 +1,5 @@
 -- Which messages an end has handed out to its sender, and that what it transmits is the last of them.
-use Rattle.std.proofs.Common.{◌≡◌, ℕ, Bool, true, false, List, [], ◌∷◌, ◌++◌, length, drop, Option, Some, None, is_none, refl, sym, ◌∙◌, subst, arith, append-nil}
+use Rattle.std.proofs.Common.{◌≡◌, ℕ, Bool, true, false, List, [], ◌∷◌, ◌++◌, length, drop, Option, Some, None, is_none, refl, sym, ap, ◌∙◌, subst, arith, append-nil}
 use Rattle.std.proofs.lemmas.Bool.Decides.{nat_tests}
 use Rattle.std.specs.Prelude.{IsTrue, not, ◌&&◌, ◌==◌, nat_lt, option_to_list, if◌then◌else◌}
 use Rattle.std.specs.Option.{option_map_or}
@@ -20,13 +20,14 @@ use Rattle.duplex_sender.specs.declared.SendTurn.{SendTurn}
 use Rattle.duplex_sender.specs.declared.SendTurn.TheVariants as turn
 use Rattle.duplex_sender.specs.Sender.{SenderState, Activity, Idle, Sending, Waiting, phase_of, body_of, load, sent_last, on_ack, on_nak, on_tick, tick_turn}
 use Rattle.duplex_receiver.specs.Receiver.{Hearing, Response, Offers, Forgets, Again, Silent, response_for, verdict_act, act_of, is_good, kept_at}
-use Rattle.embedded_response.specs.Giving.{Giving, Choice, Second, Respond, Give, Enquire, offer, forget, answer_enq, unask, is_begun, given, chosen}
+use Rattle.embedded_response.specs.Giving.{Giving, Choice, Second, Respond, Give, Enquire, offer, forget, answer_enq, unask, is_begun, given, chosen, take}
 use Rattle.duplex_end.specs.declared.Setup.{Setup}
-use Rattle.duplex_end.specs.End.{EndState, new_end, with_host, sender_after, responded, asked, is_waiting, ends_here, act_of_byte, end_after_byte, end_after_tick, begun_at, begun_next, prepared, end_after_take, out_at_take}
+use Rattle.duplex_end.specs.End.{EndState, new_end, with_host, sender_after, responded, asked, is_waiting, ends_here, act_of_byte, end_after_byte, end_after_tick, begun_at, begun_next, prepared, given_next, end_after_take, out_at_take}
 use Rattle.duplex_end.specs.Joined.{Joined}
 use Rattle.duplex_end.specs.Emission.{Byte, Tick, Take}
 use Rattle.duplex_end.proofs.Choices.{Chosen, is-chosen}
 use Rattle.duplex_end.proofs.Joining.{begin-joined}
+use Rattle.duplex_end.proofs.Order.{end-is, out-is}
 use Rattle.duplex_end.proofs.Runs.{new-joined, signal-joined}
 
 -- the last element of a list
@@ -175,10 +176,12 @@ prepared-sends m e true s = begun-sends m e (phase_of e.sender) (m.next_body e.h
 prepared-sends {messages = messages} m e false s = rw (append-nil messages) s
 
 pub sends-take : {H : Type 0} {messages : List (List ℕ)} (m : Ghosts H) (e : EndState H) → Sends e messages → Sends (end_after_take m e) (messages ++ option_to_list (handed_at m e))
-sends-take m e s =
+sends-take {H} {messages} m e s =
     let p = prepared m e in
-    sends-moved p (end_after_take m e) (signal-joined m e Take s.joined) refl (given-begun p.mouth (chosen p.mouth)) (given-keeps (ends_here (out_at_take m e)) p.sender)
-    (prepared-sends m e (is_none (chosen e.mouth)) s)
+    let joined = subst (λ (x : EndState H). Joined x.mouth x.sender) (end-is m e) (signal-joined m e Take s.joined) in
+    subst (λ (x : EndState H). Sends x (messages ++ option_to_list (handed_at m e))) (sym (end-is m e))
+    (sends-moved p (given_next p) joined refl (given-begun p.mouth (chosen p.mouth)) (given-keeps (ends_here (take p.mouth).1) p.sender)
+    (prepared-sends m e (is_none (chosen e.mouth)) s))
 
 -- the host after a take
 begun-host : {H : Type 0} (m : Ghosts H) (e : EndState H) (p : Phase) (next : Option (List ℕ)) → (begun_at m e p next).host ≡ option_map_or (λ _. m.after_next e.host) (handed_in p next) e.host
@@ -193,7 +196,7 @@ prepared-host m e true = begun-host m e (phase_of e.sender) (m.next_body e.host)
 prepared-host m e false = refl
 
 pub take-host : {H : Type 0} (m : Ghosts H) (e : EndState H) → (end_after_take m e).host ≡ option_map_or (λ _. m.after_next e.host) (handed_at m e) e.host
-take-host m e = prepared-host m e (is_none (chosen e.mouth))
+take-host {H} m e = ap (λ (x : EndState H). x.host) (end-is m e) ∙ prepared-host m e (is_none (chosen e.mouth))
 
 -- what is handed out is the host's next message
 handed-next : (idle : Bool) (p : Phase) (next : Option (List ℕ)) (body : List ℕ) → (if idle then handed_in p next else None) ≡ Some body → next ≡ Some body
@@ -204,20 +207,6 @@ handed-next false p next body is = absurd cc
 
 pub take-handed : {H : Type 0} (m : Ghosts H) (e : EndState H) (body : List ℕ) → handed_at m e ≡ Some body → m.next_body e.host ≡ Some body
 take-handed m e body is = handed-next (is_none (chosen e.mouth)) (phase_of e.sender) (m.next_body e.host) body is
-
--- a take leaves the receiver as it was
-begun-receiver : {H : Type 0} (m : Ghosts H) (e : EndState H) (p : Phase) (next : Option (List ℕ)) → (begun_at m e p next).receiver ≡ e.receiver
-begun-receiver m e phase.Idle None = refl
-begun-receiver m e phase.Idle (Some body) = refl
-begun-receiver m e phase.Sending next = refl
-begun-receiver m e phase.Waiting next = refl
-
-prepared-receiver : {H : Type 0} (m : Ghosts H) (e : EndState H) (idle : Bool) → (if idle then begun_next m e else e).receiver ≡ e.receiver
-prepared-receiver m e true = begun-receiver m e (phase_of e.sender) (m.next_body e.host)
-prepared-receiver m e false = refl
-
-pub take-receiver : {H : Type 0} (m : Ghosts H) (e : EndState H) → (end_after_take m e).receiver ≡ e.receiver
-take-receiver m e = prepared-receiver m e (is_none (chosen e.mouth))
 
 -- a byte that ends a transmission is one of a frame that is begun
 pub ends-begun : (g : Giving) (s : SenderState) (c : Option Choice) → Joined g s → Chosen g.second g.waiting g.left g.asking c → IsTrue (ends_here (given g c).1) → is_begun g ≡ true
@@ -232,10 +221,12 @@ begun-last {messages = messages} e s is = subst (IsLast messages) (sym (s.begun 
 
 pub take-ends : {H : Type 0} {messages : List (List ℕ)} (m : Ghosts H) (e : EndState H) (out : Out) (number : ℕ) → Sends e messages → out_at_take m e ≡ Some out → out.last_of ≡ Some number
     → IsLast (messages ++ option_to_list (handed_at m e)) (end_after_take m e).sending
-take-ends m e out number s is last =
+take-ends {H} {messages} m e out number s is last =
     let p = prepared m e in
     let after = prepared-sends m e (is_none (chosen e.mouth)) s in
-    begun-last p after (ends-begun p.mouth p.sender (chosen p.mouth) after.joined (is-chosen p.mouth) (rw (is, last) refl))
+    let given : (take p.mouth).1 ≡ Some out = sym (out-is m e) ∙ is in
+    subst (λ (x : EndState H). IsLast (messages ++ option_to_list (handed_at m e)) x.sending) (sym (end-is m e))
+    (begun-last p after (ends-begun p.mouth p.sender (chosen p.mouth) after.joined (is-chosen p.mouth) (rw (given, last) refl)))
 
 -- ---- what a byte does to the receiver
 

@@ -2,7 +2,7 @@
 use Rattle.std.proofs.Common.{◌≡◌, ◌∙◌, ℕ, ◌+◌, ◌-◌, ◌<◌, suc, List, ◌∷◌, ◌++◌, length, drop, drop-cons, get_or, ap, refl, arith}
 use Rattle.std.proofs.Math.Numerals.{suc-eq-add-one}
 use Rattle.std.specs.Prelude.{replicate}
-use Rattle.df1_node.specs.Tables.{DataTables, word_at}
+use Rattle.data_files.specs.Tables.{DataTables, word_at}
 use Rattle.line_statement.specs.declared.who.Who.{Who}
 use Rattle.duplex_line.specs.Acts.{Deed}
 use Rattle.duplex_line.specs.Run.{word_line, words_from}

@@ -1,6 +1,6 @@
 use Rattle.std.proofs.Common.{◌≡◌, ◌++◌, take}
 use Rattle.std.specs.List.{flat_map}
-use Rattle.df1_node.specs.Tables.{word_count}
+use Rattle.data_files.specs.Tables.{word_count}
 use Rattle.duplex_line.specs.Run.{words_from}
 use Rattle.duplex_line.proofs.words.push_all.Given as goal
 

@@ -1,5 +1,5 @@
 use Rattle.std.proofs.Common.{append_assoc}
-use Rattle.df1_node.specs.Tables.{word_count}
+use Rattle.data_files.specs.Tables.{word_count}
 use Rattle.duplex_line.proofs.Steps.CountedUp.{words_from-next}
 use Rattle.duplex_line.proofs.words.push_file.Goals as goal
 

@@ -1,5 +1,5 @@
 use Rattle.std.proofs.Common.{◌≡◌, ◌++◌, ◌-◌}
-use Rattle.df1_node.specs.Tables.{word_count}
+use Rattle.data_files.specs.Tables.{word_count}
 use Rattle.duplex_line.specs.Run.{words_from}
 use Rattle.duplex_line.proofs.words.push_file.Given as goal
 

@@ -38,7 +38,7 @@ loop-event-preserved c =
     let next = events-next events i e lt is in
     let rest = drop (i + 1) events in
     let possible : IsPossible e = rw is (All-get_or IsPossible events i e lt c.requires.events) in
-    rw c.in_ok-step.ensures (record {
+    rw c.in_ok-step.ensures.ok (record {
       state = rw next at c.loop-event.invariant.state;
       lines = append_assoc w.lines (lines_of w.state e) (lines_after (after_event w.state e) rest) ∙ (rw next at c.loop-event.invariant.lines);
       commands_of_a = room-of-a w.state e rest possible (rw next at c.loop-event.invariant.commands_of_a);

@@ -16,12 +16,12 @@ returns-in_default c =
     elim c.in_default.branch [
       | in_default-via-then-words-lt1 w ↦
           let few : length c.args.words.now < 1 = search rules in
-          none c.args.words.now (omega arith) (omega arith) (omega arith) (omega arith)
+          record { value = none c.args.words.now (omega arith) (omega arith) (omega arith) (omega arith); memory = tt }
       | in_default-via-else-words-lt1+else-words-lt2+else-words-lt3+else-words-lt4+then-words-lt5 w ↦
           let few : length c.args.words.now < 5 = search rules in
           let many : 4 ≤ length c.args.words.now = search rules in
-          none c.args.words.now (omega arith) (omega arith) (omega arith) (omega arith)
+          record { value = none c.args.words.now (omega arith) (omega arith) (omega arith) (omega arith); memory = tt }
       | in_default-via-else-words-lt1+else-words-lt2+else-words-lt3+else-words-lt4+else-words-lt5+else-words-lt6 w ↦
           let many : 6 ≤ length c.args.words.now = search rules in
-          none c.args.words.now (omega arith) (omega arith) (omega arith) (omega arith)
+          record { value = none c.args.words.now (omega arith) (omega arith) (omega arith) (omega arith); memory = tt }
     ]

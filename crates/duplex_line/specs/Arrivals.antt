@@ -1,0 +1,28 @@
+-- The bytes that arrive at the ends of a line, and whether a whole frame is heard at each.
+use Rattle.std.specs.Prelude.{List, [], ◌∷◌, ◌++◌, Option, Some, None, if◌then◌else◌}
+use Rattle.duplex_end.specs.Arrived.{Arrival}
+use Rattle.line_statement.specs.declared.who.Who.{Who}
+use Rattle.line_script.specs.declared.script.Event.{Event}
+use Rattle.duplex_line.specs.declared.cell.Cell.{Cell}
+use Rattle.each_once.specs.Tells.{is_who}
+use Rattle.duplex_line.specs.Acts.{SideState, LineState, Deed, arriving, step_of, after_deed}
+use Rattle.duplex_line.specs.Run.{who_of, deeds_of, seen_from, other, after_event}
+
+-- what arrives at an end with a cell
+abbrev pub arrived : SideState → Option Cell → List Arrival
+arrived side None = []
+arrived side (Some cell) = record { byte = cell.byte; whole = (step_of side cell).whole } ∷ []
+
+-- what arrives at the end b at these steps of the end a
+abbrev pub arrivals_over : LineState → List Deed → List Arrival
+arrivals_over s [] = []
+arrivals_over s (deed ∷ deeds) = arrived s.b (arriving s.a deed) ++ arrivals_over (after_deed s deed) deeds
+
+-- what arrives at an end at an event: something only where it happens at the other end, or with the bytes from it
+abbrev pub arrivals_at : Who → LineState → Event → List Arrival
+arrivals_at who s e = if is_who who (other (who_of e)) then arrivals_over (seen_from (who_of e) s) (deeds_of e) else []
+
+-- what arrives at an end over these events
+abbrev pub arrivals_in : Who → LineState → List Event → List Arrival
+arrivals_in who s [] = []
+arrivals_in who s (e ∷ events) = arrivals_at who s e ++ arrivals_in who (after_event s e) events
