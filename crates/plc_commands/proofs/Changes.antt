@@ -1,26 +1,17 @@
--- The tests of sets, and sets that are applied one after the other.
-use Rattle.std.proofs.Common.{◌≡◌, ℕ, suc, ◌+◌, ◌<◌, Bool, true, false, cond, List, [], ◌∷◌, ◌++◌, length, get_or, drop, Option, None, Some, refl, sym, ap, subst, ◌∙◌, arith}
+-- The tests of sets.
+use Rattle.std.proofs.Common.{◌≡◌, ℕ, suc, ◌+◌, ◌<◌, true, false, List, [], ◌∷◌, ◌++◌, length, get_or, drop, Option, None, Some, refl, sym, ap, ◌∙◌, arith}
 use Rattle.std.specs.Option.{is_some}
 use Rattle.std.proofs.Math.Seq.{drop-cons}
 use Rattle.df1_base.specs.declared.code.Code.{Code}
 use Rattle.data_files.specs.declared.file_spec.FileSpec.{FileSpec}
-use Rattle.data_files.specs.Tables.{DataTables}
 use Rattle.data_files.specs.Effect.{Test, refusal}
 use Rattle.plc_commands.specs.declared.order.Set.{Set}
 use Rattle.plc_commands.specs.Tests.{set_tests, change_tests}
-use Rattle.plc_commands.specs.Meaning.{with_set, with_sets}
-
--- ---- tests
 
 refused_before : (first : List Test) (more : List Test) (code : Code) → refusal first ≡ Some code → refusal (first ++ more) ≡ Some code
 refused_before [] more code e = absurd cc
 refused_before ((true, other) ∷ first) more code e = refused_before first more code e
 refused_before ((false, other) ∷ first) more code e = e
-
-passed_before : (first : List Test) (more : List Test) → refusal (first ++ more) ≡ None → (refusal first ≡ None) × (refusal more ≡ None)
-passed_before [] more e = (refl, e)
-passed_before ((true, other) ∷ first) more e = passed_before first more e
-passed_before ((false, other) ∷ first) more e = absurd cc
 
 some_of : {A : Type 0} (o : Option A) → true ≡ is_some o → (x : A) × (o ≡ Some x)
 some_of None e = absurd cc
@@ -40,21 +31,3 @@ refused_here specs sets i d code lt is some so_far =
     let here : refusal (set_tests specs (get_or sets i d) ++ change_tests specs (drop (i + 1) sets)) ≡ Some found.0 =
     refused_before (set_tests specs (get_or sets i d)) (change_tests specs (drop (i + 1) sets)) found.0 (sym is ∙ found.1) in
     found.1 ∙ sym here ∙ sym (ap refusal (tests_at specs sets i d lt)) ∙ so_far
-
--- ---- changes
-
--- a set whose tests pass, and the others after it
-pub record Passed (specs : List FileSpec) (sets : List Set) (i : ℕ) (set : Set) : Type 0 where
-  pub here : refusal (set_tests specs set) ≡ None
-  pub after : refusal (change_tests specs (drop (i + 1) sets)) ≡ None
-
-pub passed : (specs : List FileSpec) (sets : List Set) (i : ℕ) (d : Set) → i < length sets → refusal (change_tests specs (drop i sets)) ≡ None → Passed specs sets i (get_or sets i d)
-passed specs sets i d lt e =
-    let both = passed_before (set_tests specs (get_or sets i d)) (change_tests specs (drop (i + 1) sets)) (sym (ap refusal (tests_at specs sets i d lt)) ∙ e) in
-    record { here = both.0; after = both.1 }
-
--- one set, and then the others
-pub one_more : (tables : DataTables) (sets : List Set) (i : ℕ) (d : Set) → i < length sets → with_sets (with_set tables (get_or sets i d)) (drop (i + 1) sets) ≡ with_sets tables (drop i sets)
-one_more tables sets i d lt =
-    let next : i + 1 ≡ suc i = omega arith in
-    rw next (sym (ap (with_sets tables) (drop-cons sets i d lt)))

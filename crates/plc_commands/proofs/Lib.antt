@@ -1,4 +1,6 @@
 pub mod Changes
+pub mod Known
 pub mod Orders
 pub mod Replies
 pub mod SetLists
+pub mod Spelled

@@ -1,14 +1,13 @@
 -- What is true of fields that were read.
-use Rattle.std.proofs.Common.{◌≡◌, ◌≢◌, ℕ, suc, ◌+◌, ◌-◌, ◌*◌, ◌/◌, ◌%◌, ◌≤◌, Bool, true, false, not, ◌&&◌, cond, eqb, List, [], ◌∷◌, length, drop, Result, Ok, Err, refl, sym, ap, subst, ◌∙◌, arith, length-drop}
+use Rattle.std.proofs.Common.{◌≡◌, ◌≢◌, ℕ, ◌*◌, ◌/◌, ◌%◌, ◌≤◌, Bool, true, false, not, ◌&&◌, eqb, List, [], ◌∷◌, length, drop, Result, Ok, Err, refl, sym, ap, subst, arith, length-drop}
 use Rattle.std.proofs.lemmas.Bool.{and_parts, cond_both, eqb-true, eqb-false}
 use Rattle.df1_base.specs.declared.code.Code.{Code}
-use Rattle.df1_base.specs.declared.code.Code.TheVariants.{Sts}
 use Rattle.logical_address.specs.declared.param.Param.{Param}
 use Rattle.logical_address.specs.declared.param.ParamFault.{ParamFault}
 use Rattle.logical_address.specs.Reading.{param_at}
 use Rattle.logical_address.proofs.Fronts.{ok_is}
 use Rattle.plc_commands.specs.declared.order.Set.{Set}
-use Rattle.plc_commands.specs.Fields.{◌>>=◌, illegal, only_if, after_param, param, array_element, element_or_array, parameter, set, words, sets_within, sets}
+use Rattle.plc_commands.specs.Fields.{illegal, only_if, after_param, param, array_element, parameter, set, words, sets_within, sets}
 use Rattle.plc_commands.specs.Order.{IsWords}
 use Rattle.plc_commands.proofs.SetLists.{bind_ok}
 
@@ -47,7 +46,7 @@ param_shorter bytes found e = by (param_at bytes) e
         let rest : length found.1 ≡ length (drop p.1 bytes) = ap (λ (q : Param × List ℕ). length q.1) (sym (ok_is {E = Code} (p.0, drop p.1 bytes) found e)) in
         omega (arith, length-drop p.1 bytes)
 
-only_if_ok : {A : Type 0} (test : Bool) (answer found : A) → only_if test answer ≡ Ok found → answer ≡ found
+pub only_if_ok : {A : Type 0} (test : Bool) (answer found : A) → only_if test answer ≡ Ok found → answer ≡ found
 only_if_ok true answer found e = ok_is {E = Code} answer found e
 only_if_ok false answer found e = absurd cc
 

@@ -1,6 +1,6 @@
 -- That the reply to an order fits a message.
-use Rattle.std.proofs.Common.{◌≡◌, ◌∙◌, ℕ, ◌+◌, ◌≤◌, ◌*◌, ◌/◌, Bool, true, false, not, ◌&&◌, List, [], ◌∷◌, ◌++◌, length, Option, Some, None, refl, ap, arith, length-append, Result, Ok, Err}
-use Rattle.std.specs.Prelude.{IsTrue, ◌==◌, ◌%◌, nat_le, if◌then◌else◌}
+use Rattle.std.proofs.Common.{◌≡◌, ℕ, ◌+◌, ◌≤◌, ◌*◌, ◌/◌, Bool, true, false, not, ◌&&◌, List, [], ◌∷◌, ◌++◌, length, Option, Some, None, refl, arith, length-append, Result, Ok, Err}
+use Rattle.std.specs.Prelude.{◌==◌, ◌%◌, nat_le, if◌then◌else◌}
 use Rattle.std.specs.Option.{option_map_or, unwrap_or, is_some}
 use Rattle.std.proofs.lemmas.Bool.{leb-true}
 use Rattle.std.proofs.lemmas.List.FromFn.{length-map-range_with_len}
@@ -16,7 +16,6 @@ use Rattle.data_files.specs.Words.{words_per_element}
 use Rattle.data_files.specs.WordBytes.{bytes_of}
 use Rattle.data_files.specs.Tables.{DataTables, file_of, words_at}
 use Rattle.data_files.proofs.WordLists.{length-bytes_of}
-use Rattle.plc_commands.specs.declared.order.Window.{Window}
 use Rattle.plc_commands.specs.declared.span.Span.{Span}
 use Rattle.plc_commands.specs.Meaning.{answered, read_after, written, checked, array_param, byte_span, range_span, element_span, with_sets, meaning}
 use Rattle.plc_commands.specs.Order.{Order, Echo, Status, Peek, Poke, RangeWrite, RangeRead, Change, TypedWrite, TypedRead}

@@ -1,5 +1,5 @@
 -- Sets that are read one after the other.
-use Rattle.std.proofs.Common.{◌≡◌, ◌≢◌, ℕ, zero, suc, ◌+◌, ◌-◌, ◌*◌, ◌<◌, ◌≤◌, Bool, true, false, cond, eqb, leb, not, ◌&&◌, List, [], ◌∷◌, ◌++◌, length, drop, Option, Some, None, Result, Ok, Err, refl, sym, ap, subst, ◌∙◌, append_assoc, append-nil, arith, length-drop}
+use Rattle.std.proofs.Common.{◌≡◌, ◌≢◌, ℕ, zero, suc, ◌+◌, ◌-◌, ◌*◌, ◌≤◌, Bool, true, false, eqb, leb, not, ◌&&◌, List, [], ◌∷◌, ◌++◌, length, drop, Some, Result, Ok, Err, refl, sym, ap, subst, ◌∙◌, append_assoc, append-nil, arith, length-drop}
 use Rattle.std.specs.Option.{ok_or}
 use Rattle.std.proofs.lemmas.Bool.{cond_both}
 use Rattle.df1_base.specs.declared.code.Code.{Code}
@@ -107,7 +107,7 @@ enough_by m n size (Ok first) shorter same =
     ap (λ (r : Result (List Set) Code). r >>= (λ more. Ok (first.0 ∷ more))) (same first.1 (shorter first refl))
 
 -- how many more sets there may be makes no difference where it isn't reached
-enough : (m n : ℕ) (bytes : List ℕ) → length bytes ≤ m → length bytes ≤ n → sets_within m bytes ≡ sets_within n bytes
+pub enough : (m n : ℕ) (bytes : List ℕ) → length bytes ≤ m → length bytes ≤ n → sets_within m bytes ≡ sets_within n bytes
 unfolding sets_within
 enough zero zero [] p q = refl
 enough zero (suc n) [] p q = refl

@@ -1,5 +1,5 @@
 -- The fields that follow CMD and FNC, and the code that refuses an order where one of them can't be read.
-use Rattle.std.specs.Prelude.{ℕ, zero, suc, ◌%◌, Bool, false, true, not, ◌&&◌, List, [], ◌∷◌, length, drop, ◌==◌, if◌then◌else◌, Option, Result, Ok, Err}
+use Rattle.std.specs.Prelude.{ℕ, zero, suc, ◌%◌, Bool, false, true, not, ◌&&◌, List, [], ◌∷◌, length, drop, ◌==◌, if◌then◌else◌, Result, Ok, Err}
 use Rattle.std.specs.Option.{ok_or}
 use Rattle.df1_base.specs.declared.code.Code.{Code}
 use Rattle.df1_base.specs.declared.code.Code.TheVariants.{Sts, Ext}
@@ -8,7 +8,7 @@ use Rattle.logical_address.specs.declared.levels.LevelFault.{LevelFault}
 use Rattle.logical_address.specs.declared.levels.LevelFault.TheVariants as level
 use Rattle.logical_address.specs.declared.param.Param.{Param}
 use Rattle.logical_address.specs.declared.param.ParamFault.{ParamFault}
-use Rattle.logical_address.specs.Reading.{byte_front, word_front, levels_at, param_at}
+use Rattle.logical_address.specs.Reading.{word_front, levels_at, param_at}
 use Rattle.plc_commands.specs.declared.order.Set.{Set}
 
 infixl 10 ◌>>=◌

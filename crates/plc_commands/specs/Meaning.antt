@@ -4,7 +4,6 @@ use Rattle.std.specs.Option.{option_map_or, unwrap_or}
 use Rattle.df1_base.specs.declared.code.Code.{Code}
 use Rattle.df1_base.specs.declared.code.Code.TheVariants.{Done}
 use Rattle.logical_address.specs.declared.levels.Levels.{Levels}
-use Rattle.logical_address.specs.declared.param.Param.{Param}
 use Rattle.logical_address.specs.Parameter.{written_array}
 use Rattle.data_files.specs.declared.file_spec.FileSpec.{FileSpec}
 use Rattle.data_files.specs.Words.{words_per_element}
@@ -80,14 +79,14 @@ abbrev pub with_sets : DataTables → List Set → DataTables
 with_sets tables [] = tables
 with_sets tables (set ∷ sets) = with_sets (with_set tables set) sets
 
--- what an order does, beside the number of the compatibility file and the station's status
+-- what an order does, beside the number of the compatibility file and the block of the station's status
 abbrev pub meaning : DataTables → Option ℕ → List ℕ → Order → Effect
-meaning tables compat status (Echo bytes) = answered tables bytes
-meaning tables compat status Status = answered tables status
-meaning tables compat status (Peek address size) = read_after tables [] (checked (unprotected_read_tests tables.specs compat address size) (byte_span compat address size))
-meaning tables compat status (Poke address bytes) = written tables bytes (checked (unprotected_write_tests tables.specs compat address bytes) (byte_span compat address (length bytes)))
-meaning tables compat status (RangeWrite window bytes) = written tables bytes (checked (range_write_tests tables.specs window bytes) (range_span tables.specs window (length bytes / 2) true))
-meaning tables compat status (RangeRead window size) = read_after tables [] (checked (range_read_tests tables.specs window size) (range_span tables.specs window (size / 2) false))
-meaning tables compat status (Change sets) = tested tables (refusal (change_tests tables.specs sets)) (record { tables = with_sets tables sets; code = Done; reply = [] })
-meaning tables compat status (TypedWrite window element array bytes) = written tables bytes (checked (typed_write_tests tables.specs window element array bytes) (element_span tables.specs window (length bytes / element.size)))
-meaning tables compat status (TypedRead window count) = read_after tables (array_param tables.specs window.at count) (checked (typed_read_tests tables.specs window count) (element_span tables.specs window count))
+meaning tables compat block (Echo bytes) = answered tables bytes
+meaning tables compat block Status = answered tables block
+meaning tables compat block (Peek address size) = read_after tables [] (checked (unprotected_read_tests tables.specs compat address size) (byte_span compat address size))
+meaning tables compat block (Poke address bytes) = written tables bytes (checked (unprotected_write_tests tables.specs compat address bytes) (byte_span compat address (length bytes)))
+meaning tables compat block (RangeWrite window bytes) = written tables bytes (checked (range_write_tests tables.specs window bytes) (range_span tables.specs window (length bytes / 2) true))
+meaning tables compat block (RangeRead window size) = read_after tables [] (checked (range_read_tests tables.specs window size) (range_span tables.specs window (size / 2) false))
+meaning tables compat block (Change sets) = tested tables (refusal (change_tests tables.specs sets)) (record { tables = with_sets tables sets; code = Done; reply = [] })
+meaning tables compat block (TypedWrite window element array bytes) = written tables bytes (checked (typed_write_tests tables.specs window element array bytes) (element_span tables.specs window (length bytes / element.size)))
+meaning tables compat block (TypedRead window count) = read_after tables (array_param tables.specs window.at count) (checked (typed_read_tests tables.specs window count) (element_span tables.specs window count))

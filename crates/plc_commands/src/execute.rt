@@ -15,8 +15,8 @@ use data_files::{Tables, push_words};
 use df1_base::Code;
 
 /// Executes an order that `read_plc` gave, and replaces `out` by the data of the reply (manual topics: commands, status
-/// codes). `compat` is the number of the compatibility file, if there is one, and `status` the station's status, of at
-/// most 244 bytes.
+/// codes). `compat` is the number of the compatibility file, a file of bits or integers, if there is one; where it names
+/// no file of the tables no address is in it. `block` is the station's status, of at most 244 bytes.
 ///
 /// The first test of its command that fails refuses an order, which then changes nothing and has no data:
 ///
@@ -32,22 +32,22 @@ use df1_base::Code;
 pub fn do_plc(
     tables: &mut Tables,
     compat: Option<u16>,
-    status: &[u8],
+    block: &[u8],
     order: &PlcOrder<'_>,
     out: &mut ArrayVec<u8, 244>,
 ) -> Code
     requires order { IsOrder (seen order.now) }
-    requires status { length status.now ≤ 244 }
-    ensures code { result ≡ (meaning tables.old compat status.now (seen order.now)).code }
-    ensures tables { tables.new ≡ (meaning tables.old compat status.now (seen order.now)).tables }
-    ensures reply { out.new.items ≡ (meaning tables.old compat status.now (seen order.now)).reply }
+    requires block { length block.now ≤ 244 }
+    ensures code { result ≡ (meaning tables.old compat block.now (seen order.now)).code }
+    ensures tables { tables.new ≡ (meaning tables.old compat block.now (seen order.now)).tables }
+    ensures reply { out.new.items ≡ (meaning tables.old compat block.now (seen order.now)).reply }
     ensures refused { IsTrue (is_refusal result) → (tables.new ≡ tables.old) × (out.new.items ≡ []) }
     ensures files { tables.new.specs ≡ tables.old.specs }
 {
     out.clear();
     match *order {
         PlcOrder::Echo(bytes) => answer(bytes, out),
-        PlcOrder::Status => answer(status, out),
+        PlcOrder::Status => answer(block, out),
         PlcOrder::Peek { address, size } => {
             let span = unprotected::read_span(tables, compat, address, size);
             read_words(tables, span, out)

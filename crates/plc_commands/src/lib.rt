@@ -20,6 +20,7 @@ mod change;
 mod codes;
 mod execute;
 mod fields;
+pub mod laws;
 mod order;
 mod range;
 mod read;

@@ -1,4 +1,4 @@
-use Rattle.std.proofs.Common.{◌≡◌, ◌≤◌, ◌∷◌, List, ℕ, length, sym, ap, arith}
+use Rattle.std.proofs.Common.{length, sym, ap, arith}
 use Rattle.df1_base.specs.declared.code.Code.{Code}
 use Rattle.logical_address.proofs.Fronts.{ok_is}
 use Rattle.plc_commands.proofs.SetLists.{word_shorter, levels_shorter}
