@@ -5,6 +5,8 @@ use Rattle.std.specs.Prelude.{All, ◌&&◌, nat_lt, slice_get}
 use Rattle.std.proofs.lemmas.List.Elements.{All-nil, All-cons}
 use Rattle.df1_check.specs.Checks.{with_byte}
 use Rattle.df1_frame.specs.Spelling.{check_bytes}
+use Rattle.logical_address.specs.Reading.{three_front}
+use Rattle.slc_commands.specs.Order.{fields, spelled_order}
 use Rattle.line_statement.specs.declared.who.Who.TheVariants.{A, B}
 use Rattle.line_script.specs.declared.script.Event.{Event}
 use Rattle.line_script.specs.Playable.{IsPossible, IsPlayable}
@@ -38,15 +40,15 @@ one_write-playable = record {
 }
 
 pub one_write-honest : (last_state one_write).deceived ≡ 0
-unfolding check_bytes with_byte
+unfolding check_bytes with_byte spelled_order fields three_front
 one_write-honest = refl
 
 pub one_write-executed : executed_in B (lines_after (start one_write) one_write.events) ≡ the_command ∷ []
-unfolding check_bytes with_byte
+unfolding check_bytes with_byte spelled_order fields three_front
 one_write-executed = refl
 
 pub one_write-answered : answers_in A (lines_after (start one_write) one_write.events) ≡ (1, the_reply) ∷ []
-unfolding check_bytes with_byte
+unfolding check_bytes with_byte spelled_order fields three_front
 one_write-answered = refl
 
 -- ---- nothing disturbs it
@@ -98,12 +100,12 @@ prompt-after late s (e ∷ events) h =
     (prompt-over (late_seen (who_of e) late) (seen_from (who_of e) s) (deeds_of e) parts.0, prompt-after (late_event late s e) (after_event s e) events parts.1)
 
 one_write-checked : prompt_after none_late (start one_write) one_write.events ≡ true
-unfolding check_bytes with_byte is_gentle
+unfolding check_bytes with_byte spelled_order fields three_front is_gentle
 one_write-checked = refl
 
 pub one_write-prompt : IsPrompt one_write
 one_write-prompt = prompt-after none_late (start one_write) one_write.events one_write-checked
 
 pub one_write-quiet : EndsQuiet one_write
-unfolding check_bytes with_byte
+unfolding check_bytes with_byte spelled_order fields three_front
 one_write-quiet = refl
