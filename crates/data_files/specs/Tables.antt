@@ -1,5 +1,5 @@
 -- Data tables: a list of files in their order, and a finite map from places to words.
-use Rattle.std.specs.Prelude.{ℕ, ◌+◌, ◌*◌, Bool, false, List, [], ◌∷◌, ◌++◌, length, map, replicate, find, nat_lt, nat_le, sum_by, ◌==◌, if◌then◌else◌, Option, None, Some, refl}
+use Rattle.std.specs.Prelude.{ℕ, ◌+◌, ◌*◌, Bool, true, false, List, [], ◌∷◌, ◌++◌, length, map, replicate, find, nat_lt, nat_le, sum_by, ◌==◌, if◌then◌else◌, Option, None, Some, refl}
 use Rattle.std.specs.Option.{option_map, option_map_or, option_or, unwrap_or}
 use Rattle.std.specs.List.{flat_map, list_any, range_with_len}
 use Rattle.std.specs.Ordering.{nat_cmp, ordering_then}
@@ -9,7 +9,7 @@ use Rattle.std.specs.Coded.{Coded, code_by, coded×, coded_list, coded_ℕ}
 use Rattle.data_files.specs.declared.file_spec.FileSpec.{FileSpec}
 use Rattle.data_files.specs.declared.make_fault.MakeFault.{MakeFault}
 use Rattle.data_files.specs.declared.make_fault.MakeFault.TheVariants.{TooMany, Empty, Large, Twice}
-use Rattle.data_files.specs.Words.{words_per_element}
+use Rattle.data_files.specs.Words.{holds_words, words_per_element}
 
 -- the order of places: by the number of the file, and then by the index of the word
 abbrev pub place_cmp : ℕ × ℕ → ℕ × ℕ → Ordering
@@ -33,6 +33,10 @@ word_count spec = spec.count * words_per_element spec.kind
 -- the file of a number
 abbrev pub file_of : List FileSpec → ℕ → Option FileSpec
 file_of specs number = find (λ spec. spec.number == number) specs
+
+-- a compatibility file, where one is given, is one of the files, and holds bits or integers
+abbrev pub fits_compat : List FileSpec → Option ℕ → Bool
+fits_compat specs compat = option_map_or (λ number. option_map_or (λ spec. holds_words spec.kind) (file_of specs number) false) compat true
 
 -- there is such a file, and such a word in it
 abbrev pub has_word : List FileSpec → ℕ → ℕ → Bool

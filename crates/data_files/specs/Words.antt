@@ -1,5 +1,5 @@
--- How many words the elements of a file have.
-use Rattle.std.specs.Prelude.{ℕ}
+-- How many words the elements of a file have, and which files hold words alone.
+use Rattle.std.specs.Prelude.{ℕ, Bool, true, false}
 use Rattle.df1_base.specs.declared.file_type.FileType.{FileType}
 use Rattle.df1_base.specs.declared.file_type.FileType.TheVariants.{Status, Bit, Timer, Counter, Control, Integer, Float}
 
@@ -12,3 +12,13 @@ words_per_element Counter = 3
 words_per_element Control = 3
 words_per_element Integer = 1
 words_per_element Float = 2
+
+-- a file of this type holds bits or integers
+abbrev pub holds_words : FileType → Bool
+holds_words Status = false
+holds_words Bit = true
+holds_words Timer = false
+holds_words Counter = false
+holds_words Control = false
+holds_words Integer = true
+holds_words Float = false

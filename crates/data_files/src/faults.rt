@@ -6,7 +6,7 @@ ghost use Rattle.data_files.specs.Tables.{fault_of, faults};
 use crate::{FileSpec, MakeFault};
 
 /// The most files that tables may have.
-const MAX_FILES: usize = 256;
+pub const MAX_FILES: usize = 256;
 
 /// The most elements that a file may have.
 const MAX_ELEMENTS: u16 = 1000;

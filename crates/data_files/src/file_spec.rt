@@ -1,6 +1,6 @@
 //! What a data file is (manual topic: addressing).
 ghost use Rattle.std.specs.Prelude.{◌≡◌, ◌*◌};
-ghost use Rattle.data_files.specs.Words.{words_per_element};
+ghost use Rattle.data_files.specs.Words.{holds_words, words_per_element};
 
 use df1_base::FileType;
 
@@ -28,6 +28,20 @@ impl FileSpec {
         ensures { result ≡ words_per_element self.now.kind }
     {
         words_of(self.kind)
+    }
+
+    /// Whether the file holds bits or integers, as a compatibility file does.
+    pub fn holds_words(&self) -> bool
+        ensures { result ≡ holds_words self.now.kind }
+    {
+        match self.kind {
+            FileType::Bit | FileType::Integer => true,
+            FileType::Status
+            | FileType::Timer
+            | FileType::Counter
+            | FileType::Control
+            | FileType::Float => false,
+        }
     }
 }
 

@@ -12,6 +12,7 @@ mod tables;
 mod tests;
 mod word_bytes;
 
+pub use faults::MAX_FILES;
 pub use file_spec::FileSpec;
 pub use make_fault::MakeFault;
 pub use place::{Place, locate, type_byte};

@@ -10,9 +10,10 @@ ghost use Rattle.df1_frame.specs.Standing.{Outside, AfterDle, Inside, InsideDle,
 ghost use Rattle.df1_frame.specs.Step.{left_by, next, outside_next, step};
 ghost use Rattle.df1_frame.specs.View.{standing_of};
 
+use crate::Heard;
 use crate::gathered::Gathered;
 use crate::heard::{response, stray_pair};
-use crate::{DLE, ETX, Heard, STX};
+use df1_base::{DLE, ETX, STX};
 use df1_check::Check;
 use std::marker::Model;
 

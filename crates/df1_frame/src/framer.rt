@@ -5,12 +5,10 @@ ghost use Rattle.df1_check.specs.Checks.{taken};
 ghost use Rattle.df1_frame.specs.Spelling.{check_of};
 ghost use Rattle.df1_frame.specs.Units.{body_unit, byte_unit, bytes_of, pair_unit, units};
 
-use crate::{DLE, ETX, STX};
 use arrayvec::ArrayVec;
+use df1_base::{DLE, ETX, MAX_BODY, STX};
 use df1_check::{Check, Running};
 use std::marker::Model;
-
-const MOST_BODY: usize = 250;
 
 /// One or two bytes of a frame that nothing may stand between.
 #[derive(Clone, Copy, Debug, PartialEq, Eq)]
@@ -40,7 +38,7 @@ enum Part {
 #[derive(Drop)]
 pub struct Framer {
     part: Part,
-    body: ArrayVec<u8, MOST_BODY>,
+    body: ArrayVec<u8, MAX_BODY>,
     check: ArrayVec<u8, 2>,
 }
 

@@ -5,8 +5,9 @@ ghost use Rattle.df1_check.specs.Checks.{check_value};
 ghost use Rattle.df1_frame.specs.Spelling.{check_bytes, same};
 ghost use Rattle.df1_frame.specs.Gathered.{nothing_gathered, gather, close as closed, verdict as verdict_of};
 
-use crate::{ETX, Heard, LEAST_BODY};
+use crate::Heard;
 use arrayvec::ArrayVec;
+use df1_base::{ETX, MIN_BODY};
 use df1_check::{Check, Running};
 use std::marker::Model;
 
@@ -88,7 +89,7 @@ impl<const N: usize> Gathered<N> {
             Heard::Long
         } else if !is_check(check, self.running.value(), bytes) {
             Heard::BadCheck
-        } else if self.bytes.len() < LEAST_BODY {
+        } else if self.bytes.len() < MIN_BODY {
             Heard::Short
         } else {
             Heard::Good

@@ -4,7 +4,8 @@ ghost use Rattle.std.specs.Prelude.{◌≡◌};
 ghost use Rattle.df1_frame.specs.Spelling.{response as response_of};
 ghost use Rattle.df1_frame.specs.Grammar.{stray_pair_heard};
 
-use crate::{ACK, ENQ, NAK, SHORT_NAK};
+use crate::SHORT_NAK;
+use df1_base::{ACK, ENQ, NAK};
 
 /// What is heard at a byte.
 #[derive(Clone, Copy, Debug, PartialEq, Eq)]

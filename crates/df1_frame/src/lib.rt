@@ -17,23 +17,8 @@ pub use framer::{Framer, Unit};
 pub use heard::Heard;
 pub use laws::{frame_spells, heard_stays, one_split, round_trip, whole_frame, worked_frames};
 
-const DLE: u8 = 0x10;
-
-const STX: u8 = 0x02;
-
-const ETX: u8 = 0x03;
-
-const ENQ: u8 = 0x05;
-
-const ACK: u8 = 0x06;
-
-const NAK: u8 = 0x15;
-
 /// A second code that is read as NAK, and never sent.
 const SHORT_NAK: u8 = 0x0F;
-
-/// The fewest bytes of a body: an envelope without data.
-const LEAST_BODY: usize = 6;
 
 #[cfg(test)]
 mod tests;

@@ -1,15 +1,11 @@
 -- What a station answers to a command: the tables after it, and the body of the reply.
-use Rattle.std.specs.Prelude.{ℕ, Bool, false, true, List, [], ◌∷◌, ◌++◌, drop, ◌==◌, slice_index, if◌then◌else◌, Option, Result, Ok, Err, refl}
-use Rattle.std.specs.Option.{option_map_or}
+use Rattle.std.specs.Prelude.{ℕ, List, [], ◌∷◌, ◌++◌, drop, ◌==◌, slice_index, if◌then◌else◌, Option, Result, Ok, Err, refl}
 use Rattle.std.specs.Coded.{Coded, code_by, coded×, coded_list, coded_option, coded_ℕ}
 use Rattle.df1_base.specs.declared.code.Code.{Code}
 use Rattle.df1_base.specs.declared.code.Code.TheVariants.{Done, Sts, Ext}
-use Rattle.df1_base.specs.declared.file_type.FileType.{FileType}
-use Rattle.df1_base.specs.declared.file_type.FileType.TheVariants.{Status, Bit, Timer, Counter, Control, Integer, Float}
 use Rattle.pccc_envelope.specs.Envelope.{spelling, envelope_of, reply_form}
-use Rattle.data_files.specs.declared.file_spec.FileSpec.{FileSpec}
 use Rattle.data_files.specs.Effect.{Effect, refused}
-use Rattle.data_files.specs.Tables.{DataTables, file_of}
+use Rattle.data_files.specs.Tables.{DataTables}
 use Rattle.slc_commands.specs.Meaning.{meaning as meaning_of_order}
 use Rattle.slc_commands.specs.Order.{Order, order_of}
 
@@ -24,20 +20,6 @@ abbrev pub station_code : Coded DataTables → Coded StationState
 station_code tables =
     code_by (DataTables × (Option ℕ × List ℕ)) (coded× tables (coded× (coded_option coded_ℕ) (coded_list coded_ℕ)))
     (λ s. (s.tables, (s.compat, s.block))) (λ p. record { tables = p.0; compat = p.1.0; block = p.1.1 }) (λ _. refl)
-
--- the file holds bits or integers
-abbrev pub holds_words : FileType → Bool
-holds_words Status = false
-holds_words Bit = true
-holds_words Timer = false
-holds_words Counter = false
-holds_words Control = false
-holds_words Integer = true
-holds_words Float = false
-
--- a compatibility file, where one is given, is one of the files, and holds bits or integers
-abbrev pub fits_compat : List FileSpec → Option ℕ → Bool
-fits_compat specs compat = option_map_or (λ number. option_map_or (λ spec. holds_words spec.kind) (file_of specs number) false) compat true
 
 -- what a command asks for: its bytes again, or an order of the logical commands
 pub data Asked : Type 0 where

@@ -14,18 +14,13 @@ ghost use Rattle.df1_node.specs.Commands.{is_place, issued_of};
 use crate::issued::{Command, State};
 use crate::{IssueFault, Outcome};
 use arrayvec::ArrayVec;
+use df1_base::{MAX_PAYLOAD, REPLY};
 use pccc_envelope::{Envelope, read_envelope, write_envelope};
 use std::alloc::Global;
 use std::marker::Model;
 
-/// The most bytes of a payload: CMD and what follows TNS.
-const MAX_PAYLOAD: usize = 245;
-
 /// The most commands of an initiator.
 const MAX_COMMANDS: usize = 65535;
-
-/// Bit 6 of CMD, set in a reply.
-const REPLY: u8 = 0x40;
 
 /// An initiator and its commands, which are numbered from 1.
 #[derive(Drop)]

@@ -5,17 +5,15 @@
 ghost use Rattle.std.specs.Prelude.{◌≡◌, ◌+◌, ◌≤◌, ◌++◌, false, length, IsTrue};
 ghost use Rattle.df1_base.specs.Host.{IsBody};
 ghost use Rattle.pccc_envelope.specs.Envelope.{is_reply, reply_form, spelling};
-ghost use Rattle.df1_node.specs.Answer.{StationState, after_answer, extension_of, fits_compat, reply_to, status_of};
+ghost use Rattle.data_files.specs.Tables.{fits_compat};
+ghost use Rattle.df1_node.specs.Answer.{StationState, after_answer, extension_of, reply_to, status_of};
 
 use crate::Tables;
 use crate::commands::execute;
 use arrayvec::ArrayVec;
-use df1_base::Code;
+use df1_base::{Code, MIN_BODY};
 use pccc_envelope::{Envelope, read_envelope, reply_of, write_envelope};
 use std::marker::Model;
-
-/// How many bytes the envelope has.
-const ENVELOPE: usize = 6;
 
 /// STS: the code is in EXT STS.
 const EXTENDED_STATUS: u8 = 0xF0;
@@ -29,8 +27,8 @@ pub struct Station {
 }
 
 impl Model for Station {
-    ghost use Rattle.df1_node.specs.Answer.{StationState, station_code, fits_compat};
-    ghost use Rattle.data_files.specs.Tables.{tables_code};
+    ghost use Rattle.df1_node.specs.Answer.{StationState, station_code};
+    ghost use Rattle.data_files.specs.Tables.{fits_compat, tables_code};
     ghost use Rattle.data_files.specs.contracts.file_spec.FileSpec as spec;
     ghost use Rattle.std.specs.Prelude.{IsTrue};
 
@@ -81,7 +79,7 @@ impl Station {
         let code = execute(
             &mut self.tables,
             envelope.cmd,
-            &body[ENVELOPE..],
+            &body[MIN_BODY..],
             &mut reply,
         );
         write_reply(&envelope, code, &reply, into);

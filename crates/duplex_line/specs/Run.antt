@@ -3,8 +3,8 @@ use Rattle.std.specs.Prelude.{ℕ, ◌+◌, List, [], ◌∷◌, ◌++◌, map, 
 use Rattle.std.specs.List.{flat_map}
 use Rattle.df1_check.specs.declared.Check.{Check}
 use Rattle.df1_node.specs.declared.handed.Handed.TheVariants as handed
-use Rattle.data_files.specs.Tables.{DataTables, fresh, has_word, with_word, word_at, word_count}
-use Rattle.df1_node.specs.Answer.{StationState, fits_compat}
+use Rattle.data_files.specs.Tables.{DataTables, fits_compat, fresh, has_word, with_word, word_at, word_count}
+use Rattle.df1_node.specs.Answer.{StationState}
 use Rattle.df1_node.specs.Node.{NodeState}
 use Rattle.duplex_sender.specs.declared.Limits.{Limits}
 use Rattle.duplex_end.specs.declared.Setup.{Setup}

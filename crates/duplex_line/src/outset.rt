@@ -1,13 +1,12 @@
 //! The two ends before the first event of a script.
 
 ghost use Rattle.std.specs.Prelude.{◌≡◌, ◌≤◌, IfOk, None, length, if◌then◌else◌};
-ghost use Rattle.data_files.specs.Tables.{faults, fresh};
-ghost use Rattle.df1_node.specs.Answer.{fits_compat, holds_words};
+ghost use Rattle.data_files.specs.Tables.{faults, fits_compat, fresh};
 ghost use Rattle.line_script.specs.Playable.{IsPlanOf};
 ghost use Rattle.duplex_line.specs.Run.{first_side, first_node, first_station, first_tables, limits_of, setup_of, with_all};
 
 use crate::side::Side;
-use df1_base::{FileType, NoMemory};
+use df1_base::NoMemory;
 use df1_check::Check;
 use df1_node::{FileSpec, MakeFault, Node, NodeSetup, Station, Tables};
 use duplex_end::{End, Setup};
@@ -99,19 +98,5 @@ fn compat_of(tables: &Tables, compat: Option<u16>) -> Option<u16>
     ensures { result ≡ (if fits_compat tables.now.specs compat then compat else None) }
 {
     let spec = tables.spec(compat?)?;
-    if holds_words(spec.kind) { compat } else { None }
-}
-
-/// Whether a file of this type holds bits or integers.
-fn holds_words(kind: FileType) -> bool
-    ensures { result ≡ holds_words kind }
-{
-    match kind {
-        FileType::Bit | FileType::Integer => true,
-        FileType::Status
-        | FileType::Timer
-        | FileType::Counter
-        | FileType::Control
-        | FileType::Float => false,
-    }
+    if spec.holds_words() { compat } else { None }
 }

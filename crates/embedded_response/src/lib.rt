@@ -19,18 +19,10 @@ ghost use Rattle.embedded_response.specs.View.{left_of};
 #[cfg(test)]
 mod tests;
 
-use df1_base::{Out, Resp};
+use df1_base::{ACK, DLE, ENQ, NAK, Out, Resp};
 use df1_check::Check;
 use df1_frame::{Framer, Unit};
 use std::marker::Model;
-
-const DLE: u8 = 0x10;
-
-const ENQ: u8 = 0x05;
-
-const ACK: u8 = 0x06;
-
-const NAK: u8 = 0x15;
 
 /// What an end has to give, byte by byte.
 #[derive(Drop)]

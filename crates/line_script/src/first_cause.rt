@@ -4,11 +4,8 @@ ghost use Rattle.line_script.specs.Drafts.{cause_of as the_cause, is_misplaced a
 
 use crate::Cause;
 use crate::reader::{Reader, Stage};
-use data_files::FileSpec;
+use data_files::{FileSpec, MAX_FILES};
 use line_statement::{EndName, Statement};
-
-/// The most files of an end.
-const FILES: usize = 256;
 
 impl Reader {
     /// The first cause that fits a statement, in the order of the causes.
@@ -120,7 +117,7 @@ impl Reader {
         ensures { result ≡ the_full self.now end }
     {
         match end {
-            EndName::Known(side) => self.end(side).files.len() >= FILES,
+            EndName::Known(side) => self.end(side).files.len() >= MAX_FILES,
             EndName::Absent => false,
         }
     }

@@ -5,17 +5,11 @@ ghost use Rattle.line_statement.specs.Statements.{side_of as the_side, verb_of a
 use crate::Bytes;
 use crate::statement::{EVENTS, Side, Statement, Verb};
 use crate::words::{byte_of, hex_of, number_of, within};
-use df1_base::NoMemory;
+use df1_base::{MAX_BODY, MAX_PAYLOAD, NoMemory, REPLY};
 use std::alloc::Global;
 
-/// The most bytes of a payload, CMD included.
-const PAYLOAD: usize = 245;
-
-/// The most foreign bytes of one event.
-const FOREIGN: usize = 250;
-
-/// Bit 6 of CMD, which replies have.
-const REPLY: u8 = 0x40;
+/// The most foreign bytes of one event, as many as a body may have.
+const FOREIGN: usize = MAX_BODY;
 
 /// The events of one word.
 pub(crate) fn bare_event(word: &[u8]) -> Option<Statement>
@@ -114,7 +108,7 @@ fn is_payload(payload: &[u8]) -> bool
     ensures { result ≡ the_test payload.now }
 {
     match payload {
-        [cmd, ..] => payload.len() <= PAYLOAD && cmd & REPLY == 0,
+        [cmd, ..] => payload.len() <= MAX_PAYLOAD && cmd & REPLY == 0,
         [] => false,
     }
 }

@@ -4,6 +4,7 @@ ghost use Rattle.pccc_envelope.specs.declared.envelope.Envelope.{Envelope};
 ghost use Rattle.pccc_envelope.specs.Envelope.{spelling, envelope_of, reply_form, is_reply};
 
 use arrayvec::ArrayVec;
+use df1_base::REPLY;
 
 /// The place of SRC in a body.
 pub(crate) const SRC: usize = 1;
@@ -13,9 +14,6 @@ pub(crate) const CMD: usize = 2;
 
 /// The place of TNS in a body, whose high byte follows the low one.
 pub(crate) const TNS: usize = 4;
-
-/// Bit 6 of CMD, set in a reply.
-const REPLY: u8 = 0x40;
 
 /// The six fields in front of each message body (manual topic: message packets).
 #[derive(Clone, Copy, Debug, PartialEq, Eq)]

@@ -7,9 +7,9 @@ ghost use Rattle.plc_commands.specs.Meaning.{checked, range_span};
 
 use crate::codes::{BAD_SIZE, NO_SUCH_PLACE, PAST_THE_END, TOO_LARGE};
 use crate::order::Window;
-use crate::span::{MAX_DATA, Span};
+use crate::span::Span;
 use data_files::{Place, Tables, locate};
-use df1_base::Code;
+use df1_base::{Code, MAX_DATA};
 
 /// The words of a read of `size` bytes, or the code of the first test that fails.
 pub(crate) fn read_span(tables: &Tables, window: &Window, size: u8) -> Result<Span, Code>

@@ -9,9 +9,6 @@ use arrayvec::ArrayVec;
 use data_files::{Tables, push_words, words_of};
 use df1_base::Code;
 
-/// The most bytes that the data of a message has.
-pub(crate) const MAX_DATA: usize = 244;
-
 /// So many words of a file, from an index on.
 #[derive(Clone, Copy)]
 pub(crate) struct Span {

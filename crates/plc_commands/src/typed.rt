@@ -12,10 +12,10 @@ use crate::codes::{
     BAD_SIZE, ILLEGAL, NO_SUCH_PLACE, OTHER_TYPE, PAST_THE_END, READ_ONLY, TOO_LARGE,
 };
 use crate::order::Window;
-use crate::span::{MAX_DATA, Span};
+use crate::span::Span;
 use arrayvec::ArrayVec;
 use data_files::{FileSpec, Tables};
-use df1_base::{Code, FileType};
+use df1_base::{Code, FileType, MAX_DATA};
 use logical_address::{Param, element_param, write_array};
 
 /// The words of a write of these bytes, or the code of the first test that fails.

@@ -6,9 +6,9 @@ ghost use Rattle.plc_commands.specs.Tests.{has_bytes, unprotected_read_tests, un
 ghost use Rattle.plc_commands.specs.Meaning.{byte_span, checked};
 
 use crate::codes::{BAD_ADDRESS, ILLEGAL, NO_COMPATIBILITY_FILE};
-use crate::span::{MAX_DATA, Span};
+use crate::span::Span;
 use data_files::{FileSpec, Tables};
-use df1_base::Code;
+use df1_base::{Code, MAX_DATA};
 
 /// The words of a read of `size` bytes, or the code of the first test that fails.
 pub(crate) fn read_span(

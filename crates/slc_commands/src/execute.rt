@@ -9,10 +9,7 @@ use crate::order::{SlcOrder, writes};
 use crate::words::masked_words;
 use arrayvec::ArrayVec;
 use data_files::{Place, Tables, locate, push_words};
-use df1_base::Code;
-
-/// The most bytes that the data of a message has.
-const MAX_DATA: u8 = 244;
+use df1_base::{Code, MAX_DATA};
 
 /// The size isn't of whole words, or there is no word.
 const NO_WHOLE_WORDS: Code = Code::Ext(0x01);
@@ -58,7 +55,7 @@ fn first_word(tables: &Tables, order: &SlcOrder<'_>) -> Result<u32, Code>
     if order.size == 0 || order.size % 2 != 0 {
         return Err(NO_WHOLE_WORDS);
     }
-    if order.size > MAX_DATA {
+    if usize::from(order.size) > MAX_DATA {
         return Err(TOO_LARGE);
     }
     locate(
