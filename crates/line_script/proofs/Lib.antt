@@ -8,3 +8,4 @@ pub mod Standing
 pub mod LongTexts
 pub mod Counts
 pub mod Unfinished
+pub mod Fed

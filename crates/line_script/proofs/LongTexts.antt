@@ -14,7 +14,7 @@ use Rattle.line_script.specs.Drafts.{fresh}
 use Rattle.line_script.proofs.Cuts.{split-first}
 
 -- the cause of a line with the first byte over the limit
-abbrev over_cause : ℕ → Cause
+abbrev pub over_cause : ℕ → Cause
 over_cause start = cond (ltb (16777216 - start) 1025) cause.Size cause.Long
 
 one_or_none : (ended : Bool) → cond ended 1 0 ≤ 1
@@ -63,7 +63,7 @@ record SameFault (r s : Read) : Type 0 where
   first : r ≡ Err (number, cause)
   second : s ≡ Err (number, cause)
 
-first_over : (d : Reader) (events : List Event) (number start : ℕ) (line : List ℕ) (ended : Bool) (lines : List TextLine) → start ≤ 16777216 → 16777216 < start + (length line + cond ended 1 0)
+pub first_over : (d : Reader) (events : List Event) (number start : ℕ) (line : List ℕ) (ended : Bool) (lines : List TextLine) → start ≤ 16777216 → 16777216 < start + (length line + cond ended 1 0)
     → script_from d events number (text_line start line ended ∷ lines) ≡ Err (number, over_cause start)
 first_over d events number start line ended lines le past =
     let fault = over d start line ended le past in
@@ -76,7 +76,7 @@ unfinished d events number start [] more le past = absurd (omega arith)
 unfinished d events number start (x ∷ line) more le past =
     first_over d events number start ((x ∷ line) ++ more) false [] le (omega (arith, length-append (x ∷ line) more))
 
-at_end : (d : Reader) (events : List Event) (number start : ℕ) (line more : List ℕ) (rest : List (List ℕ)) → start ≤ 16777216 → 16777216 < start + length line
+pub at_end : (d : Reader) (events : List Event) (number start : ℕ) (line more : List ℕ) (rest : List (List ℕ)) → start ≤ 16777216 → 16777216 < start + length line
     → read_on d events number start ((line ++ more) ∷ rest) ≡ Err (number, over_cause start)
 at_end d events number start line more [] le past = unfinished d events number start line more le past
 at_end d events number start line more (next ∷ rest) le past =

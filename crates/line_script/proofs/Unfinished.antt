@@ -18,7 +18,7 @@ use Rattle.line_script.proofs.Cuts.{split-first}
 use Rattle.line_script.proofs.LongTexts.{onto_all, onto_all-first, onto_all-nil, Read, read_on}
 
 -- the cause of a line of over 1,024 bytes
-abbrev long_cause : ℕ → Cause
+abbrev pub long_cause : ℕ → Cause
 long_cause start = cond (leb start 16777216 && ltb (16777216 - start) 1025) cause.Size cause.Long
 
 one_cause : (near : Bool) (read : Result (Reader × Option Event) Cause) → cond near (Err cause.Size) (cond true (Err cause.Long) read) ≡ Err (cond near cause.Size cause.Long)
@@ -38,7 +38,7 @@ refused_first d events number start line ended lines long =
     ap (λ r. at_line number (with_event events r) (λ step. script_from step.0 step.1 (number + 1) lines)) (long_line d start line ended long)
 
 -- a last line of over 1,024 bytes
-refused_last : (d : Reader) (events : List Event) (number start : ℕ) (line more : List ℕ) (rest : List (List ℕ)) → 1024 < length line
+pub refused_last : (d : Reader) (events : List Event) (number start : ℕ) (line more : List ℕ) (rest : List (List ℕ)) → 1024 < length line
     → read_on d events number start ((line ++ more) ∷ rest) ≡ Err (number, long_cause start)
 refused_last d events number start [] more [] long = absurd (omega arith)
 refused_last d events number start (x ∷ line) more [] long = refused_first d events number start ((x ∷ line) ++ more) false [] (omega (arith, length-append (x ∷ line) more))

@@ -7,3 +7,4 @@ pub mod Refusal
 pub mod ScriptText
 pub mod Left
 pub mod Unfinished
+pub mod Fed

@@ -11,6 +11,7 @@ mod given_words;
 mod laws;
 mod reader;
 mod script;
+mod text_reader;
 mod whole_text;
 
 pub use fault::{Cause, LineFault, ScriptFault};
@@ -20,6 +21,7 @@ pub use laws::{
 pub use line_statement::{Bytes, Items, Who};
 pub use reader::{LINE, Reader, SCRIPT};
 pub use script::{EndPlan, Ends, Event, Events, Lane, Script, Specs, WordOf, Words};
+pub use text_reader::TextReader;
 pub use whole_text::read_script;
 
 #[cfg(test)]

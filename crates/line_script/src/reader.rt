@@ -2,7 +2,7 @@
 //! lines before it said.
 ghost use Rattle.std.specs.Prelude.{◌≡◌, ◌∷◌, ◌+◌, MatchResult, IfOk, Ok, Err, List, map, min, length, if◌then◌else◌};
 ghost use Rattle.line_script.specs.Drafts.{fresh, after_statement, end_at as the_end};
-ghost use Rattle.line_script.specs.Lines.{after_line, after_words, finished, reaches_limit as the_limit_test, content as the_content, is_passed_over as the_passed, ends as the_ends, text_line};
+ghost use Rattle.line_script.specs.Lines.{after_line, after_words, finished, reaches_limit as the_limit_test, content as the_content, is_ended as the_end_test, is_passed_over as the_passed, ends as the_ends, text_line};
 ghost use Rattle.line_script.specs.Refusal.{IsFaulty};
 ghost use Rattle.line_script.specs.declared.fault.Cause.{Cause as TheCause};
 
@@ -121,6 +121,16 @@ impl Reader {
         match side {
             Side::A => &self.a,
             Side::B => &self.b,
+        }
+    }
+
+    /// Whether a line was `end`.
+    pub(crate) fn is_ended(&self) -> bool
+        ensures { result ≡ the_end_test self.now.stage }
+    {
+        match self.stage {
+            Stage::Ended => true,
+            Stage::Fresh | Stage::Settings | Stage::Events => false,
         }
     }
 

@@ -92,7 +92,7 @@ fn read_line(
 }
 
 /// The fault of a line, with the line's number.
-fn at(line: u32, fault: LineFault) -> ScriptFault
+pub(crate) fn at(line: u32, fault: LineFault) -> ScriptFault
     ensures { result ≡ fault_at line fault }
 {
     match fault {

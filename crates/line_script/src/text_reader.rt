@@ -1,0 +1,151 @@
+//! Reading a script byte by byte: a line is read when its line feed comes, and the last one at the end of the text.
+ghost use Rattle.std.specs.Prelude.{◌≡◌, ◌<◌, ◌+◌, ◌^◌, ◌∷◌, ◌++◌, ℕ, List, [], MatchResult, Ok, true, false, length};
+ghost use Rattle.std.specs.Option.{option_to_list};
+ghost use Rattle.line_script.specs.declared.fault.ScriptFault.{ScriptFault as TheFault};
+ghost use Rattle.line_script.specs.declared.fault.LineFault.{LineFault as Faulted};
+ghost use Rattle.line_script.specs.declared.script.Event.{Event as OneEvent};
+ghost use Rattle.line_script.specs.Fed.{EndsFor, IsRefusedFor, StandsFor};
+ghost use Rattle.line_script.specs.Lines.{after_line, script_with, text_line};
+ghost use Rattle.line_script.specs.Refusal.{IsFaulty, IsRefused, fault_at};
+ghost use Rattle.line_script.specs.ScriptText.{script_of};
+
+use crate::reader::{LINE, Reader, SCRIPT};
+use crate::whole_text::at;
+use crate::{Cause, Event, ScriptFault};
+use arrayvec::ArrayVec;
+use std::alloc::Global;
+use std::marker::Model;
+
+/// A script that comes byte by byte. It keeps what the lines say but for the events, and the bytes of the line that is
+/// begun. After a fault it is only dropped.
+#[derive(Drop)]
+pub struct TextReader {
+    alloc: Global,
+    reader: Reader,
+    line: ArrayVec<u8, LINE>,
+    number: u32,
+    start: usize,
+}
+
+impl Model for TextReader {
+    ghost use Rattle.std.specs.Prelude.{◌+◌, ◌≤◌, length};
+    ghost use Rattle.line_script.specs.Fed.{Fed};
+
+    ghost Value = { Fed };
+
+    ghost view = { λ r. record { reader = r.reader; line = r.line.items; number = r.number; start = r.start } };
+
+    ghost invariant = { λ r. (r.start + length r.line.items ≤ 16777216) × (r.number ≤ r.start + 1) };
+}
+
+impl TextReader {
+    /// A reader that was fed nothing.
+    pub fn new(alloc: Global) -> TextReader
+        ensures { StandsFor [] [] result }
+    {
+        TextReader {
+            alloc,
+            reader: Reader::new(alloc),
+            line: ArrayVec::new(),
+            number: 1,
+            start: 0,
+        }
+    }
+
+    /// How many bytes the line that is begun has so far, at most 1,024.
+    pub fn held(&self) -> usize
+        ensures { result ≡ length self.now.line }
+    {
+        self.line.len()
+    }
+
+    /// Takes the next byte of the text, and answers the event of the line that it ends, if it ends one that is an event.
+    /// `At` comes where no text that begins so is a script: with the first faulty line and the first cause that fits it.
+    pub fn feed(&mut self, b: u8) -> Result<Option<Event>, ScriptFault>
+        ensures { (text : List ℕ) (events : List OneEvent) → StandsFor text events self.old → MatchResult result
+            (λ event. StandsFor (text ++ b ∷ []) (events ++ option_to_list event) self.new) (IsRefusedFor (text ++ b ∷ [])) }
+    {
+        if self.start + self.line.len() >= SCRIPT {
+            return Err(self.refusal(Cause::Size));
+        }
+        if b == b'\n' {
+            return self.end_line();
+        }
+        if self.line.is_full() {
+            return Err(self.refusal(Cause::Long));
+        }
+        self.line.push(b);
+        Ok(None)
+    }
+
+    /// Reads the line that is begun, which a line feed ends.
+    fn end_line(&mut self) -> Result<Option<Event>, ScriptFault>
+        requires { self.old.start + length self.old.line < 16777216 }
+        ensures { MatchResult result
+            (λ event. (after_line self.old.reader (text_line self.old.start self.old.line true) ≡ Ok (self.new.reader, event))
+            × (self.new.line ≡ []) × (self.new.number ≡ self.old.number + 1) × (self.new.start ≡ self.old.start + (length self.old.line + 1)))
+            (λ fault. (cause : Faulted) × (fault ≡ fault_at self.old.number cause) × IsFaulty cause (after_line self.old.reader (text_line self.old.start self.old.line true))) }
+    {
+        match self.reader.read(self.alloc, self.start, &self.line, true) {
+            Ok(event) => {
+                self.start += self.line.len() + 1;
+                self.number += 1;
+                self.line.clear();
+                Ok(event)
+            }
+            Err(fault) => Err(at(self.number, fault)),
+        }
+    }
+
+    /// Ends the text, and answers the event of its last line, where no line feed has ended that and it is an event. Nothing
+    /// is fed after it. `At` comes exactly where that line is faulty.
+    pub fn end(&mut self) -> Result<Option<Event>, ScriptFault>
+        ensures { (text : List ℕ) (events : List OneEvent) → StandsFor text events self.old → MatchResult result
+            (λ event. EndsFor text (events ++ option_to_list event) self.new) (λ fault. IsRefused fault (script_of text)) }
+    {
+        if self.line.is_empty() {
+            return Ok(None);
+        }
+        self.end_last_line()
+    }
+
+    /// Reads the line that is begun, which the end of the text ends.
+    fn end_last_line(&mut self) -> Result<Option<Event>, ScriptFault>
+        requires { 0 < length self.old.line }
+        ensures { MatchResult result
+            (λ event. (after_line self.old.reader (text_line self.old.start self.old.line false) ≡ Ok (self.new.reader, event)) × (self.new.number ≡ self.old.number + 1))
+            (λ fault. (cause : Faulted) × (fault ≡ fault_at self.old.number cause) × IsFaulty cause (after_line self.old.reader (text_line self.old.start self.old.line false))) }
+    {
+        match self.reader.read(self.alloc, self.start, &self.line, false) {
+            Ok(event) => {
+                self.start += self.line.len();
+                self.number += 1;
+                self.line.clear();
+                Ok(event)
+            }
+            Err(fault) => Err(at(self.number, fault)),
+        }
+    }
+
+    /// Whether the text that has ended is a script: `NoEnd` comes exactly where no line of it was `end`.
+    pub fn close(&self) -> Result<(), ScriptFault>
+        ensures { (text : List ℕ) (events : List OneEvent) → EndsFor text events self.now → MatchResult result
+            (λ _. script_of text ≡ Ok (script_with self.now.reader events)) (λ fault. IsRefused fault (script_of text)) }
+    {
+        if self.reader.is_ended() {
+            Ok(())
+        } else {
+            Err(self.refusal(Cause::NoEnd))
+        }
+    }
+
+    /// The fault of the line that is begun.
+    fn refusal(&self, cause: Cause) -> ScriptFault
+        ensures { result ≡ TheFault.At self.now.number cause }
+    {
+        ScriptFault::At {
+            line: self.number,
+            cause,
+        }
+    }
+}
