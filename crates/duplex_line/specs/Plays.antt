@@ -22,6 +22,10 @@ begun script = record { state = start script; lines = []; events = 0 }
 abbrev pub played : Played → Event → Played
 played p e = record { state = after_event p.state e; lines = p.lines ++ lines_of p.state e; events = p.events + count_of e }
 
+-- after the lines so far are printed
+abbrev pub printed : Played → Played
+printed p = record p { lines = [] }
+
 -- how many commands an end has issued
 abbrev pub issued_by : SideState → ℕ
 issued_by side = length side.end.host.initiator.issued

@@ -1,17 +1,20 @@
 //! The world of a script: both ends, what is on its way between them, and what is told so far.
 
-ghost use Rattle.std.specs.Prelude.{◌≡◌, ◌++◌, IfOk, OnOk, IsOk, IsTrue};
+ghost use Rattle.std.specs.Prelude.{◌≡◌, ◌≤◌, ◌++◌, IfOk, OnOk, OnErr, IsOk, IsTrue};
+ghost use Rattle.std.specs.List.{flat_map};
+ghost use Rattle.df1_base.specs.Outside.{Rose, Put, WrotePart};
+ghost use Rattle.line_report.specs.Report.{line_text};
 ghost use Rattle.line_script.specs.Playable.{IsPlayable, IsPossible, count_of};
 ghost use Rattle.duplex_line.specs.Run.{record_from, all_words, who_of};
-ghost use Rattle.duplex_line.specs.Plays.{IsNext, begun, played, takes_no_memory};
+ghost use Rattle.duplex_line.specs.Plays.{IsNext, begun, played, printed, takes_no_memory};
 
 use crate::deal::deal;
 use crate::outset::side_of;
 use crate::reported::Reported;
 use crate::side::Side;
 use crate::words::push_all;
-use df1_base::NoMemory;
-use line_report::{Lines, Record};
+use df1_base::{Failed, NoMemory, Sink};
+use line_report::{Lines, Record, print_lines};
 use line_script::{Event, Script, Who, Words};
 use std::alloc::Global;
 use std::marker::Model;
@@ -92,6 +95,21 @@ impl World {
             ),
             Who::M | Who::S(_) => unreachable!(),
         }
+    }
+
+    /// Writes the lines of the report that stand since the last such call, and drops them. `Failed` comes where the sink
+    /// failed; then it holds a first part of their text, and the world is only dropped.
+    pub fn print_lines<K: Sink>(&mut self, sink: &mut K) -> Result<(), Failed>
+        ensures state { OnOk result (self.new ≡ printed self.old) }
+        ensures ok { OnOk result (Put (K.held sink.old) (K.held sink.new) (flat_map line_text self.old.lines)) }
+        ensures part { WrotePart (K.held sink.old) (K.held sink.new) (flat_map line_text self.old.lines) }
+        ensures calm { OnOk result (K.faults sink.new ≡ K.faults sink.old) }
+        ensures later { K.faults sink.old ≤ K.faults sink.new }
+        ensures cause { OnErr result (Rose (K.faults sink.old) (K.faults sink.new)) }
+    {
+        print_lines(self.reported.lines.as_slice(), sink)?;
+        self.reported.lines.clear();
+        Ok(())
     }
 
     /// The record of what happened: the lines, the words that aren't 0, and how often an end was deceived.

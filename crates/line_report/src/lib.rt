@@ -7,7 +7,7 @@ mod printing;
 mod record;
 mod short;
 
-pub use printing::{print, put_line};
+pub use printing::{print, print_lines, put_line};
 pub use record::{Line, Lines, Record};
 
 #[cfg(test)]

@@ -40,6 +40,19 @@ pub fn print<K: Sink>(record_of: &Record, sink: &mut K) -> Result<(), Failed>
     buffer.flush(sink)
 }
 
+/// Writes the text of lines of a report. `Failed` comes where the sink failed; then it holds a first part of the text.
+pub fn print_lines<K: Sink>(lines: &[Line], sink: &mut K) -> Result<(), Failed>
+    ensures ok { OnOk result (Put (K.held sink.old) (K.held sink.new) (flat_map line_text lines.now)) }
+    ensures part { WrotePart (K.held sink.old) (K.held sink.new) (flat_map line_text lines.now) }
+    ensures calm { OnOk result (K.faults sink.new ≡ K.faults sink.old) }
+    ensures later { K.faults sink.old ≤ K.faults sink.new }
+    ensures cause { OnErr result (Rose (K.faults sink.old) (K.faults sink.new)) }
+{
+    let mut waiting = Buffer::new();
+    put_lines(&mut waiting, sink, lines)?;
+    waiting.flush(sink)
+}
+
 /// Sends a report by way of the buffer.
 fn put_report<K: Sink>(buffer: &mut Buffer, sink: &mut K, record_of: &Record) -> Result<(), Failed>
     ensures ok { OnOk result (Wrote (K.held sink.old) (K.held sink.new) (buffer.old ++ report record_of.now) buffer.new) }

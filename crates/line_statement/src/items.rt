@@ -52,6 +52,15 @@ impl<T> Items<T> {
         }
     }
 
+    /// Drops all items, and keeps the memory for as many.
+    pub fn clear(&mut self)
+    where
+        T: Drop,
+        ensures { self.new ≡ [] }
+    {
+        self.items.clear();
+    }
+
     /// The items, the first one first.
     pub fn as_slice(&self) -> &[T]
         ensures { result.now ≡ self.now }
