@@ -91,9 +91,9 @@ fn hears_the_sizes_of_bodies(rt: HostRuntime) {
 }
 
 // Takes the units of a body's frame, and compares their bytes.
-fn give(rt: &impl Abort, body: &[u8], wanted: &[u8]) {
+fn give(rt: &impl Abort, body: &[u8], check: Check, wanted: &[u8]) {
     assert!(rt; body.len() <= 250);
-    let mut framer = Framer::start(body, Check::Bcc);
+    let mut framer = Framer::start(body, check);
     let mut given = 0usize;
     for _ in 0..wanted.len() {
         let Some(unit) = framer.next_unit() else {
@@ -113,6 +113,19 @@ fn give(rt: &impl Abort, body: &[u8], wanted: &[u8]) {
 }
 
 #[test]
+fn gives_frames_with_either_check(rt: HostRuntime) {
+    let body = [0x08, 0x09, 0x06, 0x00, 0x02, 0x04, 0x03];
+    let frame = [
+        0x10, 0x02, 0x08, 0x09, 0x06, 0x00, 0x02, 0x04, 0x03, 0x10, 0x03, 0xE0,
+    ];
+    give(&rt, &body, Check::Bcc, &frame);
+    let frame = [
+        0x10, 0x02, 0x08, 0x09, 0x06, 0x00, 0x02, 0x04, 0x03, 0x10, 0x03, 0x98, 0x48,
+    ];
+    give(&rt, &body, Check::Crc, &frame);
+}
+
+#[test]
 fn gives_a_check_of_16_once_and_a_body_byte_of_16_twice(rt: HostRuntime) {
     let frame = [
         0x10, 0x02, 0x07, 0x00, 0x06, 0x00, 0x01, 0x00, 0x00, 0xE2, 0x10, 0x03, 0x10,
@@ -120,6 +133,7 @@ fn gives_a_check_of_16_once_and_a_body_byte_of_16_twice(rt: HostRuntime) {
     give(
         &rt,
         &[0x07, 0x00, 0x06, 0x00, 0x01, 0x00, 0x00, 0xE2],
+        Check::Bcc,
         &frame,
     );
     let frame = [
@@ -128,6 +142,7 @@ fn gives_a_check_of_16_once_and_a_body_byte_of_16_twice(rt: HostRuntime) {
     give(
         &rt,
         &[0x07, 0x00, 0x06, 0x00, 0x10, 0x00, 0x00, 0x10],
+        Check::Bcc,
         &frame,
     );
 }

@@ -1,6 +1,6 @@
 -- The laws of a host, of nodes: a fate is told once, nothing waits after a clearing, what is unanswered rises, and what is handed out is a body.
 use Rattle.std.proofs.Common.{◌≡◌, ℕ, suc, zero, ◌+◌, ◌<◌, ◌≤◌, Bool, true, false, cond, List, [], ◌∷◌, ◌++◌, length, drop, find, position, slice_get, slice_index, Option, Some, None, IsSome, IfSome, is_some, refl, sym, ap, subst, ◌∙◌, arith, length-append, length-drop}
-use Rattle.std.specs.Prelude.{nat_lt, ◌==◌, ◌&&◌, not, IsTrue, Result, Ok, Err}
+use Rattle.std.specs.Prelude.{nat_lt, not, IsTrue, Result, Ok, Err}
 use Rattle.std.specs.Option.{option_map, option_map_or, option_or}
 use Rattle.std.specs.List.{All, list_any, prefix_len}
 use Rattle.std.proofs.lemmas.Bool.Decides.{nat_tests}
@@ -15,11 +15,15 @@ use Rattle.df1_base.specs.Host.{IsBody}
 use Rattle.pccc_envelope.specs.Envelope.{is_reply, spelling, reply_form, envelope_of}
 use Rattle.df1_node.specs.declared.handed.Handed.{Handed}
 use Rattle.df1_node.specs.declared.handed.Handed.TheVariants as handed
-use Rattle.data_files.specs.Effect.{Effect, is_refusal}
-use Rattle.data_files.specs.Tables.{DataTables}
-use Rattle.slc_commands.specs.Order.{Order, order_of}
-use Rattle.slc_commands.proofs.Replies.{reply-fits}
-use Rattle.df1_node.specs.Answer.{StationState, Asked, Echo, Logical, diagnostic, logical, asked_of, meaning, effect_of, extension_of, status_of, done, reply_to}
+use Rattle.data_files.specs.Effect.{Effect, FitsReply, is_refusal}
+use Rattle.slc_commands.specs.Meaning.{meaning as slc_meaning}
+use Rattle.slc_commands.specs.Order as slc
+use Rattle.slc_commands.proofs.Replies.{reply-fits as slc-fits}
+use Rattle.plc_commands.specs.Meaning.{meaning as plc_meaning}
+use Rattle.plc_commands.specs.Order as plc
+use Rattle.plc_commands.specs.Reading.{order_of as plc_order_of}
+use Rattle.plc_commands.proofs.Replies.{IfShortEcho, echo-fits, reply-fits as plc-fits}
+use Rattle.df1_node.specs.Answer.{StationState, logical_order, asked_by, asked_of, effect_of, extension_of, status_of, done, after_answer, reply_to}
 use Rattle.df1_node.specs.Initiator.{InitiatorState, Standing, Waiting, Out, Answered, Undelivered, Unanswered, Issued, is_waiting, is_out, is_last_tick, cleared, restated, next_place, next_command, answered_place, is_out_at, after_reply, after_hand_out, ticked, unanswered_from, all_cleared}
 use Rattle.df1_node.specs.Node.{NodeState, after_accept, next_body, after_next, is_handed, is_out as awaits, gone_unanswered, news_told, initiator_after, after_told, after_tick, after_clear, holds_bodies, has_room}
 
@@ -237,35 +241,23 @@ code-done Done reply short alone = omega (arith, short)
 code-done (Sts status) reply short alone = rw (alone refl) (omega arith)
 code-done (Ext extension) reply short alone = rw (alone refl) (omega arith)
 
-order-short : (tables : DataTables) (order : Order) → IsShort (meaning tables (Logical order))
-order-short tables order = let fits = reply-fits tables order in code-done (meaning tables (Logical order)).code (meaning tables (Logical order)).reply fits.short fits.alone
+order-short : (e : Effect) → FitsReply e → IsShort e
+order-short e fits = code-done e.code e.reply fits.short fits.alone
 
-read-short : (tables : DataTables) (read : Result Order Code) → IsShort (effect_of tables (logical read))
-read-short tables (Ok order) = order-short tables order
-read-short tables (Err code) = let short = code-short code in omega (arith, short)
+asked-short : (station : StationState) (logical : Option slc.Order) (other : Result plc.Order Code) → length station.block ≤ 244 → IfShortEcho other → IsShort (effect_of station (asked_by logical other))
+asked-short station (Some order) other few echo = order-short (slc_meaning station.tables order) (slc-fits station.tables order)
+asked-short station None (Ok order) few echo = order-short (plc_meaning station.tables station.compat station.block order) (plc-fits station.tables station.compat station.block order few echo)
+asked-short station None (Err code) few echo = let short = code-short code in omega (arith, short)
 
-diagnostic-short : (tables : DataTables) (payload : List ℕ) → length payload ≤ 244 → IsShort (effect_of tables (diagnostic payload))
-diagnostic-short tables [] few = omega arith
-diagnostic-short tables (fnc ∷ rest) few = at (fnc == 0x00)
-  where
-    at : (echo : Bool) → IsShort (effect_of tables (cond echo (Ok (Echo rest)) (Err (Sts 0x10))))
-    at true = omega (arith, few)
-    at false = omega arith
-
-either-short : (tables : DataTables) (b : Bool) (x y : Result Asked Code) → IsShort (effect_of tables x) → IsShort (effect_of tables y) → IsShort (effect_of tables (cond b x y))
-either-short tables true x y first other = first
-either-short tables false x y first other = other
-
-effect-short : (tables : DataTables) (cmd : ℕ) (payload : List ℕ) → length payload ≤ 244 → IsShort (effect_of tables (asked_of cmd payload))
-effect-short tables cmd payload few =
-    either-short tables (cmd == 0x06) _ _ (diagnostic-short tables payload few) (either-short tables (cmd == 0x0F) _ _ (read-short tables (order_of payload)) (omega arith))
+effect-short : (station : StationState) (cmd : ℕ) (payload : List ℕ) → length station.block ≤ 244 → length payload ≤ 244 → IsShort (effect_of station (asked_of cmd payload))
+effect-short station cmd payload few short = asked-short station (logical_order cmd payload) (plc_order_of cmd payload) few (echo-fits cmd payload short)
 
 -- the reply to a body is one
-pub reply-body : (station : StationState) (body : List ℕ) → IsBody body → IsBody (reply_to station body)
-reply-body station body is =
+pub reply-body : (station : StationState) (body : List ℕ) → length station.block ≤ 244 → IsBody body → IsBody (reply_to station body)
+reply-body station body few is =
     let rest : length (drop 6 body) ≤ 244 = omega (arith, length-drop 6 body, is.1) in
-    let fits : IsShort (done station.tables body) = effect-short station.tables (slice_index body 2) (drop 6 body) rest in
-    let effect = done station.tables body in
+    let fits : IsShort (done station body) = effect-short station (slice_index body 2) (drop 6 body) few rest in
+    let effect = done station body in
     let front = spelling (reply_form (envelope_of body) (status_of effect.code)) in
     let whole : length (front ++ extension_of effect.code ++ effect.reply) ≡ 6 + length (extension_of effect.code) + length effect.reply =
     length-append (front ++ extension_of effect.code) effect.reply ∙ ap (λ n. n + length effect.reply) (length-append front (extension_of effect.code)) in
@@ -273,16 +265,23 @@ reply-body station body is =
 
 -- ---- the bodies stay such
 
+-- a command leaves the data of the status reply as it is
+block-either : (b : Bool) (station : StationState) (body : List ℕ) → length station.block ≤ 244 → length (cond b station (after_answer station body)).block ≤ 244
+block-either true station body few = few
+block-either false station body few = few
+
 pub bodies_at_accept : (node : NodeState) (body : List ℕ) → holds_bodies node → IsBody body → IsTrue (has_room node body) → holds_bodies (after_accept node body)
 bodies_at_accept node body holds is room = (
-  replies-either (is_reply body) node.replies (node.replies ++ reply_to node.station body ∷ []) holds.0 (All-push IsBody node.replies (reply_to node.station body) holds.0 (reply-body node.station body is)),
+  replies-either (is_reply body) node.replies (node.replies ++ reply_to node.station body ∷ []) holds.0 (All-push IsBody node.replies (reply_to node.station body) holds.0 (reply-body node.station body holds.2 is)),
   initiator-either (is_reply body) (after_reply node.initiator body) node.initiator (bodies-at node.initiator.issued (answered_place node.initiator.issued body) (Answered body) holds.1) holds.1,
+  block-either (is_reply body) node.station body holds.2,
 )
 
 pub bodies_at_next : (node : NodeState) → holds_bodies node → holds_bodies (after_next node)
 bodies_at_next node holds = (
   All-drop IsBody 1 node.replies holds.0,
   initiator-either (is_some (slice_get node.replies 0)) node.initiator (after_hand_out node.initiator) holds.1 (bodies-at node.initiator.issued (next_place node.initiator.issued) (Out node.initiator.reply_ticks) holds.1),
+  holds.2,
 )
 
 issued-either : (b : Bool) (cs ds : List Issued) → AreBodies cs → AreBodies ds → AreBodies (cond b cs ds)
@@ -297,10 +296,10 @@ given_up-bodies initiator (handed.Command place) all =
 
 pub bodies_at_told : (node : NodeState) (told : Fate) → holds_bodies node → holds_bodies (after_told node told)
 bodies_at_told node fate.Delivered holds = holds
-bodies_at_told node fate.Undelivered holds = (holds.0, given_up-bodies node.initiator node.last holds.1)
+bodies_at_told node fate.Undelivered holds = (holds.0, given_up-bodies node.initiator node.last holds.1, holds.2)
 
 pub bodies_at_tick : (node : NodeState) → holds_bodies node → holds_bodies (after_tick node)
-bodies_at_tick node holds = (holds.0, All-map (λ (c : Issued). IsBody c.body) (λ (c : Issued). record c { standing = ticked c.standing }) node.initiator.issued holds.1)
+bodies_at_tick node holds = (holds.0, All-map (λ (c : Issued). IsBody c.body) (λ (c : Issued). record c { standing = ticked c.standing }) node.initiator.issued holds.1, holds.2)
 
 pub bodies_at_clear : (node : NodeState) → holds_bodies node → holds_bodies (after_clear node)
-bodies_at_clear node holds = (All-nil IsBody, All-map (λ (c : Issued). IsBody c.body) (λ (c : Issued). record c { standing = cleared c.standing }) node.initiator.issued holds.1)
+bodies_at_clear node holds = (All-nil IsBody, All-map (λ (c : Issued). IsBody c.body) (λ (c : Issued). record c { standing = cleared c.standing }) node.initiator.issued holds.1, holds.2)

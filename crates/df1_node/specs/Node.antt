@@ -1,5 +1,5 @@
 -- A node: the station, the replies that wait, the commands that it issued, and what it handed out last.
-use Rattle.std.specs.Prelude.{ℕ, ◌+◌, Bool, true, false, All, List, [], ◌∷◌, ◌++◌, length, drop, is_some, nat_lt, slice_get, if◌then◌else◌, Option, refl}
+use Rattle.std.specs.Prelude.{ℕ, ◌+◌, ◌≤◌, Bool, true, false, All, List, [], ◌∷◌, ◌++◌, length, drop, is_some, nat_lt, slice_get, if◌then◌else◌, Option, refl}
 use Rattle.std.specs.Coded.{Coded, code_by, coded×, coded_list, coded_ℕ}
 use Rattle.std.specs.Option.{option_map_or, option_or}
 use Rattle.df1_base.specs.declared.host.Fate.{Fate}
@@ -73,9 +73,9 @@ is_handed (handed.Command place) = true
 abbrev pub is_out : NodeState → Bool
 is_out node = is_handed node.last
 
--- each reply that waits, and each command, has 6 to 250 bytes
+-- each reply that waits, and each command, has 6 to 250 bytes, and the data of the status reply at most 244
 abbrev pub holds_bodies : NodeState → Type 0
-holds_bodies node = All IsBody node.replies × All (λ c. IsBody c.body) node.initiator.issued
+holds_bodies node = All IsBody node.replies × All (λ c. IsBody c.body) node.initiator.issued × (length node.station.block ≤ 244)
 
 -- what is told of a body that was given up: of a command only while it is out
 abbrev pub news_of : InitiatorState → Handed → News

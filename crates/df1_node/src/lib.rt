@@ -2,6 +2,8 @@
 //! initiator that issues commands, and the node that joins the two.
 #![tactic(auto)]
 
+#[cfg(test)]
+mod answer_tests;
 mod commands;
 mod handed;
 mod initiator;

@@ -37,7 +37,7 @@ pub struct Node {
 }
 
 impl Model for Node {
-    ghost use Rattle.std.specs.Prelude.{map, All};
+    ghost use Rattle.std.specs.Prelude.{map, All, length, ◌≤◌};
     ghost use Rattle.df1_base.specs.Host.{IsBody};
     ghost use Rattle.df1_node.specs.Node.{NodeState, node_code};
 
@@ -51,14 +51,16 @@ impl Model for Node {
 
     ghost view = { λ n. record { room = n.replies.capacity; station = n.station; replies = map (λ r. r.items) n.replies.items; initiator = n.initiator; last = n.last } };
 
-    ghost invariant = { λ n. All (λ r. IsBody r.items) n.replies.items };
+    ghost invariant = { λ n. All (λ r. IsBody r.items) n.replies.items × (length n.station.block ≤ 244) };
 }
 
 impl Node {
-    /// A node over a station, with memory for the replies that wait.
+    /// A node over a station, with memory for the replies that wait. The data of the station's status reply has at most
+    /// 244 bytes, as every station's has.
     pub fn new(alloc: Global, setup: NodeSetup, station: Station) -> Result<Node, NoMemory>
         requires room { (2 ≤ setup.room) × (setup.room ≤ 64) }
         requires reply_ticks { 1 ≤ setup.reply_ticks }
+        requires block { length station.block ≤ 244 }
         ensures { IfOk result (λ node. node ≡ record { room = setup.room; station = station; replies = []; initiator = record { node = setup.node; tns = setup.tns; reply_ticks = setup.reply_ticks; issued = [] }; last = Nothing }) }
     {
         let replies = HeapCircularBuffer::with_capacity(alloc, setup.room)?;

@@ -78,6 +78,8 @@ impl Station {
         let mut reply = ArrayVec::new();
         let code = execute(
             &mut self.tables,
+            self.compat,
+            &self.block,
             envelope.cmd,
             &body[MIN_BODY..],
             &mut reply,

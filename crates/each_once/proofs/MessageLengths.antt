@@ -43,9 +43,9 @@ bodies-filter p (x ∷ xs) h = cond_both (p x) (x ∷ filter p xs) (filter p xs)
 
 -- ---- what is handed out next: a reply, or a command that was issued
 
-replies-fit : (first : StationState) (xs : List (List ℕ)) → AreBodies xs → AreBodies (map (λ e. e.1) (exchanges first xs))
-replies-fit first [] h = tt
-replies-fit first (x ∷ xs) h = (reply-body first x h.0, replies-fit (after_answer first x) xs h.1)
+replies-fit : (first : StationState) (xs : List (List ℕ)) → length first.block ≤ 244 → AreBodies xs → AreBodies (map (λ e. e.1) (exchanges first xs))
+replies-fit first [] few h = tt
+replies-fit first (x ∷ xs) few h = (reply-body first x few h.0, replies-fit (after_answer first x) xs few h.1)
 
 first-waiting-fits : (cs : List Issued) (body : List ℕ) → AreBodies (map (λ c. c.body) cs) → option_map (λ c. c.body) (find (λ c. is_waiting c.standing) cs) ≡ Some body → IsBody body
 first-waiting-fits [] body h e = absurd cc
@@ -62,10 +62,10 @@ next-of : (replies : List (List ℕ)) (cs : List Issued) (body : List ℕ) → A
 next-of [] cs body replies commands next = command-fits cs body commands next
 next-of (r ∷ rs) cs body replies commands next = subst IsBody (same_Some r body next) replies.0
 
-pub next-fits : {first : StationState} {node : NodeState} {messages heard : List (List ℕ)} → Hosts first node messages heard → AreBodies heard → AreBodies (map (λ c. c.body) node.initiator.issued) →
+pub next-fits : {first : StationState} {node : NodeState} {messages heard : List (List ℕ)} → Hosts first node messages heard → length first.block ≤ 244 → AreBodies heard → AreBodies (map (λ c. c.body) node.initiator.issued) →
     (body : List ℕ) → next_body node ≡ Some body → (6 ≤ length body) × (length body ≤ 250)
-next-fits {first} {node} {messages} {heard} h hears commands body next =
-    let replies = subst AreBodies h.replies (replies-fit first (filter is_command heard) (bodies-filter is_command heard hears)) in
+next-fits {first} {node} {messages} {heard} h few hears commands body next =
+    let replies = subst AreBodies h.replies (replies-fit first (filter is_command heard) few (bodies-filter is_command heard hears)) in
     next-of node.replies node.initiator.issued body (bodies-back (filter is_reply messages) node.replies replies) commands next
 
 -- ---- a command that is issued

@@ -60,11 +60,11 @@ exchanges-bodies first (b ∷ xs) = ap (λ bs. b ∷ bs) (exchanges-bodies (afte
 
 pub exchanges-tns : (first : StationState) (xs : List (List ℕ)) → map tns_of (map (λ e. e.1) (exchanges first xs)) ≡ map tns_of xs
 exchanges-tns first [] = refl
-exchanges-tns first (b ∷ xs) = ap₂ (λ t ts. t ∷ ts) (body-fits b (done first.tables b)).2 (exchanges-tns (after_answer first b) xs)
+exchanges-tns first (b ∷ xs) = ap₂ (λ t ts. t ∷ ts) (body-fits b (done first b)).2 (exchanges-tns (after_answer first b) xs)
 
 pub exchange-fits : (first : StationState) (xs : List (List ℕ)) (k : ℕ) (body reply : List ℕ) → slice_get (exchanges first xs) k ≡ Some (body, reply) →
     (is_reply_to body reply ≡ true) × (is_reply reply ≡ true) × (tns_of reply ≡ tns_of body)
 exchange-fits first [] k body reply e = absurd cc
 exchange-fits first (b ∷ xs) zero body reply e =
-    subst (λ p. (is_reply_to p.0 p.1 ≡ true) × (is_reply p.1 ≡ true) × (tns_of p.1 ≡ tns_of p.0)) (same_Some _ _ e) (body-fits b (done first.tables b))
+    subst (λ p. (is_reply_to p.0 p.1 ≡ true) × (is_reply p.1 ≡ true) × (tns_of p.1 ≡ tns_of p.0)) (same_Some _ _ e) (body-fits b (done first b))
 exchange-fits first (b ∷ xs) (suc k) body reply e = exchange-fits (after_answer first b) xs k body reply e

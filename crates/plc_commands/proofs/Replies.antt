@@ -19,6 +19,8 @@ use Rattle.data_files.proofs.WordLists.{length-bytes_of}
 use Rattle.plc_commands.specs.declared.span.Span.{Span}
 use Rattle.plc_commands.specs.Meaning.{answered, read_after, written, checked, array_param, byte_span, range_span, element_span, with_sets, meaning}
 use Rattle.plc_commands.specs.Order.{Order, Echo, Status, Peek, Poke, RangeWrite, RangeRead, Change, TypedWrite, TypedRead}
+use Rattle.plc_commands.specs.Fields.{◌>>=◌, word, levels, parameter, nothing, last_byte, last_word, words, sets}
+use Rattle.plc_commands.specs.Reading.{unprotected_read, unprotected_write, range_write, range_read, change, typed_write, typed_read, basic, extended, order_of}
 use Rattle.plc_commands.specs.Tests.{compat_file, has_bytes, unprotected_read_tests, unprotected_write_tests, range_tests, range_read_tests, range_write_tests, change_tests, has_elements, array_len, typed_write_tests, typed_read_tests}
 
 -- ---- the parts of a reply
@@ -125,3 +127,60 @@ reply-fits tables compat status (TypedRead window count) few echo =
     (λ none. elements-fit (file_of tables.specs window.at.file) count (let file = file_of tables.specs window.at.file in
     sixth (not (count == 0)) (window.at.area == 0) (is_some file) (holds_of (λ f. is_some (element_param f.kind)) file) (window.at.sub == 0) (holds_of (λ f. nat_le (array_len f.kind count) 244) file)
     (Ext 0x01) (Ext 0x06) (Ext 0x06) (Ext 0x11) (Ext 0x06) (Ext 0x09) ((holds_of (has_elements window count) file, Ext 0x0A) ∷ []) none))
+
+-- ---- an echo that is read is as long as its payload at most
+
+abbrev pub IfShortEcho : Result Order Code → Type 0
+IfShortEcho (Ok order) = IsShortEcho order
+IfShortEcho (Err code) = Unit {0}
+
+bind-short : {A : Type 0} (r : Result A Code) (f : A → Result Order Code) → ((x : A) → IfShortEcho (f x)) → IfShortEcho (r >>= f)
+bind-short (Ok x) f short = short x
+bind-short (Err code) f short = tt
+
+either-short : (b : Bool) (x y : Result Order Code) → IfShortEcho x → IfShortEcho y → IfShortEcho (if b then x else y)
+either-short true x y first other = first
+either-short false x y first other = other
+
+read-short : (bytes : List ℕ) → IfShortEcho (unprotected_read bytes)
+unfolding unprotected_read
+read-short bytes = bind-short (word bytes) _ (λ address. bind-short (last_byte address.1) _ (λ size. tt))
+
+write-short : (bytes : List ℕ) → IfShortEcho (unprotected_write bytes)
+unfolding unprotected_write
+write-short bytes = bind-short (word bytes) _ (λ address. bind-short (words address.1) _ (λ found. tt))
+
+range_write-short : (bytes : List ℕ) → IfShortEcho (range_write bytes)
+unfolding range_write
+range_write-short bytes = bind-short (word bytes) _ (λ offset. bind-short (word offset.1) _ (λ total. bind-short (levels total.1) _ (λ at. bind-short (words at.1) _ (λ found. tt))))
+
+range_read-short : (bytes : List ℕ) → IfShortEcho (range_read bytes)
+unfolding range_read
+range_read-short bytes = bind-short (word bytes) _ (λ offset. bind-short (word offset.1) _ (λ total. bind-short (levels total.1) _ (λ at. bind-short (last_byte at.1) _ (λ size. tt))))
+
+change-short : (bytes : List ℕ) → IfShortEcho (change bytes)
+unfolding change
+change-short bytes = bind-short (sets bytes) _ (λ all. tt)
+
+typed_write-short : (bytes : List ℕ) → IfShortEcho (typed_write bytes)
+unfolding typed_write
+typed_write-short bytes = bind-short (word bytes) _ (λ offset. bind-short (word offset.1) _ (λ total. bind-short (levels total.1) _ (λ at. bind-short (parameter at.1) _ (λ element. tt))))
+
+typed_read-short : (bytes : List ℕ) → IfShortEcho (typed_read bytes)
+unfolding typed_read
+typed_read-short bytes = bind-short (word bytes) _ (λ offset. bind-short (word offset.1) _ (λ total. bind-short (levels total.1) _ (λ at. bind-short (last_word at.1) _ (λ count. tt))))
+
+basic-short : (payload : List ℕ) → length payload ≤ 244 → IfShortEcho (basic payload)
+basic-short [] few = tt
+basic-short (fnc ∷ bytes) few = either-short (fnc == 0x00) _ _ (omega (arith, few)) (either-short (fnc == 0x03) _ _ (bind-short (nothing bytes) _ (λ none. tt)) tt)
+
+extended-short : (payload : List ℕ) → IfShortEcho (extended payload)
+extended-short [] = tt
+extended-short (fnc ∷ bytes) =
+    either-short (fnc == 0x00) (range_write bytes) _ (range_write-short bytes) (either-short (fnc == 0x01) (range_read bytes) _ (range_read-short bytes) (either-short (fnc == 0x26) (change bytes) _ (change-short bytes)
+    (either-short (fnc == 0x67) (typed_write bytes) _ (typed_write-short bytes) (either-short (fnc == 0x68) (typed_read bytes) _ (typed_read-short bytes) tt))))
+
+pub echo-fits : (cmd : ℕ) (payload : List ℕ) → length payload ≤ 244 → IfShortEcho (order_of cmd payload)
+echo-fits cmd payload few =
+    either-short (cmd == 0x06) (basic payload) _ (basic-short payload few) (either-short (cmd == 0x01) (unprotected_read payload) _ (read-short payload)
+    (either-short (cmd == 0x08) (unprotected_write payload) _ (write-short payload) (either-short (cmd == 0x0F) (extended payload) _ (extended-short payload) tt)))

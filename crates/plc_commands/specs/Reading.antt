@@ -1,6 +1,7 @@
 -- How orders are read.
-use Rattle.std.specs.Prelude.{ℕ, List, [], ◌∷◌, ◌==◌, if◌then◌else◌, Result, Ok}
+use Rattle.std.specs.Prelude.{ℕ, Bool, false, ◌||◌, List, [], ◌∷◌, ◌==◌, if◌then◌else◌, Result, Ok}
 use Rattle.df1_base.specs.declared.code.Code.{Code}
+use Rattle.df1_base.specs.declared.code.Code.TheVariants.{Done, Sts, Ext}
 use Rattle.plc_commands.specs.Order.{Order, Echo, Status, Peek, Poke, RangeWrite, RangeRead, Change, TypedWrite, TypedRead, window}
 use Rattle.plc_commands.specs.Fields.{◌>>=◌, illegal, word, levels, parameter, nothing, last_byte, last_word, words, sets}
 
@@ -90,3 +91,11 @@ order_of cmd payload =
     else if cmd == 0x08 then unprotected_write payload
     else if cmd == 0x0F then extended payload
     else illegal
+
+-- ---- the codes that refuse what can't be read: it isn't spelled as its command asks, or an address has too few levels or
+-- too many
+
+abbrev pub is_reading_code : Code → Bool
+is_reading_code Done = false
+is_reading_code (Sts status) = status == 0x10
+is_reading_code (Ext extension) = (extension == 0x02) || (extension == 0x03)

@@ -1,4 +1,6 @@
 //! Orders of the commands.
+ghost use Rattle.std.specs.Prelude.{◌≡◌};
+
 use crate::Sets;
 use logical_address::{Levels, Param};
 
@@ -14,7 +16,9 @@ pub struct Set {
 }
 
 impl Default for Set {
-    fn default() -> Set {
+    fn default() -> Set
+        ensures { result ≡ record { at = record { area = 0; file = 0; element = 0; sub = 0 }; and = 0; or = 0 } }
+    {
         let at = Levels {
             area: 0,
             file: 0,

@@ -1,8 +1,9 @@
 //! How orders are read.
-ghost use Rattle.std.specs.Prelude.{◌≡◌, ◌≤◌, length, IfOk};
+ghost use Rattle.std.specs.Prelude.{◌≡◌, ◌≤◌, length, true, IfOk, IfErr, Ok};
 ghost use Rattle.std.specs.Result.{result_map_both};
-ghost use Rattle.plc_commands.specs.Order.{IsOrder, seen};
-ghost use Rattle.plc_commands.specs.Reading.{order_of};
+ghost use Rattle.plc_commands.specs.Order.{IsOrder, Order, seen};
+ghost use Rattle.plc_commands.specs.Spelling.{SpellsOrder};
+ghost use Rattle.plc_commands.specs.Reading.{is_reading_code, order_of};
 
 use crate::PlcOrder;
 use crate::codes::ILLEGAL;
@@ -31,8 +32,20 @@ macro_rules! layouts {
 ///
 /// The first field that can't be read refuses the order, an address with too few levels with F0/02, one with too many
 /// with F0/03, and all else with STS 10, another CMD or FNC or a missing FNC among it.
-#[tactic(auto, unfolding(crate::specs::Reading::unprotected_read, crate::specs::Reading::unprotected_write, crate::specs::Reading::range_write, crate::specs::Reading::range_read, crate::specs::Reading::change, crate::specs::Reading::typed_write, crate::specs::Reading::typed_read))]
 pub fn read_plc(cmd: u8, payload: &[u8]) -> Result<PlcOrder<'_>, Code>
+    requires { length payload.now ≤ 244 }
+    ensures reads { result_map_both seen (λ code. code) result ≡ order_of cmd payload.now }
+    ensures spelled { IfOk result (λ order. SpellsOrder (seen order) cmd payload.now) }
+    ensures known { (order : Order) → SpellsOrder order cmd payload.now → result_map_both seen (λ code. code) result ≡ Ok order }
+    ensures order { IfOk result (λ order. IsOrder (seen order)) }
+    ensures refused { IfErr result (λ code. is_reading_code code ≡ true) }
+{
+    read_by_layout(cmd, payload)
+}
+
+/// The order of a command, by the layout that the command begins with.
+#[tactic(auto, unfolding(crate::specs::Reading::unprotected_read, crate::specs::Reading::unprotected_write, crate::specs::Reading::range_write, crate::specs::Reading::range_read, crate::specs::Reading::change, crate::specs::Reading::typed_write, crate::specs::Reading::typed_read))]
+fn read_by_layout(cmd: u8, payload: &[u8]) -> Result<PlcOrder<'_>, Code>
     requires { length payload.now ≤ 244 }
     ensures reads { result_map_both seen (λ code. code) result ≡ order_of cmd payload.now }
     ensures order { IfOk result (λ order. IsOrder (seen order)) }

@@ -1,40 +1,34 @@
-use Rattle.std.proofs.Common.{length, sym, ap, arith}
+use Rattle.std.proofs.Common.{◌≡◌, ℕ, List, true, Result, Ok, Err, sym, subst, ◌∙◌, arith}
+use Rattle.std.specs.Prelude.{IfOk, IfErr}
+use Rattle.std.specs.Result.{result_map_both}
 use Rattle.df1_base.specs.declared.code.Code.{Code}
-use Rattle.logical_address.proofs.Fronts.{ok_is}
-use Rattle.plc_commands.proofs.SetLists.{word_shorter, levels_shorter}
-use Rattle.plc_commands.proofs.Orders.{words_are, parameter_shorter, some_set}
+use Rattle.plc_commands.specs.declared.order.PlcOrder.{PlcOrder}
+use Rattle.plc_commands.specs.Order.{Order, seen}
+use Rattle.plc_commands.specs.Spelling.{SpellsOrder}
+use Rattle.plc_commands.specs.Reading.{is_reading_code, order_of}
+use Rattle.plc_commands.proofs.Known.{order_known}
+use Rattle.plc_commands.proofs.Spelled.{order_spelled}
+use Rattle.plc_commands.proofs.ReadingCodes.{IsTold, order_told}
 use Rattle.plc_commands.proofs.read.read_plc.Goals as goal
 
-pub returns-in_ok-bytes-in-8-default-clause-order : goal.returns-in_ok-bytes-in-8-default-clause-order
-returns-in_ok-bytes-in-8-default-clause-order c =
-    let a = c.in_ok-address-in-8-default in
-    let first = word_shorter _ (a.address, a.left.now) (sym a.ensures) in
-    let data' = words_are a.left.now _ (sym c.in_ok-bytes-in-8-default.ensures) in
-    (omega arith, data'.1)
+spelled_as : (cmd : ℕ) (payload : List ℕ) (found : Result PlcOrder Code) (read : Result Order Code) → result_map_both seen (λ code. code) found ≡ read
+    → ((order : Order) → read ≡ Ok order → SpellsOrder order cmd payload) → IfOk found (λ order. SpellsOrder (seen order) cmd payload)
+spelled_as cmd payload (Ok order) read is spelled = spelled (seen order) (sym is)
+spelled_as cmd payload (Err code) read is spelled = tt
 
-pub returns-in_ok-bytes-in-15-eq0-clause-order : goal.returns-in_ok-bytes-in-15-eq0-clause-order
-returns-in_ok-bytes-in-15-eq0-clause-order c =
-    let o = c.in_ok-offset-in-15-eq0 in
-    let t = c.in_ok-total-in-15-eq0 in
-    let a = c.in_ok-at-in-15-eq0 in
-    let first = word_shorter _ (o.offset, o.left.now) (sym o.ensures) in
-    let second = word_shorter o.left.now (t.total, t.left.now) (sym t.ensures) in
-    let third = levels_shorter t.left.now (a.at, a.left.now) (sym a.ensures) in
-    let data' = words_are a.left.now _ (sym c.in_ok-bytes-in-15-eq0.ensures) in
-    (omega arith, data'.1)
+refused_as : (found : Result PlcOrder Code) (read : Result Order Code) → result_map_both seen (λ code. code) found ≡ read → IsTold read → IfErr found (λ code. is_reading_code code ≡ true)
+refused_as (Ok order) read is told = tt
+refused_as (Err code) read is told = subst IsTold (sym is) told
 
-pub returns-in_ok-changes-in-15-eq38-clause-order : goal.returns-in_ok-changes-in-15-eq38-clause-order
-returns-in_ok-changes-in-15-eq38-clause-order c = some_set _ c.in_ok-changes-in-15-eq38.changes (sym c.in_ok-changes-in-15-eq38.ensures)
+pub returns-clause-spelled : goal.returns-clause-spelled
+returns-clause-spelled c =
+    let cmd = c.args.cmd in
+    let payload = c.args.payload.now in
+    spelled_as cmd payload c.read_by_layout.result (order_of cmd payload) c.read_by_layout.ensures.reads (λ order is. order_spelled cmd payload order (λ i. omega (arith, c.type_inv.payload i)) is)
 
-pub returns-in_ok-bytes-in-15-eq103-clause-order : goal.returns-in_ok-bytes-in-15-eq103-clause-order
-returns-in_ok-bytes-in-15-eq103-clause-order c =
-    let o = c.in_ok-offset-in-15-eq103 in
-    let t = c.in_ok-total-in-15-eq103 in
-    let a = c.in_ok-at-in-15-eq103 in
-    let e = c.in_ok-element-in-15-eq103 in
-    let first = word_shorter _ (o.offset, o.left.now) (sym o.ensures) in
-    let second = word_shorter o.left.now (t.total, t.left.now) (sym t.ensures) in
-    let third = levels_shorter t.left.now (a.at, a.left.now) (sym a.ensures) in
-    let fourth = parameter_shorter a.left.now ((e.element, e.array), e.left.now) (sym e.ensures) in
-    let same = ap length (ok_is {E = Code} _ _ c.in_ok-bytes-in-15-eq103.ensures) in
-    omega arith
+pub returns-clause-known : goal.returns-clause-known
+returns-clause-known c order s = c.read_by_layout.ensures.reads ∙ order_known order c.args.cmd c.args.payload.now s
+
+pub returns-clause-refused : goal.returns-clause-refused
+returns-clause-refused c =
+    refused_as c.read_by_layout.result (order_of c.args.cmd c.args.payload.now) c.read_by_layout.ensures.reads (order_told c.args.cmd c.args.payload.now)

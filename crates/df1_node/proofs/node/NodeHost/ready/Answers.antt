@@ -15,18 +15,18 @@ waits f [] command none = sym none
 waits f (reply ∷ replies) command none = grind (arith, nat_tests)
 
 pub returns-then-ready-clause-holds : goal.returns-then-ready-clause-holds
-returns-then-ready-clause-holds c = subst holds_bodies c.self.view_is (All-map IsBody (λ r. r.items) c.self.inside.replies.items c.self.invariant, c.ready.ensures.bodies)
+returns-then-ready-clause-holds c = subst holds_bodies c.self.view_is (All-map IsBody (λ r. r.items) c.self.inside.replies.items c.self.invariant.0, c.ready.ensures.bodies, c.self.invariant.1)
 
 pub returns-else-ready-clause-holds : goal.returns-else-ready-clause-holds
-returns-else-ready-clause-holds c = subst holds_bodies c.self.view_is (All-map IsBody (λ r. r.items) c.self.inside.replies.items c.self.invariant, c.ready.ensures.bodies)
+returns-else-ready-clause-holds c = subst holds_bodies c.self.view_is (All-map IsBody (λ r. r.items) c.self.inside.replies.items c.self.invariant.0, c.ready.ensures.bodies, c.self.invariant.1)
 
 pub returns-then-ready-clause-fits : goal.returns-then-ready-clause-fits
 returns-then-ready-clause-fits c =
-    next_is_body c.args.self.now (subst holds_bodies c.self.view_is (All-map IsBody (λ r. r.items) c.self.inside.replies.items c.self.invariant, c.ready.ensures.bodies))
+    next_is_body c.args.self.now (subst holds_bodies c.self.view_is (All-map IsBody (λ r. r.items) c.self.inside.replies.items c.self.invariant.0, c.ready.ensures.bodies, c.self.invariant.1))
 
 pub returns-else-ready-clause-fits : goal.returns-else-ready-clause-fits
 returns-else-ready-clause-fits c =
-    next_is_body c.args.self.now (subst holds_bodies c.self.view_is (All-map IsBody (λ r. r.items) c.self.inside.replies.items c.self.invariant, c.ready.ensures.bodies))
+    next_is_body c.args.self.now (subst holds_bodies c.self.view_is (All-map IsBody (λ r. r.items) c.self.inside.replies.items c.self.invariant.0, c.ready.ensures.bodies, c.self.invariant.1))
 
 pub returns-else-ready-clause-ready : goal.returns-else-ready-clause-ready
 returns-else-ready-clause-ready c =
