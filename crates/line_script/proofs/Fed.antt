@@ -14,8 +14,9 @@ use Rattle.line_script.specs.Drafts.{fresh}
 use Rattle.line_script.specs.declared.fault.LineFault.{LineFault}
 use Rattle.line_script.specs.declared.fault.LineFault.TheVariants.{Faulty, NoMemory}
 use Rattle.line_script.specs.declared.fault.ScriptFault.{ScriptFault}
-use Rattle.line_script.specs.Refusal.{IsFaulty, IsRefused, fault_at}
-use Rattle.line_script.specs.Fed.{Fed, StandsFor, EndsFor, IsRefusedFor, lines_of, accepted, accepted_on}
+use Rattle.line_script.specs.declared.fault.ScriptFault.TheVariants as fault
+use Rattle.line_script.specs.Refusal.{IsFaulty, fault_at}
+use Rattle.line_script.specs.Fed.{Fed, StandsFor, EndsFor, IsRefusedFor, IsRefusedAtEnd, lines_of, accepted, accepted_on, accepted_script, script_at}
 use Rattle.line_script.specs.Left.{after_lines, and_then}
 use Rattle.line_script.specs.Lines.{TextLine, text_line, lines_from, after_line, finished, is_ended, script_with}
 use Rattle.line_script.specs.ScriptText.{at_line, with_event, script_from, parts, script_of}
@@ -64,7 +65,7 @@ abbrev read_or : Reader × List Event → Result (Reader × List Event) Cause �
 read_or other (Ok read) = read
 read_or other (Err c) = other
 
-same-read : (d e : Reader) (events all : List Event) → (let read : Result (Reader × List Event) Cause = Ok (d, events) in read) ≡ Ok (e, all) → (d ≡ e) × (events ≡ all)
+pub same-read : (d e : Reader) (events all : List Event) → (let read : Result (Reader × List Event) Cause = Ok (d, events) in read) ≡ Ok (e, all) → (d ≡ e) × (events ≡ all)
 same-read d e events all is = (ap (λ r. (read_or (d, events) r).0) is, ap (λ r. (read_or (d, events) r).1) is)
 
 pub read-behind : (lines more : List TextLine) (d e : Reader) (events all : List Event) → after_lines d events lines ≡ Ok (e, all) → after_lines d events (lines ++ more) ≡ after_lines e all more
@@ -157,6 +158,58 @@ pub goes-on-from-text : (text : List ℕ) (events : List Event) (r : Fed) (more 
 goes-on-from-text text events r more h =
     ap (λ t. script_of (t ++ more)) h.text_is ∙ ap script_of (append_assoc h.whole r.line more) ∙ goes-on text events r (r.line ++ more) h
 
+-- ---- a line that is faulty
+
+-- later lines have greater numbers
+abbrev number_or : ℕ → Result Script (ℕ × Cause) → ℕ
+number_or other (Ok script) = other
+number_or other (Err fault) = fault.0
+
+fault-number : (n k : ℕ) (b c : Cause) → (let read : Result Script (ℕ × Cause) = Err (n, b) in read) ≡ Err (k, c) → n ≡ k
+fault-number n k b c is = ap (number_or 0) is
+
+open-at : (over : Bool) (script : Script) (number k : ℕ) (c : Cause) → at_line number (cond over (Ok script) (Err cause.NoEnd)) Ok ≡ Err (k, c) → number ≤ k
+open-at true script number k c is = cc
+open-at false script number k c is = let same = fault-number number k cause.NoEnd c is in omega (arith, same)
+
+numbers-rise : (lines : List TextLine) (d : Reader) (events : List Event) (number k : ℕ) (c : Cause) → script_from d events number lines ≡ Err (k, c) → number ≤ k
+numbers-rise [] d events number k c is = open-at (is_ended d.stage) (script_with d events) number k c is
+numbers-rise (line ∷ lines) d events number k c is =
+    elim (with_event events (after_line d line)) as (λ r. at_line number r (λ step. script_from step.0 step.1 (number + 1) lines) ≡ Err (k, c) → number ≤ k) [
+      | Err cause ↦ λ no. let same = fault-number number k cause c no in omega (arith, same)
+      | Ok step ↦ λ on. let later = numbers-rise lines step.0 step.1 (number + 1) k c on in omega (arith, later)
+    ] is
+
+-- where the first of some lines is faulty, or there is none, nothing more is accepted
+none-accepted : (lines : List TextLine) (d : Reader) (events : List Event) (number : ℕ) (c : Cause) → script_from d events number lines ≡ Err (number, c) → accepted d events lines ≡ (d, events)
+none-accepted [] d events number c is = refl
+none-accepted (line ∷ lines) d events number c is =
+    elim (with_event events (after_line d line)) as (λ r. at_line number r (λ step. script_from step.0 step.1 (number + 1) lines) ≡ Err (number, c) → accepted_on (d, events) r (λ step. accepted step.0 step.1 lines) ≡ (d, events)) [
+      | Err cause ↦ λ no. refl
+      | Ok step ↦ λ on. let later = numbers-rise lines step.0 step.1 (number + 1) number c on in absurd (omega (arith, later))
+    ] is
+
+-- what a text says that goes on
+pub accepted-on-from-text : (text : List ℕ) (events : List Event) (r : Fed) (more : List ℕ) → StandsFor text events r → accepted fresh [] (lines_of (text ++ more)) ≡ accepted r.reader events (lines_from r.start (parts (r.line ++ more)))
+accepted-on-from-text text events r more h =
+    ap (λ t. accepted fresh [] (lines_of (t ++ more))) h.text_is
+    ∙ ap (λ t. accepted fresh [] (lines_of t)) (append_assoc h.whole r.line more)
+    ∙ ap (accepted fresh []) (cut-lines h.whole (r.line ++ more) h.ends)
+    ∙ rw (← h.start_is) (accepted-behind (lines_of h.whole) (lines_from r.start (parts (r.line ++ more))) fresh r.reader [] events h.read)
+
+refused-with : (text : List ℕ) (events : List Event) (r : Fed) (more : List ℕ) (c : Cause) → StandsFor text events r → script_of (text ++ more) ≡ Err (r.number, c) → (script_of (text ++ more) ≡ Err (r.number, c)) × (accepted_script (text ++ more) ≡ script_with r.reader events)
+unfolding accepted_script
+refused-with text events r more c h is =
+    let here : script_from r.reader events r.number (lines_from r.start (parts (r.line ++ more))) ≡ Err (r.number, c) = sym (goes-on-from-text text events r more h) ∙ is in
+    (is, ap script_at (accepted-on-from-text text events r more h ∙ none-accepted (lines_from r.start (parts (r.line ++ more))) r.reader events r.number c here))
+
+-- a text with a byte more is refused, whatever follows
+pub refused-for : (text : List ℕ) (events : List Event) (r : Fed) (b : ℕ) (c : Cause) → StandsFor text events r → ((more : List ℕ) → script_of ((text ++ b ∷ []) ++ more) ≡ Err (r.number, c)) → IsRefusedFor (text ++ b ∷ []) (script_with r.reader events) (fault.At r.number c)
+refused-for text events r b c h is = λ more.
+    let same : (text ++ b ∷ []) ++ more ≡ text ++ b ∷ more = append_assoc text (b ∷ []) more in
+    let found = refused-with text events r (b ∷ more) c h (ap script_of (sym same) ∙ is more) in
+    (is more, ap accepted_script same ∙ found.1)
+
 -- the byte past the longest script
 pub refused-by-size : (text : List ℕ) (events : List Event) (r : Fed) (b : ℕ) (more : List ℕ) → StandsFor text events r → r.start + length r.line ≤ 16777216 → 16777216 ≤ r.start + length r.line → length r.line ≤ 1024
     → script_of ((text ++ b ∷ []) ++ more) ≡ Err (r.number, cause.Size)
@@ -202,8 +255,8 @@ faulty-line text events r more c h is =
     ap script_of (append_assoc text (10 ∷ []) more) ∙ goes-on-from-text text events r (10 ∷ more) h
     ∙ rw (one-part r.line more h.begun, cut.2, is) refl
 
-pub refused-line : (text : List ℕ) (events : List Event) (r : Fed) (fault : LineFault) → StandsFor text events r → IsFaulty fault (after_line r.reader (text_line r.start r.line true)) → IsRefusedFor (text ++ 10 ∷ []) (fault_at r.number fault)
-refused-line text events r (Faulty c) h is = λ more. faulty-line text events r more c h is
+pub refused-line : (text : List ℕ) (events : List Event) (r : Fed) (fault : LineFault) → StandsFor text events r → IsFaulty fault (after_line r.reader (text_line r.start r.line true)) → IsRefusedFor (text ++ 10 ∷ []) (script_with r.reader events) (fault_at r.number fault)
+refused-line text events r (Faulty c) h is = refused-for text events r 10 c h (λ more. faulty-line text events r more c h is)
 refused-line text events r NoMemory h is = tt
 
 -- a line that is accepted
@@ -236,12 +289,12 @@ pub line-read : (text : List ℕ) (events : List Event) (r : Fed) (b : ℕ) (res
     → MatchResult result
     (λ event. (after_line r.reader (line_of r) ≡ Ok (new.reader, event)) × (new.line ≡ []) × (new.number ≡ r.number + 1) × (new.start ≡ r.start + (length r.line + 1)))
     (λ fault. (cause : LineFault) × (fault ≡ fault_at r.number cause) × IsFaulty cause (after_line r.reader (line_of r)))
-    → MatchResult result (λ event. StandsFor (text ++ b ∷ []) (events ++ option_to_list event) new) (IsRefusedFor (text ++ b ∷ []))
+    → MatchResult result (λ event. StandsFor (text ++ b ∷ []) (events ++ option_to_list event) new) (IsRefusedFor (text ++ b ∷ []) (script_with r.reader events))
 line-read text events r b (Ok event) new h is read =
     let same : new ≡ record { reader = new.reader; line = []; number = r.number + 1; start = r.start + (length r.line + 1) } = same-fed new [] (r.number + 1) (r.start + (length r.line + 1)) read.1 read.2 read.3 in
     rw is (subst (StandsFor (text ++ 10 ∷ []) (events ++ option_to_list event)) (sym same) (stands-behind text events r new.reader event h read.0))
 line-read text events r b (Err fault) new h is read =
-    rw is (subst (IsRefusedFor (text ++ 10 ∷ [])) (sym read.1) (refused-line text events r read.0 h read.2))
+    rw is (subst (IsRefusedFor (text ++ 10 ∷ []) (script_with r.reader events)) (sym read.1) (refused-line text events r read.0 h read.2))
 
 -- ---- at the end of the text
 
@@ -279,17 +332,19 @@ last-fault text events r c h some is =
     ∙ script-behind (lines_of h.whole) (text_line r.start r.line false ∷ []) fresh r.reader [] events 1 h.read
     ∙ rw (number, is) refl
 
-refused-last-line : (text : List ℕ) (events : List Event) (r : Fed) (fault : LineFault) → StandsFor text events r → (r.line ≡ [] → ⊥) → IsFaulty fault (after_line r.reader (text_line r.start r.line false)) → IsRefused (fault_at r.number fault) (script_of text)
-refused-last-line text events r (Faulty c) h some is = last-fault text events r c h some is
+refused-last-line : (text : List ℕ) (events : List Event) (r : Fed) (fault : LineFault) → StandsFor text events r → (r.line ≡ [] → ⊥) → IsFaulty fault (after_line r.reader (text_line r.start r.line false)) → IsRefusedAtEnd text (script_with r.reader events) (fault_at r.number fault)
+refused-last-line text events r (Faulty c) h some is =
+    let all : text ++ [] ≡ text = append-nil text in
+    rw all at (refused-with text events r [] c h (ap script_of all ∙ last-fault text events r c h some is))
 refused-last-line text events r NoMemory h some is = tt
 
 pub last-line-read : (text : List ℕ) (events : List Event) (r new : Fed) (result : Result (Option Event) ScriptFault) → StandsFor text events r → (r.line ≡ [] → ⊥)
     → MatchResult result
     (λ event. (after_line r.reader (text_line r.start r.line false) ≡ Ok (new.reader, event)) × (new.number ≡ r.number + 1))
     (λ fault. (cause : LineFault) × (fault ≡ fault_at r.number cause) × IsFaulty cause (after_line r.reader (text_line r.start r.line false)))
-    → MatchResult result (λ event. EndsFor text (events ++ option_to_list event) new) (λ fault. IsRefused fault (script_of text))
+    → MatchResult result (λ event. EndsFor text (events ++ option_to_list event) new) (IsRefusedAtEnd text (script_with r.reader events))
 last-line-read text events r new (Ok event) h some read = ends-with-line text events r new event h some read.0 read.1
-last-line-read text events r new (Err fault) h some read = subst (λ f. IsRefused f (script_of text)) (sym read.1) (refused-last-line text events r read.0 h some read.2)
+last-line-read text events r new (Err fault) h some read = subst (IsRefusedAtEnd text (script_with r.reader events)) (sym read.1) (refused-last-line text events r read.0 h some read.2)
 
 -- what the whole text says
 pub says-at-end : (text : List ℕ) (events : List Event) (r : Fed) → EndsFor text events r → script_of text ≡ at_line r.number (finished r.reader events) Ok
@@ -303,5 +358,7 @@ says-at-end text events r h =
 pub closed : (text : List ℕ) (events : List Event) (r : Fed) → EndsFor text events r → is_ended r.reader.stage ≡ true → script_of text ≡ Ok (script_with r.reader events)
 closed text events r h is = says-at-end text events r h ∙ rw is refl
 
-pub left-open : (text : List ℕ) (events : List Event) (r : Fed) → EndsFor text events r → is_ended r.reader.stage ≡ false → script_of text ≡ Err (r.number, cause.NoEnd)
-left-open text events r h is = says-at-end text events r h ∙ rw is refl
+pub left-open : (text : List ℕ) (events : List Event) (r : Fed) → EndsFor text events r → is_ended r.reader.stage ≡ false → IsRefusedAtEnd text (script_with r.reader events) (fault.At r.number cause.NoEnd)
+unfolding accepted_script
+left-open text events r h is =
+    (says-at-end text events r h ∙ rw is refl, ap (λ lines. script_at (accepted fresh [] lines)) (sym (append-nil (lines_of text))) ∙ ap script_at (accepted-behind (lines_of text) [] fresh r.reader [] events h.read))

@@ -9,3 +9,5 @@ pub mod LongTexts
 pub mod Counts
 pub mod Unfinished
 pub mod Fed
+pub mod Setup
+pub mod Shown

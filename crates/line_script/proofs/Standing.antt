@@ -234,7 +234,7 @@ lined d events line h = sized (reaches_limit line) (is_long line) d events (word
 
 -- ---- the whole text
 
-closes : (d : Reader) (events : List Event) → Stands d events → IsPlayable (script_with d events)
+pub closes : (d : Reader) (events : List Event) → Stands d events → IsPlayable (script_with d events)
 closes d events h = record {
   mode = refl;
   ends = (plan_is_right who.A 0 d.a h.a, plan_is_right who.B 1 d.b h.b);

@@ -64,7 +64,13 @@ pub record EndsFor (text : List ℕ) (events : List Event) (r : Fed) : Type 0 wh
   pub read : after_lines fresh [] (lines_of text) ≡ Ok (r.reader, events)
   pub number_is : r.number ≡ length (lines_of text) + 1
 
--- no text that begins so is a script
-abbrev pub IsRefusedFor : List ℕ → ScriptFault → Type 0
-IsRefusedFor text (fault.At line cause) = (more : List ℕ) → script_of (text ++ more) ≡ Err (line, cause)
-IsRefusedFor text fault.NoMemory = Unit {0}
+-- No text that begins so is a script: the first faulty line and its cause, and what the lines before it make. Want of memory says
+-- nothing.
+abbrev pub IsRefusedFor : List ℕ → Script → ScriptFault → Type 0
+IsRefusedFor text script (fault.At line cause) = (more : List ℕ) → (script_of (text ++ more) ≡ Err (line, cause)) × (accepted_script (text ++ more) ≡ script)
+IsRefusedFor text script fault.NoMemory = Unit {0}
+
+-- the text is no script: likewise
+abbrev pub IsRefusedAtEnd : List ℕ → Script → ScriptFault → Type 0
+IsRefusedAtEnd text script (fault.At line cause) = (script_of text ≡ Err (line, cause)) × (accepted_script text ≡ script)
+IsRefusedAtEnd text script fault.NoMemory = Unit {0}

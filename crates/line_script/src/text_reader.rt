@@ -4,9 +4,9 @@ ghost use Rattle.std.specs.Option.{option_to_list};
 ghost use Rattle.line_script.specs.declared.fault.ScriptFault.{ScriptFault as TheFault};
 ghost use Rattle.line_script.specs.declared.fault.LineFault.{LineFault as Faulted};
 ghost use Rattle.line_script.specs.declared.script.Event.{Event as OneEvent};
-ghost use Rattle.line_script.specs.Fed.{EndsFor, IsRefusedFor, StandsFor};
+ghost use Rattle.line_script.specs.Fed.{EndsFor, IsRefusedAtEnd, IsRefusedFor, StandsFor};
 ghost use Rattle.line_script.specs.Lines.{after_line, script_with, text_line};
-ghost use Rattle.line_script.specs.Refusal.{IsFaulty, IsRefused, fault_at};
+ghost use Rattle.line_script.specs.Refusal.{IsFaulty, fault_at};
 ghost use Rattle.line_script.specs.ScriptText.{script_of};
 
 use crate::reader::{LINE, Reader, SCRIPT};
@@ -63,7 +63,7 @@ impl TextReader {
     /// `At` comes where no text that begins so is a script: with the first faulty line and the first cause that fits it.
     pub fn feed(&mut self, b: u8) -> Result<Option<Event>, ScriptFault>
         ensures { (text : List ℕ) (events : List OneEvent) → StandsFor text events self.old → MatchResult result
-            (λ event. StandsFor (text ++ b ∷ []) (events ++ option_to_list event) self.new) (IsRefusedFor (text ++ b ∷ [])) }
+            (λ event. StandsFor (text ++ b ∷ []) (events ++ option_to_list event) self.new) (IsRefusedFor (text ++ b ∷ []) (script_with self.old.reader events)) }
     {
         if self.start + self.line.len() >= SCRIPT {
             return Err(self.refusal(Cause::Size));
@@ -101,7 +101,7 @@ impl TextReader {
     /// is fed after it. `At` comes exactly where that line is faulty.
     pub fn end(&mut self) -> Result<Option<Event>, ScriptFault>
         ensures { (text : List ℕ) (events : List OneEvent) → StandsFor text events self.old → MatchResult result
-            (λ event. EndsFor text (events ++ option_to_list event) self.new) (λ fault. IsRefused fault (script_of text)) }
+            (λ event. EndsFor text (events ++ option_to_list event) self.new) (IsRefusedAtEnd text (script_with self.old.reader events)) }
     {
         if self.line.is_empty() {
             return Ok(None);
@@ -130,7 +130,7 @@ impl TextReader {
     /// Whether the text that has ended is a script: `NoEnd` comes exactly where no line of it was `end`.
     pub fn close(&self) -> Result<(), ScriptFault>
         ensures { (text : List ℕ) (events : List OneEvent) → EndsFor text events self.now → MatchResult result
-            (λ _. script_of text ≡ Ok (script_with self.now.reader events)) (λ fault. IsRefused fault (script_of text)) }
+            (λ _. script_of text ≡ Ok (script_with self.now.reader events)) (IsRefusedAtEnd text (script_with self.now.reader events)) }
     {
         if self.reader.is_ended() {
             Ok(())

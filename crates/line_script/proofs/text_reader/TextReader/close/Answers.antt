@@ -1,8 +1,6 @@
 use Rattle.std.proofs.Common.{◌≡◌, ◌∙◌, true, false, subst, sym}
-use Rattle.line_script.specs.Fed.{Fed}
-use Rattle.line_script.specs.Lines.{is_ended}
-use Rattle.line_script.specs.Refusal.{IsRefused}
-use Rattle.line_script.specs.ScriptText.{script_of}
+use Rattle.line_script.specs.Fed.{Fed, IsRefusedAtEnd}
+use Rattle.line_script.specs.Lines.{is_ended, script_with}
 use Rattle.line_script.proofs.Fed.{closed, left-open}
 use Rattle.line_script.proofs.text_reader.TextReader.close.Goals as goal
 
@@ -12,5 +10,5 @@ returns-then-is_ended c text events h =
 
 pub returns-else-is_ended : goal.returns-else-is_ended
 returns-else-is_ended c text events h =
-    subst (λ f. IsRefused f (script_of text)) (sym c.refusal.ensures)
+    subst (IsRefusedAtEnd text (script_with c.args.self.now.reader events)) (sym c.refusal.ensures)
     (left-open text events c.args.self.now h (subst (λ (r : Fed). is_ended r.reader.stage ≡ false) c.self.view_is (sym c.is_ended.ensures ∙ c.if-is_ended.false)))
