@@ -61,5 +61,5 @@ impl Cell {
 pub(crate) fn copied(alloc: Global, bytes: &[u8]) -> Result<Bytes, NoMemory>
     ensures { IfOk result (λ copy. copy ≡ bytes.now) }
 {
-    Ok(Bytes::from_vec(bytes.to_vec(alloc)?))
+    Bytes::copy_of(alloc, bytes)
 }

@@ -9,7 +9,7 @@ use Rattle.line_script.specs.declared.script.Script.{Script}
 use Rattle.line_statement.specs.declared.statement.Side.TheVariants.{A, B}
 use Rattle.line_statement.specs.declared.statement.EndName.TheVariants.{Known, Absent}
 use Rattle.line_statement.specs.declared.statement.Statement.{Statement}
-use Rattle.line_statement.specs.declared.statement.Statement.TheVariants.{Mode, Check, Set, File, Word, Issue, Times, Alter, Foreign, End}
+use Rattle.line_statement.specs.declared.statement.Statement.TheVariants.{Mode, Check, Set, Compat, Block, File, Word, Issue, Times, Alter, Foreign, End}
 use Rattle.line_script.specs.declared.reader.Stage.{Stage}
 use Rattle.line_script.specs.declared.reader.Stage.TheVariants.{Fresh, Settings, Events, Ended}
 use Rattle.line_script.specs.declared.reader.Reader.{Reader}
@@ -54,6 +54,8 @@ stated : (d : Reader) (s : Statement) → is_ended d.stage ≡ false → is_misp
 stated d Mode still placed = λ begun. absurd (misplaced d.stage Mode still begun refl placed)
 stated d (Check check) still placed = λ begun. absurd (misplaced d.stage (Check check) still begun refl placed)
 stated d (Set end setting) still placed = λ begun. absurd (misplaced d.stage (Set end setting) still begun refl placed)
+stated d (Compat end file) still placed = λ begun. absurd (misplaced d.stage (Compat end file) still begun refl placed)
+stated d (Block end bytes) still placed = λ begun. absurd (misplaced d.stage (Block end bytes) still begun refl placed)
 stated d (File end spec) still placed = λ begun. absurd (misplaced d.stage (File end spec) still begun refl placed)
 stated d (Word end file index value) still placed = λ begun. absurd (misplaced d.stage (Word end file index value) still begun refl placed)
 stated d (Issue A None) still placed = λ begun. (λ events. refl, refl)

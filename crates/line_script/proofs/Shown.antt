@@ -66,8 +66,8 @@ no-line text events all r new b is h h' =
     let all-is : text ++ b ∷ [] ≡ h.whole ++ (r.line ++ b ∷ []) = ap (λ t. t ++ b ∷ []) h.text_is ∙ append_assoc h.whole r.line (b ∷ []) in
     let whole-size : length text ≡ length h.whole + length r.line = ap length h.text_is ∙ length-append h.whole r.line in
     let whole : h'.whole ≡ h.whole =
-      sym (ended-is-whole (text ++ b ∷ []) all new h') ∙ ap (take (length (text ++ b ∷ []) - unfinished (text ++ b ∷ []))) all-is
-      ∙ seam (length (text ++ b ∷ []) - unfinished (text ++ b ∷ [])) h.whole (r.line ++ b ∷ []) (omega (arith, begun, left, size, whole-size)) in
+    sym (ended-is-whole (text ++ b ∷ []) all new h') ∙ ap (take (length (text ++ b ∷ []) - unfinished (text ++ b ∷ []))) all-is
+    ∙ seam (length (text ++ b ∷ []) - unfinished (text ++ b ∷ [])) h.whole (r.line ++ b ∷ []) (omega (arith, begun, left, size, whole-size)) in
     same-read r.reader new.reader events all (sym h.read ∙ ap (λ t. after_lines fresh [] (lines_of t)) (sym whole) ∙ h'.read)
 
 -- a line feed ends all lines so far

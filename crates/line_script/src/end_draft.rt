@@ -1,6 +1,6 @@
 //! What the lines so far say of one end: its settings, its compatibility file, its block, its data files, the first
 //! values of its words, and how many commands it may still issue.
-ghost use Rattle.std.specs.Prelude.{◌≡◌, ◌==◌, find};
+ghost use Rattle.std.specs.Prelude.{◌≡◌, ◌==◌, [], IfOk, find, unwrap_or};
 ghost use Rattle.std.specs.List.{list_any};
 ghost use Rattle.line_script.specs.Plans.{is_given as the_given, with_setting as the_settings, no_settings, fresh_end, node_of as the_node, plan_of as the_plan};
 
@@ -8,6 +8,7 @@ use crate::EndPlan;
 use crate::given_files::GivenFiles;
 use crate::given_words::GivenWords;
 use data_files::FileSpec;
+use df1_base::NoMemory;
 use line_statement::{Bytes, Items, Setting, Who};
 use std::alloc::Global;
 
@@ -140,11 +141,14 @@ impl EndDraft {
     }
 
     /// The plan of the end, whose address is `standard` where no line sets it.
-    pub fn into_plan(self, alloc: Global, who: Who, standard: u8) -> EndPlan
-        ensures { result ≡ the_plan who standard self }
+    pub fn plan(&self, alloc: Global, who: Who, standard: u8) -> Result<EndPlan, NoMemory>
+        ensures { IfOk result (λ plan. plan ≡ the_plan who standard self.now) }
     {
         let settings = self.settings;
-        EndPlan {
+        let block = block_of(alloc, &self.block)?;
+        let files = self.files.copied(alloc)?;
+        let words = self.words.copied(alloc)?;
+        Ok(EndPlan {
             who,
             embed: settings.embed.unwrap_or(false),
             node: settings.node.unwrap_or(standard),
@@ -158,9 +162,19 @@ impl EndDraft {
             max_sends: TRIES,
             room: settings.room.unwrap_or(ROOM),
             compat: self.compat,
-            block: self.block.unwrap_or(Items::new(alloc)),
-            files: self.files.into_files(),
-            words: self.words.into_words(),
-        }
+            block,
+            files,
+            words,
+        })
+    }
+}
+
+/// A copy of a block, which is empty where no line gives one.
+fn block_of(alloc: Global, block: &Option<Bytes>) -> Result<Bytes, NoMemory>
+    ensures { IfOk result (λ bytes. bytes ≡ unwrap_or block.now []) }
+{
+    match block {
+        Some(bytes) => Items::copy_of(alloc, bytes.as_slice()),
+        None => Ok(Items::new(alloc)),
     }
 }

@@ -1,5 +1,5 @@
 //! Data files, in the order in which they were declared, and which numbers they have.
-ghost use Rattle.std.specs.Prelude.{◌≡◌, ◌==◌, [], ◌∷◌, ◌++◌, OnOk, OnErr, find, length};
+ghost use Rattle.std.specs.Prelude.{◌≡◌, ◌==◌, [], ◌∷◌, ◌++◌, IfOk, OnOk, OnErr, find, length};
 ghost use Rattle.std.specs.List.{list_any};
 
 use crate::Specs;
@@ -78,11 +78,10 @@ impl GivenFiles {
         }
     }
 
-    /// The files as a list.
-    pub fn into_files(self) -> Specs
-        ensures { result ≡ self }
+    /// A copy of the files, as a list.
+    pub fn copied(&self, alloc: Global) -> Result<Specs, NoMemory>
+        ensures { IfOk result (λ files. files ≡ self.now) }
     {
-        let GivenFiles { files, numbers: _ } = self;
-        Items::from_vec(files)
+        Items::copy_of(alloc, &self.files)
     }
 }

@@ -1,5 +1,5 @@
 //! First values of words, in the order in which they were given, and which places they have.
-ghost use Rattle.std.specs.Prelude.{◌≡◌, [], ◌∷◌, ◌++◌, OnOk, OnErr};
+ghost use Rattle.std.specs.Prelude.{◌≡◌, [], ◌∷◌, ◌++◌, IfOk, OnOk, OnErr};
 ghost use Rattle.std.specs.List.{list_any};
 ghost use Rattle.line_script.specs.Places.{is_at};
 
@@ -63,11 +63,10 @@ impl GivenWords {
         }
     }
 
-    /// The words as a list.
-    pub fn into_words(self) -> Words
-        ensures { result ≡ self }
+    /// A copy of the words, as a list.
+    pub fn copied(&self, alloc: Global) -> Result<Words, NoMemory>
+        ensures { IfOk result (λ words. words ≡ self.now) }
     {
-        let GivenWords { words, places: _ } = self;
-        Items::from_vec(words)
+        Items::copy_of(alloc, &self.words)
     }
 }

@@ -1,8 +1,8 @@
 //! Reads a script line by line: each by the limits of the text and of lines, by what its words say, and by what the
 //! lines before it said.
-ghost use Rattle.std.specs.Prelude.{◌≡◌, ◌∷◌, ◌+◌, MatchResult, IfOk, Ok, Err, List, map, min, length, if◌then◌else◌};
+ghost use Rattle.std.specs.Prelude.{◌≡◌, [], ◌∷◌, ◌+◌, MatchResult, IfOk, Ok, Err, List, map, min, length, if◌then◌else◌};
 ghost use Rattle.line_script.specs.Drafts.{fresh, after_statement, end_at as the_end};
-ghost use Rattle.line_script.specs.Lines.{after_line, after_words, finished, reaches_limit as the_limit_test, content as the_content, is_ended as the_end_test, is_passed_over as the_passed, ends as the_ends, text_line};
+ghost use Rattle.line_script.specs.Lines.{after_line, after_words, finished, reaches_limit as the_limit_test, script_with, content as the_content, is_ended as the_end_test, is_passed_over as the_passed, ends as the_ends, text_line};
 ghost use Rattle.line_script.specs.Refusal.{IsFaulty};
 ghost use Rattle.line_script.specs.declared.fault.Cause.{Cause as TheCause};
 
@@ -141,24 +141,31 @@ impl Reader {
         if self.stage != Stage::Ended {
             return Err(LineFault::Faulty(Cause::NoEnd));
         }
-        let check = self.check.unwrap_or(Check::Bcc);
-        let ends = ends_of(alloc, self.a, self.b)?;
+        let mut script = self.setup(alloc)?;
+        script.events = events;
+        Ok(script)
+    }
+
+    /// The script of the lines so far, but for its events.
+    pub fn setup(&self, alloc: Global) -> Result<Script, NoMemory>
+        ensures { IfOk result (λ script. script ≡ script_with self.now []) }
+    {
         Ok(Script {
             half: false,
-            check,
-            ends,
-            events,
+            check: self.check.unwrap_or(Check::Bcc),
+            ends: ends_of(alloc, &self.a, &self.b)?,
+            events: Events::new(alloc),
         })
     }
 }
 
 /// The plans of the ends a and b.
-fn ends_of(alloc: Global, a: EndDraft, b: EndDraft) -> Result<Ends, NoMemory>
-    ensures { IfOk result (λ ends. ends ≡ the_ends a b) }
+fn ends_of(alloc: Global, a: &EndDraft, b: &EndDraft) -> Result<Ends, NoMemory>
+    ensures { IfOk result (λ ends. ends ≡ the_ends a.now b.now) }
 {
     let mut ends: Ends = Items::new(alloc);
-    ends.push(a.into_plan(alloc, Who::A, NODE_OF_A))?;
-    ends.push(b.into_plan(alloc, Who::B, NODE_OF_B))?;
+    ends.push(a.plan(alloc, Who::A, NODE_OF_A)?)?;
+    ends.push(b.plan(alloc, Who::B, NODE_OF_B)?)?;
     Ok(ends)
 }
 

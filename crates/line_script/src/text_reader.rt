@@ -1,5 +1,5 @@
 //! Reading a script byte by byte: a line is read when its line feed comes, and the last one at the end of the text.
-ghost use Rattle.std.specs.Prelude.{◌≡◌, ◌<◌, ◌+◌, ◌^◌, ◌∷◌, ◌++◌, ℕ, List, [], MatchResult, Ok, true, false, length};
+ghost use Rattle.std.specs.Prelude.{◌≡◌, ◌<◌, ◌+◌, ◌^◌, ◌∷◌, ◌++◌, ℕ, List, [], IfOk, MatchResult, Ok, true, false, length};
 ghost use Rattle.std.specs.Option.{option_to_list};
 ghost use Rattle.line_script.specs.declared.fault.ScriptFault.{ScriptFault as TheFault};
 ghost use Rattle.line_script.specs.declared.fault.LineFault.{LineFault as Faulted};
@@ -11,8 +11,9 @@ ghost use Rattle.line_script.specs.ScriptText.{script_of};
 
 use crate::reader::{LINE, Reader, SCRIPT};
 use crate::whole_text::at;
-use crate::{Cause, Event, ScriptFault};
+use crate::{Cause, Event, Script, ScriptFault};
 use arrayvec::ArrayVec;
+use df1_base::NoMemory;
 use std::alloc::Global;
 use std::marker::Model;
 
@@ -137,6 +138,13 @@ impl TextReader {
         } else {
             Err(self.refusal(Cause::NoEnd))
         }
+    }
+
+    /// The script of the lines so far, but for its events.
+    pub fn setup(&self) -> Result<Script, NoMemory>
+        ensures { IfOk result (λ script. script ≡ script_with self.now.reader []) }
+    {
+        self.reader.setup(self.alloc)
     }
 
     /// The fault of the line that is begun.

@@ -39,6 +39,17 @@ impl<T> Items<T> {
         Items { items }
     }
 
+    /// A list with a copy of these items.
+    pub fn copy_of(alloc: Global, items: &[T]) -> Result<Self, NoMemory>
+    where
+        T: Copy,
+        ensures { IfOk result (λ copy. copy ≡ items.now) }
+    {
+        let mut copy = Vec::new(alloc);
+        copy.extend_from_slice(items)?;
+        Ok(Items { items: copy })
+    }
+
     /// Puts an item at the end. Where there is no memory for it, the list is unchanged.
     pub fn push(&mut self, item: T) -> Result<(), NoMemory>
     where

@@ -1,0 +1,147 @@
+//! Replaying while reading: a script comes byte by byte, and the report's lines of an event line are written where it ends.
+ghost use Rattle.std.specs.Prelude.{◌≡◌, ◌≢◌, ◌≤◌, ◌∷◌, ◌++◌, ℕ, List, [], Some, OnOk, OnErr, IfErr, IsErrOf, length};
+ghost use Rattle.df1_base.specs.Outside.{Rose, Put, WrotePart};
+ghost use Rattle.line_script.specs.declared.script.Event.{Event as OneEvent};
+ghost use Rattle.line_replay.specs.declared.replayer.StreamFault.{StreamFault as Stopped};
+ghost use Rattle.line_script.specs.Lines.{script_with};
+ghost use Rattle.duplex_line.specs.Plays.{IsNext, played, printed};
+ghost use Rattle.line_report.specs.Report.{line_text};
+ghost use Rattle.std.specs.List.{flat_map};
+ghost use Rattle.line_replay.specs.Fed.{IsDue, IsRefusedAs, IsRefusedHere, IsReplay, IsReplayOf, IsWorldOf, ShowsFront, ShowsMore, event_text, shown, told};
+
+use crate::{Cause, Event, World};
+use df1_base::{Failed, NoMemory, Sink};
+use line_report::print;
+use line_script::{ScriptFault, TextReader};
+use std::alloc::Global;
+use std::marker::Model;
+use thiserror::Error;
+
+/// Why a replay went no further.
+#[derive(Clone, Copy, Debug, PartialEq, Eq, Error)]
+pub enum StreamFault {
+    /// The first faulty line of the script, counted from 1, and the first cause that fits it.
+    #[error("line {line}: {cause}")]
+    At { line: u32, cause: Cause },
+    /// The sink has failed, and its count of faults rose.
+    #[error("the sink failed")]
+    SinkFailed,
+    /// There is no memory left.
+    #[error("no memory")]
+    NoMemory,
+}
+
+impl From<ScriptFault> for StreamFault {
+    ghost use Rattle.std.specs.Prelude.{◌≡◌};
+    ghost use Rattle.line_replay.specs.Fed.{stream_fault};
+
+    ghost from_gives = { λ fault e. e ≡ stream_fault fault };
+
+    fn from(fault: ScriptFault) -> Self {
+        match fault {
+            ScriptFault::At { line, cause } => StreamFault::At { line, cause },
+            ScriptFault::NoMemory => StreamFault::NoMemory,
+        }
+    }
+}
+
+impl From<NoMemory> for StreamFault {
+    ghost use Rattle.std.specs.Prelude.{◌≡◌};
+    ghost use Rattle.line_replay.specs.declared.replayer.StreamFault.TheVariants.{NoMemory as Wanting};
+
+    ghost from_gives = { λ _ e. e ≡ Wanting };
+
+    fn from(_: NoMemory) -> Self {
+        StreamFault::NoMemory
+    }
+}
+
+impl From<Failed> for StreamFault {
+    ghost use Rattle.std.specs.Prelude.{◌≡◌};
+    ghost use Rattle.line_replay.specs.declared.replayer.StreamFault.TheVariants.{SinkFailed};
+
+    ghost from_gives = { λ _ e. e ≡ SinkFailed };
+
+    fn from(_: Failed) -> Self {
+        StreamFault::SinkFailed
+    }
+}
+
+/// A replay of a script that comes byte by byte. It keeps what the lines say but for the events, the bytes of the line that
+/// is begun, and the world. After a fault it is only dropped.
+#[derive(Drop)]
+pub struct Replayer {
+    alloc: Global,
+    text: TextReader,
+    world: Option<World>,
+}
+
+impl Model for Replayer {
+    ghost use Rattle.line_replay.specs.Fed.{Replaying};
+
+    ghost Value = { Replaying };
+
+    ghost view = { λ r. record { text = r.text; world = r.world } };
+}
+
+impl Replayer {
+    /// A replay of a script of which nothing has come.
+    pub fn new(alloc: Global) -> Replayer
+        ensures { IsReplayOf [] result }
+    {
+        Replayer {
+            alloc,
+            text: TextReader::new(alloc),
+            world: None,
+        }
+    }
+
+    /// How many bytes the line that is begun has so far, at most 1,024.
+    pub fn held(&self) -> usize
+        ensures { result ≡ length self.now.text.line }
+    {
+        self.text.held()
+    }
+
+    /// Takes the next byte of the script. Where it ends an event line, the event happens, and the report's lines of it are
+    /// written. `At` comes where no text that begins so is a script, with its first faulty line and the first cause that
+    /// fits it; `SinkFailed` where the sink failed, which holds a first part of the lines then. With another fault the
+    /// sink is as it was.
+    pub fn feed<K: Sink>(&mut self, b: u8, sink: &mut K) -> Result<(), StreamFault>
+        requires { IsReplay self.old }
+        ensures ok { (text : List ℕ) → IsReplayOf text self.old → OnOk result (IsReplayOf (text ++ b ∷ []) self.new × ShowsMore (shown text) (shown (text ++ b ∷ [])) (K.held sink.old) (K.held sink.new)) }
+        ensures refused { (text : List ℕ) → IsReplayOf text self.old → IfErr result (IsRefusedHere (text ++ b ∷ []) (shown text)) }
+        ensures front { (text : List ℕ) → IsReplayOf text self.old → (more : List ℕ) → OnErr result (ShowsFront (shown text) (told (text ++ b ∷ more)) (K.held sink.old) (K.held sink.new)) }
+        ensures silent { IfErr result (λ fault. fault ≢ Stopped.SinkFailed → sink.new ≡ sink.old) }
+        ensures calm { OnOk result (K.faults sink.new ≡ K.faults sink.old) }
+        ensures later { K.faults sink.old ≤ K.faults sink.new }
+        ensures cause { IsErrOf result StreamFault.SinkFailed → Rose (K.faults sink.old) (K.faults sink.new) }
+    {
+        match self.text.feed(b) {
+            Ok(None) => Ok(()),
+            Ok(Some(event)) => self.play(&event, sink),
+            Err(fault) => Err(fault.into()),
+        }
+    }
+
+    /// Lets an event happen, and writes the report's lines of it.
+    fn play<K: Sink>(&mut self, event: &Event, sink: &mut K) -> Result<(), StreamFault>
+        requires { IsDue self.old event.now }
+        ensures ok { (events : List OneEvent) → IsWorldOf (script_with self.old.text.reader events) self.old.world → OnOk result
+            ((self.new.text ≡ self.old.text) × IsWorldOf (script_with self.old.text.reader (events ++ event.now ∷ [])) self.new.world
+            × Put (K.held sink.old) (K.held sink.new) (event_text (script_with self.old.text.reader events) event.now)) }
+        ensures part { (events : List OneEvent) → IsWorldOf (script_with self.old.text.reader events) self.old.world →
+            WrotePart (K.held sink.old) (K.held sink.new) (event_text (script_with self.old.text.reader events) event.now) }
+        ensures silent { IfErr result (λ fault. fault ≢ Stopped.SinkFailed → sink.new ≡ sink.old) }
+        ensures known { IfErr result IsFromPlay }
+        ensures calm { OnOk result (K.faults sink.new ≡ K.faults sink.old) }
+        ensures later { K.faults sink.old ≤ K.faults sink.new }
+        ensures cause { IsErrOf result StreamFault.SinkFailed → Rose (K.faults sink.old) (K.faults sink.new) }
+    {
+        self.begin()?;
+        match &mut self.world {
+            Some(world) => play_on(world, event, sink),
+            None => unreachable!(),
+        }
+    }
+}
