@@ -26,6 +26,10 @@ played p e = record { state = after_event p.state e; lines = p.lines ++ lines_of
 abbrev pub printed : Played → Played
 printed p = record p { lines = [] }
 
+-- what the events of a world may sum to; those of a script sum to 4,000,000 at most, so all of them may come
+abbrev pub most_events : ℕ
+most_events = 5000000
+
 -- how many commands an end has issued
 abbrev pub issued_by : SideState → ℕ
 issued_by side = length side.end.host.initiator.issued
@@ -44,7 +48,7 @@ IsUnspent side (event.Tick who n) = Unit {0}
 pub record IsNext (p : Played) (e : Event) : Type 0 where
   pub possible : IsPossible e
   pub unspent : IsUnspent (seen_from (who_of e) p.state).a e
-  pub sum : p.events + count_of e ≤ 5000000
+  pub sum : p.events + count_of e ≤ most_events
 
 -- an event that takes bytes away or changes one: it takes no memory
 abbrev pub takes_no_memory : Event → Bool

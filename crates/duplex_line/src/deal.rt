@@ -3,7 +3,7 @@
 ghost use Rattle.std.specs.Prelude.{◌≡◌, ◌+◌, ◌≤◌, ◌<◌, ◌++◌, OnOk, IfOk, IsOk, IsTrue, map, length, replicate};
 ghost use Rattle.duplex_line.specs.Acts.{Deed, Take, Deliver, Lose, Foreign, Tick, SideState, after_deeds, line_state, lines_over, given_over, tick_lines, after_tick};
 ghost use Rattle.duplex_line.specs.Run.{other, sent_lines, deeds_of, deed_lines};
-ghost use Rattle.duplex_line.specs.Plays.{IsUnspent, takes_no_memory};
+ghost use Rattle.duplex_line.specs.Plays.{IsUnspent, most_events, takes_no_memory};
 ghost use Rattle.duplex_line.specs.Steps.{near_over, near_lines_over};
 ghost use Rattle.line_script.specs.Playable.{IsPossible, count_of};
 
@@ -38,7 +38,7 @@ pub(crate) fn deal(
 ) -> Result<(), NoMemory>
     requires possible { IsPossible event.now }
     requires unspent { IsUnspent near.old event.now }
-    requires few { reported.old.deceived + count_of event.now ≤ 5000000 }
+    requires few { reported.old.deceived + count_of event.now ≤ most_events }
     ensures state { OnOk result (line_state near.new far.new reported.new.deceived
         ≡ after_deeds (line_state near.old far.old reported.old.deceived) (deeds_of event.now)) }
     ensures lines { OnOk result (reported.new.lines
@@ -99,7 +99,7 @@ fn deliver(
     n: u32,
     reported: &mut Reported,
 ) -> Result<(), NoMemory>
-    requires { reported.old.deceived + n ≤ 5000000 }
+    requires { reported.old.deceived + n ≤ most_events }
     ensures state { OnOk result (line_state near.new far.new reported.new.deceived
         ≡ after_deeds (line_state near.old far.old reported.old.deceived) (replicate n Deliver)) }
     ensures lines { (from : Who) → OnOk result (reported.new.lines
@@ -134,7 +134,7 @@ fn intrude(
     bytes: &[u8],
     reported: &mut Reported,
 ) -> Result<(), NoMemory>
-    requires { reported.old.deceived + length bytes.now ≤ 5000000 }
+    requires { reported.old.deceived + length bytes.now ≤ most_events }
     ensures state { (near : SideState) → OnOk result (line_state near far.new reported.new.deceived
         ≡ after_deeds (line_state near far.old reported.old.deceived) (map Foreign bytes.now)) }
     ensures lines { (from : Who) (near : SideState) → OnOk result (reported.new.lines

@@ -1,11 +1,10 @@
 -- A reply that an end accepts is what the other end's station answered to one of its commands.
-use Rattle.std.proofs.Common.{◌≡◌, ◌∙◌, ℕ, zero, suc, ◌+◌, ◌<◌, ◌≤◌, true, false, List, [], ◌∷◌, ◌++◌, length, map, Some, None, refl, ap, sym, subst, arith, max}
-use Rattle.std.specs.Prelude.{slice_get, slice_index, Contains, ◌==◌, ◌%◌}
+use Rattle.std.proofs.Common.{◌≡◌, ◌∙◌, ℕ, suc, ◌+◌, ◌<◌, ◌≤◌, true, false, List, [], ◌∷◌, ◌++◌, length, map, Some, None, refl, ap, sym, subst, arith}
+use Rattle.std.specs.Prelude.{slice_get, Contains, ◌==◌, ◌%◌}
 use Rattle.std.specs.Int.{bit_at}
 use Rattle.std.specs.Option.{option_map}
 use Rattle.std.specs.List.{filter}
 use Rattle.std.proofs.Math.Numerals.{suc-eq-add-one}
-use Rattle.std.proofs.lemmas.Nat.Bits.{bit_at_or, bit_at-lt}
 use Rattle.std.proofs.lemmas.Option.{slice_get-map, slice_get_within}
 use Rattle.pccc_envelope.specs.declared.key.Key.{Key}
 use Rattle.pccc_envelope.specs.Envelope.{is_reply, tns_of}
@@ -16,7 +15,7 @@ use Rattle.each_once.specs.Exchanges.{exchanges}
 use Rattle.each_once.specs.Commands.{command_at}
 use Rattle.each_once.proofs.KeptCommands.{is_given_up, IsReplyOf, IsOfLost}
 use Rattle.each_once.proofs.Sublists.{Has, IsWithin, within-filter, within-has, within-front, Differ, IsOther, differ-within, differ-last, get-more, has-filter, from-map, contains-at, filter-keeps}
-use Rattle.each_once.proofs.StationReplies.{exchanges-bodies, exchanges-tns, exchange-fits, fits-fields, fits-tns, fits-key}
+use Rattle.each_once.proofs.StationReplies.{exchanges-bodies, exchanges-tns, exchange-fits, fits-tns, fits-key}
 use Rattle.each_once.proofs.CommandBodies.{answered-some, answered-none}
 use Rattle.each_once.proofs.HandedOut.{is_command, AreNumbered, Hosts, IsSettledBy, handed-at, numbered-at, numbered-apart, settled-at, AreSettledBy}
 

@@ -1,5 +1,5 @@
 -- That a node's commands have the bodies of what was issued, and that each of its steps keeps them.
-use Rattle.std.proofs.Common.{◌≡◌, ◌∙◌, ℕ, ◌+◌, Bool, true, false, cond, List, [], ◌∷◌, ◌++◌, length, map, is_some, slice_get, refl, ap, ap₂, sym, subst, arith, add-zero}
+use Rattle.std.proofs.Common.{◌≡◌, ◌∙◌, ℕ, ◌+◌, Bool, true, false, cond, List, [], ◌∷◌, ◌++◌, length, map, is_some, slice_get, refl, ap, ap₂, sym, arith, add-zero}
 use Rattle.std.proofs.lemmas.List.{map-append, length-map}
 use Rattle.df1_base.specs.declared.host.Fate.{Fate}
 use Rattle.df1_base.specs.declared.host.Fate.TheVariants as fate

@@ -1,5 +1,5 @@
 -- That messages have the length that a message may have: 6 to 250 bytes.
-use Rattle.std.proofs.Common.{◌≡◌, ℕ, ◌≤◌, Bool, true, false, IsTrue, ◌&&◌, ◌==◌, List, [], ◌∷◌, ◌++◌, drop, length, map, Option, Some, None, find, option_map, refl, sym, subst, arith}
+use Rattle.std.proofs.Common.{◌≡◌, ℕ, ◌≤◌, Bool, true, false, IsTrue, ◌&&◌, ◌==◌, List, [], ◌∷◌, ◌++◌, length, map, Some, None, find, option_map, refl, sym, subst, arith}
 use Rattle.std.specs.Prelude.{slice_get, bit_and, nat_le}
 use Rattle.std.specs.List.{filter, list_any}
 use Rattle.std.specs.Option.{option_or}
@@ -7,7 +7,7 @@ use Rattle.std.proofs.lemmas.Bool.{cond_both, leb-true}
 use Rattle.std.proofs.lemmas.List.{map-append}
 use Rattle.std.proofs.lemmas.Option.{same_Some}
 use Rattle.df1_base.specs.Host.{IsBody}
-use Rattle.df1_node.specs.Answer.{StationState, after_answer, reply_to}
+use Rattle.df1_node.specs.Answer.{StationState, after_answer}
 use Rattle.df1_node.specs.HostLaws.{reply-body}
 use Rattle.df1_node.specs.Initiator.{Issued, InitiatorState, is_waiting, is_out, next_issued, next_command, after_issue}
 use Rattle.df1_node.specs.Node.{NodeState, next_body}

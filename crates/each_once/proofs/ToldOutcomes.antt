@@ -1,14 +1,11 @@
 -- That the lines of a report tell of each command how it ended, once, and that each step of a node keeps it.
-use Rattle.std.proofs.Common.{◌≡◌, ◌∙◌, ◌⊎◌, ℕ, zero, suc, ◌+◌, ◌-◌, ◌<◌, Bool, true, false, cond, eqb, List, [], ◌∷◌, ◌++◌, map, Option, Some, None, is_some, position, slice_get, refl, ap, sym, subst, inl, inr, arith, append-nil, append_assoc, add-zero}
+use Rattle.std.proofs.Common.{◌≡◌, ◌∙◌, ◌⊎◌, ℕ, zero, suc, ◌+◌, ◌-◌, ◌<◌, Bool, true, false, cond, eqb, List, [], ◌∷◌, ◌++◌, Option, Some, None, is_some, slice_get, refl, ap, sym, subst, inl, inr, arith, append-nil, add-zero}
 use Rattle.std.specs.Prelude.{nat_lt}
 use Rattle.std.specs.Option.{option_map, option_map_or}
-use Rattle.std.specs.List.{list_any}
 use Rattle.std.proofs.Math.Numerals.{suc-eq-add-one}
 use Rattle.std.proofs.lemmas.Bool.{eq-eqb}
 use Rattle.std.proofs.lemmas.Bool.Decides.{nat_tests}
 use Rattle.std.proofs.lemmas.List.Elements.{filter_map-append}
-use Rattle.std.proofs.lemmas.Option.{same_Some}
-use Rattle.df1_base.specs.declared.host.Did.{Did}
 use Rattle.df1_base.specs.declared.host.Did.TheVariants as did
 use Rattle.df1_base.specs.declared.host.News.TheVariants as news
 use Rattle.df1_base.specs.declared.host.Fate.{Fate}
@@ -16,13 +13,13 @@ use Rattle.df1_base.specs.declared.host.Fate.TheVariants as fate
 use Rattle.pccc_envelope.specs.Envelope.{is_reply}
 use Rattle.df1_node.specs.declared.handed.Handed.{Handed}
 use Rattle.df1_node.specs.declared.handed.Handed.TheVariants as handed
-use Rattle.df1_node.specs.Initiator.{Issued, Standing, Waiting, Out, Answered, Undelivered, Unanswered, InitiatorState, is_waiting, is_out, restated, answered_place, after_reply, is_out_at, after_hand_out, next_place, ticked, is_last_tick, all_ticked, unanswered_from, after_issue}
+use Rattle.df1_node.specs.Initiator.{Issued, Standing, Waiting, Out, Answered, Undelivered, Unanswered, InitiatorState, is_waiting, is_out, restated, answered_place, after_reply, is_out_at, after_hand_out, next_place, ticked, is_last_tick, unanswered_from}
 use Rattle.df1_node.specs.Node.{NodeState, did_accept, after_accept, after_next, news_of, news_told, after_told, after_tick, gone_unanswered, initiator_after}
 use Rattle.df1_node.proofs.Final.{get-restated, get-map}
 use Rattle.line_statement.specs.declared.who.Who.{Who}
 use Rattle.line_report.specs.declared.record.Line.{Line}
 use Rattle.line_report.specs.declared.record.Line.TheVariants as line
-use Rattle.each_once.specs.Commands.{command_at, told_of, told_of_command, AreOutcomesTold}
+use Rattle.each_once.specs.Commands.{told_of, told_of_command, AreOutcomesTold}
 use Rattle.each_once.specs.NodeLines.{did_lines, news_lines, gone_lines}
 use Rattle.each_once.specs.Tells.{is_who, outcome_at, outcomes_in}
 use Rattle.each_once.proofs.CommandBodies.{answered-some, first-waiting}

@@ -1,6 +1,6 @@
 -- A byte arrives, in a run that nothing disturbs.
-use Rattle.std.proofs.Common.{◌≡◌, ◌∙◌, ℕ, suc, ◌+◌, ◌≤◌, Bool, true, false, List, [], ◌∷◌, ◌++◌, length, map, not, Option, Some, None, refl, ap, sym, subst, arith, append-nil, length-append, inl, inr}
-use Rattle.std.specs.Prelude.{◌⊎◌, slice_get, if◌then◌else◌}
+use Rattle.std.proofs.Common.{◌≡◌, ◌∙◌, ℕ, suc, ◌+◌, ◌≤◌, Bool, true, false, List, [], ◌∷◌, ◌++◌, length, map, Option, Some, None, refl, ap, sym, subst, arith, length-append, inl, inr}
+use Rattle.std.specs.Prelude.{◌⊎◌, slice_get}
 use Rattle.std.specs.Option.{option_map}
 use Rattle.std.specs.List.{filter}
 use Rattle.std.specs.Str.{bytes_eq}
@@ -8,7 +8,6 @@ use Rattle.std.proofs.lemmas.Slice.Eq.{bytes_eq-Decides}
 use Rattle.std.proofs.lemmas.Bool.{lt-ltb}
 use Rattle.df1_base.specs.declared.host.Fate.{Fate}
 use Rattle.df1_base.specs.declared.host.Fate.TheVariants as fate
-use Rattle.df1_base.specs.declared.host.Did.TheVariants as did
 use Rattle.df1_base.specs.declared.link.Act.{Act}
 use Rattle.df1_base.specs.declared.link.Act.TheVariants as act
 use Rattle.df1_frame.specs.declared.heard.Heard.{Heard}
@@ -27,7 +26,6 @@ use Rattle.duplex_receiver.specs.Receiver.{act_of, is_good}
 use Rattle.duplex_end.specs.End.{EndState, act_of_byte, news_of, host_told}
 use Rattle.line_statement.specs.declared.who.Who.{Who}
 use Rattle.line_report.specs.declared.record.Line.{Line}
-use Rattle.line_report.specs.declared.record.Line.TheVariants as line
 use Rattle.duplex_line.specs.declared.cell.Cell.{Cell}
 use Rattle.duplex_line.specs.declared.cell.Ending.{Ending}
 use Rattle.each_once.specs.NodeHost.{node_host}
@@ -38,11 +36,10 @@ use Rattle.each_once.specs.Tells.{executed_in, answers_in}
 use Rattle.duplex_line.proofs.Once.IssueLimits.{byte-commands}
 use Rattle.each_once.proofs.Sublists.{filter-keeps, filter-drops}
 use Rattle.duplex_line.proofs.Once.SentMessages.{Sends, sends-byte}
-use Rattle.each_once.proofs.HandedOut.{is_command}
 use Rattle.each_once.proofs.CommandBodies.{bodies-accept}
 use Rattle.duplex_line.proofs.Once.EndSteps.{hosts-act, hosts-fate}
 use Rattle.duplex_line.proofs.Once.Invariant.{AreTwo}
-use Rattle.duplex_line.proofs.Once.ArrivingCell.{told_at, did_reply, coming, arrived}
+use Rattle.duplex_line.proofs.Once.ArrivingCell.{told_at, coming, arrived}
 use Rattle.duplex_line.specs.Prompt.{Late}
 use Rattle.duplex_line.proofs.Complete.ClearLane.{end_of, IsTrueEnd}
 use Rattle.duplex_line.proofs.Complete.MessageUnderWay.{awaits, heard_by, byte-acts, flow-silent, far-silent, flow-acked, far-acked, good-end, good-arrives, flow-accepted, far-accepted}
@@ -115,6 +112,7 @@ reach-silent near far first far_first end cell cells b count after late lines ac
     bodies = h.far_end.bodies;
     commands = h.far_end.commands;
     room = h.far_end.room;
+    block = h.far_end.block;
     few = h.far_end.few;
   };
   flow = flow-silent node_host end b.end cell cells b.lane h.sent h.far_heard late.a is h.flow;
@@ -153,6 +151,7 @@ reach-ack near far first far_first end cell cells b count after late lines acts 
         bodies = h.far_end.bodies;
         commands = subst (λ (node : NodeState). AreBodies (map (λ c. c.body) node.initiator.issued)) is_host h.far_end.commands;
         room = subst (λ (node : NodeState). 2 ≤ node.room) is_host h.far_end.room;
+        block = h.far_end.block;
         few = subst (λ (node : NodeState). length node.initiator.issued ≤ 65535) is_host h.far_end.few;
       };
       flow = flow-acked node_host end b.end cell cells b.lane h.sent h.far_heard late.a is h.flow;
@@ -241,6 +240,7 @@ reach-good near far two first far_first end cell cells b count after late lines 
         bodies = h.far_end.bodies;
         commands = subst AreBodies (sym (bodies-accept b.end.host body)) h.far_end.commands;
         room = h.far_end.room;
+        block = h.far_end.block;
         few = let same = byte-commands b.end cell.byte in subst (λ (x : EndState NodeState). length x.host.initiator.issued ≤ 65535) (byte-acts node_host b.end cell.byte act.Accept acts) (omega (arith, same, h.far_end.few));
       };
       flow = flow-accepted node_host end b.end cell cells b.lane h.sent h.far_heard late.a is h.flow;

@@ -56,6 +56,7 @@ flows-issue near far first far_first s late lines dst payload may command few h 
         bodies = h.end.bodies;
         commands = issued-fits node.initiator dst payload h.end.commands may;
         room = h.end.room;
+        block = h.end.block;
         few = omega (arith, length-append node.initiator.issued (new ∷ []), few);
       };
       far_end = h.far_end;
@@ -101,7 +102,7 @@ far-prepared e b lane back sent heard late false f = f
 
 -- what is next to be sent is a body
 next-body-fits : (near far : Who) (first far_first : StationState) (s : LineState) (late : Late) (lines : List Line) → (h : Flows near far first far_first s late lines) → (body : List ℕ) → next_body s.a.end.host ≡ Some body → (6 ≤ length body) × (length body ≤ 250)
-next-body-fits near far first far_first s late lines h body next = next-fits h.end.hosts (heard-bodies h.far_sent h.heard _ h.far_end.bodies h.far_flow.flight) h.end.commands body next
+next-body-fits near far first far_first s late lines h body next = next-fits h.end.hosts h.end.block (heard-bodies h.far_sent h.heard _ h.far_end.bodies h.far_flow.flight) h.end.commands body next
 
 current-fits : (e : EndState NodeState) (sent : List (List ℕ)) → Sends e sent → AreBodies sent → phase_of e.sender ≡ phase.Sending → (6 ≤ length (body_of e.sender)) × (length (body_of e.sender) ≤ 250)
 current-fits e sent sends bodies is =
@@ -138,6 +139,7 @@ gave-end first e sent heard late fits h =
       bodies = handed-bodies sent o h.bodies (λ body is. fits body (take-handed node_host e body is));
       commands = subst (λ (node : NodeState). AreBodies (map (λ c. c.body) node.initiator.issued)) is_host (subst AreBodies (sym (handed-commands o e.host)) h.commands);
       room = subst (λ (node : NodeState). 2 ≤ node.room) is_host (subst (λ (n : ℕ). 2 ≤ n) (sym (handed-room o e.host)) h.room);
+      block = h.block;
       few = let same = take-commands e in omega (arith, same, h.few);
     }
 

@@ -10,7 +10,7 @@ use Rattle.line_statement.specs.declared.who.Who.{Who}
 use Rattle.line_report.specs.declared.record.Line.{Line}
 use Rattle.duplex_line.specs.Acts.{LineState, swapped}
 use Rattle.duplex_line.proofs.Once.SentMessages.{Sends}
-use Rattle.each_once.proofs.HandedOut.{is_command, Hosts}
+use Rattle.each_once.proofs.HandedOut.{Hosts}
 use Rattle.duplex_line.specs.Prompt.{Late}
 use Rattle.duplex_line.proofs.Complete.MessageUnderWay.{Flow}
 use Rattle.duplex_line.proofs.Complete.ToldMessages.{TellsOf}
@@ -38,6 +38,7 @@ pub record IsEnd (first : StationState) (e : EndState NodeState) (sent heard : L
   pub bodies : AreBodies sent
   pub commands : AreBodies (map (λ c. c.body) e.host.initiator.issued)
   pub room : 2 ≤ e.host.room
+  pub block : length first.block ≤ 244
   pub few : length e.host.initiator.issued ≤ 65535
 
 -- both ends, both directions, and what was told of the accepted messages

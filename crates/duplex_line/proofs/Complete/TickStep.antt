@@ -1,7 +1,6 @@
 -- A unit of time passes, in a run that nothing disturbs; and what is so where nothing is under way.
-use Rattle.std.proofs.Common.{◌≡◌, ◌∙◌, ℕ, zero, suc, ◌+◌, ◌-◌, ◌<◌, ◌≤◌, Bool, true, false, List, [], ◌∷◌, ◌++◌, length, Option, Some, None, is_none, min, refl, ap, sym, subst, arith, append-nil}
+use Rattle.std.proofs.Common.{◌≡◌, ◌∙◌, ℕ, zero, suc, ◌+◌, ◌-◌, ◌<◌, ◌≤◌, Bool, true, false, List, [], ◌∷◌, ◌++◌, length, Option, Some, None, is_none, min, refl, sym, subst, arith, append-nil}
 use Rattle.std.specs.Prelude.{slice_get, ◌&&◌, if◌then◌else◌}
-use Rattle.std.specs.List.{filter}
 use Rattle.df1_node.specs.Answer.{StationState}
 use Rattle.df1_node.specs.Initiator.{Issued, Standing, Waiting, Out, Answered, Undelivered, Unanswered, next_command}
 use Rattle.df1_base.specs.declared.host.Fate.{Fate}
@@ -22,7 +21,7 @@ use Rattle.duplex_line.specs.Acts.{LineState, Tick, after_deed, lines_at}
 use Rattle.duplex_line.proofs.Once.IssueLimits.{tick-commands}
 use Rattle.each_once.proofs.Sublists.{same-some, none-is}
 use Rattle.duplex_line.proofs.Once.SentMessages.{Sends, sends-tick}
-use Rattle.each_once.proofs.HandedOut.{is_command, Hosts}
+use Rattle.each_once.proofs.HandedOut.{Hosts}
 use Rattle.each_once.proofs.NodeSteps.{hosts-tick}
 use Rattle.each_once.proofs.CommandBodies.{bodies-after_tick}
 use Rattle.duplex_line.proofs.Once.LineSteps.{tick-silent}
@@ -165,6 +164,7 @@ later-end first e sent heard late later h none = record {
   bodies = h.bodies;
   commands = h.commands;
   room = h.room;
+  block = h.block;
   few = h.few;
 }
 
@@ -316,6 +316,7 @@ flows-tick near far first far_first s late lines few h =
         bodies = h.end.bodies;
         commands = subst AreBodies (sym (bodies-after_tick a.host)) h.end.commands;
         room = h.end.room;
+        block = h.end.block;
         few = let count = tick-commands a in subst (λ (e : EndState NodeState). length e.host.initiator.issued ≤ 65535) same (omega (arith, count, h.end.few));
       };
       far_end = h.far_end;

@@ -1,6 +1,6 @@
 -- What the lines of a report tell of the messages that an end accepts, where nothing disturbs the line: each command as
 -- executed, and each reply as the answer to the next command.
-use Rattle.std.proofs.Common.{◌≡◌, ◌∙◌, ℕ, suc, ◌+◌, Bool, true, false, List, [], ◌∷◌, ◌++◌, length, not, Option, Some, None, refl, ap, sym, subst, arith, append-nil, add-zero}
+use Rattle.std.proofs.Common.{◌≡◌, ◌∙◌, ℕ, ◌+◌, Bool, true, false, List, [], ◌∷◌, ◌++◌, length, not, Option, Some, None, refl, ap, sym, arith, append-nil, add-zero}
 use Rattle.std.specs.Prelude.{if◌then◌else◌}
 use Rattle.std.specs.List.{filter, enumerate_from}
 use Rattle.std.proofs.lemmas.List.Elements.{filter_map-append}

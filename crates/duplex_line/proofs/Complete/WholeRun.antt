@@ -1,5 +1,5 @@
 -- Over a whole run that nothing disturbs, and that ends with nothing under way: each command executed and answered.
-use Rattle.std.proofs.Common.{◌≡◌, ◌∙◌, ℕ, ◌+◌, ◌<◌, ◌≤◌, Bool, true, false, List, [], ◌∷◌, ◌++◌, map, None, refl, ap, sym, subst, arith, append-nil, append_assoc}
+use Rattle.std.proofs.Common.{◌≡◌, ◌∙◌, ℕ, ◌+◌, ◌<◌, ◌≤◌, Bool, true, false, List, [], ◌∷◌, ◌++◌, map, None, refl, ap, sym, subst, arith, append-nil, append_assoc, length}
 use Rattle.std.specs.Prelude.{IsTrue, All, replicate, count_by, slice_get, slice_index_or, if◌then◌else◌}
 use Rattle.std.specs.List.{filter, enumerate_from}
 use Rattle.std.proofs.lemmas.List.Elements.{All-head, All-tail}
@@ -174,20 +174,25 @@ flows-events first_a first_b (e ∷ events) s late lines possible few_a few_b pr
 
 -- ---- a run
 
-room-at-first : (ends : List EndPlan) → AreEnds ends → (a b : EndPlan) → (2 ≤ (slice_index_or ends 0 a).room) × (2 ≤ (slice_index_or ends 1 b).room)
+-- room for two replies at least, and a status reply that fits a message
+abbrev HasRoom : EndPlan → Type 0
+HasRoom plan = (2 ≤ plan.room) × (length plan.block ≤ 244)
+
+room-at-first : (ends : List EndPlan) → AreEnds ends → (a b : EndPlan) → HasRoom (slice_index_or ends 0 a) × HasRoom (slice_index_or ends 1 b)
 room-at-first [] ends a b = absurd ends
 room-at-first (x ∷ []) ends a b = absurd ends
-room-at-first (x ∷ y ∷ []) ends a b = (ends.0.room.0, ends.1.room.0)
+room-at-first (x ∷ y ∷ []) ends a b = ((ends.0.room.0, ends.0.block), (ends.1.room.0, ends.1.block))
 room-at-first (x ∷ y ∷ z ∷ more) ends a b = absurd ends
 
-start-end : (plan : EndPlan) (script : Script) → 2 ≤ plan.room → IsEnd (first_station plan) (first_side script.check plan).end [] [] 0
+start-end : (plan : EndPlan) (script : Script) → HasRoom plan → IsEnd (first_station plan) (first_side script.check plan).end [] [] 0
 start-end plan script room = record {
   hosts = hosts-start (first_station plan) (first_node plan) refl refl refl;
   sends = sends-start (setup_of script.check plan) (first_node plan);
   ahead = record { done = 0; out = None; under_way = tt; answers = refl; in_time = tt };
   bodies = tt;
   commands = tt;
-  room = room;
+  room = room.0;
+  block = room.1;
   few = omega arith;
 }
 

@@ -1,6 +1,6 @@
 -- In every run: each end stands for the bytes that arrived at it, and hears a whole frame exactly where the grammar does.
-use Rattle.std.proofs.Common.{◌≡◌, ℕ, true, List, [], ◌∷◌, ◌++◌, Option, Some, None, refl, sym, subst, append-nil, append_assoc}
-use Rattle.std.specs.Prelude.{IsTrue, All, replicate}
+use Rattle.std.proofs.Common.{◌≡◌, ℕ, List, [], ◌∷◌, ◌++◌, Option, Some, None, refl, sym, subst, append-nil, append_assoc}
+use Rattle.std.specs.Prelude.{IsTrue, All}
 use Rattle.std.proofs.lemmas.List.{map-append}
 use Rattle.std.proofs.lemmas.List.Elements.{All-head, All-tail}
 use Rattle.df1_check.specs.declared.Check.{Check}
@@ -16,7 +16,7 @@ use Rattle.each_once.specs.NodeHost.{node_host}
 use Rattle.duplex_line.specs.declared.cell.Cell.{Cell}
 use Rattle.duplex_line.specs.Acts.{SideState, LineState, swapped, Deed, Issue, Take, Deliver, Lose, Alter, Foreign, Tick, near_after, arriving, step_of, after_cell, after_arrival, after_deed, after_deeds}
 use Rattle.duplex_line.specs.Arrivals.{arrived, arrivals_over, arrivals_at, arrivals_in}
-use Rattle.duplex_line.specs.Run.{plan_of_a, plan_of_b, setup_of, first_node, start, who_of, deeds_of, seen_from, after_event, state_after}
+use Rattle.duplex_line.specs.Run.{plan_of_a, plan_of_b, setup_of, first_node, start, who_of, deeds_of, after_event, state_after}
 use Rattle.duplex_line.proofs.Once.Invariant.{joins-end}
 
 -- the end stands for what arrived, at which it heard whole frames by the grammar

@@ -1,6 +1,6 @@
 -- In every run, whatever is heard: each end's commands are those that the script issues, and the lines tell how each ended.
-use Rattle.std.proofs.Common.{◌≡◌, ◌∙◌, ℕ, zero, suc, ◌+◌, true, false, List, [], ◌∷◌, ◌++◌, map, Option, Some, None, refl, ap, sym, subst, arith, append-nil, append_assoc, eqb}
-use Rattle.std.specs.Prelude.{IsTrue, All, replicate, slice_get}
+use Rattle.std.proofs.Common.{◌≡◌, ◌∙◌, ℕ, zero, suc, true, false, List, [], ◌∷◌, ◌++◌, map, Option, Some, None, refl, ap, sym, subst, append-nil, append_assoc}
+use Rattle.std.specs.Prelude.{IsTrue, All, replicate}
 use Rattle.std.specs.Option.{option_map_or}
 use Rattle.std.proofs.lemmas.List.Elements.{All-head, All-tail, filter_map-append}
 use Rattle.df1_base.specs.declared.host.Did.{Did}
@@ -13,30 +13,29 @@ use Rattle.df1_base.specs.declared.link.Act.{Act}
 use Rattle.df1_base.specs.declared.link.Act.TheVariants as act
 use Rattle.df1_base.specs.declared.link.Turn.{Turn}
 use Rattle.df1_base.specs.declared.link.Turn.TheVariants as turn
-use Rattle.df1_node.specs.Initiator.{Waiting}
-use Rattle.df1_node.specs.Node.{NodeState, did_accept, after_next, after_tick as node_ticked}
+use Rattle.df1_node.specs.Node.{NodeState, after_next, after_tick as node_ticked}
 use Rattle.duplex_sender.specs.declared.SendTurn.{SendTurn}
 use Rattle.duplex_sender.specs.declared.SendTurn.TheVariants as sends
 use Rattle.duplex_sender.specs.Sender.{tick_turn}
-use Rattle.duplex_end.specs.End.{EndState, act_of_byte, did_at, news_of, fate_at, host_after, host_told, host_at_byte, fate_of_tick, turn_told, turn_at_tick, host_at_tick, gone_at_tick}
+use Rattle.duplex_end.specs.End.{act_of_byte, did_at, news_of, fate_at, host_after, host_told, host_at_byte, fate_of_tick, turn_told, turn_at_tick, host_at_tick, gone_at_tick}
 use Rattle.line_statement.specs.declared.who.Who.{Who}
 use Rattle.line_statement.specs.declared.who.Who.TheVariants.{A, B, M, S}
 use Rattle.line_script.specs.declared.script.Event.{Event}
 use Rattle.line_script.specs.declared.script.Event.TheVariants as event
 use Rattle.line_script.specs.declared.script.Script.{Script}
-use Rattle.line_script.specs.Playable.{IsPossible, IsPlayable, is_end, joins}
+use Rattle.line_script.specs.Playable.{IsPossible, IsPlayable, is_end}
 use Rattle.line_report.specs.declared.record.Line.{Line}
 use Rattle.line_report.specs.declared.record.Line.TheVariants as line
-use Rattle.each_once.specs.Commands.{Request, command_bodies, AreOutcomesTold}
+use Rattle.each_once.specs.Commands.{Request, AreOutcomesTold}
 use Rattle.each_once.specs.NodeHost.{node_host}
 use Rattle.each_once.specs.NodeLines.{did_lines, act_lines, news_lines, turn_lines, gone_lines}
-use Rattle.each_once.specs.Tells.{is_who, outcome_at, outcomes_in}
+use Rattle.each_once.specs.Tells.{is_who}
 use Rattle.each_once.proofs.IssuedCommands.{SameCommands, same-itself, same-both, same-accept, same-told, same-tick, same-next, AreIssued, issued-same, issued-more}
 use Rattle.each_once.proofs.ToldOutcomes.{TellNone, none-both, outcomes-start, outcomes-silent, outcomes-issue, outcomes-accept, outcomes-told, outcomes-next, outcomes-tick}
 use Rattle.duplex_line.specs.declared.cell.Cell.{Cell}
 use Rattle.duplex_line.specs.Acts.{SideState, LineState, swapped, Deed, Issue, Take, Deliver, Lose, Alter, Foreign, Tick, near_after, arriving, after_cell, after_arrival, step_of, body_heard, after_deed, after_deeds, near_lines, cell_lines, arrival_lines, lines_at, lines_over, given_over}
 use Rattle.duplex_line.specs.Issues.{request_at, requests_in}
-use Rattle.duplex_line.specs.Run.{plan_of_a, plan_of_b, start, who_of, deeds_of, seen_from, other, after_event, sent_lines, deed_lines, lines_of, state_after, lines_after, last_state}
+use Rattle.duplex_line.specs.Run.{plan_of_a, plan_of_b, start, seen_from, after_event, sent_lines, deed_lines, lines_of, state_after, lines_after, last_state}
 use Rattle.duplex_line.proofs.Once.Invariant.{AreTwo, two-swapped, a-and-b, joins-end}
 use Rattle.duplex_line.proofs.Once.SentMessages.{handed_at, take-host}
 

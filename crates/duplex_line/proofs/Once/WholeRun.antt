@@ -12,7 +12,7 @@ use Rattle.line_script.specs.declared.script.Event.{Event}
 use Rattle.line_script.specs.declared.script.Event.TheVariants as event
 use Rattle.line_script.specs.declared.script.Script.{Script}
 use Rattle.line_statement.specs.Statements.{is_payload}
-use Rattle.line_script.specs.Playable.{IsPossible, IsPlayable, issues, is_end, joins}
+use Rattle.line_script.specs.Playable.{IsPossible, IsPlayable, issues, is_end}
 use Rattle.line_report.specs.declared.record.Line.{Line}
 use Rattle.line_report.specs.declared.record.Record.{Record}
 use Rattle.duplex_line.specs.declared.cell.Cell.{Cell}

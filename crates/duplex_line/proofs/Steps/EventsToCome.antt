@@ -9,7 +9,7 @@ use Rattle.line_script.specs.declared.script.Event.TheVariants as event
 use Rattle.line_script.specs.Playable.{IsPossible, issues, count_of}
 use Rattle.duplex_line.specs.Acts.{LineState}
 use Rattle.duplex_line.specs.Run.{after_event, seen_from, who_of}
-use Rattle.duplex_line.specs.Plays.{issued_by, IsUnspent}
+use Rattle.duplex_line.specs.Plays.{issued_by, most_events, IsUnspent}
 use Rattle.duplex_line.proofs.Once.IssueLimits.{commands-of-a, commands-of-b}
 
 -- the events from one on are that one and those after it
@@ -45,5 +45,5 @@ unspent s (event.Foreign lane bytes) rest possible few-a few-b = tt
 unspent s (event.Tick who n) rest possible few-a few-b = tt
 
 -- an event more is within the sum
-pub sum-of-next : (sum : ℕ) (e : Event) (rest : List Event) → sum + sum_by count_of (e ∷ rest) ≤ 5000000 → sum + count_of e + sum_by count_of rest ≤ 5000000
+pub sum-of-next : (sum : ℕ) (e : Event) (rest : List Event) → sum + sum_by count_of (e ∷ rest) ≤ most_events → sum + count_of e + sum_by count_of rest ≤ most_events
 sum-of-next sum e rest few = let more = sum_by-cons count_of e rest in omega (arith, more, few)

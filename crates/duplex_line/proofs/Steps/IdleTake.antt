@@ -1,5 +1,5 @@
 -- A take that gives nothing changes nothing, at an end over any host.
-use Rattle.std.proofs.Common.{◌≡◌, Option, None, IsNone, refl}
+use Rattle.std.proofs.Common.{◌≡◌, None, IsNone, refl}
 use Rattle.df1_base.specs.declared.host.Host.{Ghosts}
 use Rattle.duplex_end.specs.End.{EndState, end_after_take, out_at_take}
 use Rattle.duplex_end.proofs.Draining.{quiet-same}
