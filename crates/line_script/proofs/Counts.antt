@@ -1,5 +1,5 @@
 -- What is left after some lines is what their events leave of the limits.
-use Rattle.std.proofs.Common.{◌≡◌, List, [], ◌∷◌, ◌++◌, Result, Ok, Err, arith}
+use Rattle.std.proofs.Common.{List, [], ◌∷◌, ◌++◌, Result, Ok, Err, arith}
 use Rattle.std.specs.Prelude.{IfOk}
 use Rattle.std.specs.Option.{option_to_list}
 use Rattle.line_script.specs.declared.fault.Cause.{Cause}

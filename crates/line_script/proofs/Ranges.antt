@@ -14,7 +14,7 @@ use Rattle.line_statement.specs.declared.statement.Statement.{Statement}
 use Rattle.line_statement.specs.declared.statement.Statement.TheVariants as statement
 use Rattle.line_script.specs.Playable.{IsBetween}
 use Rattle.line_statement.specs.Words.{number_of, within, hex_of, byte_of, register_of}
-use Rattle.line_statement.specs.Statements.{statement_of, end_of, switch_of, check_of, setting_of, set_statement, setting_at, end_setting, set_line, file_type, file_spec, file_line, word_line, side_of, verb_of, times_line, is_payload, issue_line, alter_line, foreign_line, event_of_side, bare_event, operand_event, one_word, three_words, five_words}
+use Rattle.line_statement.specs.Statements.{statement_of, end_of, switch_of, check_of, setting_of, set_statement, file_number, compat_line, is_block, block_of, block_line, setting_at, end_setting, set_line, file_type, file_spec, file_line, word_line, side_of, verb_of, times_line, is_payload, issue_line, alter_line, foreign_line, event_of_side, bare_event, operand_event, one_word, three_words, five_words}
 
 -- a number within bounds, if there is one
 abbrev pub IfBetween : ℕ → ℕ → Option ℕ → Type 0
@@ -34,6 +34,7 @@ IsAllowed (Tns n) = Unit {0}
 -- the values of a statement, where they are there, are within their ranges
 abbrev pub IsSound : Statement → Type 0
 IsSound (statement.Set end (Some setting)) = IsAllowed setting
+IsSound (statement.Block end (Some bytes)) = IsBetween 1 244 (length bytes)
 IsSound (statement.File end (Some spec)) = IsBetween 1 1000 spec.count
 IsSound (statement.Issue side (Some payload)) = IsTrue (is_payload payload)
 IsSound (statement.Times side verb n) = IfBetween 1 4000000 n
@@ -97,9 +98,30 @@ sound_setting (Some end) None h = tt
 sound_setting (Some end) (Some None) h = tt
 sound_setting (Some end) (Some (Some s)) h = h
 
+sound_compat_line : (end : Option EndName) (file : Option (Option ℕ)) → IfSound (compat_line end file)
+sound_compat_line None file = tt
+sound_compat_line (Some end) file = tt
+
+sound_block : (end : EndName) (bytes : Option (List ℕ)) → IsSound (statement.Block end (block_of bytes))
+sound_block end None = tt
+sound_block end (Some bytes) = cond_both (is_block bytes) (Some bytes) None (λ o. IsSound (statement.Block end o)) (bounds 1 244 (length bytes)) (λ _. tt)
+
+sound_block_line : (end : Option EndName) (bytes : Option (List ℕ)) → IfSound (block_line end bytes)
+sound_block_line None bytes = tt
+sound_block_line (Some end) bytes = sound_block end bytes
+
+named : (compat block : Bool) (end : Option EndName) (name value : List ℕ) → IfSound (
+    if compat then compat_line end (file_number value)
+    else if block then block_line end (hex_of value)
+    else set_statement end (setting_of name value))
+named true block end name value = sound_compat_line end (file_number value)
+named false true end name value = sound_block_line end (hex_of value)
+named false false end name value = sound_setting end (setting_of name value) (IfAllowed-setting_of name value)
+
 sound_setting_at : (key value : List ℕ) (o : Option ℕ) → IfSound (setting_at key value o)
 sound_setting_at key value None = tt
-sound_setting_at key value (Some stop) = sound_setting (end_of (take stop key)) (setting_of (drop stop key) value) (IfAllowed-setting_of (drop stop key) value)
+sound_setting_at key value (Some stop) =
+    named (bytes_eq (drop stop key) (codes ".compat")) (bytes_eq (drop stop key) (codes ".block")) (end_of (take stop key)) (drop stop key) value
 
 set_lines : (mode full check : Bool) (key value : List ℕ) → IfSound (
     if mode then (if full then Some statement.Mode else None)

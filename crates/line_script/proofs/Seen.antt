@@ -7,7 +7,8 @@ use Rattle.std.specs.BTreeSet.{BTreeSet, Updates}
 use Rattle.std.proofs.lemmas.Bool.Decides.{nat_tests}
 use Rattle.std.proofs.lemmas.List.Folds.{list_any-append}
 use Rattle.line_script.specs.declared.script.WordOf.{WordOf}
-use Rattle.line_script.specs.Places.{is_at, place_cmp, ArePlaces}
+use Rattle.data_files.specs.Tables.{place_cmp}
+use Rattle.line_script.specs.Places.{is_at, ArePlaces}
 
 -- two places are tied exactly where both parts are equal
 pub is_eq-place_cmp : (f i g j : ℕ) → is_eq (place_cmp (f, i) (g, j)) ≡ cond (eqb f g) (eqb i j) false

@@ -19,7 +19,7 @@ use Rattle.line_statement.specs.declared.statement.EndName.TheVariants.{Known, A
 use Rattle.line_statement.specs.declared.statement.Verb.{Verb}
 use Rattle.line_statement.specs.declared.statement.Verb.TheVariants.{Take, Tick, Deliver, Lose}
 use Rattle.line_statement.specs.declared.statement.Statement.{Statement}
-use Rattle.line_statement.specs.declared.statement.Statement.TheVariants.{Mode, Check, Set, File, Word, Issue, Times, Alter, Foreign, End}
+use Rattle.line_statement.specs.declared.statement.Statement.TheVariants.{Mode, Check, Set, Compat, Block, File, Word, Issue, Times, Alter, Foreign, End}
 use Rattle.line_script.specs.declared.reader.Stage.{Stage}
 use Rattle.line_script.specs.declared.reader.Reader.{Reader}
 use Rattle.line_script.specs.Drafts.{fresh, is_misplaced, is_missing, is_out_of_range, is_twice, is_spent, is_too_many, first_of, cause_of, settled, counted, times_event, with_statement, unless_wrong}
@@ -30,7 +30,7 @@ use Rattle.line_script.specs.ScriptText.{at_line, with_event, script_from, scrip
 use Rattle.line_statement.specs.Statements.{who_of, other_end, is_payload, statement_of}
 use Rattle.line_statement.specs.Words.{words}
 use Rattle.line_script.proofs.Ranges.{IsSound, IfSound, IfSound-statement_of}
-use Rattle.line_script.proofs.EndStanding.{IsRight, right_at_first, right_with_setting, right_with_commands, right_with_file, right_with_word, plan_is_right}
+use Rattle.line_script.proofs.EndStanding.{IsRight, right_at_first, right_with_setting, right_with_compat, right_with_block, right_with_commands, right_with_file, right_with_word, plan_is_right}
 
 pub record Stands (d : Reader) (events : List Event) : Type 0 where
   pub a : IsRight d.a
@@ -167,6 +167,21 @@ next d events (Set (Known A) (Some x)) h sound none =
     quiet d (settled (counted d (Set (Known A) (Some x))) (Set (Known A) (Some x))) events h (right_with_setting d.a x h.a sound) h.b refl refl refl
 next d events (Set (Known B) (Some x)) h sound none =
     quiet d (settled (counted d (Set (Known B) (Some x))) (Set (Known B) (Some x))) events h h.a (right_with_setting d.b x h.b sound) refl refl refl
+next d events (Compat Absent file) h sound none = let no : true ≡ false = none.missing in cc
+next d events (Compat (Known side) None) h sound none = let no : true ≡ false = none.in_range in cc
+next d events (Compat (Known side) (Some None)) h sound none = let no : true ≡ false = none.missing in cc
+next d events (Compat (Known A) (Some (Some file))) h sound none =
+    quiet d (settled (counted d (Compat (Known A) (Some (Some file)))) (Compat (Known A) (Some (Some file)))) events h
+    (right_with_compat d.a file h.a none.missing none.in_range) h.b refl refl refl
+next d events (Compat (Known B) (Some (Some file))) h sound none =
+    quiet d (settled (counted d (Compat (Known B) (Some (Some file)))) (Compat (Known B) (Some (Some file)))) events h h.a
+    (right_with_compat d.b file h.b none.missing none.in_range) refl refl refl
+next d events (Block Absent bytes) h sound none = let no : true ≡ false = none.missing in cc
+next d events (Block (Known side) None) h sound none = let no : true ≡ false = none.in_range in cc
+next d events (Block (Known A) (Some bytes)) h sound none =
+    quiet d (settled (counted d (Block (Known A) (Some bytes))) (Block (Known A) (Some bytes))) events h (right_with_block d.a bytes h.a sound.1) h.b refl refl refl
+next d events (Block (Known B) (Some bytes)) h sound none =
+    quiet d (settled (counted d (Block (Known B) (Some bytes))) (Block (Known B) (Some bytes))) events h h.a (right_with_block d.b bytes h.b sound.1) refl refl refl
 next d events (File Absent spec) h sound none = let no : true ≡ false = none.missing in cc
 next d events (File (Known side) None) h sound none = let no : true ≡ false = none.in_range in cc
 next d events (File (Known A) (Some x)) h sound none =

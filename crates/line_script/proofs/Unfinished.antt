@@ -1,19 +1,18 @@
 -- A line that is refused stays so, whatever follows.
-use Rattle.std.proofs.Common.{◌≡◌, ◌⊎◌, ℕ, ◌+◌, ◌-◌, ◌<◌, ◌≤◌, min, Bool, true, false, cond, ltb, leb, eqb, List, [], ◌∷◌, ◌++◌, length, Option, Result, Ok, Err, refl, sym, ap, subst, ◌∙◌, arith, inl, inr, append_assoc, append-nil, length-append, take, drop}
+use Rattle.std.proofs.Common.{◌≡◌, ◌⊎◌, ℕ, ◌+◌, ◌-◌, ◌<◌, min, Bool, true, false, cond, ltb, leb, eqb, List, [], ◌∷◌, ◌++◌, length, Option, Result, Ok, Err, refl, sym, ap, ◌∙◌, arith, inl, inr, append-nil, length-append}
 use Rattle.std.specs.Prelude.{◌&&◌}
 use Rattle.std.specs.List.{onto_first}
 use Rattle.std.proofs.lemmas.Bool.{lt-ltb}
 use Rattle.line_script.specs.declared.fault.Cause.{Cause}
 use Rattle.line_script.specs.declared.fault.Cause.TheVariants as cause
 use Rattle.line_script.specs.declared.reader.Reader.{Reader}
-use Rattle.line_script.specs.declared.reader.Stage.{Stage}
 use Rattle.line_script.specs.declared.script.Event.{Event}
 use Rattle.line_script.specs.declared.script.Script.{Script}
 use Rattle.line_script.specs.Lines.{TextLine, text_line, lines_from, after_line, after_words, content, is_ended, script_with}
 use Rattle.line_statement.specs.Words.{words}
 use Rattle.line_script.specs.ScriptText.{at_line, with_event, script_from, parts, script_of}
 use Rattle.line_script.specs.Drafts.{fresh}
-use Rattle.line_script.specs.Unfinished.{unfinished, unfinished_after, IsSettled}
+use Rattle.line_script.specs.Unfinished.{unfinished_after, IsSettled}
 use Rattle.line_script.proofs.Cuts.{split-first}
 use Rattle.line_script.proofs.LongTexts.{onto_all, onto_all-first, onto_all-nil, Read, read_on}
 

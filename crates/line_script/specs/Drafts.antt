@@ -1,9 +1,10 @@
 -- What the lines so far say, what is wrong with a statement that follows them, and what it changes.
-use Rattle.std.specs.Prelude.{ℕ, ◌-◌, Bool, true, false, List, [], ◌∷◌, ◌++◌, length, find, Option, None, Some, is_none, is_some, Result, Ok, Err, nat_le, nat_lt, ◌==◌, ◌||◌, if◌then◌else◌}
+use Rattle.std.specs.Prelude.{ℕ, ◌-◌, Bool, true, false, List, [], ◌∷◌, ◌++◌, length, find, Option, None, Some, is_none, is_some, not, Result, Ok, Err, nat_le, nat_lt, ◌==◌, ◌||◌, if◌then◌else◌}
 use Rattle.std.specs.List.{list_any}
 use Rattle.std.specs.Option.{option_map_or}
 use Rattle.data_files.specs.declared.file_spec.FileSpec.{FileSpec}
 use Rattle.data_files.specs.Tables.{word_count}
+use Rattle.data_files.specs.Words.{holds_words}
 use Rattle.line_script.specs.declared.fault.Cause.{Cause}
 use Rattle.line_script.specs.declared.fault.Cause.TheVariants as cause
 use Rattle.line_script.specs.declared.script.Lane.{Lane}
@@ -16,7 +17,7 @@ use Rattle.line_statement.specs.declared.statement.EndName.TheVariants.{Known, A
 use Rattle.line_statement.specs.declared.statement.Verb.{Verb}
 use Rattle.line_statement.specs.declared.statement.Verb.TheVariants.{Take, Tick, Deliver, Lose}
 use Rattle.line_statement.specs.declared.statement.Statement.{Statement}
-use Rattle.line_statement.specs.declared.statement.Statement.TheVariants.{Mode, Check, Set, File, Word, Issue, Times, Alter, Foreign, End}
+use Rattle.line_statement.specs.declared.statement.Statement.TheVariants.{Mode, Check, Set, Compat, Block, File, Word, Issue, Times, Alter, Foreign, End}
 use Rattle.line_script.specs.declared.end_draft.EndDraft.{EndDraft}
 use Rattle.line_script.specs.declared.reader.Stage.{Stage}
 use Rattle.line_script.specs.declared.reader.Stage.TheVariants.{Fresh, Settings, Events, Ended}
@@ -46,6 +47,8 @@ is_misplaced Fresh statement = false
 is_misplaced stage Mode = true
 is_misplaced Events (Check check) = true
 is_misplaced Events (Set end setting) = true
+is_misplaced Events (Compat end file) = true
+is_misplaced Events (Block end bytes) = true
 is_misplaced Events (File end spec) = true
 is_misplaced Events (Word end file index value) = true
 is_misplaced stage statement = false
@@ -58,6 +61,9 @@ declared d end number = None
 -- it names an end that full duplex hasn't, or a file that isn't declared
 abbrev pub is_missing : Reader → Statement → Bool
 is_missing d (Set Absent setting) = true
+is_missing d (Compat Absent file) = true
+is_missing d (Compat (Known side) (Some file)) = is_none (declared d (Known side) file)
+is_missing d (Block Absent bytes) = true
 is_missing d (File Absent spec) = true
 is_missing d (Word end file index value) = is_none (declared d end file)
 is_missing d statement = false
@@ -67,10 +73,13 @@ abbrev pub is_full : Reader → EndName → Bool
 is_full d (Known side) = nat_le 256 (length (end_at d side).files)
 is_full d Absent = false
 
--- a number, a word or a length is out of its range
+-- a number, a word or a length is out of its range, or a compatibility file is of another type than bit or integer
 abbrev pub is_out_of_range : Reader → Statement → Bool
 is_out_of_range d (Check check) = is_none check
 is_out_of_range d (Set end setting) = is_none setting
+is_out_of_range d (Compat end None) = true
+is_out_of_range d (Compat end (Some file)) = option_map_or (λ spec. not (holds_words spec.kind)) (declared d end file) false
+is_out_of_range d (Block end bytes) = is_none bytes
 is_out_of_range d (File end spec) = is_none spec || is_full d end
 is_out_of_range d (Word end file index value) = option_map_or (λ spec. nat_le (word_count spec) index) (declared d end file) false
 is_out_of_range d (Issue side payload) = is_none payload
@@ -84,6 +93,8 @@ is_out_of_range d End = false
 abbrev pub is_twice : Reader → Statement → Bool
 is_twice d (Check check) = is_some d.check
 is_twice d (Set (Known side) (Some setting)) = is_given (end_at d side).settings setting
+is_twice d (Compat (Known side) file) = is_some (end_at d side).compat
+is_twice d (Block (Known side) bytes) = is_some (end_at d side).block
 is_twice d (File (Known side) (Some spec)) = list_any (λ other. other.number == spec.number) (end_at d side).files
 is_twice d (Word (Known side) (Some file) index value) = list_any (is_at file index) (end_at d side).words
 is_twice d statement = false
@@ -127,6 +138,8 @@ abbrev pub stage_after : Statement → Stage
 stage_after Mode = Settings
 stage_after (Check check) = Settings
 stage_after (Set end setting) = Settings
+stage_after (Compat end file) = Settings
+stage_after (Block end bytes) = Settings
 stage_after (File end spec) = Settings
 stage_after (Word end file index value) = Settings
 stage_after (Issue side payload) = Events
@@ -135,10 +148,17 @@ stage_after (Alter side mask) = Events
 stage_after (Foreign side bytes) = Events
 stage_after End = Ended
 
+-- a statement gives the block of an end
+abbrev pub gives_block : Statement → Bool
+gives_block (Block end bytes) = true
+gives_block statement = false
+
 -- what a statement changes beside the stage and the sum of events
 abbrev pub settled : Reader → Statement → Reader
 settled d (Check (Some check)) = record d { check = Some check }
 settled d (Set (Known side) (Some setting)) = with_end d side (record (end_at d side) { settings = with_setting (end_at d side).settings setting })
+settled d (Compat (Known side) (Some (Some file))) = with_end d side (record (end_at d side) { compat = Some file })
+settled d (Block (Known side) (Some bytes)) = with_end d side (record (end_at d side) { block = Some bytes })
 settled d (File (Known side) (Some spec)) = with_end d side (record (end_at d side) { files = (end_at d side).files ++ spec ∷ [] })
 settled d (Word (Known side) (Some file) index value) =
     with_end d side (record (end_at d side) { words = (end_at d side).words ++ record { who = who_of side; file = file; index = index; value = value } ∷ [] })

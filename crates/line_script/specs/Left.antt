@@ -1,6 +1,6 @@
 -- What is left, after some lines, of the commands that an end may issue and of the events that a script may have: a function of
 -- the events of those lines alone.
-use Rattle.std.specs.Prelude.{◌≡◌, ℕ, ◌-◌, List, [], ◌∷◌, count_by, sum_by, Result, Ok, Err}
+use Rattle.std.specs.Prelude.{◌≡◌, ◌-◌, List, [], ◌∷◌, count_by, sum_by, Result, Ok, Err}
 use Rattle.line_statement.specs.declared.who.Who.TheVariants.{A, B}
 use Rattle.line_script.specs.declared.fault.Cause.{Cause}
 use Rattle.line_script.specs.declared.script.Event.{Event}

@@ -1,20 +1,16 @@
 -- Numbers of files, and places of words: the number of a file and the index of a word in it.
 use Rattle.std.specs.Prelude.{◌≡◌, ℕ, Bool, List, find, ◌==◌, ◌&&◌}
 use Rattle.std.specs.List.{list_any}
-use Rattle.std.specs.Ordering.{nat_cmp, ordering_then}
-use Rattle.std.specs.declared.cmp.Ordering.{Ordering}
+use Rattle.std.specs.Ordering.{nat_cmp}
 use Rattle.std.specs.BTreeMap.{BTreeMap, get}
 use Rattle.std.specs.BTreeSet.{BTreeSet, contains}
 use Rattle.data_files.specs.declared.file_spec.FileSpec.{FileSpec}
+use Rattle.data_files.specs.Tables.{place_cmp}
 use Rattle.line_script.specs.declared.script.WordOf.{WordOf}
 
 -- the word stands at this place
 abbrev pub is_at : ℕ → ℕ → WordOf → Bool
 is_at file index word = (word.file == file) && (word.index == index)
-
--- the order of places
-abbrev pub place_cmp : ℕ × ℕ → ℕ × ℕ → Ordering
-place_cmp a b = ordering_then (nat_cmp a.0 b.0) (nat_cmp a.1 b.1)
 
 -- a set holds the places of some words and no others
 pub record ArePlaces (places : BTreeSet (ℕ × ℕ)) (words : List WordOf) : Type 0 where

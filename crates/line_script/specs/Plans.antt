@@ -10,9 +10,9 @@ use Rattle.line_script.specs.declared.end_draft.EndDraft.{EndDraft}
 abbrev pub no_settings : Settings
 no_settings = record { embed = None; node = None; tns = None; ack_ticks = None; max_naks = None; max_enqs = None; reply_ticks = None; room = None }
 
--- an end of which no line told anything: it may issue 65,535 commands
+-- an end of which no line told anything: 65,535 commands are left to it
 abbrev pub fresh_end : EndDraft
-fresh_end = record { settings = no_settings; files = []; words = []; commands_left = 65535 }
+fresh_end = record { settings = no_settings; compat = None; block = None; files = []; words = []; commands_left = 65535 }
 
 -- a line gave the key of this setting
 abbrev pub is_given : Settings → Setting → Bool
@@ -54,8 +54,8 @@ plan_of who standard end = record {
   poll_ticks = 10;
   max_sends = 3;
   room = unwrap_or end.settings.room 2;
-  compat = None;
-  block = [];
+  compat = end.compat;
+  block = unwrap_or end.block [];
   files = end.files;
   words = end.words;
 }

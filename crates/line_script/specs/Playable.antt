@@ -1,6 +1,6 @@
 -- Scripts whose events can happen: what a script meets that was read.
 use Rattle.std.specs.Prelude.{◌≡◌, ℕ, ◌<◌, ◌≤◌, Bool, true, false, List, [], ◌∷◌, length, count_by, sum_by, All, None, IsTrue}
-use Rattle.data_files.specs.Tables.{faults, has_word}
+use Rattle.data_files.specs.Tables.{faults, fits_compat, has_word}
 use Rattle.line_statement.specs.declared.who.Who.{Who}
 use Rattle.line_statement.specs.declared.who.Who.TheVariants.{A, B}
 use Rattle.line_script.specs.declared.script.Lane.{Lane}
@@ -14,7 +14,8 @@ use Rattle.line_statement.specs.Statements.{is_payload}
 abbrev pub IsBetween : ℕ → ℕ → ℕ → Type 0
 IsBetween least most n = (least ≤ n) × (n ≤ most)
 
--- the plan of an end of a full-duplex link: files such as data tables may have, words within them, and settings in their ranges
+-- the plan of an end of a full-duplex link: files such as data tables may have, words within them, one of them as the
+-- compatibility file, if there is one, and settings in their ranges
 pub record IsPlanOf (who : Who) (plan : EndPlan) : Type 0 where
   pub end : plan.who ≡ who
   pub files : faults plan.files ≡ None
@@ -27,6 +28,7 @@ pub record IsPlanOf (who : Who) (plan : EndPlan) : Type 0 where
   pub poll_ticks : IsBetween 1 1000000 plan.poll_ticks
   pub max_sends : IsBetween 1 255 plan.max_sends
   pub room : IsBetween 2 64 plan.room
+  pub compat : IsTrue (fits_compat plan.files plan.compat)
   pub block : length plan.block ≤ 244
 
 -- end a, then end b

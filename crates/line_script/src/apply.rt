@@ -1,13 +1,13 @@
 //! What a statement with nothing wrong changes, and the event that it is.
-ghost use Rattle.std.specs.Prelude.{◌≡◌, ◌∷◌, ◌++◌, [], IfOk, OnOk, Some, None, ◌-◌};
-ghost use Rattle.line_script.specs.Drafts.{with_statement as the_draft, settled, stage_after as the_stage, event_of as the_event, address_of as the_address, with_end, end_at, lane_from, times_event as the_times};
+ghost use Rattle.std.specs.Prelude.{◌≡◌, ◌∷◌, ◌++◌, [], IfOk, OnOk, Some, None, false, true, ◌-◌};
+ghost use Rattle.line_script.specs.Drafts.{with_statement as the_draft, settled, gives_block, stage_after as the_stage, event_of as the_event, address_of as the_address, with_end, end_at, lane_from, times_event as the_times};
 
 use crate::first_cause::steps_of;
 use crate::reader::{NODE_OF_A, NODE_OF_B, Reader, Stage};
 use crate::{Event, Lane, WordOf};
 use data_files::FileSpec;
 use df1_base::NoMemory;
-use line_statement::{EndName, Setting, Side, Statement, Verb};
+use line_statement::{Bytes, EndName, Setting, Side, Statement, Verb};
 
 impl Reader {
     /// Takes a statement, and answers its event, if it is one.
@@ -16,12 +16,18 @@ impl Reader {
     {
         self.stage = stage_after(&statement);
         self.events_left = self.events_left.saturating_sub(steps_of(&statement));
-        self.settle(&statement)?;
-        Ok(self.event_of(statement))
+        if gives_block(&statement) {
+            self.keep_block(statement);
+            Ok(None)
+        } else {
+            self.settle(&statement)?;
+            Ok(self.event_of(statement))
+        }
     }
 
-    /// What a statement changes beside the stage and the sum of events.
+    /// What a statement that gives no block changes beside the stage and the sum of events.
     fn settle(&mut self, statement: &Statement) -> Result<(), NoMemory>
+        requires { gives_block statement.now ≡ false }
         ensures { OnOk result (self.new ≡ settled self.old statement.now) }
     {
         match statement {
@@ -30,6 +36,10 @@ impl Reader {
                 end: EndName::Known(side),
                 setting: Some(setting),
             } => self.set(*side, *setting),
+            Statement::Compat {
+                end: EndName::Known(side),
+                file: Some(Some(file)),
+            } => self.set_compat(*side, *file),
             Statement::File {
                 end: EndName::Known(side),
                 spec: Some(spec),
@@ -61,6 +71,37 @@ impl Reader {
         match side {
             Side::A => self.a.settings.set(setting),
             Side::B => self.b.settings.set(setting),
+        }
+    }
+
+    /// Sets the compatibility file of an end.
+    fn set_compat(&mut self, side: Side, file: u16)
+        ensures { self.new ≡ settled self.old (Statement.Compat (EndName.Known side) (Some (Some file))) }
+    {
+        match side {
+            Side::A => self.a.compat = Some(file),
+            Side::B => self.b.compat = Some(file),
+        }
+    }
+
+    /// Keeps the block that a statement gives.
+    fn keep_block(&mut self, statement: Statement)
+        requires { gives_block statement ≡ true }
+        ensures { self.new ≡ settled self.old statement }
+    {
+        if let Statement::Block { end, bytes } = statement {
+            self.set_block(end, bytes);
+        }
+    }
+
+    /// Sets the block of an end, where there are such an end and such a block.
+    fn set_block(&mut self, end: EndName, bytes: Option<Bytes>)
+        ensures { self.new ≡ settled self.old (Statement.Block end bytes) }
+    {
+        match (end, bytes) {
+            (EndName::Known(Side::A), Some(bytes)) => self.a.block = Some(bytes),
+            (EndName::Known(Side::B), Some(bytes)) => self.b.block = Some(bytes),
+            _ => {}
         }
     }
 
@@ -141,6 +182,13 @@ impl Reader {
     }
 }
 
+/// Whether a statement gives the block of an end.
+fn gives_block(statement: &Statement) -> bool
+    ensures { result ≡ gives_block statement.now }
+{
+    matches!(statement, Statement::Block { .. })
+}
+
 /// What may come after a statement.
 fn stage_after(statement: &Statement) -> Stage
     ensures { result ≡ the_stage statement.now }
@@ -149,6 +197,8 @@ fn stage_after(statement: &Statement) -> Stage
         Statement::Mode
         | Statement::Check(_)
         | Statement::Set { .. }
+        | Statement::Compat { .. }
+        | Statement::Block { .. }
         | Statement::File { .. }
         | Statement::Word { .. } => Stage::Settings,
         Statement::Issue { .. }

@@ -1,5 +1,5 @@
-//! What the lines so far say of one end: its settings, its data files, the first values of its words, and how many
-//! commands it may still issue.
+//! What the lines so far say of one end: its settings, its compatibility file, its block, its data files, the first
+//! values of its words, and how many commands it may still issue.
 ghost use Rattle.std.specs.Prelude.{◌≡◌, ◌==◌, find};
 ghost use Rattle.std.specs.List.{list_any};
 ghost use Rattle.line_script.specs.Plans.{is_given as the_given, with_setting as the_settings, no_settings, fresh_end, node_of as the_node, plan_of as the_plan};
@@ -8,7 +8,7 @@ use crate::EndPlan;
 use crate::given_files::GivenFiles;
 use crate::given_words::GivenWords;
 use data_files::FileSpec;
-use line_statement::{Items, Setting, Who};
+use line_statement::{Bytes, Items, Setting, Who};
 use std::alloc::Global;
 
 /// The most commands of an end.
@@ -96,6 +96,8 @@ impl Settings {
 #[derive(Drop)]
 pub(crate) struct EndDraft {
     pub settings: Settings,
+    pub compat: Option<u16>,
+    pub block: Option<Bytes>,
     pub files: GivenFiles,
     pub words: GivenWords,
     pub commands_left: u32,
@@ -108,6 +110,8 @@ impl EndDraft {
     {
         EndDraft {
             settings: Settings::new(),
+            compat: None,
+            block: None,
             files: GivenFiles::new(alloc),
             words: GivenWords::new(alloc),
             commands_left: COMMANDS,
@@ -153,8 +157,8 @@ impl EndDraft {
             poll_ticks: POLL_TICKS,
             max_sends: TRIES,
             room: settings.room.unwrap_or(ROOM),
-            compat: None,
-            block: Items::new(alloc),
+            compat: self.compat,
+            block: self.block.unwrap_or(Items::new(alloc)),
             files: self.files.into_files(),
             words: self.words.into_words(),
         }

@@ -1,5 +1,7 @@
 //! What is wrong with a statement that follows the lines so far: one test for each cause, and the first that fits.
-ghost use Rattle.std.specs.Prelude.{◌≡◌};
+ghost use Rattle.std.specs.Prelude.{◌≡◌, false, not};
+ghost use Rattle.std.specs.Option.{option_map_or};
+ghost use Rattle.data_files.specs.Words.{holds_words};
 ghost use Rattle.line_script.specs.Drafts.{cause_of as the_cause, is_misplaced as the_misplaced, is_missing as the_missing, is_out_of_range as the_range_test, is_twice as the_twice, is_spent as the_spent, is_too_many as the_too_many, declared as the_declared, is_full as the_full, steps_of as the_steps};
 
 use crate::Cause;
@@ -34,22 +36,31 @@ impl Reader {
         ensures { result ≡ the_missing self.now statement.now }
     {
         match statement {
-            Statement::Set { end, .. } | Statement::File { end, .. } => matches!(
+            Statement::Set { end, .. }
+            | Statement::Compat { end, file: None }
+            | Statement::Block { end, .. }
+            | Statement::File { end, .. } => matches!(end, EndName::Absent),
+            Statement::Compat {
                 end,
-                EndName::Absent
-            ),
-            Statement::Word { end, file, .. } => self.declared(*end, *file).is_none(),
+                file: Some(file),
+            }
+            | Statement::Word { end, file, .. } => self.declared(*end, *file).is_none(),
             _ => false,
         }
     }
 
-    /// A number, a word or a length is out of its range.
+    /// A number, a word or a length is out of its range, or a compatibility file is of another type than bit or integer.
     fn is_out_of_range(&self, statement: &Statement) -> bool
         ensures { result ≡ the_range_test self.now statement.now }
     {
         match statement {
             Statement::Check(check) => check.is_none(),
             Statement::Set { setting, .. } => setting.is_none(),
+            Statement::Compat { end, file } => match file {
+                Some(file) => self.is_of_other_type(*end, *file),
+                None => true,
+            },
+            Statement::Block { bytes, .. } => bytes.is_none(),
             Statement::File { end, spec } => spec.is_none() || self.is_full(*end),
             Statement::Word {
                 end,
@@ -78,6 +89,14 @@ impl Reader {
                 end: EndName::Known(side),
                 setting: Some(setting),
             } => self.end(*side).settings.is_given(*setting),
+            Statement::Compat {
+                end: EndName::Known(side),
+                ..
+            } => self.end(*side).compat.is_some(),
+            Statement::Block {
+                end: EndName::Known(side),
+                ..
+            } => self.end(*side).block.is_some(),
             Statement::File {
                 end: EndName::Known(side),
                 spec: Some(spec),
@@ -112,6 +131,16 @@ impl Reader {
         }
     }
 
+    /// Whether the declared file that a line names holds neither bits nor integers.
+    fn is_of_other_type(&self, end: EndName, file: Option<u16>) -> bool
+        ensures { result ≡ option_map_or (λ spec. not (holds_words spec.kind)) (the_declared self.now end file) false }
+    {
+        match self.declared(end, file) {
+            Some(spec) => !spec.holds_words(),
+            None => false,
+        }
+    }
+
     /// Whether an end has as many files as it may have.
     fn is_full(&self, end: EndName) -> bool
         ensures { result ≡ the_full self.now end }
@@ -134,6 +163,8 @@ fn is_misplaced(stage: Stage, statement: &Statement) -> bool
             Stage::Events,
             Statement::Check(_)
             | Statement::Set { .. }
+            | Statement::Compat { .. }
+            | Statement::Block { .. }
             | Statement::File { .. }
             | Statement::Word { .. },
         ) => true,

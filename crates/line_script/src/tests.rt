@@ -8,7 +8,7 @@ use std::alloc::{AllocError, Global};
 use std::test::Fail;
 
 /// Faulty texts, each with its line and its cause.
-const FAULTY: [(&str, u32, Cause); 76] = [
+const FAULTY: [(&str, u32, Cause); 99] = [
     ("", 1, Cause::NoEnd),
     ("ak\n# end\n", 3, Cause::NoEnd),
     ("ak", 2, Cause::NoEnd),
@@ -17,8 +17,8 @@ const FAULTY: [(&str, u32, Cause); 76] = [
     ("end\r", 1, Cause::Form),
     ("set mode half\n", 1, Cause::Form),
     ("station 3\n", 1, Cause::Form),
-    ("set a.compat 7\n", 1, Cause::Form),
-    ("set a.block 01\n", 1, Cause::Form),
+    ("set a.compat\n", 1, Cause::Form),
+    ("set x.block 01\n", 1, Cause::Form),
     ("set b.max_resends 3\n", 1, Cause::Form),
     ("set a.embed\n", 1, Cause::Form),
     ("set x.embed on\n", 1, Cause::Form),
@@ -40,12 +40,26 @@ const FAULTY: [(&str, u32, Cause); 76] = [
     ("set mode full\nset mode full\n", 2, Cause::Place),
     ("at\nset check crc\n", 2, Cause::Place),
     ("at\nset a.node 7\n", 2, Cause::Place),
+    ("file a 7 89 1\nak\nset a.compat 7\n", 3, Cause::Place),
+    ("ak\nset m.compat 7\n", 2, Cause::Place),
+    ("ak\nset a.block 01\n", 2, Cause::Place),
     ("bd\nfile m 7 89 0\n", 2, Cause::Place),
     ("bx\nword b 7 0 1234\n", 2, Cause::Place),
     ("file m 7 89 16\n", 1, Cause::Missing),
     ("file 3 1000 8A 0\n", 1, Cause::Missing),
     ("set 012.embed on\n", 1, Cause::Missing),
     ("set m.node 256\n", 1, Cause::Missing),
+    ("set m.compat x\n", 1, Cause::Missing),
+    ("set 3.block x\n", 1, Cause::Missing),
+    ("set a.compat 7\n", 1, Cause::Missing),
+    ("set a.compat 1000\n", 1, Cause::Missing),
+    ("set a.compat 999999999\n", 1, Cause::Missing),
+    ("file b 7 89 16\nset a.compat 7\n", 2, Cause::Missing),
+    (
+        "file a 7 89 16\nset a.compat 7\nset a.compat 8\n",
+        3,
+        Cause::Missing,
+    ),
     ("word b 7 0 1234\n", 1, Cause::Missing),
     ("word b 1000 0 1234\n", 1, Cause::Missing),
     ("file b 7 89 16\nword a 7 99 1234\n", 2, Cause::Missing),
@@ -59,6 +73,20 @@ const FAULTY: [(&str, u32, Cause); 76] = [
     ("set b.max_enqs 256\n", 1, Cause::Value),
     ("set b.reply_ticks 32\n", 1, Cause::Value),
     ("set a.room 65\n", 1, Cause::Value),
+    ("set a.compat x\n", 1, Cause::Value),
+    ("set a.compat 0000000007\n", 1, Cause::Value),
+    ("file a 7 84 16\nset a.compat 7\n", 2, Cause::Value),
+    ("file a 7 86 16\nset a.compat 7\n", 2, Cause::Value),
+    ("file a 7 87 16\nset a.compat 7\n", 2, Cause::Value),
+    ("file a 7 88 16\nset a.compat 7\n", 2, Cause::Value),
+    (
+        "file a 7 89 16\nfile a 8 8A 16\nset a.compat 7\nset a.compat 8\n",
+        4,
+        Cause::Value,
+    ),
+    ("set a.block 0\n", 1, Cause::Value),
+    ("set a.block 0G\n", 1, Cause::Value),
+    ("set b.block 01\nset b.block on\n", 2, Cause::Value),
     ("file b 1000 89 16\n", 1, Cause::Value),
     ("file b 7 83 16\n", 1, Cause::Value),
     ("file b 7 8a 16\n", 1, Cause::Value),
@@ -95,6 +123,21 @@ const FAULTY: [(&str, u32, Cause); 76] = [
     ("set check bcc\nset check bcc\n", 2, Cause::Twice),
     (
         "set a.node 0\nset b.node 0\nset a.node 1\n",
+        3,
+        Cause::Twice,
+    ),
+    (
+        "file a 7 89 1\nset a.compat 7\nset a.compat 07\n",
+        3,
+        Cause::Twice,
+    ),
+    (
+        "file a 7 89 1\nset a.compat 7\nfile a 7 8A 1\n",
+        3,
+        Cause::Twice,
+    ),
+    (
+        "set a.block 01\nset b.block 01\nset a.block 02\n",
         3,
         Cause::Twice,
     ),
@@ -163,10 +206,24 @@ fn limits_hold_to_the_last_byte_command_and_event(rt: HostRuntime) -> Result<(),
     assert_eq!(rt; told(alloc, &text), None);
     let text = repeated(alloc, b"#", 1024, b"\r\nend")?;
     assert_eq!(rt; told(alloc, &text), at(1, Cause::Long));
-    // The length of a payload, and of foreign bytes.
+    // The length of a payload, of a block, and of foreign bytes.
     let text = repeated(alloc, b"ai ", 1, &repeated(alloc, b"06", 245, b"\nend")?)?;
     assert_eq!(rt; told(alloc, &text), None);
     let text = repeated(alloc, b"ai ", 1, &repeated(alloc, b"06", 246, b"\nend")?)?;
+    assert_eq!(rt; told(alloc, &text), at(1, Cause::Value));
+    let text = repeated(
+        alloc,
+        b"set a.block ",
+        1,
+        &repeated(alloc, b"fF", 244, b"\nend")?,
+    )?;
+    assert_eq!(rt; told(alloc, &text), None);
+    let text = repeated(
+        alloc,
+        b"set a.block ",
+        1,
+        &repeated(alloc, b"fF", 245, b"\nend")?,
+    )?;
     assert_eq!(rt; told(alloc, &text), at(1, Cause::Value));
     let text = repeated(alloc, b"an ", 1, &repeated(alloc, b"fF", 250, b"\nend")?)?;
     assert_eq!(rt; told(alloc, &text), None);
@@ -199,7 +256,8 @@ fn byte_16777217_ends_the_text(rt: HostRuntime) -> Result<(), Fail> {
 fn a_script_says_what_its_lines_say(rt: HostRuntime) -> Result<(), Fail> {
     let text =
         "# a script\r\nset mode full\r\n\tset check\tcrc \nset a.embed on\nset b.node 7\n set b.room 64\n\
-        file b 7 89 16\nfile b 010 89 1\nword b 7 15 12aB\nword b 10 0 fFfF\n\n\
+        file b 7 89 16\nfile b 010 85 1\nword b 7 15 12aB\nword b 10 0 fFfF\n\
+        set b.compat 0010\nset b.block 01fE\n\n\
         ai 0fAA\nbi 06\nak\nbt 03\nbd 4000\nax 2\nac 0f\nbn 1015\nend\n# more\n";
     let script = read_script(rt.alloc(), text.as_bytes())?;
     assert!(rt; !script.half);
@@ -224,18 +282,19 @@ fn a_script_says_what_its_lines_say(rt: HostRuntime) -> Result<(), Fail> {
         (3, 10, 3, None)
     );
     assert!(rt; a.block.as_slice().is_empty());
+    assert_eq!(rt; b.compat, Some(10));
+    assert_eq!(rt; b.block.as_slice(), b"\x01\xfe".as_slice());
     assert!(rt; a.files.as_slice().is_empty());
     assert!(rt; a.words.as_slice().is_empty());
-    let kind = FileType::Integer;
     let files = [
         FileSpec {
             number: 7,
-            kind,
+            kind: FileType::Integer,
             count: 16,
         },
         FileSpec {
             number: 10,
-            kind,
+            kind: FileType::Bit,
             count: 1,
         },
     ];

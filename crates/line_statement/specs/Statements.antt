@@ -1,5 +1,6 @@
 -- What one line of a script says, by the table of the forms.
 use Rattle.std.specs.Prelude.{ℕ, Bool, false, true, List, [], ◌∷◌, length, take, drop, position, Option, Some, None, option_map, is_some, bit_and, nat_le, ◌==◌, ◌&&◌, ◌||◌, if◌then◌else◌, codes}
+use Rattle.std.specs.Option.{option_map_or}
 use Rattle.std.specs.Str.{bytes_eq}
 use Rattle.df1_base.specs.declared.file_type.FileType.{FileType}
 use Rattle.df1_base.specs.declared.file_type.FileType.TheVariants.{Status, Bit, Timer, Counter, Control, Integer, Float}
@@ -65,10 +66,37 @@ abbrev pub set_statement : Option EndName → Option (Option Setting) → Option
 set_statement (Some end) (Some setting) = Some (statement.Set end setting)
 set_statement end setting = None
 
+-- the number of a file, where a file may have it: None for a word that is no number, None inside for a number over 999
+abbrev pub file_number : List ℕ → Option (Option ℕ)
+file_number value = option_map (λ number. within 0 999 (Some number)) (number_of value)
+
+abbrev pub compat_line : Option EndName → Option (Option ℕ) → Option Statement
+compat_line None file = None
+compat_line (Some end) file = Some (statement.Compat end file)
+
+-- 1 to 244 bytes
+abbrev pub is_block : List ℕ → Bool
+is_block bytes = nat_le 1 (length bytes) && nat_le (length bytes) 244
+
+abbrev pub block_of : Option (List ℕ) → Option (List ℕ)
+block_of None = None
+block_of (Some bytes) = if is_block bytes then Some bytes else None
+
+abbrev pub block_line : Option EndName → Option (List ℕ) → Option Statement
+block_line None bytes = None
+block_line (Some end) bytes = Some (statement.Block end (block_of bytes))
+
+-- a name with its full stop: the compatibility file, the block, or a setting
+abbrev pub named_line : Option EndName → List ℕ → List ℕ → Option Statement
+named_line end name value =
+    if bytes_eq name (codes ".compat") then compat_line end (file_number value)
+    else if bytes_eq name (codes ".block") then block_line end (hex_of value)
+    else set_statement end (setting_of name value)
+
 -- the end stands before the first full stop of a key, and the name of the setting from there on
 abbrev pub setting_at : List ℕ → List ℕ → Option ℕ → Option Statement
 setting_at key value None = None
-setting_at key value (Some stop) = set_statement (end_of (take stop key)) (setting_of (drop stop key) value)
+setting_at key value (Some stop) = named_line (end_of (take stop key)) (drop stop key) value
 
 abbrev pub end_setting : List ℕ → List ℕ → Option Statement
 end_setting key value = setting_at key value (position (λ byte. byte == 46) key)
@@ -182,3 +210,15 @@ statement_of (word ∷ operand ∷ []) = operand_event word operand
 statement_of (verb ∷ key ∷ value ∷ []) = three_words verb key value
 statement_of (verb ∷ end ∷ first ∷ second ∷ third ∷ []) = five_words verb end first second third
 statement_of other = None
+
+-- ---- memory
+
+-- a key names the block of an end
+abbrev pub is_block_key : List ℕ → Bool
+is_block_key key = option_map_or (λ stop. bytes_eq (drop stop key) (codes ".block")) (position (λ byte. byte == 46) key) false
+
+-- reading these words takes memory: an event with an operand, or the block of an end
+abbrev pub takes_memory : List (List ℕ) → Bool
+takes_memory (word ∷ operand ∷ []) = true
+takes_memory (verb ∷ key ∷ value ∷ []) = bytes_eq verb (codes "set") && is_block_key key
+takes_memory other = false

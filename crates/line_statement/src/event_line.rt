@@ -1,10 +1,10 @@
 //! The lines that are events: an end and a verb in one word, and in most an operand.
-ghost use Rattle.std.specs.Prelude.{◌≡◌, ◌&&◌, IfOk, Some, length, nat_le};
+ghost use Rattle.std.specs.Prelude.{◌≡◌, IfOk, Some};
 ghost use Rattle.line_statement.specs.Statements.{side_of as the_side, verb_of as the_verb, times_line as the_times, bare_event as the_bare, operand_event as the_operand, event_of_side as the_event, issue_line as the_issue, alter_line as the_alter, foreign_line as the_foreign, is_payload as the_test};
 
 use crate::Bytes;
 use crate::statement::{EVENTS, Side, Statement, Verb};
-use crate::words::{byte_of, hex_of, number_of, within};
+use crate::words::{byte_of, hex_of, is_within, number_of, within};
 use df1_base::{MAX_BODY, MAX_PAYLOAD, NoMemory, REPLY};
 use std::alloc::Global;
 
@@ -133,11 +133,4 @@ fn foreign_line(side: Side, bytes: Option<Bytes>) -> Option<Statement>
         None
     };
     Some(Statement::Foreign { side, bytes })
-}
-
-/// Whether there are this many bytes, from the least to the most.
-fn is_within(least: usize, most: usize, bytes: &[u8]) -> bool
-    ensures { result ≡ (nat_le least (length bytes.now) && nat_le (length bytes.now) most) }
-{
-    least <= bytes.len() && bytes.len() <= most
 }

@@ -1,12 +1,16 @@
-//! The lines that begin with `set`: the mode, the check, and the settings of an end, each with the values that it may
-//! have.
-ghost use Rattle.std.specs.Prelude.{◌≡◌, ◌==◌, option_map, position};
-ghost use Rattle.line_statement.specs.Statements.{set_line as the_set, end_setting as the_end_setting, set_statement as the_set_statement, setting_of as the_setting, check_of as the_check, switch_of as the_switch};
+//! The lines that begin with `set`: the mode, the check, and of an end the settings, the compatibility file and the block,
+//! each with the values that it may have.
+ghost use Rattle.std.specs.Prelude.{◌≡◌, ◌==◌, IfOk, IsTrue, OnErr, None, Some, codes, option_map, position, if◌then◌else◌};
+ghost use Rattle.std.specs.Str.{bytes_eq};
+ghost use Rattle.line_statement.specs.Statements.{set_line as the_set, end_setting as the_end_setting, named_line as the_named, compat_line as the_compat, block_line as the_block_line, block_of as the_block, file_number as the_file, is_block_key, set_statement as the_set_statement, setting_of as the_setting, check_of as the_check, switch_of as the_switch};
 ghost use Rattle.line_statement.specs.Words.{number_of as the_number, within as the_bounded};
 
-use crate::statement::{EndName, Statement, end_of};
-use crate::words::{is, number_of, within};
+use crate::Bytes;
+use crate::statement::{EndName, Statement, end_of, file_number};
+use crate::words::{hex_of, is, is_within, number_of, within};
+use df1_base::{MAX_DATA, NoMemory};
 use df1_check::Check;
+use std::alloc::Global;
 
 /// The highest count of ticks.
 const TICKS: u32 = 1_000_000;
@@ -33,19 +37,31 @@ pub enum Setting {
 }
 
 /// What `set` with a key and a value says, if the key is one.
-pub(crate) fn set_line(key: &[u8], value: &[u8]) -> Option<Statement>
-    ensures { result ≡ the_set key.now value.now }
+pub(crate) fn set_line(
+    alloc: Global,
+    key: &[u8],
+    value: &[u8],
+) -> Result<Option<Statement>, NoMemory>
+    ensures value { IfOk result (λ s. s ≡ the_set key.now value.now) }
+    ensures memory { OnErr result (IsTrue (is_block_key key.now)) }
 {
     if is(key, "mode") {
-        if is(value, "full") {
-            Some(Statement::Mode)
-        } else {
-            None
-        }
+        Ok(mode_of(value))
     } else if is(key, "check") {
-        Some(Statement::Check(check_of(value)))
+        Ok(Some(Statement::Check(check_of(value))))
     } else {
-        end_setting(key, value)
+        end_setting(alloc, key, value)
+    }
+}
+
+/// The mode that a word names.
+fn mode_of(value: &[u8]) -> Option<Statement>
+    ensures { result ≡ (if bytes_eq value.now (codes "full") then Some Statement.Mode else None) }
+{
+    if is(value, "full") {
+        Some(Statement::Mode)
+    } else {
+        None
     }
 }
 
@@ -63,15 +79,71 @@ fn check_of(value: &[u8]) -> Option<Check>
 }
 
 /// A setting of an end: its key is the end, a full stop and a name.
-fn end_setting(key: &[u8], value: &[u8]) -> Option<Statement>
-    ensures { result ≡ the_end_setting key.now value.now }
+fn end_setting(alloc: Global, key: &[u8], value: &[u8]) -> Result<Option<Statement>, NoMemory>
+    ensures value { IfOk result (λ s. s ≡ the_end_setting key.now value.now) }
+    ensures memory { OnErr result (IsTrue (is_block_key key.now)) }
 {
     match stop_of(key) {
         Some(stop) => {
             let (end, name) = key.split_at(stop);
-            set_statement(end_of(end), setting_of(name, value))
+            named_line(alloc, end_of(end), name, value)
         }
-        None => None,
+        None => Ok(None),
+    }
+}
+
+/// What a name with its full stop and a value say of an end. A block alone takes memory.
+fn named_line(
+    alloc: Global,
+    end: Option<EndName>,
+    name: &[u8],
+    value: &[u8],
+) -> Result<Option<Statement>, NoMemory>
+    ensures value { IfOk result (λ s. s ≡ the_named end name.now value.now) }
+    ensures memory { OnErr result (IsTrue (bytes_eq name.now (codes ".block"))) }
+{
+    if is(name, ".compat") {
+        Ok(compat_line(end, file_of(value)))
+    } else if is(name, ".block") {
+        Ok(block_line(end, hex_of(alloc, value)?))
+    } else {
+        Ok(set_statement(end, setting_of(name, value)))
+    }
+}
+
+/// The number of a file: None for a word that is no number, and None inside for a number that no file has.
+fn file_of(value: &[u8]) -> Option<Option<u16>>
+    ensures { result ≡ the_file value.now }
+{
+    number_of(value).map(file_number)
+}
+
+/// The compatibility file of an end.
+fn compat_line(end: Option<EndName>, file: Option<Option<u16>>) -> Option<Statement>
+    ensures { result ≡ the_compat end file }
+{
+    Some(Statement::Compat { end: end?, file })
+}
+
+/// The block of an end.
+fn block_line(end: Option<EndName>, bytes: Option<Bytes>) -> Option<Statement>
+    ensures { result ≡ the_block_line end bytes }
+{
+    Some(Statement::Block {
+        end: end?,
+        bytes: block_of(bytes),
+    })
+}
+
+/// A block, where it has 1 to 244 bytes.
+fn block_of(bytes: Option<Bytes>) -> Option<Bytes>
+    ensures { result ≡ the_block bytes }
+{
+    let bytes = bytes?;
+    if is_within(1, MAX_DATA, bytes.as_slice()) {
+        Some(bytes)
+    } else {
+        None
     }
 }
 

@@ -1,8 +1,9 @@
 //! What one line of a script says, by the table of the forms. A value, number or length that is out of its range
 //! leaves its field None: such a line still is one of the forms.
-ghost use Rattle.std.specs.Prelude.{◌≡◌, map, IfOk, OnErr, length, Some};
+ghost use Rattle.std.specs.Prelude.{◌≡◌, ◌&&◌, map, IfOk, IsTrue, OnErr, Some, codes};
+ghost use Rattle.std.specs.Str.{bytes_eq};
 ghost use Rattle.line_statement.specs.Words.{within as the_bounded};
-ghost use Rattle.line_statement.specs.Statements.{end_of as the_end, other_end, who_of, statement_of as the_statement, one_word as the_one, three_words as the_three, file_line as the_file, word_line as the_word, five_words as the_five, file_spec as the_spec, file_type as the_type};
+ghost use Rattle.line_statement.specs.Statements.{end_of as the_end, other_end, who_of, statement_of as the_statement, one_word as the_one, three_words as the_three, file_line as the_file, word_line as the_word, five_words as the_five, file_spec as the_spec, file_type as the_type, is_block_key, takes_memory};
 
 use crate::event_line::{bare_event, operand_event};
 use crate::set_line::{Setting, set_line};
@@ -85,6 +86,16 @@ pub enum Statement {
         end: EndName,
         setting: Option<Setting>,
     },
+    /// The compatibility file of an end, by its number: None inside for a number that no file has.
+    Compat {
+        end: EndName,
+        file: Option<Option<u16>>,
+    },
+    /// What a station tells as its status.
+    Block {
+        end: EndName,
+        bytes: Option<Bytes>,
+    },
     /// A data file of an end.
     File {
         end: EndName,
@@ -122,16 +133,17 @@ pub enum Statement {
     End,
 }
 
-/// What the words of a line say, if they are one of the forms. Lines of two words alone take memory.
+/// What the words of a line say, if they are one of the forms. Lines of two words, and those that give a block, alone take
+/// memory.
 #[tactic(auto, unfolding(crate::specs::Statements::statement_of))]
 pub fn statement_of(alloc: Global, words: &[&[u8]]) -> Result<Option<Statement>, NoMemory>
     ensures value { IfOk result (λ s. s ≡ the_statement (map (λ x. x.now) words.now)) }
-    ensures memory { OnErr result (length words.now ≡ 2) }
+    ensures memory { OnErr result (IsTrue (takes_memory (map (λ x. x.now) words.now))) }
 {
     match words {
         [word] => Ok(one_word(word)),
         [word, operand] => operand_event(alloc, word, operand),
-        [verb, key, value] => Ok(three_words(verb, key, value)),
+        [verb, key, value] => three_words(alloc, verb, key, value),
         [verb, end, first, second, third] => Ok(five_words(verb, end, first, second, third)),
         _ => Ok(None),
     }
@@ -149,13 +161,19 @@ fn one_word(word: &[u8]) -> Option<Statement>
 }
 
 /// The forms of three words.
-fn three_words(verb: &[u8], key: &[u8], value: &[u8]) -> Option<Statement>
-    ensures { result ≡ the_three verb.now key.now value.now }
+fn three_words(
+    alloc: Global,
+    verb: &[u8],
+    key: &[u8],
+    value: &[u8],
+) -> Result<Option<Statement>, NoMemory>
+    ensures value { IfOk result (λ s. s ≡ the_three verb.now key.now value.now) }
+    ensures memory { OnErr result (IsTrue (bytes_eq verb.now (codes "set") && is_block_key key.now)) }
 {
     if is(verb, "set") {
-        set_line(key, value)
+        set_line(alloc, key, value)
     } else {
-        None
+        Ok(None)
     }
 }
 
@@ -235,7 +253,7 @@ fn file_spec(number: u32, kind: Option<FileType>, count: u32) -> Option<FileSpec
 }
 
 /// The number of a file, where a file may have it.
-fn file_number(number: u32) -> Option<u16>
+pub(crate) fn file_number(number: u32) -> Option<u16>
     ensures { result ≡ the_bounded 0 999 (Some number) }
 {
     let number = within(0, FILE_NUMBER, Some(number))?;

@@ -1,6 +1,6 @@
 //! The words of a line, and the statement that they make.
 
-use crate::{Side, Statement, Verb, statement_of, words_of};
+use crate::{EndName, Side, Statement, Verb, statement_of, words_of};
 use df1_base::FileType;
 use std::alloc::Global;
 use std::test::Fail;
@@ -24,10 +24,11 @@ fn blanks_and_tabs_part_words(rt: HostRuntime) -> Result<(), Fail> {
 #[test]
 fn a_line_says_its_statement(rt: HostRuntime) -> Result<(), Fail> {
     let alloc = rt.alloc();
-    let (last, lost, issued) = (
+    let (last, lost, issued, block) = (
         said(alloc, "end"),
         said(alloc, "bx 007"),
         said(alloc, "ai 0fAA"),
+        said(alloc, "set m.block 01Fe"),
     );
     assert!(rt; matches!(&last, Some(Statement::End)));
     assert!(rt;
@@ -42,6 +43,9 @@ fn a_line_says_its_statement(rt: HostRuntime) -> Result<(), Fail> {
     );
     assert!(rt;
         matches!(&issued, Some(Statement::Issue { side: Side::A, payload: Some(payload) }) if payload.as_slice() == b"\x0f\xaa".as_slice())
+    );
+    assert!(rt;
+        matches!(&block, Some(Statement::Block { end: EndName::Absent, bytes: Some(bytes) }) if bytes.as_slice() == b"\x01\xfe".as_slice())
     );
     assert!(rt; said(alloc, "").is_none());
     Ok(())
@@ -77,4 +81,73 @@ fn a_type_is_named_letter_for_letter(rt: HostRuntime) {
     for (word, kind) in TYPES {
         assert_eq!(rt; type_of(rt.alloc(), word), Some(kind));
     }
+}
+
+/// Words that name a compatibility file: None for one that is no number, None inside for a number that no file has.
+const COMPATS: [(&str, Option<Option<u16>>); 7] = [
+    ("7", Some(Some(7))),
+    ("0", Some(Some(0))),
+    ("000000999", Some(Some(999))),
+    ("1000", Some(None)),
+    ("999999999", Some(None)),
+    ("1000000000", None),
+    ("N7", None),
+];
+
+/// The file that a line makes the compatibility file of end b, if it is such a line.
+fn compat_of(alloc: Global, word: &str) -> Option<Option<Option<u16>>> {
+    let words = [b"set".as_slice(), b"b.compat", word.as_bytes()];
+    match statement_of(alloc, &words) {
+        Ok(
+            Some(
+                Statement::Compat {
+                    end: EndName::Known(Side::B),
+                    file,
+                },
+            ),
+        ) => Some(file),
+        _ => None,
+    }
+}
+
+#[test]
+fn a_compatibility_file_is_named_by_its_number(rt: HostRuntime) {
+    for (word, file) in COMPATS {
+        assert_eq!(rt; compat_of(rt.alloc(), word), Some(file), "in {word:?}");
+    }
+}
+
+/// How many pairs of digits the block of a line has, and whether they make a block.
+const BLOCKS: [(usize, bool); 4] = [(0, false), (1, true), (244, true), (245, false)];
+
+/// The length of the block that a line with this value gives to end a, if it is such a line.
+fn block_of(alloc: Global, value: &[u8]) -> Option<Option<usize>> {
+    let words = [b"set".as_slice(), b"a.block", value];
+    match statement_of(alloc, &words) {
+        Ok(
+            Some(
+                Statement::Block {
+                    end: EndName::Known(Side::A),
+                    bytes,
+                },
+            ),
+        ) => Some(bytes.map(|block| block.as_slice().len())),
+        _ => None,
+    }
+}
+
+#[test]
+fn a_block_has_1_to_244_bytes(rt: HostRuntime) -> Result<(), Fail> {
+    let alloc = rt.alloc();
+    for (pairs, is_block) in BLOCKS {
+        let mut digits = Vec::new(alloc);
+        for _ in 0..pairs {
+            digits.extend_from_slice(b"0f")?;
+        }
+        let want = if is_block { Some(pairs) } else { None };
+        assert_eq!(rt; block_of(alloc, &digits), Some(want), "at {pairs}");
+    }
+    assert_eq!(rt; block_of(alloc, b"0f0"), Some(None));
+    assert_eq!(rt; block_of(alloc, b"on"), Some(None));
+    Ok(())
 }

@@ -1,6 +1,6 @@
 //! Words of a script line, parted by blanks or tabs, and what a word means by itself: a number of 1 to 9 decimal
 //! digits, or pairs of hexadecimal digits of either case.
-ghost use Rattle.std.specs.Prelude.{◌≡◌, map, IfOk};
+ghost use Rattle.std.specs.Prelude.{◌≡◌, ◌&&◌, map, IfOk, length, nat_le};
 ghost use Rattle.std.specs.Str.{bytes_eq};
 ghost use Rattle.hex.specs.Hex.{decode_of, decode_sized};
 ghost use Rattle.line_statement.specs.Words.{words, is_blank as the_blank, number_of, within, hex_of as the_bytes, byte_of as the_byte, register_of as the_register, byte_in, register_in};
@@ -55,6 +55,13 @@ pub(crate) fn within(least: u32, most: u32, number: Option<u32>) -> Option<u32>
         Some(n) if least <= n && n <= most => Some(n),
         _ => None,
     }
+}
+
+/// Whether there are this many bytes, from the least to the most.
+pub(crate) fn is_within(least: usize, most: usize, bytes: &[u8]) -> bool
+    ensures { result ≡ (nat_le least (length bytes.now) && nat_le (length bytes.now) most) }
+{
+    least <= bytes.len() && bytes.len() <= most
 }
 
 /// Whether a word is this text.

@@ -1,0 +1,11 @@
+use Rattle.std.proofs.Common.{◌≡◌, ◌==◌, length, false, Ok}
+use Rattle.line_script.specs.Lines.{after_line, text_line}
+use Rattle.line_script.specs.ScriptText.{with_event}
+use Rattle.line_script.proofs.Reading.{one_line}
+use Rattle.line_script.proofs.whole_text.read_rest.Goals as goal
+
+pub returns-in-Ok : goal.returns-in-Ok
+returns-in-Ok c =
+    let some : (length c.args.rest.now == 0) ≡ false = rw (← c.is_empty.ensures) c.if-is_empty.false in
+    let read : with_event c.args.events (after_line c.args.reader (text_line c.args.start c.args.rest.now false)) ≡ Ok (c.read_line.new.reader, c.read_line.new.events) = c.in-Ok.ensures in
+    rw (one_line c.args.start c.args.rest.now some, read) c.finish-in-Ok.ensures
