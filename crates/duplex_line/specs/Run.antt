@@ -3,7 +3,7 @@ use Rattle.std.specs.Prelude.{ℕ, ◌+◌, List, [], ◌∷◌, ◌++◌, map, 
 use Rattle.std.specs.List.{flat_map}
 use Rattle.df1_check.specs.declared.Check.{Check}
 use Rattle.df1_node.specs.declared.handed.Handed.TheVariants as handed
-use Rattle.data_files.specs.Tables.{DataTables, fits_compat, fresh, has_word, with_word, word_at, word_count}
+use Rattle.data_files.specs.Tables.{DataTables, fresh, has_word, with_word, word_at, word_count}
 use Rattle.df1_node.specs.Answer.{StationState}
 use Rattle.df1_node.specs.Node.{NodeState}
 use Rattle.duplex_sender.specs.declared.Limits.{Limits}
@@ -36,12 +36,8 @@ with_all tables (w ∷ words) = with_all (with_first tables w) words
 abbrev pub first_tables : EndPlan → DataTables
 first_tables plan = with_all (fresh plan.files) plan.words
 
--- the compatibility file, where it is one of the files and holds bits or integers
-abbrev pub first_compat : EndPlan → Option ℕ
-first_compat plan = if fits_compat (first_tables plan).specs plan.compat then plan.compat else None
-
 abbrev pub first_station : EndPlan → StationState
-first_station plan = record { tables = first_tables plan; compat = first_compat plan; block = plan.block }
+first_station plan = record { tables = first_tables plan; compat = plan.compat; block = plan.block }
 
 abbrev pub first_node : EndPlan → NodeState
 first_node plan = record {

@@ -1,7 +1,7 @@
 //! The two ends before the first event of a script.
 
-ghost use Rattle.std.specs.Prelude.{◌≡◌, ◌≤◌, IfOk, None, length, if◌then◌else◌};
-ghost use Rattle.data_files.specs.Tables.{faults, fits_compat, fresh};
+ghost use Rattle.std.specs.Prelude.{◌≡◌, IfOk, None};
+ghost use Rattle.data_files.specs.Tables.{faults, fresh};
 ghost use Rattle.line_script.specs.Playable.{IsPlanOf};
 ghost use Rattle.duplex_line.specs.Run.{first_side, first_node, first_station, first_tables, limits_of, setup_of, with_all};
 
@@ -58,8 +58,7 @@ fn station_of(alloc: Global, plan: &EndPlan) -> Result<Station, NoMemory>
     ensures { IfOk result (λ station. station ≡ first_station plan.now) }
 {
     let tables = tables_of(alloc, plan)?;
-    let compat = compat_of(&tables, plan.compat);
-    Ok(Station::new(tables, compat, plan.block.as_slice()))
+    Ok(Station::new(tables, plan.compat, plan.block.as_slice()))
 }
 
 /// The data tables of an end: its files, with the first values of their words.
@@ -91,12 +90,4 @@ fn set_words(tables: &mut Tables, words: &[WordOf])
     for word in words {
         let _ = tables.set(word.file, word.index, word.value);
     }
-}
-
-/// The compatibility file, where it is one of the files and holds bits or integers.
-fn compat_of(tables: &Tables, compat: Option<u16>) -> Option<u16>
-    ensures { result ≡ (if fits_compat tables.now.specs compat then compat else None) }
-{
-    let spec = tables.spec(compat?)?;
-    if spec.holds_words() { compat } else { None }
 }

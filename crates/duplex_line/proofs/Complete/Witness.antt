@@ -30,8 +30,8 @@ pub one_write-playable : IsPlayable one_write
 one_write-playable = record {
   mode = refl;
   ends = (
-    record { end = refl; files = refl; words = All-nil _; ack_ticks = (omega arith, omega arith); max_naks = omega arith; max_enqs = omega arith; reply_ticks = (omega arith, omega arith); max_resends = omega arith; poll_ticks = (omega arith, omega arith); max_sends = (omega arith, omega arith); room = (omega arith, omega arith); block = omega arith },
-    record { end = refl; files = refl; words = All-nil _; ack_ticks = (omega arith, omega arith); max_naks = omega arith; max_enqs = omega arith; reply_ticks = (omega arith, omega arith); max_resends = omega arith; poll_ticks = (omega arith, omega arith); max_sends = (omega arith, omega arith); room = (omega arith, omega arith); block = omega arith },
+    record { end = refl; files = refl; words = All-nil _; ack_ticks = (omega arith, omega arith); max_naks = omega arith; max_enqs = omega arith; reply_ticks = (omega arith, omega arith); max_resends = omega arith; poll_ticks = (omega arith, omega arith); max_sends = (omega arith, omega arith); room = (omega arith, omega arith); compat = refl; block = omega arith },
+    record { end = refl; files = refl; words = All-nil _; ack_ticks = (omega arith, omega arith); max_naks = omega arith; max_enqs = omega arith; reply_ticks = (omega arith, omega arith); max_resends = omega arith; poll_ticks = (omega arith, omega arith); max_sends = (omega arith, omega arith); room = (omega arith, omega arith); compat = refl; block = omega arith },
   );
   events = all-possible one_write.events ((refl, refl), ((refl, (omega arith, omega arith)), ((refl, (omega arith, omega arith)), ((refl, (omega arith, omega arith)), ((refl, (omega arith, omega arith)), ((refl, (omega arith, omega arith)), ((refl, (omega arith, omega arith)), tt)))))));
   commands_of_a = omega arith;
