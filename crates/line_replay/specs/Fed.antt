@@ -12,7 +12,7 @@ use Rattle.line_script.specs.Lines.{script_with}
 use Rattle.line_script.specs.Playable.{IsPlayable, count_of}
 use Rattle.line_script.specs.ScriptText.{script_of}
 use Rattle.line_report.specs.Report.{line_text, report}
-use Rattle.duplex_line.specs.Plays.{Played}
+use Rattle.duplex_line.specs.Plays.{Played, begun}
 use Rattle.duplex_line.specs.Run.{last_state, lines_after, lines_of, record_of, start}
 use Rattle.line_replay.specs.declared.replayer.StreamFault.{StreamFault}
 use Rattle.line_replay.specs.declared.replayer.StreamFault.TheVariants as stream
@@ -56,6 +56,11 @@ played_out script = record { state = last_state script; lines = []; events = sum
 abbrev pub IsWorldOf : Script → Option Played → Type 0
 IsWorldOf script None = script.events ≡ []
 IsWorldOf script (Some world) = (script.events ≢ []) × (world ≡ played_out script)
+
+-- the world that the next event is played on: the one that there is, or a new one
+abbrev pub world_for : Script → Option Played → Played
+world_for script None = begun script
+world_for script (Some world) = world
 
 -- A replay stands for the text that it was fed: its reader does, and its world is that after the events of the lines so far.
 pub record IsReplayOf (text : List ℕ) (r : Replaying) : Type 0 where
@@ -105,3 +110,9 @@ abbrev pub IsRefusedAs : List ℕ → StreamFault → Type 0
 IsRefusedAs text (stream.At line cause) = script_of text ≡ Err (line, cause)
 IsRefusedAs text stream.SinkFailed = Unit {0}
 IsRefusedAs text stream.NoMemory = Unit {0}
+
+-- what playing an event may come to
+abbrev pub IsFromPlay : StreamFault → Type 0
+IsFromPlay (stream.At line cause) = ⊥
+IsFromPlay stream.SinkFailed = Unit {0}
+IsFromPlay stream.NoMemory = Unit {0}

@@ -2,6 +2,7 @@
 #![tactic(auto)]
 
 mod play;
+mod replayer;
 
 pub use duplex_line::World;
 pub use line_report::{Line, Lines, Record, print};
@@ -10,6 +11,7 @@ pub use line_script::{
     WordOf, Words, read_script,
 };
 pub use play::replay;
+pub use replayer::{Replayer, StreamFault};
 
 #[cfg(test)]
 mod tests;

@@ -4,14 +4,14 @@ ghost use Rattle.df1_base.specs.Outside.{Rose, Put, WrotePart};
 ghost use Rattle.line_script.specs.declared.script.Event.{Event as OneEvent};
 ghost use Rattle.line_replay.specs.declared.replayer.StreamFault.{StreamFault as Stopped};
 ghost use Rattle.line_script.specs.Lines.{script_with};
+ghost use Rattle.line_script.specs.Playable.{IsPlayable};
 ghost use Rattle.duplex_line.specs.Plays.{IsNext, played, printed};
 ghost use Rattle.line_report.specs.Report.{line_text};
 ghost use Rattle.std.specs.List.{flat_map};
-ghost use Rattle.line_replay.specs.Fed.{IsDue, IsRefusedAs, IsRefusedHere, IsReplay, IsReplayOf, IsWorldOf, ShowsFront, ShowsMore, event_text, shown, told};
+ghost use Rattle.line_replay.specs.Fed.{IsDue, IsFromPlay, IsRefusedHere, IsReplay, IsReplayOf, IsWorldOf, ShowsFront, ShowsMore, event_text, shown, told, world_for};
 
 use crate::{Cause, Event, World};
 use df1_base::{Failed, NoMemory, Sink};
-use line_report::print;
 use line_script::{ScriptFault, TextReader};
 use std::alloc::Global;
 use std::marker::Model;
@@ -144,4 +144,33 @@ impl Replayer {
             None => unreachable!(),
         }
     }
+
+    /// Makes the world that events happen on, where there is none.
+    fn begin(&mut self) -> Result<(), NoMemory>
+        requires { IsPlayable (script_with self.old.text.reader []) }
+        ensures text { self.new.text ≡ self.old.text }
+        ensures world { OnOk result (self.new.world ≡ Some (world_for (script_with self.old.text.reader []) self.old.world)) }
+    {
+        if self.world.is_none() {
+            let script = self.text.setup()?;
+            self.world = Some(World::new(self.alloc, &script)?);
+        }
+        Ok(())
+    }
+}
+
+/// Lets an event happen on a world, and writes the report's lines that stand then.
+fn play_on<K: Sink>(world: &mut World, event: &Event, sink: &mut K) -> Result<(), StreamFault>
+    requires { IsNext world.old event.now }
+    ensures ok { OnOk result ((world.new ≡ printed (played world.old event.now)) × Put (K.held sink.old) (K.held sink.new) (flat_map line_text (played world.old event.now).lines)) }
+    ensures part { WrotePart (K.held sink.old) (K.held sink.new) (flat_map line_text (played world.old event.now).lines) }
+    ensures silent { IfErr result (λ fault. fault ≢ Stopped.SinkFailed → sink.new ≡ sink.old) }
+    ensures known { IfErr result IsFromPlay }
+    ensures calm { OnOk result (K.faults sink.new ≡ K.faults sink.old) }
+    ensures later { K.faults sink.old ≤ K.faults sink.new }
+    ensures cause { IsErrOf result StreamFault.SinkFailed → Rose (K.faults sink.old) (K.faults sink.new) }
+{
+    world.step(event)?;
+    world.print_lines(sink)?;
+    Ok(())
 }
