@@ -26,7 +26,7 @@ pub enum Cause {
     /// It names an end that full duplex hasn't, or a file that no earlier line declares.
     #[error("missing")]
     Missing,
-    /// A number, a word or a length is out of its range.
+    /// A number, a word or a length is out of its range, or a compatibility file is of another type than bit or integer.
     #[error("value")]
     Value,
     /// An earlier line gave this key, file or word.

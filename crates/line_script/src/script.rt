@@ -77,7 +77,7 @@ pub struct EndPlan {
     pub max_sends: u32,
     /// How many replies may wait: 2 to 64.
     pub room: usize,
-    /// The number of the compatibility file.
+    /// The number of the compatibility file, a bit or integer file of the end.
     pub compat: Option<u16>,
     /// The status block, at most 244 bytes.
     pub block: Bytes,

@@ -86,12 +86,13 @@ pub enum Statement {
         end: EndName,
         setting: Option<Setting>,
     },
-    /// The compatibility file of an end, by its number: None inside for a number that no file has.
+    /// The compatibility file of an end, by its number: None for a word that is no number, and None inside for a number
+    /// over 999, which no file has.
     Compat {
         end: EndName,
         file: Option<Option<u16>>,
     },
-    /// What a station tells as its status.
+    /// The block of an end, the data of its status replies: 1 to 244 bytes.
     Block {
         end: EndName,
         bytes: Option<Bytes>,
