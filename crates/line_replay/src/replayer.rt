@@ -77,9 +77,13 @@ pub struct Replayer {
 }
 
 impl Model for Replayer {
+    ghost use Rattle.std.specs.Coded.{codes};
+    ghost use Rattle.duplex_line.specs.contracts.world.World as world_row;
     ghost use Rattle.line_replay.specs.Fed.{Replaying};
 
     ghost Value = { Replaying };
+
+    ghost coded = { Prim.hlevel (codes, world_row.the_row.coded) };
 
     ghost view = { λ r. record { text = r.text; world = r.world } };
 }

@@ -1,0 +1,235 @@
+-- What a replay shows, event by event and byte by byte.
+use Rattle.std.proofs.Common.{◌≡◌, ◌⊎◌, inl, inr, ℕ, ◌+◌, ◌<◌, ◌≤◌, Bool, true, false, cond, List, [], ◌∷◌, ◌++◌, length, Option, Some, None, Result, Ok, Err, refl, sym, ap, subst, ◌∙◌, arith, append_assoc, append-nil}
+use Rattle.std.specs.Prelude.{◌≢◌, unwrap_or, OnErr, All, count_by, sum_by}
+use Rattle.std.specs.List.{flat_map}
+use Rattle.std.proofs.lemmas.Grind.{flat_map-append}
+use Rattle.std.proofs.lemmas.List.Elements.{All-cons, All-head, All-tail}
+use Rattle.std.proofs.lemmas.List.Sums.{sum_by-append, sum_by-cons}
+use Rattle.df1_base.specs.Outside.{Put, WrotePart}
+use Rattle.std.proofs.KnownBytes.{Appends-nil}
+use Rattle.line_statement.specs.declared.who.Who.TheVariants.{A, B}
+use Rattle.line_script.specs.declared.fault.Cause.{Cause}
+use Rattle.line_script.specs.declared.reader.Reader.{Reader}
+use Rattle.line_script.specs.declared.script.Event.{Event}
+use Rattle.line_script.specs.declared.script.Script.{Script}
+use Rattle.line_script.specs.declared.fault.ScriptFault.{ScriptFault}
+use Rattle.line_script.specs.declared.fault.ScriptFault.TheVariants as script
+use Rattle.line_script.specs.Fed.{Fed, StandsFor, EndsFor, IsRefusedFor, accepted_script, script_at}
+use Rattle.line_script.specs.Lines.{script_with}
+use Rattle.line_script.specs.Playable.{IsPossible, IsPlayable, issues, count_of}
+use Rattle.line_script.specs.ScriptText.{script_of}
+use Rattle.line_script.proofs.Setup.{Extends, TellsEvents, has_begun, script-accepted}
+use Rattle.line_script.proofs.Shown.{shown-script, script-at-end, tells, front-of, front-by-byte, front-at-end, playable}
+use Rattle.line_report.specs.Report.{line_text, word_text, deceived_text, report}
+use Rattle.duplex_line.specs.Acts.{LineState}
+use Rattle.duplex_line.specs.Plays.{Played, IsNext, begun, issued_by, played, printed}
+use Rattle.duplex_line.specs.Run.{start, after_event, lines_of, state_after, lines_after, last_state, all_words, record_of, record_from}
+use Rattle.duplex_line.proofs.Once.IssueLimits.{commands-of-a, commands-of-b}
+use Rattle.duplex_line.proofs.Steps.EventsToCome.{unspent}
+use Rattle.line_replay.specs.Fed.{Replaying, IsReplayOf, IsWorldOf, IsDue, IsRefusedHere, ShowsFront, ShowsMore, event_text, events_text, played_out, shown, stream_fault, told, told_by, world_for}
+
+-- ---- some events, and then others
+
+pub state-behind : (s : LineState) (events more : List Event) → state_after s (events ++ more) ≡ state_after (state_after s events) more
+state-behind s [] more = refl
+state-behind s (e ∷ events) more = state-behind (after_event s e) events more
+
+lines-behind : (s : LineState) (events more : List Event) → lines_after s (events ++ more) ≡ lines_after s events ++ lines_after (state_after s events) more
+lines-behind s [] more = refl
+lines-behind s (e ∷ events) more =
+    ap (λ l. lines_of s e ++ l) (lines-behind (after_event s e) events more) ∙ sym (append_assoc (lines_of s e) (lines_after (after_event s e) events) (lines_after (state_after (after_event s e) events) more))
+
+pub text-behind : (d : Reader) (events more : List Event) → events_text (script_with d (events ++ more)) ≡ events_text (script_with d events) ++ flat_map line_text (lines_after (last_state (script_with d events)) more)
+text-behind d events more =
+    ap (flat_map line_text) (lines-behind (start (script_with d events)) events more) ∙ flat_map-append line_text (lines_after (start (script_with d events)) events) (lines_after (last_state (script_with d events)) more)
+
+-- one event more
+pub text-with : (d : Reader) (events : List Event) (e : Event) → events_text (script_with d (events ++ e ∷ [])) ≡ events_text (script_with d events) ++ event_text (script_with d events) e
+text-with d events e =
+    text-behind d events (e ∷ []) ∙ ap (λ l. events_text (script_with d events) ++ flat_map line_text l) (append-nil (lines_of (last_state (script_with d events)) e))
+
+-- ---- what was shown stays a front
+
+-- the setup is that of the first event on
+same-text : (d e : Reader) (events all : List Event) → TellsEvents d events → Extends d events (e, all) → events_text (script_with e events) ≡ events_text (script_with d events)
+same-text d e events all (inl none) on = rw none refl
+same-text d e events all (inr begun) on = ap events_text (on.setup begun events)
+
+pub front-text : (d : Reader) (events : List Event) (read : Reader × List Event) → TellsEvents d events → Extends d events read → (rest : List ℕ) × (events_text (script_at read) ≡ events_text (script_with d events) ++ rest)
+front-text d events read (inl none) on = (events_text (script_at read), rw none refl)
+front-text d events read (inr begun) on = (
+  flat_map line_text (lines_after (last_state (script_with d events)) on.more),
+  ap (λ all. events_text (script_with read.0 all)) on.are ∙ ap events_text (on.setup begun (events ++ on.more)) ∙ text-behind d events on.more,
+)
+
+pub shown-is : (text : List ℕ) (events : List Event) (r : Fed) → StandsFor text events r → shown text ≡ events_text (script_with r.reader events)
+unfolding shown
+shown-is text events r h = ap events_text (shown-script text events r h)
+
+-- the report of a script is its events' lines, and more
+report-front : (script : Script) → (rest : List ℕ) × (report (record_of script) ≡ events_text script ++ rest)
+unfolding report record_of
+report-front script = (flat_map word_text (all_words (last_state script)) ++ deceived_text (last_state script).deceived, append_assoc (events_text script) (flat_map word_text (all_words (last_state script))) (deceived_text (last_state script).deceived))
+
+pub told-front : (text : List ℕ) (events : List Event) (r : Fed) (more : List ℕ) → StandsFor text events r → (rest : List ℕ) × (told (text ++ more) ≡ shown text ++ rest)
+unfolding told accepted_script
+told-front text events r more h =
+    let on = front-text r.reader events _ (tells text events r h) (front-of text events r more h) in
+    let here = shown-is text events r h in
+    elim (script_of (text ++ more)) as (λ x. script_of (text ++ more) ≡ x → (rest : List ℕ) × (told_by x (text ++ more) ≡ shown text ++ rest)) [
+      | Ok script ↦ λ is.
+          let tail = report-front script in
+          (on.0 ++ tail.0, tail.1 ∙ ap (λ s. events_text s ++ tail.0) (sym (script-accepted (text ++ more) script is)) ∙ ap (λ t. t ++ tail.0) on.1 ∙ append_assoc (events_text (script_with r.reader events)) on.0 tail.0 ∙ ap (λ t. t ++ (on.0 ++ tail.0)) (sym here))
+      | Err fault ↦ λ is. (on.0, on.1 ∙ ap (λ t. t ++ on.0) (sym here))
+    ] refl
+
+-- ---- the world
+
+pub world-is : (d : Reader) (events : List Event) (w : Option Played) → IsWorldOf (script_with d events) w → world_for (script_with d []) w ≡ played_out (script_with d events)
+world-is d events None none = rw none refl
+world-is d events (Some w) is = is.1
+
+pub world-same : (w v : Played) → (let o : Option Played = Some w in o) ≡ Some v → w ≡ v
+world-same w v is = ap (λ o. unwrap_or o w) is
+
+-- it stays the world where only the setup is read anew
+pub world-on : (d e : Reader) (events all : List Event) (w : Option Played) → TellsEvents d events → Extends d events (e, all) → IsWorldOf (script_with d events) w → IsWorldOf (script_with e events) w
+world-on d e events all None tell on is = is
+world-on d e events all (Some w) (inl none) on is = absurd (is.0 none)
+world-on d e events all (Some w) (inr begun) on is = (is.0, is.1 ∙ ap played_out (sym (on.setup begun events)))
+
+not-empty : (events : List Event) (e : Event) → events ++ e ∷ [] ≡ [] → ⊥
+not-empty [] e is = cc
+not-empty (x ∷ events) e is = cc
+
+pub world-with : (d : Reader) (events : List Event) (e : Event) → IsWorldOf (script_with d (events ++ e ∷ [])) (Some (printed (played (played_out (script_with d events)) e)))
+world-with d events e =
+    let sum = sum_by-append count_of events (e ∷ []) in
+    let one = sum_by-cons count_of e [] in
+    let all : sum_by count_of (events ++ e ∷ []) ≡ sum_by count_of events + count_of e = omega (arith, sum, one) in
+    (not-empty events e, rw (state-behind (start (script_with d events)) events (e ∷ []), all) refl)
+
+-- ---- an event that may come next
+
+all-front : (events : List Event) (e : Event) → All IsPossible (events ++ e ∷ []) → All IsPossible events × IsPossible e
+all-front [] e all = (λ k d lt. absurd (omega (arith, lt)), All-head IsPossible e [] all)
+all-front (x ∷ events) e all =
+    let rest = all-front events e (All-tail IsPossible x (events ++ e ∷ []) all) in
+    (All-cons IsPossible x events (All-head IsPossible x (events ++ e ∷ []) all) rest.0, rest.1)
+
+issued-of-a : (events : List Event) (s : LineState) → All IsPossible events → issued_by (state_after s events).a ≡ issued_by s.a + count_by (issues A) events
+issued-of-a [] s all = omega arith
+issued-of-a (e ∷ events) s all =
+    let one = commands-of-a e s (All-head IsPossible e events all) in
+    let more = issued-of-a events (after_event s e) (All-tail IsPossible e events all) in
+    let sum = sum_by-cons (λ (x : Event). cond (issues A x) 1 0) e events in
+    omega (arith, one, more, sum)
+
+issued-of-b : (events : List Event) (s : LineState) → All IsPossible events → issued_by (state_after s events).b ≡ issued_by s.b + count_by (issues B) events
+issued-of-b [] s all = omega arith
+issued-of-b (e ∷ events) s all =
+    let one = commands-of-b e s (All-head IsPossible e events all) in
+    let more = issued-of-b events (after_event s e) (All-tail IsPossible e events all) in
+    let sum = sum_by-cons (λ (x : Event). cond (issues B x) 1 0) e events in
+    omega (arith, one, more, sum)
+
+pub is-next : (d : Reader) (events : List Event) (e : Event) → IsPlayable (script_with d (events ++ e ∷ [])) → IsNext (played_out (script_with d events)) e
+is-next d events e h =
+    let all = all-front events e h.events in
+    let s = start (script_with d events) in
+    let a = issued-of-a events s all.0 in
+    let b = issued-of-b events s all.0 in
+    let sum-a = sum_by-append (λ (x : Event). cond (issues A x) 1 0) events (e ∷ []) in
+    let sum-b = sum_by-append (λ (x : Event). cond (issues B x) 1 0) events (e ∷ []) in
+    let sum = sum_by-append count_of events (e ∷ []) in
+    let one = sum_by-cons count_of e [] in
+    let few-a = h.commands_of_a in
+    let few-b = h.commands_of_b in
+    let few = h.sum in
+    record {
+      possible = all.1;
+      unspent = unspent (last_state (script_with d events)) e [] all.1 (omega (arith, a, sum-a, few-a)) (omega (arith, b, sum-b, few-b));
+      sum = omega (arith, sum, one, few);
+    }
+
+-- ---- a byte more
+
+-- the world is the one that the event is played on
+pub plays-by : (text : List ℕ) (r : Replaying) (b : ℕ) (e : Event) (new : Fed) (h : IsReplayOf text r) → StandsFor (text ++ b ∷ []) (h.events ++ e ∷ []) new → IsWorldOf (script_with new.reader h.events) r.world
+plays-by text r b e new h reads =
+    world-on r.text.reader new.reader h.events (h.events ++ e ∷ []) r.world (tells text h.events r.text h.reads) (front-by-byte text h.events (h.events ++ e ∷ []) r.text new b h.reads reads) h.plays
+
+-- the event that a byte ends may be played
+pub due-by : (text : List ℕ) (r : Replaying) (b : ℕ) (e : Event) (new : Fed) (h : IsReplayOf text r) → StandsFor (text ++ b ∷ []) (h.events ++ e ∷ []) new → IsDue (record { text = new; world = r.world }) e
+due-by text r b e new h reads = record {
+  events = h.events;
+  playable = playable (text ++ b ∷ []) (h.events ++ e ∷ []) new reads;
+  plays = plays-by text r b e new h reads;
+}
+
+-- what is shown with the event that a byte ends
+pub shown-with : (text : List ℕ) (r : Replaying) (b : ℕ) (e : Event) (new : Fed) (h : IsReplayOf text r) → StandsFor (text ++ b ∷ []) (h.events ++ e ∷ []) new → shown (text ++ b ∷ []) ≡ shown text ++ event_text (script_with new.reader h.events) e
+shown-with text r b e new h reads =
+    shown-is (text ++ b ∷ []) (h.events ++ e ∷ []) new reads ∙ text-with new.reader h.events e
+    ∙ ap (λ t. t ++ event_text (script_with new.reader h.events) e)
+    (same-text r.text.reader new.reader h.events (h.events ++ e ∷ []) (tells text h.events r.text h.reads) (front-by-byte text h.events (h.events ++ e ∷ []) r.text new b h.reads reads) ∙ sym (shown-is text h.events r.text h.reads))
+
+-- a byte that ends no event line
+pub replay-without : (text : List ℕ) (r : Replaying) (b : ℕ) (new : Fed) (held : Option (List ℕ)) (h : IsReplayOf text r) → StandsFor (text ++ b ∷ []) (h.events ++ []) new
+    → IsReplayOf (text ++ b ∷ []) (record { text = new; world = r.world }) × ShowsMore (shown text) (shown (text ++ b ∷ [])) held held
+replay-without text r b new held h reads' =
+    let reads : StandsFor (text ++ b ∷ []) h.events new = rw (append-nil h.events) at reads' in
+    let told = tells text h.events r.text h.reads in
+    let on = front-by-byte text h.events h.events r.text new b h.reads reads in
+    (
+      record { events = h.events; reads = reads; plays = world-on r.text.reader new.reader h.events h.events r.world told on h.plays },
+      record {
+        more = [];
+        shows = shown-is (text ++ b ∷ []) h.events new reads ∙ same-text r.text.reader new.reader h.events h.events told on ∙ sym (shown-is text h.events r.text h.reads) ∙ sym (append-nil (shown text));
+        put = Appends-nil held;
+      },
+    )
+
+pub replay-with : (text : List ℕ) (r new : Replaying) (b : ℕ) (e : Event) (fed : Fed) (held held' : Option (List ℕ)) (h : IsReplayOf text r) → StandsFor (text ++ b ∷ []) (h.events ++ e ∷ []) fed
+    → (new.text ≡ fed) × IsWorldOf (script_with fed.reader (h.events ++ e ∷ [])) new.world × Put held held' (event_text (script_with fed.reader h.events) e)
+    → IsReplayOf (text ++ b ∷ []) new × ShowsMore (shown text) (shown (text ++ b ∷ [])) held held'
+replay-with text r new b e fed held held' h reads played =
+    (
+      record { events = h.events ++ e ∷ []; reads = subst (StandsFor (text ++ b ∷ []) (h.events ++ e ∷ [])) (sym played.0) reads; plays = subst (λ (f : Fed). IsWorldOf (script_with f.reader (h.events ++ e ∷ [])) new.world) (sym played.0) played.1 },
+      record { more = event_text (script_with fed.reader h.events) e; shows = shown-with text r b e fed h reads; put = played.2 },
+    )
+
+-- the front of the event's lines that a sink has taken
+pub front-with : (text : List ℕ) (r : Replaying) (b : ℕ) (e : Event) (new : Fed) (more : List ℕ) (held held' : Option (List ℕ)) (h : IsReplayOf text r) → StandsFor (text ++ b ∷ []) (h.events ++ e ∷ []) new
+    → WrotePart held held' (event_text (script_with new.reader h.events) e) → ShowsFront (shown text) (told (text ++ b ∷ more)) held held'
+front-with text r b e new more held held' h reads (rest, w) =
+    let tail = told-front (text ++ b ∷ []) (h.events ++ e ∷ []) new more reads in
+    record {
+      more = w.part;
+      rest = rest ++ tail.0;
+      shows =
+        ap told (sym (append_assoc text (b ∷ []) more)) ∙ tail.1 ∙ ap (λ t. t ++ tail.0) (shown-with text r b e new h reads ∙ ap (λ t. shown text ++ t) w.text_is)
+        ∙ append_assoc (shown text) (w.part ++ rest) tail.0 ∙ ap (λ t. shown text ++ t) (append_assoc w.part rest tail.0) ∙ sym (append_assoc (shown text) w.part (rest ++ tail.0));
+      put = w.put;
+    }
+
+pub front-without : (text : List ℕ) (r : Replaying) (more : List ℕ) (held : Option (List ℕ)) → IsReplayOf text r → ShowsFront (shown text) (told (text ++ more)) held held
+front-without text r more held h =
+    let tail = told-front text h.events r.text more h.reads in
+    record { more = []; rest = tail.0; shows = tail.1 ∙ ap (λ t. t ++ tail.0) (sym (append-nil (shown text))); put = Appends-nil held }
+
+-- ---- faults
+
+told-refused : (text : List ℕ) (script : Script) (fault : ℕ × Cause) → script_of text ≡ Err fault → accepted_script text ≡ script → told text ≡ events_text script
+unfolding told
+told-refused text script fault is same = ap (λ x. told_by x text) is ∙ ap events_text same
+
+pub refused-here : (text : List ℕ) (r : Replaying) (b : ℕ) (fault : ScriptFault) (h : IsReplayOf text r) → IsRefusedFor (text ++ b ∷ []) (script_with r.text.reader h.events) fault → IsRefusedHere (text ++ b ∷ []) (shown text) (stream_fault fault)
+refused-here text r b (script.At line cause) h refused = λ more.
+    let at = refused more in
+    (at.0, told-refused ((text ++ b ∷ []) ++ more) (script_with r.text.reader h.events) (line, cause) at.0 at.1 ∙ sym (shown-is text h.events r.text h.reads))
+refused-here text r b script.NoMemory h refused = tt
+
+pub at_err : {T E P : Type 0} (r : Result T E) → P → OnErr r P
+at_err (Ok value) p = tt
+at_err (Err fault) p = p

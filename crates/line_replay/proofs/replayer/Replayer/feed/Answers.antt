@@ -1,0 +1,49 @@
+use Rattle.std.proofs.Common.{◌≡◌, ◌∙◌, ◌++◌, ◌∷◌, [], ℕ, List, Option, Some, None, ap, sym, subst}
+use Rattle.std.specs.Option.{option_to_list}
+use Rattle.std.proofs.lemmas.Result.{on_ok_weaker}
+use Rattle.line_script.specs.declared.script.Event.{Event}
+use Rattle.line_script.specs.Fed.{Fed, StandsFor}
+use Rattle.line_replay.specs.Fed.{Replaying, IsReplayOf, IsDue, IsRefusedHere, ShowsFront, shown, told}
+use Rattle.line_replay.proofs.Fed.{at_err, due-by, plays-by, replay-without, replay-with, front-with, front-without, refused-here}
+use Rattle.line_replay.proofs.replayer.Replayer.feed.Goals as goal
+
+pub play-requires : goal.play-requires
+play-requires g c =
+    let text = c.requires.0 in
+    let h = subst (IsReplayOf text) (sym c.self.view_is) c.requires.1 in
+    let reads = c.in-Ok-Some.ensures text h.events h.reads in
+    let all : h.events ++ option_to_list c.in-Ok-Some.field-0 ≡ h.events ++ c.in-Ok-Some.event ∷ [] = ap (λ o. h.events ++ option_to_list o) c.in-Ok-Some.field-0-is in
+    due-by text _ c.args.b c.in-Ok-Some.event c.feed.new.self h (subst (λ (e : List Event). StandsFor (text ++ c.args.b ∷ []) e c.feed.new.self) all reads)
+
+pub returns-in-Ok-None-clause-ok : goal.returns-in-Ok-None-clause-ok
+returns-in-Ok-None-clause-ok g c text h' =
+    let h = subst (IsReplayOf text) (sym c.self.view_is) h' in
+    let reads = c.in-Ok-None.ensures text h.events h.reads in
+    let all : h.events ++ option_to_list c.in-Ok-None.field-0 ≡ h.events ++ [] = ap (λ o. h.events ++ option_to_list o) c.in-Ok-None.field-0-is in
+    replay-without text _ c.args.b c.feed.new.self (g.K.Sink.held c.args.sink.now) h (subst (λ (e : List Event). StandsFor (text ++ c.args.b ∷ []) e c.feed.new.self) all reads)
+
+pub returns-in-Ok-Some-clause-ok : goal.returns-in-Ok-Some-clause-ok
+returns-in-Ok-Some-clause-ok g c text h' =
+    let h = subst (IsReplayOf text) (sym c.self.view_is) h' in
+    let reads' = c.in-Ok-Some.ensures text h.events h.reads in
+    let all : h.events ++ option_to_list c.in-Ok-Some.field-0 ≡ h.events ++ c.in-Ok-Some.event ∷ [] = ap (λ o. h.events ++ option_to_list o) c.in-Ok-Some.field-0-is in
+    let reads = subst (λ (e : List Event). StandsFor (text ++ c.args.b ∷ []) e c.feed.new.self) all reads' in
+    on_ok_weaker c.play.result (λ played. replay-with text _ c.play.new.self c.args.b c.in-Ok-Some.event c.feed.new.self (g.K.Sink.held c.args.sink.now) (g.K.Sink.held c.play.new.sink) h reads played)
+    (c.play.ensures.ok h.events (plays-by text _ c.args.b c.in-Ok-Some.event c.feed.new.self h reads))
+
+pub returns-in-Ok-Some-clause-front : goal.returns-in-Ok-Some-clause-front
+returns-in-Ok-Some-clause-front g c text h' more =
+    let h = subst (IsReplayOf text) (sym c.self.view_is) h' in
+    let reads' = c.in-Ok-Some.ensures text h.events h.reads in
+    let all : h.events ++ option_to_list c.in-Ok-Some.field-0 ≡ h.events ++ c.in-Ok-Some.event ∷ [] = ap (λ o. h.events ++ option_to_list o) c.in-Ok-Some.field-0-is in
+    let reads = subst (λ (e : List Event). StandsFor (text ++ c.args.b ∷ []) e c.feed.new.self) all reads' in
+    at_err c.play.result (front-with text _ c.args.b c.in-Ok-Some.event c.feed.new.self more (g.K.Sink.held c.args.sink.now) (g.K.Sink.held c.play.new.sink) h reads
+    (c.play.ensures.part h.events (plays-by text _ c.args.b c.in-Ok-Some.event c.feed.new.self h reads)))
+
+pub returns-in-Err-clause-refused : goal.returns-in-Err-clause-refused
+returns-in-Err-clause-refused g c text h' =
+    let h = subst (IsReplayOf text) (sym c.self.view_is) h' in
+    subst (IsRefusedHere (text ++ c.args.b ∷ []) (shown text)) (sym c.into.ensures) (refused-here text _ c.args.b c.in-Err.fault h (c.in-Err.ensures text h.events h.reads))
+
+pub returns-in-Err-clause-front : goal.returns-in-Err-clause-front
+returns-in-Err-clause-front g c text h more = front-without text c.args.self.now (c.args.b ∷ more) (g.K.Sink.held c.args.sink.now) h
