@@ -3,10 +3,10 @@ use Rattle.std.proofs.Common.{◌≡◌, ◌⊎◌, inl, inr, ℕ, ◌+◌, ◌<
 use Rattle.std.specs.Prelude.{◌≢◌, unwrap_or, OnErr, All, count_by, sum_by}
 use Rattle.std.specs.List.{flat_map}
 use Rattle.std.proofs.lemmas.Grind.{flat_map-append}
-use Rattle.std.proofs.lemmas.List.Elements.{All-cons, All-head, All-tail}
+use Rattle.std.proofs.lemmas.List.Elements.{All-cons, All-head, All-nil, All-tail}
 use Rattle.std.proofs.lemmas.List.Sums.{sum_by-append, sum_by-cons}
 use Rattle.df1_base.specs.Outside.{Put, WrotePart}
-use Rattle.std.proofs.KnownBytes.{Appends-nil}
+use Rattle.std.proofs.KnownBytes.{Appends-nil, Appends-trans}
 use Rattle.line_statement.specs.declared.who.Who.TheVariants.{A, B}
 use Rattle.line_script.specs.declared.fault.Cause.{Cause}
 use Rattle.line_script.specs.declared.reader.Reader.{Reader}
@@ -14,19 +14,19 @@ use Rattle.line_script.specs.declared.script.Event.{Event}
 use Rattle.line_script.specs.declared.script.Script.{Script}
 use Rattle.line_script.specs.declared.fault.ScriptFault.{ScriptFault}
 use Rattle.line_script.specs.declared.fault.ScriptFault.TheVariants as script
-use Rattle.line_script.specs.Fed.{Fed, StandsFor, EndsFor, IsRefusedFor, accepted_script, script_at}
+use Rattle.line_script.specs.Fed.{Fed, StandsFor, EndsFor, IsRefusedFor, IsRefusedAtEnd, accepted_script, script_at}
 use Rattle.line_script.specs.Lines.{script_with}
 use Rattle.line_script.specs.Playable.{IsPossible, IsPlayable, issues, count_of}
 use Rattle.line_script.specs.ScriptText.{script_of}
 use Rattle.line_script.proofs.Setup.{Extends, TellsEvents, has_begun, script-accepted}
-use Rattle.line_script.proofs.Shown.{shown-script, script-at-end, tells, front-of, front-by-byte, front-at-end, playable}
+use Rattle.line_script.proofs.Shown.{shown-script, script-at-end, tells, front-of, front-by-byte, front-at-end, playable, playable-at-end}
 use Rattle.line_report.specs.Report.{line_text, word_text, deceived_text, report}
 use Rattle.duplex_line.specs.Acts.{LineState}
 use Rattle.duplex_line.specs.Plays.{Played, IsNext, begun, issued_by, played, printed}
 use Rattle.duplex_line.specs.Run.{start, after_event, lines_of, state_after, lines_after, last_state, all_words, record_of, record_from}
 use Rattle.duplex_line.proofs.Once.IssueLimits.{commands-of-a, commands-of-b}
 use Rattle.duplex_line.proofs.Steps.EventsToCome.{unspent}
-use Rattle.line_replay.specs.Fed.{Replaying, IsReplayOf, IsWorldOf, IsDue, IsRefusedHere, ShowsFront, ShowsMore, event_text, events_text, played_out, shown, stream_fault, told, told_by, world_for}
+use Rattle.line_replay.specs.Fed.{Replaying, IsReplayOf, IsReplayAtEnd, IsWorldOf, IsDue, IsRefusedAs, IsRefusedHere, ShowsFront, ShowsMore, event_text, events_text, played_out, rest_text, shown, stream_fault, told, told_by, world_for}
 
 -- ---- some events, and then others
 
@@ -180,8 +180,7 @@ pub replay-without : (text : List ℕ) (r : Replaying) (b : ℕ) (new : Fed) (he
 replay-without text r b new held h reads' =
     let reads : StandsFor (text ++ b ∷ []) h.events new = rw (append-nil h.events) at reads' in
     let told = tells text h.events r.text h.reads in
-    let on = front-by-byte text h.events h.events r.text new b h.reads reads in
-    (
+    let on = front-by-byte text h.events h.events r.text new b h.reads reads in (
       record { events = h.events; reads = reads; plays = world-on r.text.reader new.reader h.events h.events r.world told on h.plays },
       record {
         more = [];
@@ -193,11 +192,10 @@ replay-without text r b new held h reads' =
 pub replay-with : (text : List ℕ) (r new : Replaying) (b : ℕ) (e : Event) (fed : Fed) (held held' : Option (List ℕ)) (h : IsReplayOf text r) → StandsFor (text ++ b ∷ []) (h.events ++ e ∷ []) fed
     → (new.text ≡ fed) × IsWorldOf (script_with fed.reader (h.events ++ e ∷ [])) new.world × Put held held' (event_text (script_with fed.reader h.events) e)
     → IsReplayOf (text ++ b ∷ []) new × ShowsMore (shown text) (shown (text ++ b ∷ [])) held held'
-replay-with text r new b e fed held held' h reads played =
-    (
-      record { events = h.events ++ e ∷ []; reads = subst (StandsFor (text ++ b ∷ []) (h.events ++ e ∷ [])) (sym played.0) reads; plays = subst (λ (f : Fed). IsWorldOf (script_with f.reader (h.events ++ e ∷ [])) new.world) (sym played.0) played.1 },
-      record { more = event_text (script_with fed.reader h.events) e; shows = shown-with text r b e fed h reads; put = played.2 },
-    )
+replay-with text r new b e fed held held' h reads played = (
+  record { events = h.events ++ e ∷ []; reads = subst (StandsFor (text ++ b ∷ []) (h.events ++ e ∷ [])) (sym played.0) reads; plays = subst (λ (f : Fed). IsWorldOf (script_with f.reader (h.events ++ e ∷ [])) new.world) (sym played.0) played.1 },
+  record { more = event_text (script_with fed.reader h.events) e; shows = shown-with text r b e fed h reads; put = played.2 },
+)
 
 -- the front of the event's lines that a sink has taken
 pub front-with : (text : List ℕ) (r : Replaying) (b : ℕ) (e : Event) (new : Fed) (more : List ℕ) (held held' : Option (List ℕ)) (h : IsReplayOf text r) → StandsFor (text ++ b ∷ []) (h.events ++ e ∷ []) new
@@ -208,8 +206,8 @@ front-with text r b e new more held held' h reads (rest, w) =
       more = w.part;
       rest = rest ++ tail.0;
       shows =
-        ap told (sym (append_assoc text (b ∷ []) more)) ∙ tail.1 ∙ ap (λ t. t ++ tail.0) (shown-with text r b e new h reads ∙ ap (λ t. shown text ++ t) w.text_is)
-        ∙ append_assoc (shown text) (w.part ++ rest) tail.0 ∙ ap (λ t. shown text ++ t) (append_assoc w.part rest tail.0) ∙ sym (append_assoc (shown text) w.part (rest ++ tail.0));
+          ap told (sym (append_assoc text (b ∷ []) more)) ∙ tail.1 ∙ ap (λ t. t ++ tail.0) (shown-with text r b e new h reads ∙ ap (λ t. shown text ++ t) w.text_is)
+          ∙ append_assoc (shown text) (w.part ++ rest) tail.0 ∙ ap (λ t. shown text ++ t) (append_assoc w.part rest tail.0) ∙ sym (append_assoc (shown text) w.part (rest ++ tail.0));
       put = w.put;
     }
 
@@ -233,3 +231,142 @@ refused-here text r b script.NoMemory h refused = tt
 pub at_err : {T E P : Type 0} (r : Result T E) → P → OnErr r P
 at_err (Ok value) p = tt
 at_err (Err fault) p = p
+
+-- ---- at the end of the text
+
+playable-none : (d : Reader) (events : List Event) → IsPlayable (script_with d events) → IsPlayable (script_with d [])
+playable-none d events h = record { mode = h.mode; ends = h.ends; events = All-nil IsPossible; commands_of_a = omega arith; commands_of_b = omega arith; sum = omega arith }
+
+pub playable-rest : (text : List ℕ) (r : Replaying) → IsReplayAtEnd text r → IsPlayable (script_with r.text.reader [])
+playable-rest text r h = playable-none r.text.reader h.events (playable-at-end text h.events r.text h.reads)
+
+report-parts : (script : Script) → report (record_of script) ≡ events_text script ++ rest_text script
+unfolding report record_of
+report-parts script = append_assoc (events_text script) (flat_map word_text (all_words (last_state script))) (deceived_text (last_state script).deceived)
+
+told-at-end : (text : List ℕ) (all : List Event) (new : Fed) → EndsFor text all new → (rest : List ℕ) × (told text ≡ events_text (script_with new.reader all) ++ rest)
+unfolding told
+told-at-end text all new h =
+    let accepted = script-at-end text all new h in
+    elim (script_of text) as (λ x. script_of text ≡ x → (rest : List ℕ) × (told_by x text ≡ events_text (script_with new.reader all) ++ rest)) [
+      | Ok script ↦ λ is. (rest_text script, report-parts script ∙ ap (λ s. events_text s ++ rest_text script) (sym (script-accepted text script is) ∙ accepted))
+      | Err fault ↦ λ is. ([], ap events_text accepted ∙ sym (append-nil (events_text (script_with new.reader all))))
+    ] refl
+
+pub plays-at-end : (text : List ℕ) (r : Replaying) (all : List Event) (new : Fed) (h : IsReplayOf text r) → EndsFor text all new → IsWorldOf (script_with new.reader h.events) r.world
+plays-at-end text r all new h over =
+    world-on r.text.reader new.reader h.events all r.world (tells text h.events r.text h.reads) (front-at-end text h.events all r.text new h.reads over) h.plays
+
+pub due-at-end : (text : List ℕ) (r : Replaying) (e : Event) (new : Fed) (h : IsReplayOf text r) → EndsFor text (h.events ++ e ∷ []) new → IsDue (record { text = new; world = r.world }) e
+due-at-end text r e new h over = record {
+  events = h.events;
+  playable = playable-at-end text (h.events ++ e ∷ []) new over;
+  plays = plays-at-end text r (h.events ++ e ∷ []) new h over;
+}
+
+-- what is shown of the text, by the reader at its end
+shown-at-end : (text : List ℕ) (r : Replaying) (all : List Event) (new : Fed) (h : IsReplayOf text r) → EndsFor text all new → events_text (script_with new.reader h.events) ≡ shown text
+shown-at-end text r all new h over =
+    same-text r.text.reader new.reader h.events all (tells text h.events r.text h.reads) (front-at-end text h.events all r.text new h.reads over) ∙ sym (shown-is text h.events r.text h.reads)
+
+pub ended-without : (text : List ℕ) (r : Replaying) (new : Fed) (h : IsReplayOf text r) → EndsFor text (h.events ++ []) new → IsReplayAtEnd text (record { text = new; world = r.world })
+ended-without text r new h over' =
+    let over : EndsFor text h.events new = rw (append-nil h.events) at over' in
+    record { events = h.events; reads = over; plays = plays-at-end text r h.events new h over }
+
+pub shows-without : (text : List ℕ) (r : Replaying) (new : Fed) (held : Option (List ℕ)) (h : IsReplayOf text r) → EndsFor text (h.events ++ []) new → ShowsMore (shown text) (events_text (accepted_script text)) held held
+shows-without text r new held h over' =
+    let over : EndsFor text h.events new = rw (append-nil h.events) at over' in
+    record {
+      more = [];
+      shows = ap events_text (script-at-end text h.events new over) ∙ shown-at-end text r h.events new h over ∙ sym (append-nil (shown text));
+      put = Appends-nil held;
+    }
+
+pub ended-with : (text : List ℕ) (r new : Replaying) (e : Event) (fed : Fed) (h : IsReplayOf text r) → EndsFor text (h.events ++ e ∷ []) fed → new.text ≡ fed → IsWorldOf (script_with fed.reader (h.events ++ e ∷ [])) new.world → IsReplayAtEnd text new
+ended-with text r new e fed h over same plays = record {
+  events = h.events ++ e ∷ [];
+  reads = subst (EndsFor text (h.events ++ e ∷ [])) (sym same) over;
+  plays = subst (λ (f : Fed). IsWorldOf (script_with f.reader (h.events ++ e ∷ [])) new.world) (sym same) plays;
+}
+
+with-event : (text : List ℕ) (r : Replaying) (e : Event) (fed : Fed) (h : IsReplayOf text r) → EndsFor text (h.events ++ e ∷ []) fed → events_text (script_with fed.reader (h.events ++ e ∷ [])) ≡ shown text ++ event_text (script_with fed.reader h.events) e
+with-event text r e fed h over =
+    text-with fed.reader h.events e ∙ ap (λ t. t ++ event_text (script_with fed.reader h.events) e) (shown-at-end text r (h.events ++ e ∷ []) fed h over)
+
+pub shows-with : (text : List ℕ) (r : Replaying) (e : Event) (fed : Fed) (held held' : Option (List ℕ)) (h : IsReplayOf text r) → EndsFor text (h.events ++ e ∷ []) fed → Put held held' (event_text (script_with fed.reader h.events) e)
+    → ShowsMore (shown text) (events_text (accepted_script text)) held held'
+shows-with text r e fed held held' h over put = record {
+  more = event_text (script_with fed.reader h.events) e;
+  shows = ap events_text (script-at-end text (h.events ++ e ∷ []) fed over) ∙ with-event text r e fed h over;
+  put = put;
+}
+
+pub front-with-event : (text : List ℕ) (r : Replaying) (e : Event) (fed : Fed) (held held' : Option (List ℕ)) (h : IsReplayOf text r) → EndsFor text (h.events ++ e ∷ []) fed → WrotePart held held' (event_text (script_with fed.reader h.events) e)
+    → ShowsFront (shown text) (told text) held held'
+front-with-event text r e fed held held' h over (rest, w) =
+    let tail = told-at-end text (h.events ++ e ∷ []) fed over in
+    record {
+      more = w.part;
+      rest = rest ++ tail.0;
+      shows =
+        tail.1 ∙ ap (λ t. t ++ tail.0) (with-event text r e fed h over ∙ ap (λ t. shown text ++ t) w.text_is)
+        ∙ append_assoc (shown text) (w.part ++ rest) tail.0 ∙ ap (λ t. shown text ++ t) (append_assoc w.part rest tail.0) ∙ sym (append_assoc (shown text) w.part (rest ++ tail.0));
+      put = w.put;
+    }
+
+pub front-as-shown : (text : List ℕ) (r : Replaying) (held : Option (List ℕ)) → IsReplayOf text r → ShowsFront (shown text) (told text) held held
+front-as-shown text r held h = subst (λ t. ShowsFront (shown text) (told t) held held) (append-nil text) (front-without text r [] held h)
+
+pub refused-line : (text : List ℕ) (r : Replaying) (fault : ScriptFault) (h : IsReplayOf text r) → IsRefusedAtEnd text (script_with r.text.reader h.events) fault → IsRefusedAs text (told text ≡ shown text) (stream_fault fault)
+refused-line text r (script.At line cause) h refused = (refused.0, told-refused text (script_with r.text.reader h.events) (line, cause) refused.0 refused.1 ∙ sym (shown-is text h.events r.text h.reads))
+refused-line text r script.NoMemory h refused = tt
+
+-- ---- what follows the events
+
+pub shows-rest : (text : List ℕ) (r : Replaying) (held held' : Option (List ℕ)) (h : IsReplayAtEnd text r) → script_of text ≡ Ok (script_with r.text.reader h.events) → Put held held' (rest_text (script_with r.text.reader h.events))
+    → (script : Script) × (script_of text ≡ Ok script) × ShowsMore (events_text (accepted_script text)) (told text) held held'
+unfolding told
+shows-rest text r held held' h is put =
+    (script_with r.text.reader h.events, is, record {
+      more = rest_text (script_with r.text.reader h.events);
+      shows = ap (λ x. told_by x text) is ∙ report-parts (script_with r.text.reader h.events) ∙ ap (λ s. events_text s ++ rest_text (script_with r.text.reader h.events)) (sym (script-at-end text h.events r.text h.reads));
+      put = put;
+    })
+
+pub front-rest : (text : List ℕ) (r : Replaying) (held held' : Option (List ℕ)) (h : IsReplayAtEnd text r) → script_of text ≡ Ok (script_with r.text.reader h.events) → WrotePart held held' (rest_text (script_with r.text.reader h.events))
+    → ShowsFront (events_text (accepted_script text)) (told text) held held'
+unfolding told
+front-rest text r held held' h is (rest, w) = record {
+  more = w.part;
+  rest = rest;
+  shows =
+    ap (λ x. told_by x text) is ∙ report-parts (script_with r.text.reader h.events) ∙ ap (λ t. events_text (script_with r.text.reader h.events) ++ t) w.text_is
+    ∙ sym (append_assoc (events_text (script_with r.text.reader h.events)) w.part rest)
+    ∙ ap (λ s. events_text s ++ w.part ++ rest) (sym (script-at-end text h.events r.text h.reads));
+  put = w.put;
+}
+
+pub refused-open : (text : List ℕ) (r : Replaying) (fault : ScriptFault) (h : IsReplayAtEnd text r) → IsRefusedAtEnd text (script_with r.text.reader h.events) fault → IsRefusedAs text (told text ≡ events_text (accepted_script text)) (stream_fault fault)
+refused-open text r (script.At line cause) h refused = (refused.0, told-refused text (script_with r.text.reader h.events) (line, cause) refused.0 refused.1 ∙ ap events_text (sym refused.1))
+refused-open text r script.NoMemory h refused = tt
+
+pub front-open : (text : List ℕ) (r : Replaying) (held : Option (List ℕ)) → IsReplayAtEnd text r → ShowsFront (events_text (accepted_script text)) (told text) held held
+front-open text r held h =
+    let tail = told-at-end text h.events r.text h.reads in
+    let accepted = script-at-end text h.events r.text h.reads in
+    record {
+      more = [];
+      rest = tail.0;
+      shows = tail.1 ∙ ap (λ s. events_text s ++ tail.0) (sym accepted) ∙ ap (λ t. t ++ tail.0) (sym (append-nil (events_text (accepted_script text))));
+      put = Appends-nil held;
+    }
+
+-- one after the other
+pub front-behind : (before middle all : List ℕ) (a b c : Option (List ℕ)) → ShowsMore before middle a b → ShowsFront middle all b c → ShowsFront before all a c
+front-behind before middle all a b c first second = record {
+  more = first.more ++ second.more;
+  rest = second.rest;
+  shows = second.shows ∙ ap (λ t. t ++ second.more ++ second.rest) first.shows ∙ ap (λ t. t ++ second.rest) (append_assoc before first.more second.more);
+  put = Appends-trans a b c first.more second.more first.put second.put;
+}

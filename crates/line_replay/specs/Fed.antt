@@ -7,13 +7,13 @@ use Rattle.line_script.specs.declared.fault.ScriptFault.{ScriptFault}
 use Rattle.line_script.specs.declared.fault.ScriptFault.TheVariants as script
 use Rattle.line_script.specs.declared.script.Event.{Event}
 use Rattle.line_script.specs.declared.script.Script.{Script}
-use Rattle.line_script.specs.Fed.{Fed, StandsFor, accepted_script, ended}
+use Rattle.line_script.specs.Fed.{EndsFor, Fed, StandsFor, accepted_script, ended}
 use Rattle.line_script.specs.Lines.{script_with}
 use Rattle.line_script.specs.Playable.{IsPlayable, count_of}
 use Rattle.line_script.specs.ScriptText.{script_of}
 use Rattle.line_report.specs.Report.{line_text, report}
 use Rattle.duplex_line.specs.Plays.{Played, begun}
-use Rattle.duplex_line.specs.Run.{last_state, lines_after, lines_of, record_of, start}
+use Rattle.duplex_line.specs.Run.{last_state, lines_after, lines_of, record_from, record_of, start}
 use Rattle.line_replay.specs.declared.replayer.StreamFault.{StreamFault}
 use Rattle.line_replay.specs.declared.replayer.StreamFault.TheVariants as stream
 
@@ -26,6 +26,10 @@ event_text script e = flat_map line_text (lines_of (last_state script) e)
 -- the text of the report's lines of all events of a script
 abbrev pub events_text : Script → List ℕ
 events_text script = flat_map line_text (lines_after (start script) script.events)
+
+-- what is written behind them: the words that aren't 0, and how often an end was deceived
+abbrev pub rest_text : Script → List ℕ
+rest_text script = report (record_from (last_state script) [])
 
 -- what is written of a text that may go on: the report's lines of those of its event lines that a line feed ends, up to the first
 -- line that is faulty
@@ -72,6 +76,15 @@ pub record IsReplayOf (text : List ℕ) (r : Replaying) : Type 0 where
 abbrev pub IsReplay : Replaying → Type 0
 IsReplay r = (text : List ℕ) × IsReplayOf text r
 
+-- It stands for the whole text, at its end.
+pub record IsReplayAtEnd (text : List ℕ) (r : Replaying) : Type 0 where
+  pub events : List Event
+  pub reads : EndsFor text events r.text
+  pub plays : IsWorldOf (script_with r.text.reader events) r.world
+
+abbrev pub IsEndedReplay : Replaying → Type 0
+IsEndedReplay r = (text : List ℕ) × IsReplayAtEnd text r
+
 -- an event may be played: the script so far with it can
 pub record IsDue (r : Replaying) (e : Event) : Type 0 where
   pub events : List Event
@@ -105,11 +118,15 @@ IsRefusedHere text written (stream.At line cause) = (more : List ℕ) → (scrip
 IsRefusedHere text written stream.SinkFailed = Unit {0}
 IsRefusedHere text written stream.NoMemory = Unit {0}
 
--- the whole text is refused
-abbrev pub IsRefusedAs : List ℕ → StreamFault → Type 0
-IsRefusedAs text (stream.At line cause) = script_of text ≡ Err (line, cause)
-IsRefusedAs text stream.SinkFailed = Unit {0}
-IsRefusedAs text stream.NoMemory = Unit {0}
+-- the whole text is a script
+abbrev pub IsScript : List ℕ → Type 0
+IsScript text = (script : Script) × (script_of text ≡ Ok script)
+
+-- the whole text is none, and then this holds
+abbrev pub IsRefusedAs : List ℕ → Type 0 → StreamFault → Type 0
+IsRefusedAs text P (stream.At line cause) = (script_of text ≡ Err (line, cause)) × P
+IsRefusedAs text P stream.SinkFailed = Unit {0}
+IsRefusedAs text P stream.NoMemory = Unit {0}
 
 -- what playing an event may come to
 abbrev pub IsFromPlay : StreamFault → Type 0

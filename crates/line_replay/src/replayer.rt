@@ -3,15 +3,18 @@ ghost use Rattle.std.specs.Prelude.{◌≡◌, ◌≢◌, ◌≤◌, ◌∷◌, 
 ghost use Rattle.df1_base.specs.Outside.{Rose, Put, WrotePart};
 ghost use Rattle.line_script.specs.declared.script.Event.{Event as OneEvent};
 ghost use Rattle.line_replay.specs.declared.replayer.StreamFault.{StreamFault as Stopped};
+ghost use Rattle.line_script.specs.Fed.{accepted_script};
 ghost use Rattle.line_script.specs.Lines.{script_with};
 ghost use Rattle.line_script.specs.Playable.{IsPlayable};
 ghost use Rattle.duplex_line.specs.Plays.{IsNext, played, printed};
-ghost use Rattle.line_report.specs.Report.{line_text};
+ghost use Rattle.duplex_line.specs.Run.{record_from};
+ghost use Rattle.line_report.specs.Report.{line_text, report};
 ghost use Rattle.std.specs.List.{flat_map};
-ghost use Rattle.line_replay.specs.Fed.{IsDue, IsFromPlay, IsRefusedHere, IsReplay, IsReplayOf, IsWorldOf, ShowsFront, ShowsMore, event_text, shown, told, world_for};
+ghost use Rattle.line_replay.specs.Fed.{IsDue, IsEndedReplay, IsFromPlay, IsRefusedAs, IsRefusedHere, IsReplay, IsReplayAtEnd, IsReplayOf, IsScript, IsWorldOf, ShowsFront, ShowsMore, event_text, events_text, rest_text, shown, told, world_for};
 
 use crate::{Cause, Event, World};
 use df1_base::{Failed, NoMemory, Sink};
+use line_report::print;
 use line_script::{ScriptFault, TextReader};
 use std::alloc::Global;
 use std::marker::Model;
@@ -128,6 +131,81 @@ impl Replayer {
         }
     }
 
+    /// Ends the script, after which nothing is fed: the report's lines of a last event line that no line feed ends are written,
+    /// then the words that aren't 0, and how often an end was deceived. `At` comes exactly where the whole text is no script,
+    /// with its first faulty line and the first cause that fits it; `SinkFailed` where the sink failed, which holds a first
+    /// part then.
+    pub fn finish<K: Sink>(&mut self, sink: &mut K) -> Result<(), StreamFault>
+        requires { IsReplay self.old }
+        ensures ok { (text : List ℕ) → IsReplayOf text self.old → OnOk result (IsScript text × ShowsMore (shown text) (told text) (K.held sink.old) (K.held sink.new)) }
+        ensures refused { (text : List ℕ) → IsReplayOf text self.old → IfErr result (IsRefusedAs text (ShowsMore (shown text) (told text) (K.held sink.old) (K.held sink.new))) }
+        ensures front { (text : List ℕ) → IsReplayOf text self.old → OnErr result (ShowsFront (shown text) (told text) (K.held sink.old) (K.held sink.new)) }
+        ensures calm { OnOk result (K.faults sink.new ≡ K.faults sink.old) }
+        ensures later { K.faults sink.old ≤ K.faults sink.new }
+        ensures cause { IsErrOf result StreamFault.SinkFailed → Rose (K.faults sink.old) (K.faults sink.new) }
+    {
+        match self.end_lines(sink) {
+            Ok(()) => self.close(sink),
+            Err(fault) => Err(fault),
+        }
+    }
+
+    /// Ends the last line, and lets its event happen, if it is one.
+    fn end_lines<K: Sink>(&mut self, sink: &mut K) -> Result<(), StreamFault>
+        requires { IsReplay self.old }
+        ensures ends { OnOk result (IsEndedReplay self.new) }
+        ensures ok { (text : List ℕ) → IsReplayOf text self.old → OnOk result (IsReplayAtEnd text self.new × ShowsMore (shown text) (events_text (accepted_script text)) (K.held sink.old) (K.held sink.new)) }
+        ensures refused { (text : List ℕ) → IsReplayOf text self.old → IfErr result (IsRefusedAs text (told text ≡ shown text)) }
+        ensures front { (text : List ℕ) → IsReplayOf text self.old → OnErr result (ShowsFront (shown text) (told text) (K.held sink.old) (K.held sink.new)) }
+        ensures silent { IfErr result (λ fault. fault ≢ Stopped.SinkFailed → sink.new ≡ sink.old) }
+        ensures calm { OnOk result (K.faults sink.new ≡ K.faults sink.old) }
+        ensures later { K.faults sink.old ≤ K.faults sink.new }
+        ensures cause { IsErrOf result StreamFault.SinkFailed → Rose (K.faults sink.old) (K.faults sink.new) }
+    {
+        match self.text.end() {
+            Ok(None) => Ok(()),
+            Ok(Some(event)) => self.play(&event, sink),
+            Err(fault) => Err(fault.into()),
+        }
+    }
+
+    /// Writes what follows the lines of the last event, where the script has its `end`.
+    fn close<K: Sink>(&mut self, sink: &mut K) -> Result<(), StreamFault>
+        requires { IsEndedReplay self.old }
+        ensures ok { (text : List ℕ) → IsReplayAtEnd text self.old → OnOk result (IsScript text × ShowsMore (events_text (accepted_script text)) (told text) (K.held sink.old) (K.held sink.new)) }
+        ensures refused { (text : List ℕ) → IsReplayAtEnd text self.old → IfErr result (IsRefusedAs text (told text ≡ events_text (accepted_script text))) }
+        ensures front { (text : List ℕ) → IsReplayAtEnd text self.old → OnErr result (ShowsFront (events_text (accepted_script text)) (told text) (K.held sink.old) (K.held sink.new)) }
+        ensures silent { IfErr result (λ fault. fault ≢ Stopped.SinkFailed → sink.new ≡ sink.old) }
+        ensures calm { OnOk result (K.faults sink.new ≡ K.faults sink.old) }
+        ensures later { K.faults sink.old ≤ K.faults sink.new }
+        ensures cause { IsErrOf result StreamFault.SinkFailed → Rose (K.faults sink.old) (K.faults sink.new) }
+    {
+        match self.text.close() {
+            Ok(()) => self.write_rest(sink),
+            Err(fault) => Err(fault.into()),
+        }
+    }
+
+    /// Writes the words that aren't 0, and how often an end was deceived.
+    fn write_rest<K: Sink>(&mut self, sink: &mut K) -> Result<(), StreamFault>
+        requires { IsPlayable (script_with self.old.text.reader []) }
+        ensures ok { (events : List OneEvent) → IsWorldOf (script_with self.old.text.reader events) self.old.world → OnOk result
+            (Put (K.held sink.old) (K.held sink.new) (rest_text (script_with self.old.text.reader events))) }
+        ensures part { (events : List OneEvent) → IsWorldOf (script_with self.old.text.reader events) self.old.world →
+            WrotePart (K.held sink.old) (K.held sink.new) (rest_text (script_with self.old.text.reader events)) }
+        ensures silent { IfErr result (λ fault. fault ≢ Stopped.SinkFailed → sink.new ≡ sink.old) }
+        ensures known { IfErr result IsFromPlay }
+        ensures calm { OnOk result (K.faults sink.new ≡ K.faults sink.old) }
+        ensures later { K.faults sink.old ≤ K.faults sink.new }
+        ensures cause { IsErrOf result StreamFault.SinkFailed → Rose (K.faults sink.old) (K.faults sink.new) }
+    {
+        self.begin()?;
+        match self.world.take() {
+            Some(world) => print_rest(world, sink),
+            None => unreachable!(),
+        }
+    }
+
     /// Lets an event happen, and writes the report's lines of it.
     fn play<K: Sink>(&mut self, event: &Event, sink: &mut K) -> Result<(), StreamFault>
         requires { IsDue self.old event.now }
@@ -176,5 +254,20 @@ fn play_on<K: Sink>(world: &mut World, event: &Event, sink: &mut K) -> Result<()
 {
     world.step(event)?;
     world.print_lines(sink)?;
+    Ok(())
+}
+
+/// Writes the report of a world: the lines that stand, the words that aren't 0, and how often an end was deceived.
+fn print_rest<K: Sink>(world: World, sink: &mut K) -> Result<(), StreamFault>
+    ensures ok { OnOk result (Put (K.held sink.old) (K.held sink.new) (report (record_from world.state world.lines))) }
+    ensures part { WrotePart (K.held sink.old) (K.held sink.new) (report (record_from world.state world.lines)) }
+    ensures silent { IfErr result (λ fault. fault ≢ Stopped.SinkFailed → sink.new ≡ sink.old) }
+    ensures known { IfErr result IsFromPlay }
+    ensures calm { OnOk result (K.faults sink.new ≡ K.faults sink.old) }
+    ensures later { K.faults sink.old ≤ K.faults sink.new }
+    ensures cause { IsErrOf result StreamFault.SinkFailed → Rose (K.faults sink.old) (K.faults sink.new) }
+{
+    let record = world.finish()?;
+    print(&record, sink)?;
     Ok(())
 }

@@ -19,7 +19,7 @@ play_on-requires g c =
     let reader = c.args.self.now.text.reader in
     let events = c.requires.events in
     let world : c.in-Some.world ≡ played_out (script_with reader events) =
-      world-same c.in-Some.world _ (sym c.in-Some.is ∙ ap (λ (r : Replaying). r.world) c.self.view_is ∙ c.in_ok-begin.ensures.world ∙ ap Some (world-is reader events c.args.self.now.world c.requires.plays)) in
+    world-same c.in-Some.world _ (sym c.in-Some.is ∙ ap (λ (r : Replaying). r.world) c.self.view_is ∙ c.in_ok-begin.ensures.world ∙ ap Some (world-is reader events c.args.self.now.world c.requires.plays)) in
     subst (λ (w : Played). IsNext w c.args.event.now) (sym world) (is-next reader events c.args.event.now c.requires.playable)
 
 pub returns-clause-ok : goal.returns-clause-ok
@@ -27,7 +27,7 @@ returns-clause-ok g c events is =
     let reader = c.args.self.now.text.reader in
     let e = c.args.event.now in
     let world : c.in-Some.world ≡ played_out (script_with reader events) =
-      world-same c.in-Some.world _ (sym c.in-Some.is ∙ ap (λ (r : Replaying). r.world) c.self.view_is ∙ c.in_ok-begin.ensures.world ∙ ap Some (world-is reader events c.args.self.now.world is)) in
+    world-same c.in-Some.world _ (sym c.in-Some.is ∙ ap (λ (r : Replaying). r.world) c.self.view_is ∙ c.in_ok-begin.ensures.world ∙ ap Some (world-is reader events c.args.self.now.world is)) in
     let next = world-with reader events e in
     on_ok_weaker c.play_on.result (λ ok. (
       ap (λ (r : Replaying). r.text) c.self.view_is ∙ c.in_ok-begin.ensures.text,
