@@ -310,8 +310,8 @@ front-with-event text r e fed held held' h over (rest, w) =
       more = w.part;
       rest = rest ++ tail.0;
       shows =
-        tail.1 ∙ ap (λ t. t ++ tail.0) (with-event text r e fed h over ∙ ap (λ t. shown text ++ t) w.text_is)
-        ∙ append_assoc (shown text) (w.part ++ rest) tail.0 ∙ ap (λ t. shown text ++ t) (append_assoc w.part rest tail.0) ∙ sym (append_assoc (shown text) w.part (rest ++ tail.0));
+          tail.1 ∙ ap (λ t. t ++ tail.0) (with-event text r e fed h over ∙ ap (λ t. shown text ++ t) w.text_is)
+          ∙ append_assoc (shown text) (w.part ++ rest) tail.0 ∙ ap (λ t. shown text ++ t) (append_assoc w.part rest tail.0) ∙ sym (append_assoc (shown text) w.part (rest ++ tail.0));
       put = w.put;
     }
 
@@ -327,12 +327,15 @@ refused-line text r script.NoMemory h refused = tt
 pub shows-rest : (text : List ℕ) (r : Replaying) (held held' : Option (List ℕ)) (h : IsReplayAtEnd text r) → script_of text ≡ Ok (script_with r.text.reader h.events) → Put held held' (rest_text (script_with r.text.reader h.events))
     → (script : Script) × (script_of text ≡ Ok script) × ShowsMore (events_text (accepted_script text)) (told text) held held'
 unfolding told
-shows-rest text r held held' h is put =
-    (script_with r.text.reader h.events, is, record {
-      more = rest_text (script_with r.text.reader h.events);
-      shows = ap (λ x. told_by x text) is ∙ report-parts (script_with r.text.reader h.events) ∙ ap (λ s. events_text s ++ rest_text (script_with r.text.reader h.events)) (sym (script-at-end text h.events r.text h.reads));
-      put = put;
-    })
+shows-rest text r held held' h is put = (
+  script_with r.text.reader h.events,
+  is,
+  record {
+    more = rest_text (script_with r.text.reader h.events);
+    shows = ap (λ x. told_by x text) is ∙ report-parts (script_with r.text.reader h.events) ∙ ap (λ s. events_text s ++ rest_text (script_with r.text.reader h.events)) (sym (script-at-end text h.events r.text h.reads));
+    put = put;
+  },
+)
 
 pub front-rest : (text : List ℕ) (r : Replaying) (held held' : Option (List ℕ)) (h : IsReplayAtEnd text r) → script_of text ≡ Ok (script_with r.text.reader h.events) → WrotePart held held' (rest_text (script_with r.text.reader h.events))
     → ShowsFront (events_text (accepted_script text)) (told text) held held'
@@ -341,9 +344,9 @@ front-rest text r held held' h is (rest, w) = record {
   more = w.part;
   rest = rest;
   shows =
-    ap (λ x. told_by x text) is ∙ report-parts (script_with r.text.reader h.events) ∙ ap (λ t. events_text (script_with r.text.reader h.events) ++ t) w.text_is
-    ∙ sym (append_assoc (events_text (script_with r.text.reader h.events)) w.part rest)
-    ∙ ap (λ s. events_text s ++ w.part ++ rest) (sym (script-at-end text h.events r.text h.reads));
+      ap (λ x. told_by x text) is ∙ report-parts (script_with r.text.reader h.events) ∙ ap (λ t. events_text (script_with r.text.reader h.events) ++ t) w.text_is
+      ∙ sym (append_assoc (events_text (script_with r.text.reader h.events)) w.part rest)
+      ∙ ap (λ s. events_text s ++ w.part ++ rest) (sym (script-at-end text h.events r.text h.reads));
   put = w.put;
 }
 

@@ -1,6 +1,6 @@
 //! Scripts with the reports of their runs.
 
-use crate::replay;
+use crate::{Cause, Replayer, StreamFault, replay};
 use df1_base::BytesOut;
 use line_report::print;
 use line_script::read_script;
@@ -63,6 +63,64 @@ fn runs_have_their_reports(rt: HostRuntime) -> Result<(), Fail> {
         let mut out = BytesOut::new(rt.alloc(), 1000, 1000, &[])?;
         print(&record, &mut out)?;
         assert_eq!(rt; out.held(), report.as_bytes());
+    }
+    Ok(())
+}
+
+#[test]
+fn reports_are_written_while_the_script_is_read(rt: HostRuntime) -> Result<(), Fail> {
+    for (text, report) in RUNS {
+        let mut replayer = Replayer::new(rt.alloc());
+        let mut out = BytesOut::new(rt.alloc(), 1000, 1000, &[])?;
+        for b in text.as_bytes() {
+            replayer.feed(*b, &mut out)?;
+        }
+        replayer.finish(&mut out)?;
+        assert_eq!(rt; out.held(), report.as_bytes());
+    }
+    Ok(())
+}
+
+/// Scripts of which a line is faulty, each with that line, its cause, and the lines of the events before it.
+const BROKEN: [(&str, u32, Cause, &str); 5] = [
+    (
+        "file b 7 89 16\nai 0FAA02078900003412\nak 19\nzz\n",
+        4,
+        Cause::Form,
+        "a sent 100201000F000100AA0207890000341210036D\n",
+    ),
+    (
+        "ai 060055\nak 2\nak 2\n",
+        4,
+        Cause::NoEnd,
+        "a sent 1002\na sent 0100\n",
+    ),
+    (
+        "ai 060055\nak 2\nak 3",
+        4,
+        Cause::NoEnd,
+        "a sent 1002\na sent 010006\n",
+    ),
+    ("ai 060055\nak 2\nak 0", 3, Cause::Value, "a sent 1002\n"),
+    ("", 1, Cause::NoEnd, ""),
+];
+
+#[test]
+fn what_stands_before_a_faulty_line_is_written(rt: HostRuntime) -> Result<(), Fail> {
+    for (text, line, cause, lines) in BROKEN {
+        let mut out = BytesOut::new(rt.alloc(), 1000, 1000, &[])?;
+        let mut replayer = Replayer::new(rt.alloc());
+        let mut ended = Ok(());
+        for b in text.as_bytes() {
+            if ended.is_ok() {
+                ended = replayer.feed(*b, &mut out);
+            }
+        }
+        if ended.is_ok() {
+            ended = replayer.finish(&mut out);
+        }
+        assert_eq!(rt; ended, Err(StreamFault::At { line, cause }));
+        assert_eq!(rt; out.held(), lines.as_bytes());
     }
     Ok(())
 }
