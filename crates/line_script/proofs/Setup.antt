@@ -1,5 +1,5 @@
 -- From the first event on, the setup of the ends stays as it is.
-use Rattle.std.proofs.Common.{◌≡◌, ◌⊎◌, inl, inr, ℕ, ◌+◌, Bool, true, false, cond, List, [], ◌∷◌, ◌++◌, Option, Some, None, Result, Ok, Err, refl, sym, ap, ◌∙◌, append_assoc, append-nil}
+use Rattle.std.proofs.Common.{◌≡◌, ◌⊎◌, inl, inr, ℕ, ◌+◌, Bool, true, false, List, [], ◌∷◌, ◌++◌, Option, Some, None, Result, Ok, Err, refl, sym, ap, ◌∙◌, append_assoc, append-nil}
 use Rattle.std.specs.Prelude.{if◌then◌else◌}
 use Rattle.std.specs.Option.{option_to_list}
 use Rattle.line_script.specs.declared.fault.Cause.{Cause}
@@ -7,17 +7,16 @@ use Rattle.line_script.specs.declared.fault.Cause.TheVariants as cause
 use Rattle.line_script.specs.declared.script.Event.{Event}
 use Rattle.line_script.specs.declared.script.Script.{Script}
 use Rattle.line_statement.specs.declared.statement.Side.TheVariants.{A, B}
-use Rattle.line_statement.specs.declared.statement.EndName.TheVariants.{Known, Absent}
 use Rattle.line_statement.specs.declared.statement.Statement.{Statement}
 use Rattle.line_statement.specs.declared.statement.Statement.TheVariants.{Mode, Check, Set, Compat, Block, File, Word, Issue, Times, Alter, Foreign, End}
 use Rattle.line_script.specs.declared.reader.Stage.{Stage}
 use Rattle.line_script.specs.declared.reader.Stage.TheVariants.{Fresh, Settings, Events, Ended}
 use Rattle.line_script.specs.declared.reader.Reader.{Reader}
-use Rattle.line_script.specs.Drafts.{is_misplaced, is_missing, is_out_of_range, is_twice, is_spent, is_too_many, first_of, cause_of, settled, counted, with_statement, unless_wrong}
+use Rattle.line_script.specs.Drafts.{is_misplaced, is_missing, is_out_of_range, is_twice, is_spent, is_too_many, first_of, cause_of, with_statement, unless_wrong}
 use Rattle.line_script.specs.Fed.{accepted, accepted_on, accepted_script, lines_of, script_at}
 use Rattle.line_script.specs.Left.{after_lines, and_then}
-use Rattle.line_script.specs.Lines.{TextLine, is_ended, is_passed_over, reaches_limit, is_long, content, after_form, after_words, after_line, finished, script_with}
-use Rattle.line_script.specs.ScriptText.{at_line, with_event, script_from, script_of, parts}
+use Rattle.line_script.specs.Lines.{TextLine, is_ended, is_passed_over, reaches_limit, is_long, content, after_form, after_words, after_line, script_with}
+use Rattle.line_script.specs.ScriptText.{at_line, with_event, script_from, script_of}
 use Rattle.line_statement.specs.Statements.{statement_of}
 use Rattle.line_statement.specs.Words.{words}
 use Rattle.line_script.proofs.Fed.{same-read}

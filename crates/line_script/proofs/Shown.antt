@@ -1,8 +1,6 @@
 -- What a text shows that comes byte by byte: the script that its whole lines make, which stays a front of what the longer text makes.
-use Rattle.std.proofs.Common.{◌≡◌, ◌⊎◌, inl, inr, ℕ, ◌+◌, ◌-◌, Bool, true, false, cond, eqb, List, [], ◌∷◌, ◌++◌, length, take, Option, Result, Ok, Err, refl, sym, ap, subst, ◌∙◌, arith, append_assoc, append-nil, length-append}
-use Rattle.std.specs.Prelude.{IfOk}
+use Rattle.std.proofs.Common.{◌≡◌, inl, ℕ, ◌+◌, ◌-◌, true, false, eqb, List, [], ◌∷◌, ◌++◌, length, take, Ok, Err, refl, sym, ap, subst, ◌∙◌, arith, append_assoc, append-nil, length-append}
 use Rattle.std.proofs.Math.Seq.{take-append_seam, take-length}
-use Rattle.line_script.specs.declared.fault.Cause.{Cause}
 use Rattle.line_script.specs.declared.reader.Reader.{Reader}
 use Rattle.line_script.specs.declared.script.Event.{Event}
 use Rattle.line_script.specs.Drafts.{fresh}
@@ -12,8 +10,8 @@ use Rattle.line_script.specs.Lines.{TextLine, after_line, lines_from, script_wit
 use Rattle.line_script.specs.Playable.{IsPlayable}
 use Rattle.line_script.specs.ScriptText.{parts, with_event}
 use Rattle.line_script.specs.Unfinished.{unfinished, unfinished_after}
-use Rattle.line_script.proofs.Fed.{accepted-behind, accepted-on-from-text, read-behind, same-read, unfinished-behind, unfinished-line}
-use Rattle.line_script.proofs.Setup.{Extends, TellsEvents, extends, has_begun, tells-after}
+use Rattle.line_script.proofs.Fed.{accepted-behind, accepted-on-from-text, same-read, unfinished-behind, unfinished-line}
+use Rattle.line_script.proofs.Setup.{Extends, TellsEvents, extends, tells-after}
 use Rattle.line_script.proofs.Standing.{Stands, IfNext, lined, closes, stands_at_first}
 
 -- how many bytes stand behind the last line feed

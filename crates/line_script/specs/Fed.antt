@@ -10,7 +10,7 @@ use Rattle.line_script.specs.declared.reader.Reader.{Reader}
 use Rattle.line_script.specs.Drafts.{fresh}
 use Rattle.line_script.specs.Left.{after_lines}
 use Rattle.line_script.specs.Lines.{TextLine, after_line, lines_from, script_with}
-use Rattle.line_script.specs.ScriptText.{parts, script_from, script_of, with_event}
+use Rattle.line_script.specs.ScriptText.{parts, script_of, with_event}
 use Rattle.line_script.specs.Unfinished.{unfinished}
 
 -- the lines of a text

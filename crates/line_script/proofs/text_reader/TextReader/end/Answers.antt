@@ -1,4 +1,4 @@
-use Rattle.std.proofs.Common.{◌≡◌, ◌∙◌, List, ℕ, [], ◌∷◌, length, Bool, true, false, eqb, ap, arith, sym, subst, refl}
+use Rattle.std.proofs.Common.{◌≡◌, ◌∙◌, List, ℕ, [], ◌∷◌, length, true, false, eqb, ap, arith, sym, subst, refl}
 use Rattle.std.proofs.lemmas.Bool.{eqb-true}
 use Rattle.line_script.specs.Fed.{Fed}
 use Rattle.line_script.proofs.Fed.{ends-without-line, last-line-read}

@@ -1,10 +1,9 @@
-use Rattle.std.proofs.Common.{◌≡◌, ℕ, ◌+◌, ◌≤◌, ◌<◌, false, ◌++◌, ◌∷◌, [], List, Ok, Err, length, arith, subst, sym, eqb}
+use Rattle.std.proofs.Common.{◌++◌, ◌∷◌, [], arith, subst, sym}
 use Rattle.std.proofs.lemmas.Grind.{common_steps}
 use Rattle.std.proofs.lemmas.Bool.Decides.{nat_tests}
-use Rattle.line_script.specs.declared.script.Event.{Event}
 use Rattle.line_script.specs.declared.fault.Cause.TheVariants as cause
 use Rattle.line_script.specs.Lines.{script_with}
-use Rattle.line_script.specs.Fed.{StandsFor, IsRefusedFor}
+use Rattle.line_script.specs.Fed.{IsRefusedFor}
 use Rattle.line_script.proofs.Fed.{refused-by-size, refused-by-length, refused-for, line-read}
 use Rattle.line_script.proofs.text_reader.TextReader.feed.Goals as goal
 
