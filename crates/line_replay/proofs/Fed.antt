@@ -1,5 +1,5 @@
 -- What a replay shows, event by event and byte by byte.
-use Rattle.std.proofs.Common.{◌≡◌, ◌⊎◌, inl, inr, ℕ, ◌+◌, ◌<◌, ◌≤◌, Bool, true, false, cond, List, [], ◌∷◌, ◌++◌, length, Option, Some, None, Result, Ok, Err, refl, sym, ap, subst, ◌∙◌, arith, append_assoc, append-nil}
+use Rattle.std.proofs.Common.{◌≡◌, ◌⊎◌, inl, inr, ℕ, ◌+◌, ◌<◌, ◌≤◌, Bool, true, false, cond, suc, List, [], ◌∷◌, ◌++◌, length, take, drop, get_or, drop-cons, take-append-drop, Option, Some, None, Result, Ok, Err, refl, sym, ap, subst, ◌∙◌, arith, append_assoc, append-nil}
 use Rattle.std.specs.Prelude.{◌≢◌, unwrap_or, OnErr, All, count_by, sum_by}
 use Rattle.std.specs.List.{flat_map}
 use Rattle.std.proofs.lemmas.Grind.{flat_map-append}
@@ -26,7 +26,9 @@ use Rattle.duplex_line.specs.Plays.{Played, IsNext, begun, issued_by, played, pr
 use Rattle.duplex_line.specs.Run.{start, after_event, lines_of, state_after, lines_after, last_state, all_words, record_of, record_from}
 use Rattle.duplex_line.proofs.Once.IssueLimits.{commands-of-a, commands-of-b}
 use Rattle.duplex_line.proofs.Steps.EventsToCome.{unspent}
-use Rattle.line_replay.specs.Fed.{Replaying, IsReplayOf, IsReplayAtEnd, IsWorldOf, IsDue, IsRefusedAs, IsRefusedHere, ShowsFront, ShowsMore, event_text, events_text, played_out, rest_text, shown, stream_fault, told, told_by, world_for}
+use Rattle.line_replay.specs.declared.replayer.StreamFault.{StreamFault}
+use Rattle.line_replay.specs.declared.replayer.StreamFault.TheVariants as stream
+use Rattle.line_replay.specs.Fed.{Replaying, IsReplayOf, IsReplayAtEnd, IsWorldOf, IsDue, IsRefusedAs, IsRefusedHere, IsRefusedWith, ShowsFront, ShowsMore, event_text, events_text, played_out, rest_text, shown, stream_fault, told, told_by, world_for}
 
 -- ---- some events, and then others
 
@@ -373,3 +375,39 @@ front-behind before middle all a b c first second = record {
   shows = second.shows ∙ ap (λ t. t ++ second.more ++ second.rest) first.shows ∙ ap (λ t. t ++ second.rest) (append_assoc before first.more second.more);
   put = Appends-trans a b c first.more second.more first.put second.put;
 }
+
+-- ---- bytes one after another
+
+pub shows-behind : (before middle after : List ℕ) (a b c : Option (List ℕ)) → ShowsMore before middle a b → ShowsMore middle after b c → ShowsMore before after a c
+shows-behind before middle after a b c first second = record {
+  more = first.more ++ second.more;
+  shows = second.shows ∙ ap (λ t. t ++ second.more) first.shows ∙ append_assoc before first.more second.more;
+  put = Appends-trans a b c first.more second.more first.put second.put;
+}
+
+-- a list is what stands before an element, the element, and the rest
+pub parted : (xs : List ℕ) (i d : ℕ) → i < length xs → xs ≡ take i xs ++ get_or xs i d ∷ drop (suc i) xs
+parted xs i d lt = sym (take-append-drop i xs) ∙ ap (λ t. take i xs ++ t) (drop-cons xs i d lt)
+
+regrouped : (text front rest more bytes : List ℕ) (b : ℕ) → bytes ≡ front ++ b ∷ rest → (text ++ bytes) ++ more ≡ ((text ++ front) ++ b ∷ []) ++ (rest ++ more)
+regrouped text front rest more bytes b is =
+    ap (λ p. (text ++ p) ++ more) is ∙ ap (λ t. t ++ more) (sym (append_assoc text front (b ∷ rest)))
+    ∙ append_assoc (text ++ front) (b ∷ rest) more ∙ sym (append_assoc (text ++ front) (b ∷ []) (rest ++ more))
+
+pub stops-here : (text front rest bytes : List ℕ) (b : ℕ) (held held' : Option (List ℕ)) (fault : StreamFault) → bytes ≡ front ++ b ∷ rest
+    → ShowsMore (shown text) (shown (text ++ front)) held held' → IsRefusedHere ((text ++ front) ++ b ∷ []) (shown (text ++ front)) fault → IsRefusedWith (text ++ bytes) (shown text) held held' fault
+stops-here text front rest bytes b held held' (stream.At line cause) is shows refused = λ more.
+    let at = refused (rest ++ more) in
+    let same = regrouped text front rest more bytes b is in
+    (ap script_of same ∙ at.0, record { more = shows.more; shows = ap told same ∙ at.1 ∙ shows.shows; put = shows.put })
+stops-here text front rest bytes b held held' stream.SinkFailed is shows refused = tt
+stops-here text front rest bytes b held held' stream.NoMemory is shows refused = tt
+
+pub joined : (text front rest bytes : List ℕ) (b : ℕ) → bytes ≡ front ++ b ∷ rest → text ++ bytes ≡ (text ++ front) ++ b ∷ rest
+joined text front rest bytes b is = ap (λ p. text ++ p) is ∙ sym (append_assoc text front (b ∷ rest))
+
+-- where only a sink that failed changes it, the sink of a refused line is as it was
+pub unchanged : {K : Type 0} (sink sink' : K) (fault : StreamFault) (held : K → Option (List ℕ)) (P : Option (List ℕ) → Type 0) → (fault ≢ stream.SinkFailed → sink' ≡ sink) → (fault ≡ stream.SinkFailed → P (held sink')) → P (held sink) → P (held sink')
+unchanged sink sink' (stream.At line cause) held P same failed p = subst (λ k. P (held k)) (sym (same (λ is. cc))) p
+unchanged sink sink' stream.SinkFailed held P same failed p = failed refl
+unchanged sink sink' stream.NoMemory held P same failed p = subst (λ k. P (held k)) (sym (same (λ is. cc))) p

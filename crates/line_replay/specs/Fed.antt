@@ -118,6 +118,12 @@ IsRefusedHere text written (stream.At line cause) = (more : List ℕ) → (scrip
 IsRefusedHere text written stream.SinkFailed = Unit {0}
 IsRefusedHere text written stream.NoMemory = Unit {0}
 
+-- the text is refused, whatever follows, and where the sink held what was written at first, it holds all that is ever written
+abbrev pub IsRefusedWith : List ℕ → List ℕ → Option (List ℕ) → Option (List ℕ) → StreamFault → Type 0
+IsRefusedWith text written held held' (stream.At line cause) = (more : List ℕ) → (script_of (text ++ more) ≡ Err (line, cause)) × ShowsMore written (told (text ++ more)) held held'
+IsRefusedWith text written held held' stream.SinkFailed = Unit {0}
+IsRefusedWith text written held held' stream.NoMemory = Unit {0}
+
 -- the whole text is a script
 abbrev pub IsScript : List ℕ → Type 0
 IsScript text = (script : Script) × (script_of text ≡ Ok script)

@@ -1,5 +1,5 @@
 //! Replaying while reading: a script comes byte by byte, and the report's lines of an event line are written where it ends.
-ghost use Rattle.std.specs.Prelude.{◌≡◌, ◌≢◌, ◌≤◌, ◌∷◌, ◌++◌, ℕ, List, [], Some, OnOk, OnErr, IfErr, IsErrOf, length};
+ghost use Rattle.std.specs.Prelude.{◌≡◌, ◌≢◌, ◌≤◌, ◌+◌, ◌∷◌, ◌++◌, ℕ, List, [], Some, OnOk, OnErr, IfErr, IsErrOf, length};
 ghost use Rattle.df1_base.specs.Outside.{Rose, Put, WrotePart};
 ghost use Rattle.line_script.specs.declared.script.Event.{Event as OneEvent};
 ghost use Rattle.line_replay.specs.declared.replayer.StreamFault.{StreamFault as Stopped};
@@ -10,7 +10,7 @@ ghost use Rattle.duplex_line.specs.Plays.{IsNext, played, printed};
 ghost use Rattle.duplex_line.specs.Run.{record_from};
 ghost use Rattle.line_report.specs.Report.{line_text, report};
 ghost use Rattle.std.specs.List.{flat_map};
-ghost use Rattle.line_replay.specs.Fed.{IsDue, IsEndedReplay, IsFromPlay, IsRefusedAs, IsRefusedHere, IsReplay, IsReplayAtEnd, IsReplayOf, IsScript, IsWorldOf, ShowsFront, ShowsMore, event_text, events_text, rest_text, shown, told, world_for};
+ghost use Rattle.line_replay.specs.Fed.{IsDue, IsEndedReplay, IsFromPlay, IsRefusedAs, IsRefusedHere, IsRefusedWith, IsReplay, IsReplayAtEnd, IsReplayOf, IsScript, IsWorldOf, ShowsFront, ShowsMore, event_text, events_text, rest_text, shown, told, world_for};
 
 use crate::{Cause, Event, World};
 use df1_base::{Failed, NoMemory, Sink};
@@ -105,9 +105,18 @@ impl Replayer {
 
     /// How many bytes the line that is begun has so far, at most 1,024.
     pub fn held(&self) -> usize
-        ensures { result ≡ length self.now.text.line }
+        ensures value { result ≡ length self.now.text.line }
+        ensures most { result ≤ 1024 }
     {
         self.text.held()
+    }
+
+    /// How many bytes it was fed, at most 16,777,216.
+    pub fn fed(&self) -> usize
+        ensures value { result ≡ self.now.text.start + length self.now.text.line }
+        ensures most { result ≤ 16777216 }
+    {
+        self.text.fed()
     }
 
     /// Takes the next byte of the script. Where it ends an event line, the event happens, and the report's lines of it are
@@ -129,6 +138,26 @@ impl Replayer {
             Ok(Some(event)) => self.play(&event, sink),
             Err(fault) => Err(fault.into()),
         }
+    }
+
+    /// Takes the next bytes of the script, one by one, up to a fault.
+    pub fn feed_all<K: Sink>(&mut self, bytes: &[u8], sink: &mut K) -> Result<(), StreamFault>
+        requires { IsReplay self.old }
+        ensures replay { OnOk result (IsReplay self.new) }
+        ensures ok { (text : List ℕ) → IsReplayOf text self.old → OnOk result (IsReplayOf (text ++ bytes.now) self.new × ShowsMore (shown text) (shown (text ++ bytes.now)) (K.held sink.old) (K.held sink.new)) }
+        ensures refused { (text : List ℕ) → IsReplayOf text self.old → IfErr result (IsRefusedWith (text ++ bytes.now) (shown text) (K.held sink.old) (K.held sink.new)) }
+        ensures front { (text : List ℕ) → IsReplayOf text self.old → OnErr result (ShowsFront (shown text) (told (text ++ bytes.now)) (K.held sink.old) (K.held sink.new)) }
+        ensures calm { OnOk result (K.faults sink.new ≡ K.faults sink.old) }
+        ensures later { K.faults sink.old ≤ K.faults sink.new }
+        ensures cause { IsErrOf result StreamFault.SinkFailed → Rose (K.faults sink.old) (K.faults sink.new) }
+    {
+        for b in bytes {
+            match self.feed(*b, sink) {
+                Ok(()) => {}
+                Err(fault) => return Err(fault),
+            }
+        }
+        Ok(())
     }
 
     /// Ends the script, after which nothing is fed: the report's lines of a last event line that no line feed ends are written,

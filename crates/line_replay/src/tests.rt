@@ -72,9 +72,7 @@ fn reports_are_written_while_the_script_is_read(rt: HostRuntime) -> Result<(), F
     for (text, report) in RUNS {
         let mut replayer = Replayer::new(rt.alloc());
         let mut out = BytesOut::new(rt.alloc(), 1000, 1000, &[])?;
-        for b in text.as_bytes() {
-            replayer.feed(*b, &mut out)?;
-        }
+        replayer.feed_all(text.as_bytes(), &mut out)?;
         replayer.finish(&mut out)?;
         assert_eq!(rt; out.held(), report.as_bytes());
     }
@@ -110,12 +108,7 @@ fn what_stands_before_a_faulty_line_is_written(rt: HostRuntime) -> Result<(), Fa
     for (text, line, cause, lines) in BROKEN {
         let mut out = BytesOut::new(rt.alloc(), 1000, 1000, &[])?;
         let mut replayer = Replayer::new(rt.alloc());
-        let mut ended = Ok(());
-        for b in text.as_bytes() {
-            if ended.is_ok() {
-                ended = replayer.feed(*b, &mut out);
-            }
-        }
+        let mut ended = replayer.feed_all(text.as_bytes(), &mut out);
         if ended.is_ok() {
             ended = replayer.finish(&mut out);
         }

@@ -1,5 +1,5 @@
 //! Reading a script byte by byte: a line is read when its line feed comes, and the last one at the end of the text.
-ghost use Rattle.std.specs.Prelude.{◌≡◌, ◌<◌, ◌+◌, ◌^◌, ◌∷◌, ◌++◌, ℕ, List, [], IfOk, MatchResult, Ok, true, false, length};
+ghost use Rattle.std.specs.Prelude.{◌≡◌, ◌<◌, ◌≤◌, ◌+◌, ◌^◌, ◌∷◌, ◌++◌, ℕ, List, [], IfOk, MatchResult, Ok, true, false, length};
 ghost use Rattle.std.specs.Option.{option_to_list};
 ghost use Rattle.line_script.specs.declared.fault.ScriptFault.{ScriptFault as TheFault};
 ghost use Rattle.line_script.specs.declared.fault.LineFault.{LineFault as Faulted};
@@ -55,9 +55,18 @@ impl TextReader {
 
     /// How many bytes the line that is begun has so far, at most 1,024.
     pub fn held(&self) -> usize
-        ensures { result ≡ length self.now.line }
+        ensures value { result ≡ length self.now.line }
+        ensures most { result ≤ 1024 }
     {
         self.line.len()
+    }
+
+    /// How many bytes it was fed, at most 16,777,216.
+    pub fn fed(&self) -> usize
+        ensures value { result ≡ self.now.start + length self.now.line }
+        ensures most { result ≤ 16777216 }
+    {
+        self.start + self.line.len()
     }
 
     /// Takes the next byte of the text, and answers the event of the line that it ends, if it ends one that is an event.
