@@ -1,5 +1,5 @@
 -- What a replay shows, event by event and byte by byte.
-use Rattle.std.proofs.Common.{◌≡◌, ◌⊎◌, inl, inr, ℕ, ◌+◌, ◌<◌, ◌≤◌, Bool, true, false, cond, suc, List, [], ◌∷◌, ◌++◌, length, take, drop, get_or, drop-cons, take-append-drop, Option, Some, None, Result, Ok, Err, refl, sym, ap, subst, ◌∙◌, arith, append_assoc, append-nil}
+use Rattle.std.proofs.Common.{◌≡◌, inl, inr, ℕ, ◌+◌, ◌<◌, cond, suc, List, [], ◌∷◌, ◌++◌, length, take, drop, get_or, drop-cons, take-append-drop, Option, Some, None, Result, Ok, Err, refl, sym, ap, subst, ◌∙◌, arith, append_assoc, append-nil}
 use Rattle.std.specs.Prelude.{◌≢◌, unwrap_or, OnErr, All, count_by, sum_by}
 use Rattle.std.specs.List.{flat_map}
 use Rattle.std.proofs.lemmas.Grind.{flat_map-append}
@@ -18,12 +18,12 @@ use Rattle.line_script.specs.Fed.{Fed, StandsFor, EndsFor, IsRefusedFor, IsRefus
 use Rattle.line_script.specs.Lines.{script_with}
 use Rattle.line_script.specs.Playable.{IsPossible, IsPlayable, issues, count_of}
 use Rattle.line_script.specs.ScriptText.{script_of}
-use Rattle.line_script.proofs.Setup.{Extends, TellsEvents, has_begun, script-accepted}
+use Rattle.line_script.proofs.Setup.{Extends, TellsEvents, script-accepted}
 use Rattle.line_script.proofs.Shown.{shown-script, script-at-end, tells, front-of, front-by-byte, front-at-end, playable, playable-at-end}
 use Rattle.line_report.specs.Report.{line_text, word_text, deceived_text, report}
 use Rattle.duplex_line.specs.Acts.{LineState}
 use Rattle.duplex_line.specs.Plays.{Played, IsNext, begun, issued_by, played, printed}
-use Rattle.duplex_line.specs.Run.{start, after_event, lines_of, state_after, lines_after, last_state, all_words, record_of, record_from}
+use Rattle.duplex_line.specs.Run.{start, after_event, lines_of, state_after, lines_after, last_state, all_words, record_of}
 use Rattle.duplex_line.proofs.Once.IssueLimits.{commands-of-a, commands-of-b}
 use Rattle.duplex_line.proofs.Steps.EventsToCome.{unspent}
 use Rattle.line_replay.specs.declared.replayer.StreamFault.{StreamFault}

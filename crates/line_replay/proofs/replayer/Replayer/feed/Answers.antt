@@ -1,9 +1,9 @@
-use Rattle.std.proofs.Common.{◌≡◌, ◌∙◌, ◌++◌, ◌∷◌, [], ℕ, List, Option, Some, None, ap, sym, subst}
+use Rattle.std.proofs.Common.{◌≡◌, ◌++◌, ◌∷◌, [], List, ap, sym, subst}
 use Rattle.std.specs.Option.{option_to_list}
 use Rattle.std.proofs.lemmas.Result.{on_ok_weaker}
 use Rattle.line_script.specs.declared.script.Event.{Event}
-use Rattle.line_script.specs.Fed.{Fed, StandsFor}
-use Rattle.line_replay.specs.Fed.{Replaying, IsReplayOf, IsDue, IsRefusedHere, ShowsFront, shown, told}
+use Rattle.line_script.specs.Fed.{StandsFor}
+use Rattle.line_replay.specs.Fed.{IsReplayOf, IsRefusedHere, shown}
 use Rattle.line_replay.proofs.Fed.{at_err, due-by, plays-by, replay-without, replay-with, front-with, front-without, refused-here}
 use Rattle.line_replay.proofs.replayer.Replayer.feed.Goals as goal
 

@@ -1,13 +1,12 @@
-use Rattle.std.proofs.Common.{◌≡◌, ◌∙◌, ◌++◌, ◌∷◌, [], List, Option, Some, None, ap, sym, subst}
+use Rattle.std.proofs.Common.{◌≡◌, ◌∙◌, Some, ap, sym, subst}
 use Rattle.std.proofs.lemmas.Result.{on_ok_weaker}
 use Rattle.std.specs.List.{flat_map}
 use Rattle.df1_base.specs.Outside.{Put}
 use Rattle.df1_base.proofs.Laws.{wrote_none}
 use Rattle.line_report.specs.Report.{line_text}
-use Rattle.line_script.specs.declared.script.Event.{Event}
 use Rattle.line_script.specs.Lines.{script_with}
 use Rattle.duplex_line.specs.Plays.{Played, IsNext, played, printed}
-use Rattle.line_replay.specs.Fed.{Replaying, IsWorldOf, played_out, world_for, event_text}
+use Rattle.line_replay.specs.Fed.{Replaying, played_out}
 use Rattle.line_replay.proofs.Fed.{is-next, world-is, world-same, world-with}
 use Rattle.line_replay.proofs.replayer.Replayer.play.Goals as goal
 
