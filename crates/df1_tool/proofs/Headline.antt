@@ -19,7 +19,7 @@ use Rattle.df1_tool.specs.declared.trouble.Trouble.TheVariants.{Usage, Refusal, 
 use Rattle.df1_tool.specs.Tool.{answer_of, form_of, report_of, status_of, status_of_trouble}
 use Rattle.df1_tool.specs.Outcome.{Answered}
 use Rattle.df1_tool.specs.Replayed.{Replayed}
-use Rattle.df1_tool.proofs.Limits.{answer_is}
+use Rattle.df1_tool.proofs.Statuses.{answer_is}
 
 -- a text that is written is the report of a script
 script-read : (read : Result Script (ℕ × Cause)) (text : List ℕ) → report_of read ≡ Some text → (script : Script) × (read ≡ Ok script) × (report (record_of script) ≡ text)

@@ -1,4 +1,4 @@
-pub mod Limits
 pub mod Headline
-pub mod LastLineFeed
-pub mod BrokenOff
+pub mod Statuses
+pub mod Taken
+pub mod Written

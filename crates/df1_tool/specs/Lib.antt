@@ -1,3 +1,4 @@
+pub mod Collecting
 pub mod Outcome
 pub mod Replayed
 pub mod Tool

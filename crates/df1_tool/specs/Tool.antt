@@ -1,11 +1,11 @@
 -- What the program answers, and with which status and note.
 use Rattle.std.specs.Prelude.{◌≡◌, ◌⊎◌, ℕ, List, [], ◌∷◌, ◌++◌, Option, Some, None, Result, Ok, Err, if◌then◌else◌, ◌==◌, is_none, codes, decimal, option_and_then}
+use Rattle.std.specs.Option.{option_map_or}
 use Rattle.std.specs.Str.{bytes_eq}
-use Rattle.df1_base.specs.declared.whole.ReadFault.{ReadFault}
-use Rattle.df1_base.specs.declared.whole.ReadFault.TheVariants as reading
 use Rattle.line_script.specs.declared.fault.Cause.{Cause}
-use Rattle.line_script.specs.declared.fault.ScriptFault.{ScriptFault}
-use Rattle.line_script.specs.declared.fault.ScriptFault.TheVariants as script
+use Rattle.line_replay.specs.declared.replayer.StreamFault.{StreamFault}
+use Rattle.line_replay.specs.declared.replayer.StreamFault.TheVariants as stream
+use Rattle.line_replay.specs.Fed.{told}
 use Rattle.line_script.specs.declared.fault.Cause.TheVariants as cause
 use Rattle.line_script.specs.declared.script.Script.{Script}
 use Rattle.line_script.specs.ScriptText.{script_of}
@@ -38,14 +38,22 @@ answer Replay = replayed
 abbrev pub answer_of : List (List ℕ) → List ℕ → Option (List ℕ)
 answer_of words input = option_and_then (λ form. answer form input) (form_of words)
 
--- the trouble of an input that was not read, and of a text that is no script
-abbrev pub trouble_of_reading : ReadFault → Trouble
-trouble_of_reading reading.Failed = Input
-trouble_of_reading reading.NoMemory = NoMemory
+-- what is written for these words and an input: where it answers, all of the answer
+unfoldable pub text : Form → List ℕ → List ℕ
+text Replay = told
 
-abbrev pub trouble_of_script : ScriptFault → Trouble
-trouble_of_script (script.At line cause) = Refusal line cause
-trouble_of_script script.NoMemory = NoMemory
+abbrev pub text_of : List (List ℕ) → List ℕ → List ℕ
+text_of words input = option_map_or (λ form. text form input) (form_of words) []
+
+-- the trouble of a replay that stopped; lines that no memory holds are collected nowhere
+abbrev pub trouble_of_replay : StreamFault → Trouble
+trouble_of_replay (stream.At line cause) = Refusal line cause
+trouble_of_replay stream.SinkFailed = NoMemory
+trouble_of_replay stream.NoMemory = NoMemory
+
+abbrev pub result_of : Result (Unit {0}) StreamFault → Result (Unit {0}) Trouble
+result_of (Ok done) = Ok done
+result_of (Err fault) = Err (trouble_of_replay fault)
 
 abbrev pub status_of_trouble : Trouble → ℕ
 status_of_trouble Usage = 2

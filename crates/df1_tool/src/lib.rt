@@ -1,12 +1,12 @@
 //! The program `df1` as one call: it is given its words and the outside world, and answers a status.
 #![tactic(auto)]
 
+mod collected;
 mod form;
 mod replaying;
 #[cfg(test)]
 mod tests;
 mod top;
 mod trouble;
-mod unfinished;
 
 pub use top::{Ran, run};

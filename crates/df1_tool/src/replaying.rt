@@ -1,92 +1,144 @@
-//! The command `replay`: its script is read as bytes, then run, and the report of the run is written.
-ghost use Rattle.std.specs.Prelude.{◌≡◌, ◌⊎◌, ◌≢◌, ◌≤◌, [], ◌++◌, List, ℕ, Err, Some, unwrap_or, OnOk, IfErr, IsErrOf};
+//! The command `replay`: its script is read piece by piece, and what a piece shows is written before the next is read.
+ghost use Rattle.std.specs.Prelude.{◌≡◌, ◌⊎◌, ◌≢◌, ◌≤◌, [], ◌++◌, List, ℕ, Some, Err, OnOk, OnErr, IfErr, IsErrOf};
 ghost use Rattle.df1_base.specs.Outside.{Rose, Put, WrotePart};
 ghost use Rattle.line_script.specs.ScriptText.{script_of};
-ghost use Rattle.line_script.specs.Unfinished.{IsOpen};
-ghost use Rattle.df1_tool.specs.Tool.{replayed};
-ghost use Rattle.df1_tool.specs.Outcome.{Answered, BrokenOff, IsFromPlay, IsFromText, Refused, TellsRefusal, Written};
+ghost use Rattle.line_replay.specs.Fed.{IsReplay, IsReplayOf, IsScript, ShowsFront, ShowsMore, shown, told};
+ghost use Rattle.df1_tool.specs.Tool.{replayed, result_of};
+ghost use Rattle.df1_tool.specs.Outcome.{Answered, BrokenOff, CutOff, IsFromPiece, Refused, TellsRefusal, Written};
 ghost use Rattle.df1_tool.specs.declared.trouble.Trouble.{Trouble as Ending};
 
+use crate::collected::Collected;
 use crate::trouble::Trouble;
-use crate::unfinished::settled;
-use df1_base::{Failed, ReadFault, Sink, Source, read_all};
-use line_replay::{print, replay};
-use line_script::{Cause, SCRIPT, ScriptFault, read_script};
+use df1_base::{Failed, Sink, Source, write_all};
+use line_replay::{Replayer, StreamFault};
+use line_script::{LINE, SCRIPT};
 use std::alloc::Global;
 
-/// Reads a script from the input, runs it and writes its report. What is wrong with the input is told in the order in
-/// which it shows: a line that is refused before a read failed comes first.
+/// How many bytes one read asks for.
+const PIECE: usize = 4096;
+
+/// Reads a script from the input, runs it and writes its report, in the order in which things happen: of each piece that
+/// was read, first its lines' events happen, then the report's lines of these are written, and then the next is read.
 pub(crate) fn answer<S: Source, K: Sink>(
     alloc: Global,
     input: &mut S,
     out: &mut K,
 ) -> Result<(), Trouble>
     ensures done { OnOk result (Answered replayed (S.left input.old) (S.left input.new) (K.held out.old) (K.held out.new)) }
-    ensures calm { OnOk result ((S.faults input.new ≡ S.faults input.old) × (K.faults out.new ≡ K.faults out.old)) }
-    ensures refusal { IfErr result (TellsRefusal (Refused (S.left input.old) (S.left input.new) (S.faults input.old) (S.faults input.new))) }
-    ensures input { IsErrOf result Trouble.Input → BrokenOff (S.left input.old) (S.left input.new) (S.faults input.old) (S.faults input.new) }
-    ensures output { IsErrOf result Trouble.Output → Rose (K.faults out.old) (K.faults out.new) × (S.faults input.new ≡ S.faults input.old) }
-    ensures memory { IsErrOf result Trouble.NoMemory → (S.faults input.new ≡ S.faults input.old) ⊎ Rose (S.faults input.old) (S.faults input.new) }
-    ensures silent { IfErr result (λ trouble. trouble ≢ Ending.Output → out.new ≡ out.old) }
+    ensures calm { OnOk result (S.faults input.new ≡ S.faults input.old) }
+    ensures refusal { IfErr result (TellsRefusal (Refused (S.left input.old) (S.left input.new) (K.held out.old) (K.held out.new) (S.faults input.old) (S.faults input.new))) }
+    ensures input { IsErrOf result Trouble.Input → BrokenOff (S.left input.old) (S.left input.new) (K.held out.old) (K.held out.new) (S.faults input.old) (S.faults input.new) }
+    ensures output { IsErrOf result Trouble.Output → Rose (K.faults out.old) (K.faults out.new) × (S.faults input.new ≡ S.faults input.old)
+        × CutOff (S.left input.old) (S.left input.new) (K.held out.old) (K.held out.new) }
+    ensures memory { IsErrOf result Trouble.NoMemory → S.faults input.new ≡ S.faults input.old }
+    ensures steady { OnOk result (K.faults out.new ≡ K.faults out.old) }
+    ensures steady_else { IfErr result (λ trouble. trouble ≢ Ending.Output → K.faults out.new ≡ K.faults out.old) }
     ensures known { IfErr result (λ trouble. trouble ≢ Ending.Usage) }
-    ensures written { Written replayed (S.left input.old) (S.left input.new) (K.held out.old) (K.held out.new) }
+    ensures written { Written told (S.left input.old) (S.left input.new) (K.held out.old) (K.held out.new) }
 {
-    let mut bytes = Vec::new(alloc);
-    match read_all(input, &mut bytes, SCRIPT) {
-        Ok(_) => play(alloc, &bytes, out),
-        Err(ReadFault::Failed) => Err(broken_off(alloc, &bytes)),
-        Err(fault) => Err(fault.into()),
-    }
+    let mut replayer = Replayer::new(alloc);
+    let mut lines = Collected::new(alloc);
+    replay_all(&mut replayer, &mut lines, input, out)
 }
 
-/// Runs a script and writes its report.
-fn play<K: Sink>(alloc: Global, text: &[u8], out: &mut K) -> Result<(), Trouble>
-    ensures done { OnOk result ((report : List ℕ) × (replayed text.now ≡ Some report) × Put (K.held out.old) (K.held out.new) report) }
-    ensures calm { OnOk result (K.faults out.new ≡ K.faults out.old) }
-    ensures refusal { IfErr result (TellsRefusal (λ line cause. script_of text.now ≡ Err (line, cause))) }
+/// Reads the whole script, piece by piece, over a replay that was fed nothing.
+fn replay_all<S: Source, K: Sink>(
+    replayer: &mut Replayer,
+    lines: &mut Collected,
+    input: &mut S,
+    out: &mut K,
+) -> Result<(), Trouble>
+    requires nothing { IsReplayOf [] replayer.old }
+    requires none { lines.old.held ≡ [] }
+    ensures done { OnOk result (Answered replayed (S.left input.old) (S.left input.new) (K.held out.old) (K.held out.new)) }
+    ensures calm { OnOk result (S.faults input.new ≡ S.faults input.old) }
+    ensures refusal { IfErr result (TellsRefusal (Refused (S.left input.old) (S.left input.new) (K.held out.old) (K.held out.new) (S.faults input.old) (S.faults input.new))) }
+    ensures input { IsErrOf result Trouble.Input → BrokenOff (S.left input.old) (S.left input.new) (K.held out.old) (K.held out.new) (S.faults input.old) (S.faults input.new) }
+    ensures output { IsErrOf result Trouble.Output → Rose (K.faults out.old) (K.faults out.new) × (S.faults input.new ≡ S.faults input.old)
+        × CutOff (S.left input.old) (S.left input.new) (K.held out.old) (K.held out.new) }
+    ensures memory { IsErrOf result Trouble.NoMemory → S.faults input.new ≡ S.faults input.old }
+    ensures steady { OnOk result (K.faults out.new ≡ K.faults out.old) }
+    ensures steady_else { IfErr result (λ trouble. trouble ≢ Ending.Output → K.faults out.new ≡ K.faults out.old) }
+    ensures known { IfErr result (λ trouble. trouble ≢ Ending.Usage) }
+    ensures written { Written told (S.left input.old) (S.left input.new) (K.held out.old) (K.held out.new) }
+{
+    let mut piece = [0; PIECE];
+    while replayer.fed() <= SCRIPT {
+        let begun = replayer.held();
+        prove!(begun <= LINE);
+        match input.read(&mut piece) {
+            Ok(0) => return close(replayer, lines, out),
+            Ok(count) => match go_on(replayer, &piece[..count], lines, out) {
+                Ok(()) => {}
+                Err(trouble) => return Err(trouble),
+            },
+            Err(Failed) => return Err(Trouble::Input),
+        }
+    }
+    unreachable!()
+}
+
+/// Lets the events of a piece happen, and writes the report's lines of them.
+fn go_on<K: Sink>(
+    replayer: &mut Replayer,
+    piece: &[u8],
+    lines: &mut Collected,
+    out: &mut K,
+) -> Result<(), Trouble>
+    requires replay { IsReplay replayer.old }
+    requires none { lines.old.held ≡ [] }
+    ensures none { OnOk result (lines.new.held ≡ []) }
+    ensures ok { (text : List ℕ) → IsReplayOf text replayer.old → OnOk result
+        (IsReplayOf (text ++ piece.now) replayer.new × ShowsMore (shown text) (shown (text ++ piece.now)) (K.held out.old) (K.held out.new)) }
+    ensures refused { (text : List ℕ) → IsReplayOf text replayer.old → IfErr result (TellsRefusal (λ line cause. (more : List ℕ) → (script_of ((text ++ piece.now) ++ more) ≡ Err (line, cause)) × ShowsMore (shown text) (told ((text ++ piece.now) ++ more)) (K.held out.old) (K.held out.new))) }
+    ensures front { (text : List ℕ) → IsReplayOf text replayer.old → OnErr result (ShowsFront (shown text) (told (text ++ piece.now)) (K.held out.old) (K.held out.new)) }
+    ensures known { IfErr result IsFromPiece }
     ensures output { IsErrOf result Trouble.Output → Rose (K.faults out.old) (K.faults out.new) }
-    ensures silent { IfErr result (λ trouble. trouble ≢ Ending.Output → out.new ≡ out.old) }
-    ensures neither { IfErr result IsFromPlay }
-    ensures part { WrotePart (K.held out.old) (K.held out.new) (unwrap_or (replayed text.now) []) }
+    ensures steady { OnOk result (K.faults out.new ≡ K.faults out.old) }
+    ensures steady_else { IfErr result (λ trouble. trouble ≢ Ending.Output → K.faults out.new ≡ K.faults out.old) }
 {
-    let script = match read_script(alloc, text) {
-        Ok(script) => script,
-        Err(fault) => return Err(fault.into()),
-    };
-    let record = match replay(alloc, &script) {
-        Ok(record) => record,
-        Err(fault) => return Err(fault.into()),
-    };
-    match print(&record, out) {
-        Ok(()) => Ok(()),
+    let fed = replayer.feed_all(piece, lines);
+    hand_on(fed, lines, out)
+}
+
+/// Ends the script, and writes what follows.
+fn close<K: Sink>(
+    replayer: &mut Replayer,
+    lines: &mut Collected,
+    out: &mut K,
+) -> Result<(), Trouble>
+    requires replay { IsReplay replayer.old }
+    requires none { lines.old.held ≡ [] }
+    ensures ok { (text : List ℕ) → IsReplayOf text replayer.old → OnOk result (IsScript text × ShowsMore (shown text) (told text) (K.held out.old) (K.held out.new)) }
+    ensures refused { (text : List ℕ) → IsReplayOf text replayer.old → IfErr result (TellsRefusal (λ line cause. (script_of text ≡ Err (line, cause)) × ShowsMore (shown text) (told text) (K.held out.old) (K.held out.new))) }
+    ensures front { (text : List ℕ) → IsReplayOf text replayer.old → OnErr result (ShowsFront (shown text) (told text) (K.held out.old) (K.held out.new)) }
+    ensures known { IfErr result IsFromPiece }
+    ensures output { IsErrOf result Trouble.Output → Rose (K.faults out.old) (K.faults out.new) }
+    ensures steady { OnOk result (K.faults out.new ≡ K.faults out.old) }
+    ensures steady_else { IfErr result (λ trouble. trouble ≢ Ending.Output → K.faults out.new ≡ K.faults out.old) }
+{
+    let ended = replayer.finish(lines);
+    hand_on(ended, lines, out)
+}
+
+/// Writes the lines that were collected, and tells what else happened.
+fn hand_on<K: Sink>(
+    ended: Result<(), StreamFault>,
+    lines: &mut Collected,
+    out: &mut K,
+) -> Result<(), Trouble>
+    ensures ends { (IsErrOf result Trouble.Output × Rose (K.faults out.old) (K.faults out.new))
+        ⊎ ((result ≡ result_of ended) × ((lines.new.held ≡ []) × (K.faults out.new ≡ K.faults out.old) × Put (K.held out.old) (K.held out.new) lines.old.held)) }
+    ensures part { WrotePart (K.held out.old) (K.held out.new) lines.old.held }
+{
+    match write_all(out, lines.bytes()) {
+        Ok(()) => {
+            lines.clear();
+            match ended {
+                Ok(()) => Ok(()),
+                Err(fault) => Err(fault.into()),
+            }
+        }
         Err(Failed) => Err(Trouble::Output),
-    }
-}
-
-/// What is told of a script whose reading broke off behind these bytes: the first of its lines that is refused whatever
-/// follows, or else that the input failed.
-fn broken_off(alloc: Global, text: &[u8]) -> Trouble
-    ensures refusal { TellsRefusal (λ line cause. (more : List ℕ) → script_of (text.now ++ more) ≡ Err (line, cause)) result }
-    ensures input { result ≡ Trouble.Input → IsOpen text.now }
-    ensures neither { IsFromText result }
-{
-    match read_script(alloc, settled(text)) {
-        Ok(_) => Trouble::Input,
-        Err(fault) => shown(fault),
-    }
-}
-
-/// What is told of a text that is refused so, where it may go on: not that `end` is missing.
-fn shown(fault: ScriptFault) -> Trouble
-    ensures refusal { TellsRefusal (λ line cause. (fault ≡ ScriptFault.At line cause) × (cause ≢ Cause.NoEnd)) result }
-    ensures input { result ≡ Trouble.Input → (line : ℕ) × (fault ≡ ScriptFault.At line Cause.NoEnd) }
-    ensures neither { IsFromText result }
-{
-    match fault {
-        ScriptFault::At {
-            cause: Cause::NoEnd,
-            ..
-        } => Trouble::Input,
-        fault => fault.into(),
     }
 }

@@ -2,6 +2,7 @@
 use crate::run;
 use df1_base::{BytesIn, BytesOut, Failed, NoMemory, ReadFault};
 use df1_node::{IssueFault, MakeFault};
+use line_replay::StreamFault;
 use line_script::{Cause, LineFault, ScriptFault};
 use std::alloc::Global;
 use std::fmt::Display;
@@ -242,6 +243,36 @@ fn a_run_that_does_not_end_well_tells_why(rt: HostRuntime) -> Result<(), Fail> {
             out: "",
             note: "df1: input cannot be read\n",
         },
+        // A line that is refused behind events: what these told is written.
+        Case {
+            words: &["replay"],
+            input: "file b 7 89 16\nai 0FAA02078900003412\nak 19\nzz\n",
+            read_fails: &[],
+            room: 4000,
+            status: 3,
+            out: "a sent 100201000F000100AA0207890000341210036D\n",
+            note: "df1: line 4: form\n",
+        },
+        // A read that fails behind an event line: the line that is begun tells nothing.
+        Case {
+            words: &["replay"],
+            input: "ai 060055\nak 2\nak 3",
+            read_fails: &[20],
+            room: 4000,
+            status: 4,
+            out: "a sent 1002\n",
+            note: "df1: input cannot be read\n",
+        },
+        // An output that is full before a line that is refused: the output failed first.
+        Case {
+            words: &["replay"],
+            input: "ai 060055\nak 2\nzz\n",
+            read_fails: &[],
+            room: 3,
+            status: 5,
+            out: "a s",
+            note: "df1: output cannot be written\n",
+        },
         // An output that is full.
         Case {
             words: &["replay"],
@@ -375,7 +406,10 @@ fn faults_of_a_script_have_texts(rt: HostRuntime) -> Result<(), Fail> {
     says(&rt, &LineFault::NoMemory, "no memory")?;
     let cause = Cause::Form;
     says(&rt, &ScriptFault::At { line: 3, cause }, "line 3: form")?;
-    says(&rt, &ScriptFault::NoMemory, "no memory")
+    says(&rt, &ScriptFault::NoMemory, "no memory")?;
+    says(&rt, &StreamFault::At { line: 3, cause }, "line 3: form")?;
+    says(&rt, &StreamFault::SinkFailed, "the sink failed")?;
+    says(&rt, &StreamFault::NoMemory, "no memory")
 }
 
 #[test]

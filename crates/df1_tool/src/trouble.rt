@@ -12,8 +12,7 @@ ghost use Rattle.arrayvec.specs.ArrayVec.{array_vec_len};
 ghost use Rattle.df1_tool.specs.Tool.{status_of_trouble, note_of, cause_text, line_note};
 
 use arrayvec::ArrayVec;
-use df1_base::{NoMemory, ReadFault};
-use line_script::{Cause, ScriptFault};
+use line_replay::{Cause, StreamFault};
 
 /// Room for a note, in bytes.
 const NOTE: usize = 96;
@@ -33,42 +32,17 @@ pub(crate) enum Trouble {
     NoMemory,
 }
 
-impl From<ReadFault> for Trouble {
+impl From<StreamFault> for Trouble {
     ghost use Rattle.std.specs.Prelude.{◌≡◌};
-    ghost use Rattle.df1_tool.specs.Tool.{trouble_of_reading};
+    ghost use Rattle.df1_tool.specs.Tool.{trouble_of_replay};
 
-    ghost from_gives = { λ fault e. e ≡ trouble_of_reading fault };
+    ghost from_gives = { λ fault e. e ≡ trouble_of_replay fault };
 
-    fn from(fault: ReadFault) -> Self {
+    fn from(fault: StreamFault) -> Self {
         match fault {
-            ReadFault::Failed => Trouble::Input,
-            ReadFault::NoMemory => Trouble::NoMemory,
+            StreamFault::At { line, cause } => Trouble::Refusal(line, cause),
+            StreamFault::SinkFailed | StreamFault::NoMemory => Trouble::NoMemory,
         }
-    }
-}
-
-impl From<ScriptFault> for Trouble {
-    ghost use Rattle.std.specs.Prelude.{◌≡◌};
-    ghost use Rattle.df1_tool.specs.Tool.{trouble_of_script};
-
-    ghost from_gives = { λ fault e. e ≡ trouble_of_script fault };
-
-    fn from(fault: ScriptFault) -> Self {
-        match fault {
-            ScriptFault::At { line, cause } => Trouble::Refusal(line, cause),
-            ScriptFault::NoMemory => Trouble::NoMemory,
-        }
-    }
-}
-
-impl From<NoMemory> for Trouble {
-    ghost use Rattle.std.specs.Prelude.{◌≡◌};
-    ghost use Rattle.df1_tool.specs.declared.trouble.Trouble.TheVariants.{NoMemory as Wanting};
-
-    ghost from_gives = { λ _ e. e ≡ Wanting };
-
-    fn from(_: NoMemory) -> Self {
-        Trouble::NoMemory
     }
 }
 

@@ -1,6 +1,6 @@
 use Rattle.std.proofs.Common.{Some, sym, ◌∙◌, ap}
 use Rattle.std.proofs.lemmas.Result.{on_ok_weaker}
-use Rattle.df1_tool.proofs.Limits.{answered_for, only_form, written_for}
+use Rattle.df1_tool.proofs.Statuses.{answered_for, only_form, written_for}
 use Rattle.df1_tool.proofs.top.perform.Goals as goal
 
 pub returns-clause-done : goal.returns-clause-done

@@ -1,5 +1,5 @@
 use Rattle.df1_tool.proofs.Headline.{ended-well, replayed-well}
-use Rattle.df1_tool.proofs.Limits.{exact_status}
+use Rattle.df1_tool.proofs.Statuses.{exact_status}
 use Rattle.df1_tool.proofs.top.run.Goals as goal
 
 pub returns-clause-exact : goal.returns-clause-exact
