@@ -1,3 +1,4 @@
 pub mod TextLemmas
 pub mod WholeItems
 pub mod SlaveLemmas
+pub mod MasterLemmas

@@ -6,3 +6,7 @@ pub mod SlaveGrammar
 pub mod SlaveStanding
 pub mod SlaveStep
 pub mod SlaveView
+pub mod MasterGrammar
+pub mod MasterStanding
+pub mod MasterStep
+pub mod MasterView

@@ -2,7 +2,9 @@
 
 ghost use Rattle.std.specs.Prelude.{◌≡◌};
 ghost use Rattle.half_frame.specs.SlaveGrammar.{pair_heard as slave_pair_heard, poll_heard as heard_at_poll};
+ghost use Rattle.half_frame.specs.MasterGrammar.{pair_heard as master_pair_heard};
 
+use crate::EOT;
 use df1_base::{ACK, NAK};
 use df1_check::bcc;
 use df1_frame::SHORT_NAK;
@@ -30,6 +32,25 @@ pub enum SlaveHeard {
     StrayPair(u8),
 }
 
+/// What the master hears at a byte of a slave's.
+#[derive(Clone, Copy, Debug, PartialEq, Eq)]
+pub enum MasterHeard {
+    /// A message with a body of at least 6 bytes, for which there is room, and with the right check.
+    Good,
+    /// A message that didn't end as one, or that has a short or long body or a wrong check.
+    Damaged,
+    /// DLE ACK.
+    Ack,
+    /// DLE NAK.
+    Nak,
+    /// DLE EOT, by which a slave that was polled says that it has no message.
+    Eot,
+    /// This byte, outside.
+    Stray(u8),
+    /// A DLE and this byte, outside.
+    StrayPair(u8),
+}
+
 /// What a pair with this code, which begins nothing, says to a slave.
 pub(crate) fn slave_pair(code: u8) -> SlaveHeard
     ensures { result ≡ slave_pair_heard code }
@@ -49,5 +70,17 @@ pub(crate) fn poll(stn: u8, check: u8) -> SlaveHeard
         SlaveHeard::Poll(stn)
     } else {
         SlaveHeard::BadPoll
+    }
+}
+
+/// What a pair with this code, which begins nothing, says to the master.
+pub(crate) fn master_pair(code: u8) -> MasterHeard
+    ensures { result ≡ master_pair_heard code }
+{
+    match code {
+        ACK => MasterHeard::Ack,
+        NAK | SHORT_NAK => MasterHeard::Nak,
+        EOT => MasterHeard::Eot,
+        _ => MasterHeard::StrayPair(code),
     }
 }

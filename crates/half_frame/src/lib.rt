@@ -11,11 +11,18 @@
 #![tactic(auto)]
 
 mod heard;
+mod master_ear;
+mod master_laws;
 mod slave_ear;
 mod slave_laws;
 mod text;
 
-pub use heard::SlaveHeard;
+pub use heard::{MasterHeard, SlaveHeard};
+pub use master_ear::MasterEar;
+pub use master_laws::{
+    heard_stays_at_the_master, one_split_at_the_master, pair_round_trip_at_the_master,
+    reply_round_trip, worked_replies,
+};
 pub use slave_ear::SlaveEar;
 pub use slave_laws::{
     heard_stays_at_a_slave, message_round_trip, one_split_at_a_slave, pair_round_trip_at_a_slave,
@@ -24,6 +31,9 @@ pub use slave_laws::{
 
 /// Start of header: DLE SOH begins a master's message.
 pub const SOH: u8 = 0x01;
+
+/// End of transmission: DLE EOT is the answer of a slave that was polled and has no message.
+pub const EOT: u8 = 0x04;
 
 #[cfg(test)]
 mod tests;

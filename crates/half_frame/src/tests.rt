@@ -19,6 +19,23 @@ fn slave_hears(
     assert_eq!(rt; told, wanted.len());
 }
 
+// The same of the master's ear.
+fn master_hears(
+    rt: &impl Abort,
+    ear: &mut MasterEar<250>,
+    bytes: &[u8],
+    wanted: &[(usize, MasterHeard)],
+) {
+    let mut told = 0usize;
+    for (place, b) in bytes.iter().enumerate() {
+        if let Some(heard) = ear.feed(*b) {
+            assert!(rt; wanted.get(told).copied() == Some((place + 1, heard)));
+            told = told.saturating_add(1);
+        }
+    }
+    assert_eq!(rt; told, wanted.len());
+}
+
 #[test]
 fn a_slave_hears_messages_and_polls(rt: HostRuntime) {
     let mut cyclic = SlaveEar::<250>::new(Check::Crc);
@@ -99,4 +116,55 @@ fn a_slave_hears_messages_that_are_cut_off(rt: HostRuntime) {
         (11, SlaveHeard::Reset),
     ];
     slave_hears(&rt, &mut ear, &bytes, &wanted);
+}
+
+#[test]
+fn the_master_hears_messages_and_pairs(rt: HostRuntime) {
+    let mut ear = MasterEar::<250>::new(Check::Bcc);
+    let bytes = [0x10, 0x04, 0x10, 0x02, 0x00, 0x10, 0x02];
+    let wanted = [(2, MasterHeard::Eot), (7, MasterHeard::Damaged)];
+    master_hears(&rt, &mut ear, &bytes, &wanted);
+    assert!(rt; ear.inside());
+    let bytes = [0x00, 0x03, 0x4F, 0x00, 0x01, 0x00, 0x10, 0x03, 0xAD];
+    master_hears(&rt, &mut ear, &bytes, &[(9, MasterHeard::Good)]);
+    assert!(rt; ear.body() == [0x00, 0x03, 0x4F, 0x00, 0x01, 0x00].as_slice());
+    let bytes = [
+        0x10, 0x02, 0x10, 0x06, 0x41, 0x10, 0x06, 0x10, 0x0F, 0x10, 0x05,
+    ];
+    let wanted = [
+        (4, MasterHeard::Damaged),
+        (5, MasterHeard::Stray(0x41)),
+        (7, MasterHeard::Ack),
+        (9, MasterHeard::Nak),
+        (11, MasterHeard::StrayPair(5)),
+    ];
+    master_hears(&rt, &mut ear, &bytes, &wanted);
+}
+
+// Gives a slave and the master a message of this many zero bytes, and answers what each hears at its last byte.
+fn messages_of_zeros(rt: &impl Abort, len: u16) -> (Option<SlaveHeard>, Option<MasterHeard>) {
+    let mut slave = SlaveEar::<250>::new(Check::Bcc);
+    let mut master = MasterEar::<250>::new(Check::Bcc);
+    let header = [(5, SlaveHeard::Header(3))];
+    slave_hears(rt, &mut slave, &[0x10, 0x01, 0x03, 0x10, 0x02], &header);
+    master_hears(rt, &mut master, &[0x10, 0x02], &[]);
+    for _ in 0..len {
+        slave_hears(rt, &mut slave, &[0x00], &[]);
+        master_hears(rt, &mut master, &[0x00], &[]);
+    }
+    assert!(rt; slave.held() == usize::from(len.min(250)));
+    assert!(rt; master.held() == usize::from(len.min(250)));
+    slave_hears(rt, &mut slave, &[0x10, 0x03], &[]);
+    master_hears(rt, &mut master, &[0x10, 0x03], &[]);
+    (slave.feed(0xFD), master.feed(0x00))
+}
+
+#[test]
+fn both_hear_the_sizes_of_bodies(rt: HostRuntime) {
+    let right = (Some(SlaveHeard::Addressed(3)), Some(MasterHeard::Good));
+    let wrong = (Some(SlaveHeard::Damaged(3)), Some(MasterHeard::Damaged));
+    assert!(rt; messages_of_zeros(&rt, 5) == wrong);
+    assert!(rt; messages_of_zeros(&rt, 6) == right);
+    assert!(rt; messages_of_zeros(&rt, 250) == right);
+    assert!(rt; messages_of_zeros(&rt, 251) == wrong);
 }
