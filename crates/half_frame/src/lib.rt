@@ -10,6 +10,7 @@
 //! begins an item ends the message as damaged, and begins that item.
 #![tactic(auto)]
 
+mod framer;
 mod heard;
 mod master_ear;
 mod master_laws;
@@ -17,6 +18,7 @@ mod slave_ear;
 mod slave_laws;
 mod text;
 
+pub use framer::HalfFramer;
 pub use heard::{MasterHeard, SlaveHeard};
 pub use master_ear::MasterEar;
 pub use master_laws::{

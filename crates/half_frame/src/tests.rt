@@ -168,3 +168,36 @@ fn both_hear_the_sizes_of_bodies(rt: HostRuntime) {
     assert!(rt; messages_of_zeros(&rt, 250) == right);
     assert!(rt; messages_of_zeros(&rt, 251) == wrong);
 }
+
+// Takes the bytes of a framer, and compares them.
+fn gives(rt: &impl Abort, framer: HalfFramer, wanted: &[u8]) {
+    let mut framer = framer;
+    for b in wanted {
+        assert!(rt; !framer.done());
+        assert!(rt; framer.next_byte() == Some(*b));
+    }
+    assert!(rt; framer.done());
+    assert!(rt; framer.next_byte() == None);
+}
+
+#[test]
+fn gives_messages_polls_and_pairs(rt: HostRuntime) {
+    let body = [0x03, 0x00, 0x06, 0x00, 0x01, 0x00, 0x00, 0x55];
+    let bytes = [
+        0x10, 0x01, 0x03, 0x10, 0x02, 0x03, 0x00, 0x06, 0x00, 0x01, 0x00, 0x00, 0x55, 0x10, 0x03,
+        0x9E, 0xEF,
+    ];
+    gives(&rt, HalfFramer::message(3, &body, Check::Crc), &bytes);
+    let body = [0x10, 0x00, 0x06, 0x00, 0x01, 0x00];
+    let bytes = [
+        0x10, 0x01, 0x03, 0x10, 0x02, 0x10, 0x10, 0x00, 0x06, 0x00, 0x01, 0x00, 0x10, 0x03, 0xE6,
+    ];
+    gives(&rt, HalfFramer::message(3, &body, Check::Bcc), &bytes);
+    gives(&rt, HalfFramer::poll(3), &[0x10, 0x05, 0x03, 0xFD]);
+    let body = [0x07, 0x00, 0x06, 0x00, 0x01, 0x00, 0x00, 0xE2];
+    let bytes = [
+        0x10, 0x02, 0x07, 0x00, 0x06, 0x00, 0x01, 0x00, 0x00, 0xE2, 0x10, 0x03, 0x10,
+    ];
+    gives(&rt, HalfFramer::reply(&body, Check::Bcc), &bytes);
+    gives(&rt, HalfFramer::pair(EOT), &[0x10, 0x04]);
+}

@@ -1,0 +1,143 @@
+//! What is sent on a half-duplex line, byte by byte.
+
+ghost use Rattle.std.specs.Prelude.{◌≡◌, ◌≢◌, ◌≤◌, ◌↔◌, ℕ, List, [], ◌∷◌, ◌++◌, IsTrue, ◌+◌, ◌==◌, if◌then◌else◌, length, drop, slice_get};
+ghost use Rattle.df1_check.specs.Checks.{taken};
+ghost use Rattle.df1_frame.specs.Spelling.{Plain, Doubled, piece_bytes, pieces_of, check_of, framed};
+ghost use Rattle.half_frame.specs.Spelling.{message_bytes, poll_bytes, reply_bytes, pair_bytes};
+
+use crate::SOH;
+use arrayvec::ArrayVec;
+use df1_base::{DLE, ENQ, ETX, MAX_BODY, STX};
+use df1_check::{Check, Running, bcc};
+use df1_frame::check_bytes;
+use std::marker::Model;
+
+/// The most bytes that are sent at once: a master's message whose body is 250 times DLE, with a CRC.
+const MAX_BYTES: usize = 3 + 2 + 2 * MAX_BODY + 2 + 2;
+
+/// A message, a poll or a pair under way. Contracts see the list of the bytes that are still to be given.
+#[derive(Drop)]
+pub struct HalfFramer {
+    bytes: ArrayVec<u8, MAX_BYTES>,
+    given: usize,
+}
+
+impl Model for HalfFramer {
+    ghost use Rattle.std.specs.Prelude.{List, drop, ℕ};
+
+    ghost Value = { List ℕ };
+
+    ghost view = { λ f. drop f.given f.bytes.items };
+}
+
+impl HalfFramer {
+    /// A master's message to the station `stn`, which is neither 16 nor 255, with a body of at most 250 bytes.
+    pub fn message(stn: u8, body: &[u8], check: Check) -> HalfFramer
+        requires not_dle { stn ≢ 16 }
+        requires not_all { stn ≢ 255 }
+        requires fits { length body.now ≤ 250 }
+        ensures { result ≡ message_bytes check stn body.now }
+    {
+        let mut bytes = ArrayVec::new();
+        bytes.push(DLE);
+        bytes.push(SOH);
+        bytes.push(stn);
+        let mut running = Running::new(check);
+        running.step(stn);
+        match check {
+            Check::Bcc => {}
+            Check::Crc => running.step(STX),
+        }
+        push_text(&mut bytes, body, check, running);
+        HalfFramer { bytes, given: 0 }
+    }
+
+    /// A master's poll of the station `stn`, which is neither 16 nor 255.
+    pub fn poll(stn: u8) -> HalfFramer
+        requires not_dle { stn ≢ 16 }
+        requires not_all { stn ≢ 255 }
+        ensures { result ≡ poll_bytes stn }
+    {
+        let mut bytes = ArrayVec::new();
+        bytes.push(DLE);
+        bytes.push(ENQ);
+        bytes.push(stn);
+        bytes.push(bcc(&[stn]));
+        HalfFramer { bytes, given: 0 }
+    }
+
+    /// A slave's message with a body of at most 250 bytes.
+    pub fn reply(body: &[u8], check: Check) -> HalfFramer
+        requires { length body.now ≤ 250 }
+        ensures { result ≡ reply_bytes check body.now }
+    {
+        let mut bytes = ArrayVec::new();
+        push_text(&mut bytes, body, check, Running::new(check));
+        HalfFramer { bytes, given: 0 }
+    }
+
+    /// A DLE and this code by themselves, as DLE ACK.
+    pub fn pair(c: u8) -> HalfFramer
+        ensures { result ≡ pair_bytes c }
+    {
+        let mut bytes = ArrayVec::new();
+        bytes.push(DLE);
+        bytes.push(c);
+        HalfFramer { bytes, given: 0 }
+    }
+
+    /// Gives the next byte: None exactly after the last.
+    pub fn next_byte(&mut self) -> Option<u8>
+        ensures given { result ≡ slice_get self.old 0 }
+        ensures left { self.new ≡ drop 1 self.old }
+    {
+        let b = *self.bytes.as_slice().get(self.given)?;
+        self.given += 1;
+        Some(b)
+    }
+
+    /// Whether no byte is left.
+    pub fn done(&self) -> bool
+        ensures { IsTrue result ↔ (self.now ≡ []) }
+    {
+        self.bytes.len() <= self.given
+    }
+}
+
+/// Adds the text of a body of at most 250 bytes, whose check has taken what it covers before the body.
+fn push_text(bytes: &mut ArrayVec<u8, MAX_BYTES>, body: &[u8], check: Check, mut running: Running)
+    requires room { length bytes.old.items ≤ 3 }
+    requires fits { length body.now ≤ 250 }
+    ensures { (head : List ℕ) → running ≡ taken check head → bytes.new.items ≡ bytes.old.items ++ framed (pieces_of body.now) (check_of check (head ++ body.now)) }
+{
+    bytes.push(DLE);
+    bytes.push(STX);
+    for b in body {
+        running.step(*b);
+        push_piece(bytes, *b);
+    }
+    push_end(bytes, check_bytes(check, running).as_slice());
+}
+
+/// Adds a byte of the body, with a DLE doubled.
+fn push_piece(bytes: &mut ArrayVec<u8, MAX_BYTES>, b: u8)
+    requires { length bytes.old.items + 2 ≤ 509 }
+    ensures { bytes.new.items ≡ bytes.old.items ++ piece_bytes (if b == 16 then Doubled else Plain b) }
+{
+    bytes.push(b);
+    if b == DLE {
+        bytes.push(DLE);
+    }
+}
+
+/// Adds DLE ETX and these check bytes.
+fn push_end(bytes: &mut ArrayVec<u8, MAX_BYTES>, check: &[u8])
+    requires { length bytes.old.items + 2 + length check.now ≤ 509 }
+    ensures { bytes.new.items ≡ bytes.old.items ++ 16 ∷ 3 ∷ check.now }
+{
+    bytes.push(DLE);
+    bytes.push(ETX);
+    for b in check {
+        bytes.push(*b);
+    }
+}
