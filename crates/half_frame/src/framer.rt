@@ -96,9 +96,10 @@ impl HalfFramer {
         Some(b)
     }
 
-    /// Whether no byte is left.
+    /// Whether no byte is left. At most 509 bytes are.
     pub fn done(&self) -> bool
-        ensures { IsTrue result ↔ (self.now ≡ []) }
+        ensures done { IsTrue result ↔ (self.now ≡ []) }
+        ensures most { length self.now ≤ 509 }
     {
         self.bytes.len() <= self.given
     }
