@@ -59,7 +59,7 @@ pub record Continues (H : Type 0) (first : Option H) (kind : Check) (N : ℕ) (h
 
 -- ---- the body's bytes
 
-pub doubled-push : (body : List ℕ) (b : ℕ) → flat_map piece_bytes (pieces_of (body ++ b ∷ [])) ≡ flat_map piece_bytes (pieces_of body) ++ piece_bytes (cond (eqb b 16) Doubled (Plain b))
+doubled-push : (body : List ℕ) (b : ℕ) → flat_map piece_bytes (pieces_of (body ++ b ∷ [])) ≡ flat_map piece_bytes (pieces_of body) ++ piece_bytes (cond (eqb b 16) Doubled (Plain b))
 doubled-push body b = rw (map-append, flat_map-append, append-nil) refl
 
 plain-push : (body : List ℕ) (b : ℕ) → eqb b 16 ≡ false → flat_map piece_bytes (pieces_of (body ++ b ∷ [])) ≡ flat_map piece_bytes (pieces_of body) ++ b ∷ []

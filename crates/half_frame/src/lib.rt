@@ -18,7 +18,7 @@ mod slave_ear;
 mod slave_laws;
 mod text;
 
-pub use framer::HalfFramer;
+pub use framer::{HalfFramer, Sent, marks_change_no_byte};
 pub use heard::{MasterHeard, SlaveHeard};
 pub use master_ear::MasterEar;
 pub use master_laws::{

@@ -201,3 +201,28 @@ fn gives_messages_polls_and_pairs(rt: HostRuntime) {
     gives(&rt, HalfFramer::reply(&body, Check::Bcc), &bytes);
     gives(&rt, HalfFramer::pair(EOT), &[0x10, 0x04]);
 }
+
+#[test]
+fn marks_the_bytes_of_a_body(rt: HostRuntime) {
+    let mut framer = HalfFramer::reply(&[0x41, 0x10, 0x03], Check::Bcc);
+    let wanted = [
+        (0x10, false),
+        (0x02, false),
+        (0x41, true),
+        (0x10, false),
+        (0x10, false),
+        (0x03, true),
+        (0x10, false),
+        (0x03, false),
+        (0xAC, false),
+    ];
+    for (byte, of_body) in wanted.iter() {
+        let sent = Sent {
+            byte: *byte,
+            of_body: *of_body,
+        };
+        assert!(rt; framer.next_sent() == Some(sent));
+    }
+    assert!(rt; framer.done());
+    assert!(rt; framer.next_sent() == None);
+}
