@@ -225,7 +225,7 @@ goes-closed kind N b pieces check h part = cond_both (ltb (length check + 1) (ch
     (λ e. record {
       items = (h, omega (arith, length_push check b, ltb-true (length check + 1) (check_len kind) e));
       bytes = sym (append_assoc (opening pieces) (16 ∷ 3 ∷ check) (b ∷ []));
-      heard = λ before at f. rw (e, unheard-push check b) (sym (append_assoc (opening_heard at pieces) (None ∷ None ∷ unheard check) (None ∷ [])));
+      heard = λ before at f. rw (e, unheard-push Heard check b) (sym (append_assoc (opening_heard at pieces) (None ∷ None ∷ unheard check) (None ∷ [])));
       value = λ before. rw e refl;
     })
     (λ e. record {
@@ -275,7 +275,7 @@ length-front at Nothing = refl
 length-front at Dle = refl
 length-front at (Opened pieces) = ap (λ (n : ℕ). suc (suc n)) (length-pieces pieces)
 length-front at (OpenedDle pieces) = length-opening at pieces (None ∷ []) (16 ∷ []) refl
-length-front at (Closed pieces check) = length-opening at pieces (None ∷ None ∷ unheard check) (16 ∷ 3 ∷ check) (ap (λ (n : ℕ). suc (suc n)) (length-unheard check))
+length-front at (Closed pieces check) = length-opening at pieces (None ∷ None ∷ unheard check) (16 ∷ 3 ∷ check) (ap (λ (n : ℕ). suc (suc n)) (length-unheard Heard check))
 
 pub works : (kind : Check) (N : ℕ) → Works (full_duplex kind N) (machine kind N)
 works kind N = record {

@@ -2,7 +2,6 @@
 use Rattle.std.proofs.Common.{◌≡◌, ◌≢◌, ℕ, suc, true, false, List, [], ◌∷◌, ◌++◌, length, Option, IsSome, Some, None, refl, sym, ap, ◌∙◌, eqb, eq-eqb}
 use Rattle.std.proofs.lemmas.Bool.{false≢true, and_right}
 use Rattle.std.specs.List.{flat_map}
-use Rattle.df1_frame.specs.declared.heard.Heard.{Heard}
 use Rattle.df1_check.specs.declared.Check.{Check}
 use Rattle.df1_check.specs.declared.Check.TheVariants as kinds
 use Rattle.df1_frame.specs.Spelling.{Piece, Plain, Doubled, Response, piece_bytes, response, IsPiece, ArePieces, check_bytes, check_len, same}
@@ -21,23 +20,23 @@ length-pieces (Plain b ∷ pieces) = ap suc (length-pieces pieces)
 length-pieces (Doubled ∷ pieces) = ap (λ (n : ℕ). suc (suc n)) (length-pieces pieces)
 length-pieces (Response code ∷ pieces) = ap (λ (n : ℕ). suc (suc n)) (length-pieces pieces)
 
-pub length-unheard : (bytes : List ℕ) → length (unheard bytes) ≡ length bytes
-length-unheard [] = refl
-length-unheard (b ∷ bytes) = ap suc (length-unheard bytes)
+pub length-unheard : (H : Type 0) (bytes : List ℕ) → length (unheard {H = H} bytes) ≡ length bytes
+length-unheard H [] = refl
+length-unheard H (b ∷ bytes) = ap suc (length-unheard H bytes)
 
-pub length-check_heard : (h : Heard) (check : List ℕ) → length (check_heard h check) ≡ length check
+pub length-check_heard : {H : Type 0} (h : H) (check : List ℕ) → length (check_heard h check) ≡ length check
 length-check_heard h [] = refl
 length-check_heard h (b ∷ []) = refl
 length-check_heard h (b ∷ c ∷ more) = ap suc (length-check_heard h (c ∷ more))
 
-pub check_heard-push : (h : Heard) (check : List ℕ) (b : ℕ) → check_heard h (check ++ b ∷ []) ≡ unheard check ++ Some h ∷ []
+pub check_heard-push : {H : Type 0} (h : H) (check : List ℕ) (b : ℕ) → check_heard h (check ++ b ∷ []) ≡ unheard check ++ Some h ∷ []
 check_heard-push h [] b = refl
 check_heard-push h (x ∷ []) b = refl
-check_heard-push h (x ∷ y ∷ more) b = ap (λ (l : List (Option Heard)). None ∷ l) (check_heard-push h (y ∷ more) b)
+check_heard-push {H = H} h (x ∷ y ∷ more) b = ap (λ (l : List (Option H)). None ∷ l) (check_heard-push h (y ∷ more) b)
 
-pub unheard-push : (check : List ℕ) (b : ℕ) → unheard (check ++ b ∷ []) ≡ unheard check ++ None ∷ []
-unheard-push [] b = refl
-unheard-push (x ∷ more) b = ap (λ (l : List (Option Heard)). None ∷ l) (unheard-push more b)
+pub unheard-push : (H : Type 0) (bytes : List ℕ) (b : ℕ) → unheard {H = H} (bytes ++ b ∷ []) ≡ unheard bytes ++ None ∷ []
+unheard-push H [] b = refl
+unheard-push H (x ∷ more) b = ap (λ (l : List (Option H)). None ∷ l) (unheard-push H more b)
 
 pub same-length : (xs ys : List ℕ) → (length xs ≡ length ys → ⊥) → false ≡ same xs ys
 same-length [] [] h = absurd (h refl)

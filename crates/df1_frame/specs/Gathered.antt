@@ -12,13 +12,20 @@ pub record Gathered : Type 0 where
   pub long : Bool
   pub running : Taken
 
--- of a body whose end hasn't come
-abbrev pub gathered : Check → ℕ → List ℕ → Gathered
-gathered check N body = record { bytes = take N body; long = nat_lt N (length body); running = taken check body }
+-- of a body whose end hasn't come, where the check covers a head before it
+abbrev pub gathered_after : Check → ℕ → List ℕ → List ℕ → Gathered
+gathered_after check N head body = record { bytes = take N body; long = nat_lt N (length body); running = taken check (head ++ body) }
 
 -- of a body whose end has come: the check has taken all that it covers
+abbrev pub gathered_whole_after : Check → ℕ → List ℕ → List ℕ → Gathered
+gathered_whole_after check N head body = record { bytes = take N body; long = nat_lt N (length body); running = taken check (covered check (head ++ body)) }
+
+-- the same where the check covers no head
+abbrev pub gathered : Check → ℕ → List ℕ → Gathered
+gathered check N = gathered_after check N []
+
 abbrev pub gathered_whole : Check → ℕ → List ℕ → Gathered
-gathered_whole check N body = record { bytes = take N body; long = nat_lt N (length body); running = taken check (covered check body) }
+gathered_whole check N = gathered_whole_after check N []
 
 -- of no body
 abbrev pub nothing_gathered : Check → Gathered
@@ -31,10 +38,14 @@ gather N so_far b =
     then record { bytes = so_far.bytes ++ b ∷ []; long = so_far.long; running = take_byte so_far.running b }
     else record { bytes = so_far.bytes; long = true; running = take_byte so_far.running b }
 
+-- with one byte more that the check covers and that is none of the body
+abbrev pub cover : Gathered → ℕ → Gathered
+cover so_far b = record { bytes = so_far.bytes; long = so_far.long; running = take_byte so_far.running b }
+
 -- at the end of the body: the CRC takes ETX too
 abbrev pub close : Check → Gathered → Gathered
 close kind.Bcc so_far = so_far
-close kind.Crc so_far = record { bytes = so_far.bytes; long = so_far.long; running = take_byte so_far.running 3 }
+close kind.Crc so_far = cover so_far 3
 
 -- what is heard at the last of the check bytes
 abbrev pub verdict : Check → Gathered → List ℕ → Heard

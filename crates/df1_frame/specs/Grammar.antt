@@ -85,13 +85,13 @@ abbrev pub opening_heard : Option Heard → List Piece → List (Option Heard)
 opening_heard at pieces = None ∷ at ∷ flat_map piece_heard pieces
 
 -- at each of the check bytes: nothing but at the last
-abbrev pub check_heard : Heard → List ℕ → List (Option Heard)
+abbrev pub check_heard : {H : Type 0} → H → List ℕ → List (Option H)
 check_heard h [] = []
 check_heard h (b ∷ []) = Some h ∷ []
 check_heard h (b ∷ c ∷ more) = None ∷ check_heard h (c ∷ more)
 
--- at each of too few check bytes
-abbrev pub unheard : List ℕ → List (Option Heard)
+-- at each of some bytes at which nothing is heard
+abbrev pub unheard : {H : Type 0} → List ℕ → List (Option H)
 unheard [] = []
 unheard (b ∷ more) = None ∷ unheard more
 

@@ -148,9 +148,10 @@ fn body_unit(b: u8) -> Unit
     }
 }
 
-/// The check bytes of the body that was taken: the CRC covers the ETX too, and goes low byte first.
+/// The check bytes of what a running check of this kind has taken: one byte (BCC), or two (CRC), of which the low one
+/// goes first and which cover the ETX too.
 #[tactic(auto, unfolding(crate::specs::Spelling::check_bytes))]
-fn check_bytes(check: Check, mut running: Running) -> ArrayVec<u8, 2>
+pub fn check_bytes(check: Check, mut running: Running) -> ArrayVec<u8, 2>
     ensures bytes { (body : List ℕ) → running ≡ taken check body → result.items ≡ check_of check body }
     ensures fits { length result.items ≤ 2 }
 {

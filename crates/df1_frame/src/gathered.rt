@@ -3,7 +3,7 @@
 ghost use Rattle.std.specs.Prelude.{◌≡◌, ◌≤◌, length};
 ghost use Rattle.df1_check.specs.Checks.{check_value};
 ghost use Rattle.df1_frame.specs.Spelling.{check_bytes, same};
-ghost use Rattle.df1_frame.specs.Gathered.{nothing_gathered, gather, close as closed, verdict as verdict_of};
+ghost use Rattle.df1_frame.specs.Gathered.{nothing_gathered, gather, cover as covering, close as closed, verdict as verdict_of};
 
 use crate::Heard;
 use arrayvec::ArrayVec;
@@ -13,7 +13,7 @@ use std::marker::Model;
 
 /// The first N bytes of a body, whether more came, and the check of all so far.
 #[derive(Drop)]
-pub(crate) struct Gathered<const N: usize> {
+pub struct Gathered<const N: usize> {
     bytes: ArrayVec<u8, N>,
     long: bool,
     running: Running,
@@ -28,6 +28,7 @@ impl<const N: usize> Model for Gathered<N> {
 }
 
 impl<const N: usize> Gathered<N> {
+    /// Of no body, for at most 4,096 bytes.
     pub fn new(check: Check) -> Self
         requires { N ≤ 4096 }
         ensures { result ≡ nothing_gathered check }
@@ -39,6 +40,7 @@ impl<const N: usize> Gathered<N> {
         }
     }
 
+    /// Forgets all, and begins the check anew.
     pub fn clear(&mut self, check: Check)
         ensures { self.new ≡ nothing_gathered check }
     {
@@ -47,6 +49,7 @@ impl<const N: usize> Gathered<N> {
         self.running = Running::new(check);
     }
 
+    /// Takes a byte of the body.
     pub fn gather(&mut self, b: u8)
         ensures { self.new ≡ gather N self.old b }
     {
@@ -56,6 +59,13 @@ impl<const N: usize> Gathered<N> {
         } else {
             self.bytes.push(b);
         }
+    }
+
+    /// Takes a byte that the check covers and that is none of the body.
+    pub fn cover(&mut self, b: u8)
+        ensures { self.new ≡ covering self.old b }
+    {
+        self.running.step(b);
     }
 
     /// Ends the body. The CRC covers the ETX.
@@ -68,12 +78,14 @@ impl<const N: usize> Gathered<N> {
         }
     }
 
+    /// Whether more than N bytes of the body came.
     pub fn is_long(&self) -> bool
         ensures { result ≡ self.now.long }
     {
         self.long
     }
 
+    /// The first N bytes of the body.
     pub fn bytes(&self) -> &[u8]
         ensures value { result.now ≡ self.now.bytes }
         ensures fits { length result.now ≤ N }

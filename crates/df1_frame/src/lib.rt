@@ -13,12 +13,13 @@ mod heard;
 mod laws;
 
 pub use decoder::Decoder;
-pub use framer::{Framer, Unit};
+pub use framer::{Framer, Unit, check_bytes};
+pub use gathered::Gathered;
 pub use heard::Heard;
 pub use laws::{frame_spells, heard_stays, one_split, round_trip, whole_frame, worked_frames};
 
 /// A second code that is read as NAK, and never sent.
-const SHORT_NAK: u8 = 0x0F;
+pub const SHORT_NAK: u8 = 0x0F;
 
 #[cfg(test)]
 mod tests;

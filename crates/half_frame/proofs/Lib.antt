@@ -1,0 +1,5 @@
+pub mod TextLemmas
+pub mod SentLemmas
+pub mod WholeItems
+pub mod SlaveLemmas
+pub mod MasterLemmas

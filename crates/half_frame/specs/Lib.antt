@@ -1,0 +1,12 @@
+pub mod Text
+pub mod TextStep
+pub mod TextView
+pub mod Spelling
+pub mod SlaveGrammar
+pub mod SlaveStanding
+pub mod SlaveStep
+pub mod SlaveView
+pub mod MasterGrammar
+pub mod MasterStanding
+pub mod MasterStep
+pub mod MasterView

@@ -1,0 +1,205 @@
+//! The master's ear: the slaves' bytes go in one by one, and at each it says what the master hears.
+
+ghost use Rattle.std.specs.Prelude.{◌≡◌, ◌≤◌, ℕ, List, [], ◌∷◌, ◌++◌, length, Option};
+ghost use Rattle.df1_check.specs.declared.Check.{Check as CheckKind};
+ghost use Rattle.df1_frame.specs.Line.{ReadOff, answers, last_heard};
+ghost use Rattle.half_frame.specs.declared.heard.MasterHeard.{MasterHeard as Told};
+ghost use Rattle.half_frame.specs.MasterGrammar.{master_hears};
+ghost use Rattle.half_frame.specs.MasterStanding.{Outside, listening, held as held_of, held_at, lent, lent_at, is_inside, has_begun};
+ghost use Rattle.half_frame.specs.MasterStep.{begun_by, next, outside_next, pair_next, step, text_next};
+ghost use Rattle.half_frame.specs.TextStep.{text_step};
+ghost use Rattle.half_frame.specs.TextView.{within_of};
+ghost use Rattle.half_frame.specs.MasterView.{standing_of};
+
+use crate::heard::master_pair;
+use crate::text::{Place as TextPlace, Progress};
+use crate::{MasterHeard, text};
+use df1_base::{DLE, STX};
+use df1_check::Check;
+use df1_frame::Gathered;
+use std::marker::Model;
+
+/// Where in an item the bytes so far end.
+#[derive(Clone, Copy)]
+enum Place {
+    /// Outside.
+    Outside,
+    /// Directly after a message whose body is lent.
+    Ended,
+    /// After a DLE outside.
+    AfterDle,
+    /// In a message's text.
+    InText(TextPlace),
+}
+
+/// Takes the slaves' bytes one by one, and says what the master hears at each. It has room for a body of N bytes.
+///
+/// Each call takes constant time, but that a text's begin blanks what was held of the body before.
+#[derive(Drop)]
+pub struct MasterEar<const N: usize> {
+    check: Check,
+    place: Place,
+    gathered: Gathered<N>,
+}
+
+impl<const N: usize> Model for MasterEar<N> {
+    ghost use Rattle.half_frame.specs.MasterStanding.{Listening};
+
+    ghost Value = { Listening };
+
+    ghost use Rattle.half_frame.specs.MasterView.{standing_of};
+
+    ghost view = { λ e. record { check = e.check; standing = standing_of e.place e.gathered } };
+}
+
+impl<const N: usize> MasterEar<N> {
+    /// An ear that has taken no byte, of a line with this check. N is at most 4,096.
+    pub fn new(check: Check) -> Self
+        requires { N ≤ 4096 }
+        ensures stands { ReadOff (master_hears check N) [] (listening check N) result }
+        ensures value { result ≡ record { check = check; standing = Outside } }
+    {
+        MasterEar {
+            check,
+            place: Place::Outside,
+            gathered: Gathered::new(check),
+        }
+    }
+
+    /// Takes a byte, and says what is heard at it: None exactly where nothing is.
+    pub fn feed(&mut self, b: u8) -> Option<MasterHeard>
+        ensures stands { (check : CheckKind) (bytes : List ℕ) → ReadOff (master_hears check N) bytes (listening check N) self.old
+            → ReadOff (master_hears check N) (bytes ++ b ∷ []) (listening check N) self.new }
+        ensures heard { (check : CheckKind) (bytes : List ℕ) → ReadOff (master_hears check N) bytes (listening check N) self.old
+            → ReadOff (master_hears check N) (bytes ++ b ∷ []) (last_heard (master_hears check N)) result }
+        ensures answers { (check : CheckKind) (bytes : List ℕ) (so_far : List (Option Told)) → ReadOff (master_hears check N) bytes (listening check N) self.old
+            → ReadOff (master_hears check N) bytes (answers (master_hears check N)) so_far
+            → ReadOff (master_hears check N) (bytes ++ b ∷ []) (answers (master_hears check N)) (so_far ++ result ∷ []) }
+        ensures value { self.new ≡ (next N self.old b).0 }
+        ensures answer { result ≡ (next N self.old b).1 }
+    {
+        self.advance(b)
+    }
+
+    fn advance(&mut self, b: u8) -> Option<MasterHeard>
+        ensures value { self.new ≡ (next N self.old b).0 }
+        ensures answer { result ≡ (next N self.old b).1 }
+    {
+        let (place, heard) = step(self.place, &mut self.gathered, self.check, b);
+        self.place = place;
+        heard
+    }
+
+    /// The body of a Good that was heard at the last byte fed; empty after every other byte.
+    pub fn body(&self) -> &[u8]
+        ensures lent { (check : CheckKind) (bytes : List ℕ) → ReadOff (master_hears check N) bytes (listening check N) self.now
+            → ReadOff (master_hears check N) bytes (lent check N) result.now }
+        ensures value { result.now ≡ lent_at self.now.standing }
+        ensures fits { length result.now ≤ N }
+    {
+        match self.place {
+            Place::Ended => self.gathered.bytes(),
+            _ => &[],
+        }
+    }
+
+    /// How many bytes are held, at most N, of a body that is being read or that is lent.
+    pub fn held(&self) -> usize
+        ensures held { (check : CheckKind) (bytes : List ℕ) → ReadOff (master_hears check N) bytes (listening check N) self.now
+            → ReadOff (master_hears check N) bytes (held_of check N) result }
+        ensures value { result ≡ held_at self.now.standing }
+        ensures most { result ≤ N }
+    {
+        match self.place {
+            Place::Ended | Place::InText(_) => self.gathered.bytes().len(),
+            _ => 0,
+        }
+    }
+
+    /// Whether a message is begun, by its first pair, and not ended.
+    pub fn inside(&self) -> bool
+        ensures inside { (check : CheckKind) (bytes : List ℕ) → ReadOff (master_hears check N) bytes (listening check N) self.now
+            → ReadOff (master_hears check N) bytes has_begun result }
+        ensures value { result ≡ is_inside self.now.standing }
+    {
+        self.is_inside()
+    }
+
+    fn is_inside(&self) -> bool
+        ensures { result ≡ is_inside self.now.standing }
+    {
+        match self.place {
+            Place::Outside | Place::Ended | Place::AfterDle => false,
+            Place::InText(_) => true,
+        }
+    }
+}
+
+/// What a byte leads to, and what is heard at it.
+fn step<const N: usize>(
+    place: Place,
+    gathered: &mut Gathered<N>,
+    check: Check,
+    b: u8,
+) -> (Place, Option<MasterHeard>)
+    ensures { (standing_of result.0 gathered.new, result.1) ≡ step check N (standing_of place gathered.old) b }
+{
+    match place {
+        Place::Outside | Place::Ended => outside(gathered, b),
+        Place::AfterDle => pair_outside(gathered, check, b),
+        Place::InText(at) => in_text(gathered, check, at, b),
+    }
+}
+
+fn outside<const N: usize>(gathered: &Gathered<N>, b: u8) -> (Place, Option<MasterHeard>)
+    ensures { (standing_of result.0 gathered.now, result.1) ≡ outside_next b }
+{
+    if b == DLE {
+        (Place::AfterDle, None)
+    } else {
+        (Place::Outside, Some(MasterHeard::Stray(b)))
+    }
+}
+
+fn pair_outside<const N: usize>(
+    gathered: &mut Gathered<N>,
+    check: Check,
+    code: u8,
+) -> (Place, Option<MasterHeard>)
+    ensures { (standing_of result.0 gathered.new, result.1) ≡ pair_next check code }
+{
+    if code == STX {
+        gathered.clear(check);
+        (Place::InText(TextPlace::Inside), None)
+    } else {
+        (Place::Outside, Some(master_pair(code)))
+    }
+}
+
+fn in_text<const N: usize>(
+    gathered: &mut Gathered<N>,
+    check: Check,
+    at: TextPlace,
+    b: u8,
+) -> (Place, Option<MasterHeard>)
+    ensures { (standing_of result.0 gathered.new, result.1) ≡ text_next check (text_step check N (within_of at gathered.old) b) }
+{
+    match text::step(at, gathered, check, b) {
+        Progress::Goes(to) => (Place::InText(to), None),
+        Progress::Ends(true) => (Place::Ended, Some(MasterHeard::Good)),
+        Progress::Ends(false) => (Place::Outside, Some(MasterHeard::Damaged)),
+        Progress::Breaks(code) => (begun_by(gathered, check, code), Some(MasterHeard::Damaged)),
+    }
+}
+
+/// Where a pair leads that ended what was there.
+fn begun_by<const N: usize>(gathered: &mut Gathered<N>, check: Check, code: u8) -> Place
+    ensures { standing_of result gathered.new ≡ begun_by check code }
+{
+    if code == STX {
+        gathered.clear(check);
+        Place::InText(TextPlace::Inside)
+    } else {
+        Place::Outside
+    }
+}

@@ -1,0 +1,228 @@
+use super::*;
+use df1_check::Check;
+use std::process::Abort;
+
+// Feeds a slave's ear the bytes, and compares what is heard, each with the place of its byte from 1.
+fn slave_hears(
+    rt: &impl Abort,
+    ear: &mut SlaveEar<250>,
+    bytes: &[u8],
+    wanted: &[(usize, SlaveHeard)],
+) {
+    let mut told = 0usize;
+    for (place, b) in bytes.iter().enumerate() {
+        if let Some(heard) = ear.feed(*b) {
+            assert!(rt; wanted.get(told).copied() == Some((place + 1, heard)));
+            told = told.saturating_add(1);
+        }
+    }
+    assert_eq!(rt; told, wanted.len());
+}
+
+// The same of the master's ear.
+fn master_hears(
+    rt: &impl Abort,
+    ear: &mut MasterEar<250>,
+    bytes: &[u8],
+    wanted: &[(usize, MasterHeard)],
+) {
+    let mut told = 0usize;
+    for (place, b) in bytes.iter().enumerate() {
+        if let Some(heard) = ear.feed(*b) {
+            assert!(rt; wanted.get(told).copied() == Some((place + 1, heard)));
+            told = told.saturating_add(1);
+        }
+    }
+    assert_eq!(rt; told, wanted.len());
+}
+
+#[test]
+fn a_slave_hears_messages_and_polls(rt: HostRuntime) {
+    let mut cyclic = SlaveEar::<250>::new(Check::Crc);
+    let bytes = [
+        0x10, 0x01, 0x03, 0x10, 0x02, 0x03, 0x00, 0x06, 0x00, 0x01, 0x00, 0x00, 0x55, 0x10, 0x03,
+        0x9E, 0xEF, 0x10, 0x05, 0x03, 0xFD,
+    ];
+    let wanted = [
+        (5, SlaveHeard::Header(3)),
+        (17, SlaveHeard::Addressed(3)),
+        (21, SlaveHeard::Poll(3)),
+    ];
+    slave_hears(&rt, &mut cyclic, &bytes, &wanted);
+    let mut block = SlaveEar::<250>::new(Check::Bcc);
+    let bytes = [
+        0x10, 0x01, 0x03, 0x10, 0x02, 0x03, 0x00, 0x0F, 0x00, 0x01, 0x00, 0xAA, 0x02, 0x07, 0x89,
+        0x00, 0x00, 0x34, 0x12, 0x10, 0x03, 0x68,
+    ];
+    let wanted = [(5, SlaveHeard::Header(3)), (22, SlaveHeard::Addressed(3))];
+    slave_hears(&rt, &mut block, &bytes, &wanted);
+    let body = [
+        0x03, 0x00, 0x0F, 0x00, 0x01, 0x00, 0xAA, 0x02, 0x07, 0x89, 0x00, 0x00, 0x34, 0x12,
+    ];
+    assert!(rt; block.body() == body.as_slice());
+}
+
+#[test]
+fn a_slave_hears_polls_of_any_station(rt: HostRuntime) {
+    let mut ear = SlaveEar::<250>::new(Check::Crc);
+    let bad = [(4, SlaveHeard::BadPoll)];
+    slave_hears(&rt, &mut ear, &[0x10, 0x05, 0x03, 0xFC], &bad);
+    let sixteen = [(4, SlaveHeard::Poll(16))];
+    slave_hears(&rt, &mut ear, &[0x10, 0x05, 0x10, 0xF0], &sixteen);
+    let bytes = [0x10, 0x05, 0xF0, 0x10, 0x06, 0x10, 0x06];
+    let wanted = [
+        (4, SlaveHeard::Poll(0xF0)),
+        (5, SlaveHeard::Stray(6)),
+        (7, SlaveHeard::Ack),
+    ];
+    slave_hears(&rt, &mut ear, &bytes, &wanted);
+    slave_hears(&rt, &mut ear, &[0x10, 0x05, 0x10, 0x01], &bad);
+    let bytes = [0x10, 0x05, 0x03, 0x10, 0x01];
+    let wanted = [(4, SlaveHeard::BadPoll), (5, SlaveHeard::Stray(1))];
+    slave_hears(&rt, &mut ear, &bytes, &wanted);
+}
+
+#[test]
+fn a_slave_hears_messages_that_are_cut_off(rt: HostRuntime) {
+    let mut ear = SlaveEar::<250>::new(Check::Bcc);
+    let bytes = [0x10, 0x01, 0x03, 0x10, 0x02, 0x41, 0x10, 0x05, 0x05, 0xFB];
+    let wanted = [
+        (5, SlaveHeard::Header(3)),
+        (8, SlaveHeard::Damaged(3)),
+        (10, SlaveHeard::Poll(5)),
+    ];
+    slave_hears(&rt, &mut ear, &bytes, &wanted);
+    let bytes = [0x10, 0x01, 0x03, 0x10, 0x01, 0x10, 0x10, 0x02, 0x10, 0x01];
+    let wanted = [
+        (5, SlaveHeard::Damaged(3)),
+        (8, SlaveHeard::Header(16)),
+        (10, SlaveHeard::Damaged(16)),
+    ];
+    slave_hears(&rt, &mut ear, &bytes, &wanted);
+    assert!(rt; ear.inside());
+    let bytes = [0x04, 0x10, 0x10, 0x41];
+    let wanted = [(3, SlaveHeard::Damaged(4)), (4, SlaveHeard::Stray(0x41))];
+    slave_hears(&rt, &mut ear, &bytes, &wanted);
+    let bytes = [0x10, 0x01, 0x03, 0x41, 0x10, 0x02];
+    let wanted = [(4, SlaveHeard::Damaged(3)), (6, SlaveHeard::StrayPair(2))];
+    slave_hears(&rt, &mut ear, &bytes, &wanted);
+    let bytes = [
+        0x10, 0x01, 0x03, 0x10, 0x02, 0x10, 0x02, 0x10, 0x15, 0x10, 0x0F,
+    ];
+    let wanted = [
+        (5, SlaveHeard::Header(3)),
+        (7, SlaveHeard::Damaged(3)),
+        (9, SlaveHeard::Reset),
+        (11, SlaveHeard::Reset),
+    ];
+    slave_hears(&rt, &mut ear, &bytes, &wanted);
+}
+
+#[test]
+fn the_master_hears_messages_and_pairs(rt: HostRuntime) {
+    let mut ear = MasterEar::<250>::new(Check::Bcc);
+    let bytes = [0x10, 0x04, 0x10, 0x02, 0x00, 0x10, 0x02];
+    let wanted = [(2, MasterHeard::Eot), (7, MasterHeard::Damaged)];
+    master_hears(&rt, &mut ear, &bytes, &wanted);
+    assert!(rt; ear.inside());
+    let bytes = [0x00, 0x03, 0x4F, 0x00, 0x01, 0x00, 0x10, 0x03, 0xAD];
+    master_hears(&rt, &mut ear, &bytes, &[(9, MasterHeard::Good)]);
+    assert!(rt; ear.body() == [0x00, 0x03, 0x4F, 0x00, 0x01, 0x00].as_slice());
+    let bytes = [
+        0x10, 0x02, 0x10, 0x06, 0x41, 0x10, 0x06, 0x10, 0x0F, 0x10, 0x05,
+    ];
+    let wanted = [
+        (4, MasterHeard::Damaged),
+        (5, MasterHeard::Stray(0x41)),
+        (7, MasterHeard::Ack),
+        (9, MasterHeard::Nak),
+        (11, MasterHeard::StrayPair(5)),
+    ];
+    master_hears(&rt, &mut ear, &bytes, &wanted);
+}
+
+// Gives a slave and the master a message of this many zero bytes, and answers what each hears at its last byte.
+fn messages_of_zeros(rt: &impl Abort, len: u16) -> (Option<SlaveHeard>, Option<MasterHeard>) {
+    let mut slave = SlaveEar::<250>::new(Check::Bcc);
+    let mut master = MasterEar::<250>::new(Check::Bcc);
+    let header = [(5, SlaveHeard::Header(3))];
+    slave_hears(rt, &mut slave, &[0x10, 0x01, 0x03, 0x10, 0x02], &header);
+    master_hears(rt, &mut master, &[0x10, 0x02], &[]);
+    for _ in 0..len {
+        slave_hears(rt, &mut slave, &[0x00], &[]);
+        master_hears(rt, &mut master, &[0x00], &[]);
+    }
+    assert!(rt; slave.held() == usize::from(len.min(250)));
+    assert!(rt; master.held() == usize::from(len.min(250)));
+    slave_hears(rt, &mut slave, &[0x10, 0x03], &[]);
+    master_hears(rt, &mut master, &[0x10, 0x03], &[]);
+    (slave.feed(0xFD), master.feed(0x00))
+}
+
+#[test]
+fn both_hear_the_sizes_of_bodies(rt: HostRuntime) {
+    let right = (Some(SlaveHeard::Addressed(3)), Some(MasterHeard::Good));
+    let wrong = (Some(SlaveHeard::Damaged(3)), Some(MasterHeard::Damaged));
+    assert!(rt; messages_of_zeros(&rt, 5) == wrong);
+    assert!(rt; messages_of_zeros(&rt, 6) == right);
+    assert!(rt; messages_of_zeros(&rt, 250) == right);
+    assert!(rt; messages_of_zeros(&rt, 251) == wrong);
+}
+
+// Takes the bytes of a framer, and compares them.
+fn gives(rt: &impl Abort, framer: HalfFramer, wanted: &[u8]) {
+    let mut framer = framer;
+    for b in wanted {
+        assert!(rt; !framer.done());
+        assert!(rt; framer.next_byte() == Some(*b));
+    }
+    assert!(rt; framer.done());
+    assert!(rt; framer.next_byte() == None);
+}
+
+#[test]
+fn gives_messages_polls_and_pairs(rt: HostRuntime) {
+    let body = [0x03, 0x00, 0x06, 0x00, 0x01, 0x00, 0x00, 0x55];
+    let bytes = [
+        0x10, 0x01, 0x03, 0x10, 0x02, 0x03, 0x00, 0x06, 0x00, 0x01, 0x00, 0x00, 0x55, 0x10, 0x03,
+        0x9E, 0xEF,
+    ];
+    gives(&rt, HalfFramer::message(3, &body, Check::Crc), &bytes);
+    let body = [0x10, 0x00, 0x06, 0x00, 0x01, 0x00];
+    let bytes = [
+        0x10, 0x01, 0x03, 0x10, 0x02, 0x10, 0x10, 0x00, 0x06, 0x00, 0x01, 0x00, 0x10, 0x03, 0xE6,
+    ];
+    gives(&rt, HalfFramer::message(3, &body, Check::Bcc), &bytes);
+    gives(&rt, HalfFramer::poll(3), &[0x10, 0x05, 0x03, 0xFD]);
+    let body = [0x07, 0x00, 0x06, 0x00, 0x01, 0x00, 0x00, 0xE2];
+    let bytes = [
+        0x10, 0x02, 0x07, 0x00, 0x06, 0x00, 0x01, 0x00, 0x00, 0xE2, 0x10, 0x03, 0x10,
+    ];
+    gives(&rt, HalfFramer::reply(&body, Check::Bcc), &bytes);
+    gives(&rt, HalfFramer::pair(EOT), &[0x10, 0x04]);
+}
+
+#[test]
+fn marks_the_bytes_of_a_body(rt: HostRuntime) {
+    let mut framer = HalfFramer::reply(&[0x41, 0x10, 0x03], Check::Bcc);
+    let wanted = [
+        (0x10, false),
+        (0x02, false),
+        (0x41, true),
+        (0x10, false),
+        (0x10, false),
+        (0x03, true),
+        (0x10, false),
+        (0x03, false),
+        (0xAC, false),
+    ];
+    for (byte, of_body) in wanted.iter() {
+        let sent = Sent {
+            byte: *byte,
+            of_body: *of_body,
+        };
+        assert!(rt; framer.next_sent() == Some(sent));
+    }
+    assert!(rt; framer.done());
+    assert!(rt; framer.next_sent() == None);
+}
