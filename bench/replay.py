@@ -3,16 +3,18 @@
 
 Usage: bench/replay.py [PROGRAM]     (crates/df1/out/df1 where PROGRAM is left out)
 
-For each script it prints the bytes of the script and the events a second, and the most memory that a run took so far:
+For each script it prints the bytes of the script and of its report, the events a second, and the most memory that the
+run took:
 
 - drill: 20,000 commands; in turn an ordinary exchange, a damaged frame, a lost ACK, and a lost ACK with a foreign NAK;
 - steps: 16 MB of script, each step a line of its own;
-- ticks: 65,000 commands and 4,000,000 events, nearly all of them ticks.
+- ticks: 65,000 commands and 4,000,000 events, nearly all of them ticks;
+- lossless: 65,000 ordinary exchanges of an echo.
 """
 import os
-import resource
 import subprocess
 import sys
+import tempfile
 import time
 
 LIMIT = 16_777_216
@@ -58,6 +60,18 @@ def ticks(commands=65_000):
     return "\n".join(lines + [f"at {EVENTS - commands}", "end"]) + "\n"
 
 
+def lossless(commands=65_000):
+    lines = []
+    for i in range(1, commands + 1):
+        doubled = (i % 256 == 0x10) + (i // 256 == 0x10)
+        frame, answer = 12 + doubled, 14 + doubled
+        lines += ["ai 0600", f"ak {frame}", f"ad {frame}", f"bk {answer}", f"bd {answer}", "ak 2", "ad 2"]
+    return "\n".join(lines + ["end"]) + "\n"
+
+
+SCRIPTS = {"drill": drill, "steps": steps, "ticks": ticks, "lossless": lossless}
+
+
 def events(text):
     total = 0
     for line in text.splitlines():
@@ -70,20 +84,43 @@ def events(text):
     return total
 
 
+def made(name, path):
+    """Writes a script and answers its events, in a process of its own: a run's peak counts what its parent holds."""
+    code = subprocess.run([sys.executable, os.path.abspath(__file__), "--write", name, path], stdout=subprocess.PIPE, check=True)
+    return int(code.stdout)
+
+
+def run(program, script, report):
+    """Runs the program over a file, and answers the seconds and the most KiB that it took."""
+    with open(script, "rb") as source, open(report, "wb") as sink:
+        start = time.perf_counter()
+        child = subprocess.Popen([program, "replay"], stdin=source, stdout=sink)
+        _, status, usage = os.wait4(child.pid, 0)
+        taken = time.perf_counter() - start
+    if status != 0:
+        sys.exit(f"bench/replay.py: {program} ended with {os.waitstatus_to_exitcode(status)}")
+    return taken, usage.ru_maxrss
+
+
 def main():
+    if sys.argv[1:2] == ["--write"]:
+        text = SCRIPTS[sys.argv[2]]()
+        with open(sys.argv[3], "w") as file:
+            file.write(text)
+        print(events(text))
+        return
     top = os.path.dirname(os.path.dirname(os.path.abspath(__file__)))
     program = sys.argv[1] if len(sys.argv) > 1 else os.path.join(top, "crates", "df1", "out", "df1")
     if not os.path.exists(program):
         sys.exit(f"bench/replay.py: there is no {program}; ./df1 builds it, as ./df1 replay < examples/one-write.df1")
-    for name, make in (("drill", drill), ("steps", steps), ("ticks", ticks)):
-        text = make()
-        count = events(text)
-        start = time.perf_counter()
-        ran = subprocess.run([program, "replay"], input=text.encode(), stdout=subprocess.PIPE, check=True)
-        taken = time.perf_counter() - start
-        peak = resource.getrusage(resource.RUSAGE_CHILDREN).ru_maxrss
-        print(f"{name}: {len(text)} bytes, {count} events, {len(ran.stdout)} bytes of report: {taken:.2f} s, "
-              f"{len(text) / taken / 1e6:.1f} MB/s, {count / taken:,.0f} events/s, peak so far {peak / 1024:.0f} MiB")
+    with tempfile.TemporaryDirectory() as folder:
+        script, report = os.path.join(folder, "script"), os.path.join(folder, "report")
+        for name in SCRIPTS:
+            count = made(name, script)
+            taken, peak = run(program, script, report)
+            size = os.path.getsize(script)
+            print(f"{name}: {size} bytes, {count} events, {os.path.getsize(report)} bytes of report: {taken:.2f} s, "
+                  f"{size / taken / 1e6:.1f} MB/s, {count / taken:,.0f} events/s, peak {peak / 1024:.0f} MiB")
 
 
 if __name__ == "__main__":
