@@ -6,7 +6,7 @@ ghost use Rattle.line_replay.specs.declared.replayer.StreamFault.{StreamFault as
 ghost use Rattle.line_script.specs.Fed.{accepted_script};
 ghost use Rattle.line_script.specs.Lines.{script_with};
 ghost use Rattle.line_script.specs.Playable.{IsPlayable};
-ghost use Rattle.duplex_line.specs.Plays.{IsNext, played, printed};
+ghost use Rattle.duplex_line.specs.Plays.{IsNext, begun, played, printed};
 ghost use Rattle.duplex_line.specs.Run.{record_from};
 ghost use Rattle.line_report.specs.Report.{line_text, report};
 ghost use Rattle.std.specs.List.{flat_map};
@@ -263,9 +263,22 @@ impl Replayer {
         ensures world { OnOk result (self.new.world ≡ Some (world_for (script_with self.old.text.reader []) self.old.world)) }
     {
         if self.world.is_none() {
-            let script = self.text.setup()?;
-            self.world = Some(World::new(self.alloc, &script)?);
+            self.set_out()?;
         }
+        Ok(())
+    }
+
+    /// Makes the world before the first event. It isn't inlined, since an event that finds a world would pay for the room
+    /// that this one takes on the stack.
+    #[cold]
+    #[inline(never)]
+    fn set_out(&mut self) -> Result<(), NoMemory>
+        requires { IsPlayable (script_with self.old.text.reader []) }
+        ensures text { self.new.text ≡ self.old.text }
+        ensures world { OnOk result (self.new.world ≡ Some (begun (script_with self.old.text.reader []))) }
+    {
+        let script = self.text.setup()?;
+        self.world = Some(World::new(self.alloc, &script)?);
         Ok(())
     }
 }
