@@ -1,0 +1,50 @@
+use super::*;
+use df1_check::Check;
+use std::process::Abort;
+
+// Takes this byte, with the number 1 where it is the last of a transmission, or a byte of its body.
+fn take_byte(rt: &impl Abort, mouth: &mut Mouth, byte: u8, last: bool, body: bool) {
+    let out = Out {
+        byte,
+        last_of: last.then_some(1),
+        body_of: body.then_some(1),
+    };
+    assert!(rt; mouth.take() == Some(out));
+}
+
+#[test]
+fn a_message_is_marked_with_its_number(rt: HostRuntime) {
+    let mut mouth = Mouth::new();
+    assert!(rt; mouth.idle());
+    mouth.transmit(HalfFramer::reply(&[0x00, 0x10, 0x4F, 0x00, 0x01, 0x00], Check::Bcc));
+    take_byte(&rt, &mut mouth, 0x10, false, false);
+    take_byte(&rt, &mut mouth, 0x02, false, false);
+    take_byte(&rt, &mut mouth, 0x00, false, true);
+    take_byte(&rt, &mut mouth, 0x10, false, false);
+    take_byte(&rt, &mut mouth, 0x10, false, false);
+    for b in [0x4F, 0x00, 0x01, 0x00] {
+        take_byte(&rt, &mut mouth, b, false, true);
+    }
+    take_byte(&rt, &mut mouth, 0x10, false, false);
+    take_byte(&rt, &mut mouth, 0x03, false, false);
+    assert!(rt; !mouth.idle());
+    take_byte(&rt, &mut mouth, 0xA0, true, false);
+    assert!(rt; mouth.idle());
+    assert!(rt; mouth.take() == None);
+}
+
+#[test]
+fn a_poll_is_no_transmission(rt: HostRuntime) {
+    let mut mouth = Mouth::new();
+    mouth.give(HalfFramer::poll(3));
+    for b in [0x10, 0x05, 0x03, 0xFD] {
+        take_byte(&rt, &mut mouth, b, false, false);
+    }
+    assert!(rt; mouth.take() == None);
+    mouth.transmit(HalfFramer::message(3, &[], Check::Bcc));
+    for b in [0x10, 0x01, 0x03, 0x10, 0x02, 0x10, 0x03] {
+        take_byte(&rt, &mut mouth, b, false, false);
+    }
+    take_byte(&rt, &mut mouth, 0xFD, true, false);
+    assert!(rt; mouth.idle());
+}
