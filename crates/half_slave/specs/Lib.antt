@@ -1,0 +1,2 @@
+pub mod Slave
+pub mod Arrived
