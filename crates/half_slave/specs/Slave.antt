@@ -150,9 +150,9 @@ abbrev pub answered : {H : Type 0} → Ghosts H → SlaveState H → Option Held
 answered m s (Some message) = sent s
 answered m s None = offered m s (m.next_body s.host)
 
--- a message that was sent max_sends times is given up first; while bytes are still to be given, nothing is done
+-- a message that was sent max_sends times is given up first
 abbrev pub polled : {H : Type 0} → Ghosts H → SlaveState H → SlaveState H
-polled m s = if is_quiet s then (let after = told m s (fate_at_poll s.setup.max_sends s.held) in answered m after after.held) else s
+polled m s = let after = told m s (fate_at_poll s.setup.max_sends s.held) in answered m after after.held
 
 -- ---- the rows: a reset
 
@@ -174,10 +174,14 @@ listened s b = record s { ear = (next 250 s.ear b).0; held = option_map (after_h
 abbrev pub is_own : {H : Type 0} → SlaveState H → ℕ → Bool
 is_own s stn = stn == s.setup.station
 
+-- a poll is answered that names this station, where nothing is to be given
+abbrev pub is_answered : {H : Type 0} → SlaveState H → ℕ → Bool
+is_answered s stn = is_own s stn && is_quiet s
+
 -- the table: what is done at what is heard
 abbrev pub slave_after_heard : {H : Type 0} → Ghosts H → SlaveState H → Option SlaveHeard → SlaveState H
 slave_after_heard m s (Some (heard.Addressed stn)) = if is_own s stn then received m s (verdict m s) else s
-slave_after_heard m s (Some (heard.Poll stn)) = if is_own s stn then polled m s else s
+slave_after_heard m s (Some (heard.Poll stn)) = if is_answered s stn then polled m s else s
 slave_after_heard m s (Some heard.Ack) = told m s (fate_at_ack s.held)
 slave_after_heard m s (Some heard.Reset) = reset m s
 slave_after_heard m s _ = s
@@ -192,7 +196,7 @@ act_at m s _ = act.Nothing
 
 -- the fate that is told at what is heard
 abbrev pub fate_at : {H : Type 0} → SlaveState H → Option SlaveHeard → Option Fate
-fate_at s (Some (heard.Poll stn)) = if is_own s stn && is_quiet s then fate_at_poll s.setup.max_sends s.held else None
+fate_at s (Some (heard.Poll stn)) = if is_answered s stn then fate_at_poll s.setup.max_sends s.held else None
 fate_at s (Some heard.Ack) = fate_at_ack s.held
 fate_at s (Some heard.Reset) = fate_at_reset s.held
 fate_at s _ = None

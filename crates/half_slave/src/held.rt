@@ -32,13 +32,11 @@ impl Held {
 pub(crate) fn close_wait(held: Option<Held>, heard: Option<SlaveHeard>) -> Option<Held>
     ensures { result ≡ option_map (after_heard heard) held }
 {
-    match held {
-        Some(message) => Some(Held {
-            sent: message.sent,
-            wait_open: message.wait_open && !closes_wait(heard),
-        }),
-        None => None,
-    }
+    let message = held?;
+    Some(Held {
+        sent: message.sent,
+        wait_open: message.wait_open && !closes_wait(heard),
+    })
 }
 
 fn closes_wait(heard: Option<SlaveHeard>) -> bool
@@ -54,13 +52,14 @@ fn closes_wait(heard: Option<SlaveHeard>) -> bool
 pub(crate) fn count_sending(held: Option<Held>, out: Option<Out>) -> Option<Held>
     ensures { result ≡ after_out out held }
 {
-    match (held, ends_transmission(out)) {
-        (Some(message), true) => Some(Held {
-            sent: message.sent.saturating_add(1),
-            wait_open: true,
-        }),
-        (held, _) => held,
+    if !ends_transmission(out) {
+        return held;
     }
+    let before = held?;
+    Some(Held {
+        sent: before.sent.saturating_add(1),
+        wait_open: true,
+    })
 }
 
 fn ends_transmission(out: Option<Out>) -> bool
@@ -76,9 +75,11 @@ fn ends_transmission(out: Option<Out>) -> bool
 pub(crate) fn fate_at_poll(held: Option<Held>, max_sends: u32) -> Option<Fate>
     ensures { result ≡ fate_at_poll max_sends held }
 {
-    match held {
-        Some(message) if max_sends <= message.sent => Some(Fate::Undelivered),
-        _ => None,
+    let message = held?;
+    if message.sent < max_sends {
+        None
+    } else {
+        Some(Fate::Undelivered)
     }
 }
 
@@ -86,9 +87,11 @@ pub(crate) fn fate_at_poll(held: Option<Held>, max_sends: u32) -> Option<Fate>
 pub(crate) fn fate_at_ack(held: Option<Held>) -> Option<Fate>
     ensures { result ≡ fate_at_ack held }
 {
-    match held {
-        Some(message) if message.wait_open => Some(Fate::Delivered),
-        _ => None,
+    let message = held?;
+    if message.wait_open {
+        Some(Fate::Delivered)
+    } else {
+        None
     }
 }
 

@@ -27,20 +27,20 @@
 //! bytes hears one at the last of all these bytes, whatever else happened to the slave and to its host.
 #![tactic(auto)]
 
-ghost use Rattle.std.specs.Prelude.{◌≡◌, ◌≢◌, ◌≤◌, ◌+◌, ◌∷◌, ◌++◌, [], ℕ, List, length, is_none, if◌then◌else◌, IsSome, IsTrue};
+ghost use Rattle.std.specs.Prelude.{◌≡◌, ◌≢◌, ◌≤◌, ◌+◌, ◌∷◌, ◌++◌, [], ℕ, List, length, is_none, false, IsSome, IsTrue};
 ghost use Rattle.std.specs.Borrow.{Lends, sem};
-ghost use Rattle.df1_base.specs.Host.{IsBody};
 ghost use Rattle.df1_check.specs.declared.Check.{Check as CheckKind};
 ghost use Rattle.df1_frame.specs.Line.{ReadOff};
-ghost use Rattle.half_frame.specs.declared.heard.SlaveHeard.TheVariants.{Addressed};
+ghost use Rattle.half_frame.specs.declared.heard.SlaveHeard.TheVariants.{Addressed, Damaged, Poll, Reset};
 ghost use Rattle.half_frame.specs.SlaveGrammar.{slave_hears};
 ghost use Rattle.half_frame.specs.SlaveStanding.{lent};
 ghost use Rattle.half_mouth.specs.Giving.{bytes_left};
-ghost use Rattle.half_slave.specs.Slave.{new_slave, with_host, is_quiet, body_of, heard_at, listened, verdict, verdict_act, received, told, news_of, did_at, sent, offered, answered, polled, reset, slave_after_heard, step_at_heard, slave_after_byte, step_at_byte, response_code, slave_after_take, out_at_take, left_to_give, mouth_at_take, responds_at_take, fate_at_poll as decided_at_poll, fate_at_reset as decided_at_reset};
+ghost use Rattle.half_slave.specs.Slave.{new_slave, with_host, is_quiet, body_of, heard_at, listened, verdict, verdict_act, received, told, news_of, did_at, sent, answered, act_at, fate_at, slave_after_heard, step_at_heard, slave_after_byte, step_at_byte, response_code, mouth_at_take, responds_at_take, slave_after_take, out_at_take, left_to_give};
 ghost use Rattle.half_slave.specs.Arrived.{StandsFor, TellsMessage};
 ghost use Rattle.half_slave.specs.contracts.Slave.{the_row};
 
 mod held;
+mod laws;
 #[cfg(test)]
 mod tests;
 
@@ -50,6 +50,10 @@ use df1_check::Check;
 use half_frame::{EOT, HalfFramer, SlaveEar, SlaveHeard};
 use half_mouth::Mouth;
 use held::{Held, close_wait, count_sending, fate_at_ack, fate_at_poll, fate_at_reset};
+pub use laws::{
+    a_drain_ends, a_fate_is_told_once, an_ack_counts_in_the_wait, arrivals_are_heard,
+    messages_are_accepted_once, signals_go_on, what_is_held_fits, what_was_begun_is_given,
+};
 use pccc_envelope::duplicate_filter::Filter;
 use pccc_envelope::key_of;
 use std::marker::Model;
@@ -129,7 +133,7 @@ impl<H: Host + Drop> Slave<H> {
     pub fn on_byte(&mut self, b: u8) -> Step
         ensures state { self.new ≡ slave_after_byte H.Host self.old b }
         ensures step { result ≡ step_at_byte H.Host self.old b }
-        ensures lends { IsTrue result.whole → IsBody (body_of self.new) }
+        ensures lends { IsTrue result.whole → 6 ≤ length (body_of self.new) }
         ensures stands { (check : CheckKind) (bytes : List ℕ) → StandsFor check bytes self.old → StandsFor check (bytes ++ b ∷ []) self.new }
         ensures whole { (check : CheckKind) (bytes : List ℕ) → StandsFor check bytes self.old → TellsMessage check (bytes ++ b ∷ []) result.whole result.station }
     {
@@ -188,27 +192,40 @@ impl<H: Host + Drop> Slave<H> {
 
     /// Does what the table says.
     fn on_heard(&mut self, heard: Option<SlaveHeard>) -> Step
-        requires { (stn : ℕ) → heard ≡ Some (Addressed stn) → IsBody (body_of self.old) }
+        requires { (stn : ℕ) → heard ≡ Some (Addressed stn) → 6 ≤ length (body_of self.old) }
         ensures state { self.new ≡ slave_after_heard H.Host self.old heard }
         ensures step { result ≡ step_at_heard H.Host self.old heard }
     {
         match heard {
             Some(SlaveHeard::Addressed(stn)) => self.on_message(stn),
-            Some(SlaveHeard::Damaged(stn)) if stn == self.setup.station => {
-                plain_step(Act::Damaged, News::Nothing)
-            }
-            Some(SlaveHeard::Poll(stn)) if stn == self.setup.station => {
-                plain_step(Act::Nothing, self.on_poll())
-            }
+            Some(SlaveHeard::Damaged(stn)) => plain_step(self.damaged_act(stn), News::Nothing),
+            Some(SlaveHeard::Poll(stn)) => plain_step(Act::Nothing, self.on_poll(stn)),
             Some(SlaveHeard::Ack) => plain_step(Act::PeerAck, self.tell(fate_at_ack(self.held))),
             Some(SlaveHeard::Reset) => plain_step(Act::PeerNak, self.on_reset()),
-            _ => plain_step(Act::Nothing, News::Nothing),
+            Some(
+                SlaveHeard::Header(_)
+                | SlaveHeard::BadPoll
+                | SlaveHeard::Stray(_)
+                | SlaveHeard::StrayPair(_),
+            )
+            | None => plain_step(Act::Nothing, News::Nothing),
+        }
+    }
+
+    /// The act at a damaged message to this station, or to another.
+    fn damaged_act(&self, stn: u8) -> Act
+        ensures { result ≡ act_at H.Host self.now (Some (Damaged stn)) }
+    {
+        if stn == self.setup.station {
+            Act::Damaged
+        } else {
+            Act::Nothing
         }
     }
 
     /// Receives a message to this station; one to another station changes nothing.
     fn on_message(&mut self, stn: u8) -> Step
-        requires { IsBody (body_of self.old) }
+        requires { 6 ≤ length (body_of self.old) }
         ensures state { self.new ≡ slave_after_heard H.Host self.old (Some (Addressed stn)) }
         ensures step { result ≡ step_at_heard H.Host self.old (Some (Addressed stn)) }
     {
@@ -228,7 +245,7 @@ impl<H: Host + Drop> Slave<H> {
 
     /// Passes over a repeat, and accepts or refuses another message.
     fn receive(&mut self) -> (Act, Option<Did>)
-        requires { IsBody (body_of self.old) }
+        requires { 6 ≤ length (body_of self.old) }
         ensures state { self.new ≡ received H.Host self.old (verdict H.Host self.old) }
         ensures act { result.0 ≡ verdict_act (verdict H.Host self.old) }
         ensures did { result.1 ≡ did_at H.Host result.0 self.old.host (body_of self.old) }
@@ -249,12 +266,12 @@ impl<H: Host + Drop> Slave<H> {
         }
     }
 
-    /// Answers a poll of this station where nothing is to be given.
-    fn on_poll(&mut self) -> News
-        ensures state { self.new ≡ polled H.Host self.old }
-        ensures news { result ≡ news_of H.Host (if is_quiet self.old then decided_at_poll self.old.setup.max_sends self.old.held else None) self.old.host }
+    /// Answers a poll of this station where nothing is to be given; another poll changes nothing.
+    fn on_poll(&mut self, stn: u8) -> News
+        ensures state { self.new ≡ slave_after_heard H.Host self.old (Some (Poll stn)) }
+        ensures news { result ≡ news_of H.Host (fate_at self.old (Some (Poll stn))) self.old.host }
     {
-        if !self.quiet() {
+        if stn != self.setup.station || !self.quiet() {
             return News::Nothing;
         }
         let news = self.tell(fate_at_poll(self.held, self.setup.max_sends));
@@ -287,8 +304,8 @@ impl<H: Host + Drop> Slave<H> {
 
     /// Gives up the message that is held, and has the host drop what waits.
     fn on_reset(&mut self) -> News
-        ensures state { self.new ≡ reset H.Host self.old }
-        ensures news { result ≡ news_of H.Host (decided_at_reset self.old.held) self.old.host }
+        ensures state { self.new ≡ slave_after_heard H.Host self.old (Some Reset) }
+        ensures news { result ≡ news_of H.Host (fate_at self.old (Some Reset)) self.old.host }
     {
         let news = self.tell(fate_at_reset(self.held));
         self.host.clear();

@@ -1,0 +1,11 @@
+pub mod Rows
+pub mod Lent
+pub mod Runs
+pub mod Arriving
+pub mod Turns
+pub mod Agreeing
+pub mod Waiting
+pub mod Receiving
+pub mod Draining
+pub mod Sizes
+pub mod Reaching
