@@ -1,0 +1,46 @@
+-- The keys that are kept for the stations, over a list of signals.
+use Rattle.std.specs.Prelude.{◌≡◌, ℕ, Bool, true, false, List, [], ◌∷◌, ◌++◌, Option, Some, None, slice_get, slice_index, ◌==◌, ◌&&◌, if◌then◌else◌}
+use Rattle.std.specs.Option.{option_map}
+use Rattle.df1_base.specs.declared.host.Host.{Ghosts}
+use Rattle.pccc_envelope.specs.declared.key.Key.{Key}
+use Rattle.pccc_envelope.specs.Accepted.{Offer}
+use Rattle.half_frame.specs.declared.heard.MasterHeard.{MasterHeard}
+use Rattle.half_mouth.specs.Giving.{is_done}
+use Rattle.half_master.specs.declared.stations.Station.{Station}
+use Rattle.half_master.specs.declared.table.Phase.{Phase}
+use Rattle.half_master.specs.declared.table.Phase.TheVariants as phase
+use Rattle.half_master.specs.Master.{MasterState, body_of, with_byte, heard_at, is_good}
+use Rattle.half_master.specs.Emission.{Letter, Byte, Tick, Take, master_after}
+
+-- the key that is kept for the station at a place, if there is such a station and a key is kept
+abbrev pub kept_at : List Station → ℕ → Option Key
+kept_at stations place = elim (slice_get stations place) [ None ↦ None | Some station ↦ station.kept ]
+
+-- the station at this place was polled, and its answer is waited for
+abbrev pub is_polled : Phase → ℕ → Bool
+is_polled phase.Idle place = false
+is_polled (phase.WaitsForAck left resent) place = false
+is_polled (phase.WaitsAfterPoll left at) place = at == place
+
+-- the body is from the station at this place
+abbrev pub is_from : Option Station → List ℕ → Bool
+is_from None body = false
+is_from (Some station) body = slice_index body 1 == station.number
+
+-- a message is offered by the station at this place: it is heard whole after the poll of that station, and is from it
+abbrev pub is_offered : {H : Type 0} → MasterState H → ℕ → ℕ → Bool
+is_offered e b place =
+    is_done e.mouth && is_polled e.phase place && is_good (heard_at e b) && is_from (slice_get e.stations place) (body_of (with_byte e b))
+
+-- what the station at this place offers at a signal
+abbrev pub offers_at : {H : Type 0} → Ghosts H → MasterState H → ℕ → Letter → List Offer
+offers_at m e place (Byte b) =
+    let body = body_of (with_byte e b) in
+    if is_offered e b place then record { body = body; has_room = m.room_for e.host body } ∷ [] else []
+offers_at m e place Tick = []
+offers_at m e place Take = []
+
+-- what it offers over these signals, in order
+abbrev pub offers : {H : Type 0} → Ghosts H → MasterState H → ℕ → List Letter → List Offer
+offers m e place [] = []
+offers m e place (signal ∷ signals) = offers_at m e place signal ++ offers m (master_after m e signal) place signals

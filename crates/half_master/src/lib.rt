@@ -1,0 +1,326 @@
+//! The master of a half-duplex link, over any host: it gives the host's messages, and polls the stations of its list in
+//! turn for theirs.
+//!
+//! | State | Event | What it does |
+//! |---|---|---|
+//! | idle | take, host ready | a message of the host is given; then it waits for ACK with `ack_ticks` |
+//! | idle | tick, host not ready | the host's tick; then a poll of the next station; then it waits with `poll_ticks` |
+//! | idle | tick, host ready | nothing |
+//! | waits for ACK | ACK | told Delivered; idle |
+//! | waits for ACK | NAK, or the last tick | the message is given again, at most `max_resends` times; else told Undelivered; idle |
+//! | waits after a poll | EOT, or the last tick | idle |
+//! | waits after a poll | a message of the polled station | by that station's own filter: a repeat, or accepted, then ACK is given, then idle; without room refused, no byte, and it waits on |
+//! | waits after a poll | a damaged message, or one of another station | waits on |
+//!
+//! The stations are polled in the order of the list, over and over, the first at first. A wait begins, with all its
+//! ticks, when the last byte of the message or poll was taken; a tick before its last makes it one shorter. While bytes
+//! are given, everything that is heard and every tick is passed over, and so is whatever the table doesn't name. Ticks
+//! other than those of the second row aren't passed to the host. A message whose first byte is the number of no station
+//! is told Undelivered, and the master stays idle (manual topic: half-duplex protocol).
+//!
+//! A master stands for the bytes that arrived at it: a whole message is heard exactly where the grammar of the line
+//! hears one at the last of all these bytes, whatever else happened to the master and to its host.
+#![tactic(auto)]
+
+ghost use Rattle.std.specs.Prelude.{◌≡◌, ◌≤◌, ◌+◌, ◌↔◌, ◌∷◌, ◌++◌, [], ℕ, List, length, true, Option, IsNone, IsSome, IsTrue};
+ghost use Rattle.std.specs.Borrow.{Lends, sem};
+ghost use Rattle.df1_check.specs.declared.Check.{Check as CheckKind};
+ghost use Rattle.df1_frame.specs.Line.{ReadOff};
+ghost use Rattle.half_frame.specs.declared.heard.MasterHeard.{MasterHeard as Told};
+ghost use Rattle.half_frame.specs.MasterGrammar.{master_hears};
+ghost use Rattle.half_frame.specs.MasterStanding.{held as held_of, held_at, lent};
+ghost use Rattle.half_mouth.specs.Giving.{is_done, take};
+ghost use Rattle.df1_base.specs.Host.{IsBody};
+ghost use Rattle.half_master.specs.Stations.{IsList};
+ghost use Rattle.half_master.specs.Master.{new_master, with_host, body_of, effect_heard, effect_at_tick, performed, master_after_byte, step_at_byte, master_after_tick, turn_at_tick, gone_at_tick, transmitted, acknowledged, polled, begun, message_next, begun_of, given_next, master_after_take, out_at_take, is_quiet};
+ghost use Rattle.half_master.specs.Fitting.{IsMessage, Suits, most_left};
+ghost use Rattle.half_master.specs.Arrived.{StandsFor, HearsWhole};
+ghost use Rattle.half_master.specs.contracts.Master.{the_row};
+
+mod parts;
+mod stations;
+mod table;
+#[cfg(test)]
+mod tests;
+
+use arrayvec::ArrayVec;
+use df1_base::{ACK, Fate, Host, Out, Step, Turn};
+use df1_check::Check;
+use half_frame::{HalfFramer, MasterEar, MasterHeard};
+use half_mouth::Mouth;
+use parts::{act_of, is_whole, take_in, tell, tick_host, turn_of};
+use stations::{Station, is_listed, keep, listed, place_after};
+use std::marker::Model;
+use table::{Effect, Phase, heard_after_poll, heard_of_message, on_tick, with_left};
+
+/// How a master is set up.
+#[derive(Clone, Copy, Debug, PartialEq, Eq)]
+pub struct MasterSetup {
+    /// The check of its messages.
+    pub check: Check,
+    /// The ticks of a wait for ACK, at least 1.
+    pub ack_ticks: u32,
+    /// How often a message is given again.
+    pub max_resends: u32,
+    /// The ticks of a wait after a poll, at least 1.
+    pub poll_ticks: u32,
+}
+
+/// The master of a half-duplex link, with the host behind it.
+#[derive(Drop)]
+pub struct Master<H: Host + Drop> {
+    setup: MasterSetup,
+    stations: ArrayVec<Station, 32>,
+    next: usize,
+    ear: MasterEar<250>,
+    phase: Phase,
+    mouth: Mouth,
+    sending: ArrayVec<u8, 250>,
+    host: H,
+}
+
+impl<H: Host + Drop> Model for Master<H> {
+    ghost use Rattle.half_master.specs.Master.{MasterState};
+    ghost use Rattle.half_master.specs.Fitting.{Fits};
+
+    ghost Value = { MasterState H };
+
+    ghost view = { λ e. record { setup = e.setup; stations = e.stations.items; next = e.next; ear = e.ear; phase = e.phase; mouth = e.mouth; sending = e.sending.items; host = e.host } };
+
+    ghost invariant = { λ e. Fits e.stations.items e.next e.phase e.mouth e.sending.items };
+}
+
+impl<H: Host + Drop> Master<H> {
+    /// A master of these stations, over a host, that has heard and given nothing. The stations are at most 32, each
+    /// another, and none is 16 or 255.
+    pub fn new(setup: MasterSetup, stations: &[u8], host: H) -> Master<H>
+        requires ack_ticks { 1 ≤ setup.ack_ticks }
+        requires poll_ticks { 1 ≤ setup.poll_ticks }
+        requires stations { IsList stations.now }
+        ensures value { result ≡ new_master setup stations.now host }
+        ensures stands { StandsFor setup.check [] result }
+    {
+        Master {
+            setup,
+            stations: listed(stations),
+            next: 0,
+            ear: MasterEar::new(setup.check),
+            phase: Phase::Idle,
+            mouth: Mouth::new(),
+            sending: ArrayVec::new(),
+            host,
+        }
+    }
+
+    /// The host.
+    pub fn host(&self) -> &H
+        ensures { result.now ≡ self.now.host }
+    {
+        &self.host
+    }
+
+    /// The host, to be changed in any way.
+    pub fn host_mut(&mut self) -> &mut H
+        ensures* writes_back { sem 𝓛 (Lends (the_row H.row H.Host) H.row self.entry result (with_host self.old)) }
+        ensures value { result.now ≡ self.old.host }
+        ensures stands { (check : CheckKind) (bytes : List ℕ) (host : H) → StandsFor check bytes self.old → StandsFor check bytes (with_host self.old host) }
+    {
+        &mut self.host
+    }
+
+    /// Takes a byte that was heard, in constant time, and says what the master made of it. `did` is there exactly at
+    /// Accept, `news` is what the host answered to a fate that was decided here, `whole` says whether a good message was
+    /// heard, whatever was made of it, and `station` is 0.
+    pub fn on_byte(&mut self, b: u8) -> Step
+        ensures state { self.new ≡ master_after_byte H.Host self.old b }
+        ensures step { result ≡ step_at_byte H.Host self.old b }
+        ensures stands { (check : CheckKind) (bytes : List ℕ) → StandsFor check bytes self.old → StandsFor check (bytes ++ b ∷ []) self.new }
+        ensures whole { (check : CheckKind) (bytes : List ℕ) → StandsFor check bytes self.old → IsTrue result.whole ↔ HearsWhole check (bytes ++ b ∷ []) }
+    {
+        let heard = self.ear.feed(b);
+        let effect = self.effect_heard(heard);
+        let did = take_in(&mut self.host, effect, self.ear.body());
+        let news = tell(&mut self.host, effect);
+        self.perform(effect);
+        Step {
+            act: act_of(effect, heard),
+            did,
+            news,
+            whole: is_whole(heard),
+            station: 0,
+        }
+    }
+
+    /// A unit of time has passed. `gone` is replaced by the commands that are unanswered from this tick on, none where the
+    /// host has no tick. The answer is Failed, with what the host answered, exactly where a message was given up, and
+    /// else Still.
+    pub fn on_tick(&mut self, gone: &mut ArrayVec<u32, 16>) -> Turn
+        ensures state { self.new ≡ master_after_tick H.Host self.old }
+        ensures turn { result ≡ turn_at_tick H.Host self.old }
+        ensures gone { gone.new.items ≡ gone_at_tick H.Host self.old }
+        ensures stands { (check : CheckKind) (bytes : List ℕ) → StandsFor check bytes self.old → StandsFor check bytes self.new }
+    {
+        let effect = self.effect_of_tick();
+        tick_host(&mut self.host, effect, gone);
+        let news = tell(&mut self.host, effect);
+        self.perform(effect);
+        turn_of(effect, news)
+    }
+
+    /// Gives the next byte, in constant time but for the beginning of a message. The answer is None exactly where no byte
+    /// is left to be given and no message is begun: one whose first byte is the number of no station is told as undelivered.
+    pub fn take(&mut self) -> Option<Out>
+        ensures state { self.new ≡ master_after_take H.Host self.old }
+        ensures out { result ≡ out_at_take H.Host self.old }
+        ensures stands { (check : CheckKind) (bytes : List ℕ) → StandsFor check bytes self.old → StandsFor check bytes self.new }
+        ensures fewer { IsSome result → most_left H.Host self.new + 1 ≤ most_left H.Host self.old }
+        ensures most { most_left H.Host self.old ≤ 511 }
+    {
+        self.prepare();
+        self.mouth.take()
+    }
+
+    /// Whether no byte is left to be given and the master isn't idle with a host that is ready.
+    pub fn quiet(&self) -> bool
+        ensures value { result ≡ is_quiet H.Host self.now }
+        ensures gives_none { IsTrue result → IsNone (out_at_take H.Host self.now) }
+    {
+        self.mouth.idle() && !(self.phase.is_idle() && self.host.ready())
+    }
+
+    /// The body of the message that was heard whole at the last byte, at most 250 bytes; empty after every other byte.
+    pub fn body(&self) -> &[u8]
+        ensures body { result.now ≡ body_of self.now }
+        ensures lent { (check : CheckKind) (bytes : List ℕ) → StandsFor check bytes self.now → ReadOff (master_hears check 250) bytes (lent check 250) result.now }
+        ensures fits { length result.now ≤ 250 }
+    {
+        self.ear.body()
+    }
+
+    /// The body of the transmission that was begun last, empty where none was. A poll is no transmission.
+    pub fn sending(&self) -> &[u8]
+        ensures { result.now ≡ self.now.sending }
+    {
+        &self.sending
+    }
+
+    /// How many bytes the ear holds, at most 250.
+    pub fn holds(&self) -> usize
+        ensures held { (check : CheckKind) (bytes : List ℕ) → StandsFor check bytes self.now → ReadOff (master_hears check 250) bytes (held_of check 250) result }
+        ensures value { result ≡ held_at self.now.ear.standing }
+        ensures most { result ≤ 250 }
+    {
+        self.ear.held()
+    }
+
+    /// What is done about a thing that was heard at the last byte.
+    fn effect_heard(&self, heard: Option<MasterHeard>) -> Effect
+        requires { heard ≡ Some MasterHeard.Good → 6 ≤ length (body_of self.now) }
+        ensures effect { result ≡ effect_heard H.Host self.now heard }
+        ensures suits { Suits self.now.stations self.now.mouth self.now.sending (body_of self.now) result }
+        ensures room { (place : ℕ) → result ≡ Effect.Accepted place → IsTrue (H.room_for self.now.host (body_of self.now)) }
+    {
+        if !self.mouth.idle() {
+            return Effect::Nothing;
+        }
+        match self.phase {
+            Phase::Idle => Effect::Nothing,
+            Phase::WaitsForAck { resent, .. } => heard_of_message(self.setup, resent, heard),
+            Phase::WaitsAfterPoll { place, .. } => {
+                heard_after_poll(&self.stations, place, heard, self.ear.body(), &self.host)
+            }
+        }
+    }
+
+    /// What is done about a tick.
+    fn effect_of_tick(&self) -> Effect
+        ensures effect { result ≡ effect_at_tick H.Host self.now }
+        ensures suits { Suits self.now.stations self.now.mouth self.now.sending (body_of self.now) result }
+    {
+        if self.mouth.idle() {
+            on_tick(self.setup, self.phase, self.host.ready())
+        } else {
+            Effect::Nothing
+        }
+    }
+
+    /// Does what an effect does to all but the host.
+    fn perform(&mut self, effect: Effect)
+        requires { Suits self.old.stations self.old.mouth self.old.sending (body_of self.old) effect }
+        ensures { self.new ≡ performed self.old effect }
+    {
+        match effect {
+            Effect::Nothing | Effect::Refused | Effect::Damaged => {}
+            Effect::Waits(left) => self.phase = with_left(left, self.phase),
+            Effect::Delivered | Effect::GivenUp | Effect::PollOver => self.phase = Phase::Idle,
+            Effect::Again(resent) => self.transmit(resent),
+            Effect::Accepted(place) => {
+                keep(&mut self.stations, place, self.ear.body());
+                self.acknowledge();
+            }
+            Effect::Repeated => self.acknowledge(),
+            Effect::Polls => self.poll_next(),
+        }
+    }
+
+    /// Begins to give the message once more, after it was given again `resent` times with this.
+    fn transmit(&mut self, resent: u32)
+        requires { IsMessage self.old.sending }
+        ensures { self.new ≡ transmitted self.old resent }
+    {
+        self.mouth.transmit(HalfFramer::message(self.sending[0], &self.sending, self.setup.check));
+        self.phase = Phase::WaitsForAck {
+            left: self.setup.ack_ticks,
+            resent,
+        };
+    }
+
+    /// Begins to give DLE ACK, after which the master is idle.
+    fn acknowledge(&mut self)
+        ensures { self.new ≡ acknowledged self.old }
+    {
+        self.mouth.give(HalfFramer::pair(ACK));
+        self.phase = Phase::Idle;
+    }
+
+    /// Begins to give a poll of the next station, if there is one.
+    fn poll_next(&mut self)
+        ensures { self.new ≡ polled self.old (slice_get self.old.stations self.old.next) }
+    {
+        if let Some(station) = self.stations.as_slice().get(self.next) {
+            self.mouth.give(HalfFramer::poll(station.number));
+            self.phase = Phase::WaitsAfterPoll {
+                left: self.setup.poll_ticks,
+                place: self.next,
+            };
+            self.next = place_after(&self.stations, self.next);
+        }
+    }
+
+    /// Begins the host's next message where nothing else is to be given.
+    fn prepare(&mut self)
+        ensures state { self.new ≡ begun H.Host self.old }
+        ensures no_more { most_left H.Host self.new ≤ most_left H.Host self.old }
+        ensures most { most_left H.Host self.old ≤ 511 }
+    {
+        if self.mouth.idle() && self.phase.is_idle() && self.host.ready() {
+            self.begin_message();
+        }
+    }
+
+    /// Has the host's next message handed out, and begins to give it, or tells it as undelivered where it is for no station.
+    fn begin_message(&mut self)
+        requires message { IsSome (message_next H.Host self.old) }
+        ensures state { self.new ≡ begun_of H.Host self.old (message_next H.Host self.old) }
+        ensures no_more { most_left H.Host self.new ≤ most_left H.Host self.old }
+    {
+        let mut body = ArrayVec::new();
+        let _ = self.host.next(&mut body);
+        if is_listed(&self.stations, body[0]) {
+            self.sending = body;
+            self.transmit(0);
+        } else {
+            let _ = self.host.told(Fate::Undelivered);
+        }
+    }
+}
