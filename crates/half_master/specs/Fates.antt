@@ -1,5 +1,5 @@
 -- The messages that a master's host hands out, how often each is given again, and their fates, over a list of signals.
-use Rattle.std.specs.Prelude.{◌<◌, ◌≤◌, ℕ, ◌+◌, Bool, true, false, List, [], ◌∷◌, ◌++◌, Option, Some, None, slice_index, if◌then◌else◌}
+use Rattle.std.specs.Prelude.{◌<◌, ◌≤◌, ℕ, ◌+◌, List, [], ◌∷◌, ◌++◌, Option, Some, None, slice_index, if◌then◌else◌}
 use Rattle.df1_base.specs.declared.host.Host.{Ghosts}
 use Rattle.df1_base.specs.declared.host.Fate.{Fate}
 use Rattle.df1_base.specs.declared.host.Fate.TheVariants as fate
@@ -61,9 +61,3 @@ abbrev pub IsWithin : ℕ → Phase → Type 0
 IsWithin most phase.Idle = Unit {0}
 IsWithin most (phase.WaitsForAck left resent) = resent ≤ most
 IsWithin most (phase.WaitsAfterPoll left place) = Unit {0}
-
--- a message is out
-abbrev pub has_message : Phase → Bool
-has_message phase.Idle = false
-has_message (phase.WaitsForAck left resent) = true
-has_message (phase.WaitsAfterPoll left place) = false

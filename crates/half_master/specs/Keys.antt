@@ -1,10 +1,9 @@
 -- The keys that are kept for the stations, over a list of signals.
 use Rattle.std.specs.Prelude.{◌≡◌, ℕ, Bool, true, false, List, [], ◌∷◌, ◌++◌, Option, Some, None, slice_get, slice_index, ◌==◌, ◌&&◌, if◌then◌else◌}
-use Rattle.std.specs.Option.{option_map}
+use Rattle.std.specs.Option.{option_and_then}
 use Rattle.df1_base.specs.declared.host.Host.{Ghosts}
 use Rattle.pccc_envelope.specs.declared.key.Key.{Key}
 use Rattle.pccc_envelope.specs.Accepted.{Offer}
-use Rattle.half_frame.specs.declared.heard.MasterHeard.{MasterHeard}
 use Rattle.half_mouth.specs.Giving.{is_done}
 use Rattle.half_master.specs.declared.stations.Station.{Station}
 use Rattle.half_master.specs.declared.table.Phase.{Phase}
@@ -14,7 +13,7 @@ use Rattle.half_master.specs.Emission.{Letter, Byte, Tick, Take, master_after}
 
 -- the key that is kept for the station at a place, if there is such a station and a key is kept
 abbrev pub kept_at : List Station → ℕ → Option Key
-kept_at stations place = elim (slice_get stations place) [ None ↦ None | Some station ↦ station.kept ]
+kept_at stations place = option_and_then {T = Station} (λ station. station.kept) (slice_get stations place)
 
 -- the station at this place was polled, and its answer is waited for
 abbrev pub is_polled : Phase → ℕ → Bool

@@ -269,13 +269,17 @@ is_idle _ = false
 abbrev pub message_next : {H : Type 0} → Ghosts H → MasterState H → Option (List ℕ)
 message_next m e = if is_done e.mouth && is_idle e.phase then m.next_body e.host else None
 
--- the host's next message is handed out: one for a station of the list is given, and another is told as undelivered
+-- a message that was handed out: one for a station of the list is given, and another is told as undelivered
+abbrev pub begun_with : {H : Type 0} → Ghosts H → MasterState H → List ℕ → MasterState H
+begun_with m e body =
+    if is_listed e.stations (slice_index body 0)
+    then transmitted (record e { sending = body }) 0
+    else with_host e (m.after_told e.host fate.Undelivered)
+
+-- the host's next message is handed out, if there is one
 abbrev pub begun_of : {H : Type 0} → Ghosts H → MasterState H → Option (List ℕ) → MasterState H
 begun_of m e None = e
-begun_of m e (Some body) =
-    if is_listed e.stations (slice_index body 0)
-    then transmitted (record e { sending = body; host = m.after_next e.host }) 0
-    else with_host e (m.after_told (m.after_next e.host) fate.Undelivered)
+begun_of m e (Some body) = begun_with m (with_host e (m.after_next e.host)) body
 
 abbrev pub begun : {H : Type 0} → Ghosts H → MasterState H → MasterState H
 begun m e = begun_of m e (message_next m e)

@@ -22,21 +22,22 @@
 //! hears one at the last of all these bytes, whatever else happened to the master and to its host.
 #![tactic(auto)]
 
-ghost use Rattle.std.specs.Prelude.{◌≡◌, ◌≤◌, ◌+◌, ◌↔◌, ◌∷◌, ◌++◌, [], ℕ, List, length, true, Option, IsNone, IsSome, IsTrue};
+ghost use Rattle.std.specs.Prelude.{◌≡◌, ◌≤◌, ◌+◌, ◌↔◌, ◌∷◌, ◌++◌, [], ℕ, List, length, Option, Some, slice_get, is_some, IfSome, IsNone, IsSome, IsTrue};
 ghost use Rattle.std.specs.Borrow.{Lends, sem};
 ghost use Rattle.df1_check.specs.declared.Check.{Check as CheckKind};
 ghost use Rattle.df1_frame.specs.Line.{ReadOff};
 ghost use Rattle.half_frame.specs.declared.heard.MasterHeard.{MasterHeard as Told};
 ghost use Rattle.half_frame.specs.MasterGrammar.{master_hears};
 ghost use Rattle.half_frame.specs.MasterStanding.{held as held_of, held_at, lent};
-ghost use Rattle.half_mouth.specs.Giving.{is_done, take};
+ghost use Rattle.half_mouth.specs.Giving.{bytes_left};
 ghost use Rattle.df1_base.specs.Host.{IsBody};
 ghost use Rattle.half_master.specs.Stations.{IsList};
-ghost use Rattle.half_master.specs.Master.{new_master, with_host, body_of, effect_heard, effect_at_tick, performed, master_after_byte, step_at_byte, master_after_tick, turn_at_tick, gone_at_tick, transmitted, acknowledged, polled, begun, message_next, begun_of, given_next, master_after_take, out_at_take, is_quiet};
+ghost use Rattle.half_master.specs.Master.{new_master, with_host, body_of, effect_heard, effect_at_tick, performed, master_after_byte, step_at_byte, master_after_tick, turn_at_tick, gone_at_tick, transmitted, acknowledged, polled, begun, begun_with, message_next, given_next, master_after_take, out_at_take, is_quiet};
 ghost use Rattle.half_master.specs.Fitting.{IsMessage, Suits, most_left};
 ghost use Rattle.half_master.specs.Arrived.{StandsFor, HearsWhole};
 ghost use Rattle.half_master.specs.contracts.Master.{the_row};
 
+mod laws;
 mod parts;
 mod stations;
 mod table;
@@ -48,7 +49,11 @@ use df1_base::{ACK, Fate, Host, Out, Step, Turn};
 use df1_check::Check;
 use half_frame::{HalfFramer, MasterEar, MasterHeard};
 use half_mouth::Mouth;
-use parts::{act_of, is_whole, take_in, tell, tick_host, turn_of};
+pub use laws::{
+    a_drain_ends, a_fate_is_told_once, arrivals_are_heard, each_station_has_its_own_key, parts_fit,
+    signals_go_on,
+};
+use parts::{act_of, hand_out, is_whole, take_in, tell, tick_host, turn_of};
 use stations::{Station, is_listed, keep, listed, place_after};
 use std::marker::Model;
 use table::{Effect, Phase, heard_after_poll, heard_of_message, on_tick, with_left};
@@ -216,9 +221,7 @@ impl<H: Host + Drop> Master<H> {
     /// What is done about a thing that was heard at the last byte.
     fn effect_heard(&self, heard: Option<MasterHeard>) -> Effect
         requires { heard ≡ Some MasterHeard.Good → 6 ≤ length (body_of self.now) }
-        ensures effect { result ≡ effect_heard H.Host self.now heard }
-        ensures suits { Suits self.now.stations self.now.mouth self.now.sending (body_of self.now) result }
-        ensures room { (place : ℕ) → result ≡ Effect.Accepted place → IsTrue (H.room_for self.now.host (body_of self.now)) }
+        ensures { result ≡ effect_heard H.Host self.now heard }
     {
         if !self.mouth.idle() {
             return Effect::Nothing;
@@ -234,8 +237,7 @@ impl<H: Host + Drop> Master<H> {
 
     /// What is done about a tick.
     fn effect_of_tick(&self) -> Effect
-        ensures effect { result ≡ effect_at_tick H.Host self.now }
-        ensures suits { Suits self.now.stations self.now.mouth self.now.sending (body_of self.now) result }
+        ensures { result ≡ effect_at_tick H.Host self.now }
     {
         if self.mouth.idle() {
             on_tick(self.setup, self.phase, self.host.ready())
@@ -297,25 +299,33 @@ impl<H: Host + Drop> Master<H> {
         }
     }
 
+    /// Whether the host's next message is to be begun: nothing else is to be given, and it is ready.
+    fn may_begin(&self) -> bool
+        ensures value { result ≡ is_some (message_next H.Host self.now) }
+        ensures next { IsTrue result → message_next H.Host self.now ≡ H.Host.next_body self.now.host }
+        ensures fits { IfSome (message_next H.Host self.now) IsBody }
+        ensures left { bytes_left self.now.mouth ≤ 509 }
+    {
+        self.mouth.idle() && self.phase.is_idle() && self.host.ready()
+    }
+
     /// Begins the host's next message where nothing else is to be given.
     fn prepare(&mut self)
         ensures state { self.new ≡ begun H.Host self.old }
         ensures no_more { most_left H.Host self.new ≤ most_left H.Host self.old }
         ensures most { most_left H.Host self.old ≤ 511 }
     {
-        if self.mouth.idle() && self.phase.is_idle() && self.host.ready() {
-            self.begin_message();
+        if self.may_begin() {
+            let body = hand_out(&mut self.host);
+            self.begin_message(body);
         }
     }
 
-    /// Has the host's next message handed out, and begins to give it, or tells it as undelivered where it is for no station.
-    fn begin_message(&mut self)
-        requires message { IsSome (message_next H.Host self.old) }
-        ensures state { self.new ≡ begun_of H.Host self.old (message_next H.Host self.old) }
-        ensures no_more { most_left H.Host self.new ≤ most_left H.Host self.old }
+    /// Begins to give a message of the host, or tells it as undelivered where it is for no station.
+    fn begin_message(&mut self, body: ArrayVec<u8, 250>)
+        requires { IsBody body.items }
+        ensures { self.new ≡ begun_with H.Host self.old body.items }
     {
-        let mut body = ArrayVec::new();
-        let _ = self.host.next(&mut body);
         if is_listed(&self.stations, body[0]) {
             self.sending = body;
             self.transmit(0);

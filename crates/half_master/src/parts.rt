@@ -1,6 +1,6 @@
 //! What an effect does to the host, and what is told of it.
 
-ghost use Rattle.std.specs.Prelude.{◌≡◌, ℕ, IsTrue};
+ghost use Rattle.std.specs.Prelude.{◌≡◌, ℕ, IsSome, IsTrue};
 ghost use Rattle.df1_base.specs.Host.{IsBody};
 ghost use Rattle.half_master.specs.Master.{did_at, host_accepted, fate_of, host_told, news_of, host_ticked, gone_of, act_of, act_heard, is_good, turn_told};
 
@@ -19,6 +19,18 @@ pub(crate) fn take_in<H: Host>(host: &mut H, effect: Effect, body: &[u8]) -> Opt
         Effect::Accepted(_) => Some(host.accept(body)),
         _ => None,
     }
+}
+
+/// Has the host's next message handed out.
+pub(crate) fn hand_out<H: Host>(host: &mut H) -> ArrayVec<u8, 250>
+    requires { IsSome (H.Host.next_body host.old) }
+    ensures next { H.Host.next_body host.old ≡ Some result.items }
+    ensures fits { IsBody result.items }
+    ensures after { host.new ≡ H.Host.after_next host.old }
+{
+    let mut body = ArrayVec::new();
+    let _ = host.next(&mut body);
+    body
 }
 
 /// Tells the host the fate of its message, where one is decided.

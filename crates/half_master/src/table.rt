@@ -117,8 +117,7 @@ pub(crate) fn heard_after_poll<H: Host>(
 ) -> Effect
     requires place { place < length stations.now }
     requires whole { heard ≡ Some MasterHeard.Good → IsBody body.now }
-    ensures effect { result ≡ effect_on_poll (answered (H.room_for host.now) place (slice_get stations.now place) body.now) heard }
-    ensures accepts { (at : ℕ) → result ≡ Effect.Accepted at → (at ≡ place) × IsBody body.now × IsTrue (H.room_for host.now body.now) }
+    ensures { result ≡ effect_on_poll (answered (H.room_for host.now) place (slice_get stations.now place) body.now) heard }
 {
     match heard {
         Some(MasterHeard::Eot) => Effect::PollOver,
@@ -131,8 +130,7 @@ pub(crate) fn heard_after_poll<H: Host>(
 /// A message is judged beside the key of the polled station where it is that station's, and else passed over.
 fn answer<H: Host>(station: &Station, place: usize, body: &[u8], host: &H) -> Effect
     requires { IsBody body.now }
-    ensures effect { result ≡ answered (H.room_for host.now) place (Some station.now) body.now }
-    ensures accepts { (at : ℕ) → result ≡ Effect.Accepted at → (at ≡ place) × IsTrue (H.room_for host.now body.now) }
+    ensures { result ≡ answered (H.room_for host.now) place (Some station.now) body.now }
 {
     let key = key_of(body);
     if key.src != station.number {

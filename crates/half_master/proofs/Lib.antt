@@ -1,0 +1,11 @@
+pub mod EarLemmas
+pub mod GoodMessages
+pub mod MessageLength
+pub mod FittingLemmas
+pub mod Keeping
+pub mod Reading
+pub mod Draining
+pub mod Reaching
+pub mod FateLemmas
+pub mod KeyLemmas
+pub mod Runs

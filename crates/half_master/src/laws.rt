@@ -1,0 +1,75 @@
+//! What holds of a master over every list of signals. The functions do nothing.
+
+ghost use Rattle.std.specs.Prelude.{◌≡◌, ◌≤◌, ◌<◌, ◌+◌, ◌∷◌, ◌++◌, [], ℕ, List, length, true, None, is_some, IsNone, IsSome};
+ghost use Rattle.std.specs.List.{fold};
+ghost use Rattle.df1_base.specs.declared.link.Out.{Out as Given};
+ghost use Rattle.df1_check.specs.declared.Check.{Check as CheckKind};
+ghost use Rattle.half_mouth.specs.Giving.{is_done};
+ghost use Rattle.pccc_envelope.specs.Accepted.{kept_after};
+ghost use Rattle.half_master.specs.declared.MasterSetup.{MasterSetup as Settings};
+ghost use Rattle.half_master.specs.Stations.{numbers_of};
+ghost use Rattle.half_master.specs.Master.{MasterState, new_master, with_host, step_at_byte, master_after_take, out_at_take};
+ghost use Rattle.half_master.specs.Fitting.{Fits, most_left};
+ghost use Rattle.half_master.specs.Reached.{Reached};
+ghost use Rattle.half_master.specs.Fates.{InTurn, events, out_of, IsWithin};
+ghost use Rattle.half_master.specs.Keys.{kept_at, offers};
+ghost use Rattle.half_master.specs.Arrived.{Arrival, StandsFor, HeardByGrammar, bytes_arrived};
+ghost use Rattle.half_master.specs.Emission.{Letter, Take, master_after, given_at, master_after_all, emission, bytes_among, takes, Drains};
+
+use df1_base::Host;
+
+/// The master and what it has given go on signal by signal.
+pub fn signals_go_on<H: Host>()
+    ensures master { (e : MasterState H) (before : List Letter) (signal : Letter) → master_after_all H.Host e (before ++ signal ∷ []) ≡ master_after H.Host (master_after_all H.Host e before) signal }
+    ensures given { (e : MasterState H) (before : List Letter) (signal : Letter) → emission H.Host e (before ++ signal ∷ []) ≡ emission H.Host e before ++ given_at H.Host (master_after_all H.Host e before) signal }
+{}
+
+/// At each byte that arrives at a master a whole message is heard exactly where the grammar of the line, over all bytes
+/// that arrived so far, hears one at its last. A master stands for what arrived from its beginning on, over every signal,
+/// and a change of the host changes nothing of it.
+pub fn arrivals_are_heard<H: Host>()
+    ensures none { (check : CheckKind) → HeardByGrammar check [] }
+    ensures more { (check : CheckKind) (arrivals : List Arrival) (e : MasterState H) (b : ℕ) → StandsFor check (bytes_arrived arrivals) e → HeardByGrammar check arrivals
+        → HeardByGrammar check (arrivals ++ record { byte = b; whole = (step_at_byte H.Host e b).whole } ∷ []) }
+    ensures start { (setup : Settings) (numbers : List ℕ) (host : H) → StandsFor setup.check [] (new_master setup numbers host) }
+    ensures goes_on { (check : CheckKind) (bytes : List ℕ) (e : MasterState H) (signal : Letter) → StandsFor check bytes e → StandsFor check (bytes ++ bytes_among (signal ∷ [])) (master_after H.Host e signal) }
+    ensures changes { (check : CheckKind) (bytes : List ℕ) (e : MasterState H) (host : H) → StandsFor check bytes e → StandsFor check bytes (with_host e host) }
+{}
+
+/// A message is handed out where none is out. It is given once, and again at most `max_resends` times, until its fate is
+/// told, once: Delivered, or Undelivered exactly after all these times. One for no station is told Undelivered where it is
+/// handed out. Where the host and the master agree on whether a message is out, as at a new master over a host with none
+/// out, they do so after every signal, so each fate is told of a message that is out.
+pub fn a_fate_is_told_once<H: Host>()
+    ensures in_turn { (e : MasterState H) (signals : List Letter) → IsWithin e.setup.max_resends e.phase → InTurn e.setup.max_resends (out_of e.phase) (events H.Host e signals) }
+    ensures start { (setup : Settings) (numbers : List ℕ) (host : H) → IsWithin setup.max_resends (new_master setup numbers host).phase × (out_of (new_master setup numbers host).phase ≡ None) }
+    ensures goes_on { (e : MasterState H) (signal : Letter) → IsWithin e.setup.max_resends e.phase → IsWithin (master_after H.Host e signal).setup.max_resends (master_after H.Host e signal).phase }
+    ensures agree { (e : MasterState H) (signals : List Letter) → IsWithin e.setup.max_resends e.phase → H.Host.is_out e.host ≡ is_some (out_of e.phase)
+        → H.Host.is_out (master_after_all H.Host e signals).host ≡ is_some (out_of (master_after_all H.Host e signals).phase) }
+{}
+
+/// Each station has its own filter: the key that is kept for the station at a place is the one that a filter keeps over
+/// the messages of this station alone, each heard after a poll of it. The numbers of the list stay.
+pub fn each_station_has_its_own_key<H: Host>()
+    ensures kept { (e : MasterState H) (place : ℕ) (signals : List Letter) → kept_at (master_after_all H.Host e signals).stations place ≡ fold kept_after (kept_at e.stations place) (offers H.Host e place signals) }
+    ensures numbers { (e : MasterState H) (signal : Letter) → numbers_of (master_after H.Host e signal).stations ≡ numbers_of e.stations }
+{}
+
+/// Of every master that is reached: its list is one, the station that is polled next and the one that was polled have
+/// their places in it, and a message that waits for its ACK is one to a station; the host holds bodies.
+pub fn parts_fit<H: Host>()
+    ensures fits { (e : MasterState H) → Reached H.Host e → Fits e.stations e.next e.phase e.mouth e.sending }
+    ensures holds { (e : MasterState H) → Reached H.Host e → H.Host.holds_bodies e.host }
+{}
+
+/// Of every master that is reached: a take that gives a byte leaves fewer to be given, of at most 511. Takes until one
+/// gives nothing give at most 511 bytes, come to one end, and leave no byte to be given.
+pub fn a_drain_ends<H: Host>()
+    ensures fewer { (e : MasterState H) → Reached H.Host e → IsSome (out_at_take H.Host e) → most_left H.Host (master_after_take H.Host e) + 1 ≤ most_left H.Host e }
+    ensures most { (e : MasterState H) → Reached H.Host e → most_left H.Host e ≤ 511 }
+    ensures drains { (e : MasterState H) → Reached H.Host e → (outs : List Given) × (last : MasterState H) × Drains H.Host e outs last × (length outs ≤ 511) }
+    ensures only { (e last other : MasterState H) (outs others : List Given) → Drains H.Host e outs last → Drains H.Host e others other → (outs ≡ others) × (last ≡ other) }
+    ensures drained { (e last : MasterState H) (outs : List Given) → Drains H.Host e outs last → is_done last.mouth ≡ true }
+    ensures by_takes { (e last : MasterState H) (outs : List Given) → Drains H.Host e outs last
+        → (master_after_all H.Host e (Take ∷ takes (length outs)) ≡ last) × (emission H.Host e (Take ∷ takes (length outs)) ≡ outs) }
+{}
