@@ -1,4 +1,4 @@
+pub mod Buffering
 pub mod Host
 pub mod InMemory
 pub mod Outside
-pub mod Reading

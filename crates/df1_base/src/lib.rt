@@ -2,7 +2,7 @@
 //! memory and over std, a buffer in front of a sink, and the types that several layers share.
 #![tactic(auto)]
 
-mod buffer;
+mod buffered;
 mod bytes_in;
 mod bytes_out;
 mod code;
@@ -17,7 +17,7 @@ mod standard;
 mod tests;
 mod whole;
 
-pub use buffer::Buffer;
+pub use buffered::Buffered;
 pub use bytes_in::BytesIn;
 pub use bytes_out::BytesOut;
 pub use code::Code;
@@ -28,4 +28,4 @@ pub use link::{Act, Out, Resp, Step, Turn};
 pub use message::{MAX_BODY, MAX_DATA, MAX_PAYLOAD, MIN_BODY, REPLY};
 pub use outside::{Failed, NoMemory, Sink, Source};
 pub use standard::{StdIn, StdOut};
-pub use whole::{Reached, ReadFault, read_all, write_all};
+pub use whole::write_all;

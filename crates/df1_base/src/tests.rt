@@ -1,10 +1,7 @@
 //! The calls of each source and sink, one by one.
 ghost use Rattle.std.specs.Prelude.{◌≤◌, IfOk};
 
-use crate::{
-    Buffer, BytesIn, BytesOut, Failed, Reached, ReadFault, Sink, Source, StdIn, StdOut, read_all,
-    write_all,
-};
+use crate::{Buffered, BytesIn, BytesOut, Failed, Sink, Source, StdIn, StdOut, write_all};
 use std::alloc::Global;
 use std::io::{self, ErrorKind, Read, Write};
 use std::test::Fail;
@@ -37,84 +34,6 @@ fn a_sink_in_memory_fails_where_it_is_full_and_as_told(rt: HostRuntime) -> Resul
     Ok(())
 }
 
-/// How a reading of `abcde` by pieces of two bytes is to end, and what it has taken.
-#[derive(Drop)]
-struct Reading {
-    limit: usize,
-    fail: &'static [u64],
-    ended: Result<Reached, ReadFault>,
-    taken: &'static [u8],
-}
-
-#[test]
-fn an_input_is_read_to_its_end_or_its_limit_or_a_fault(rt: HostRuntime) -> Result<(), Fail> {
-    let cases = [
-        Reading {
-            limit: 5,
-            fail: &[],
-            ended: Ok(Reached::End),
-            taken: b"abcde",
-        },
-        Reading {
-            limit: 4,
-            fail: &[],
-            ended: Ok(Reached::Limit),
-            taken: b"abcde",
-        },
-        Reading {
-            limit: 2,
-            fail: &[],
-            ended: Ok(Reached::Limit),
-            taken: b"abcd",
-        },
-        Reading {
-            limit: 5,
-            fail: &[3],
-            ended: Err(ReadFault::Failed),
-            taken: b"abcd",
-        },
-        Reading {
-            limit: 5,
-            fail: &[4],
-            ended: Err(ReadFault::Failed),
-            taken: b"abcde",
-        },
-    ];
-    for case in &cases {
-        let mut source = BytesIn::new(rt.alloc(), b"abcde", 2, case.fail)?;
-        let mut bytes = Vec::new(rt.alloc());
-        assert_eq!(rt; read_all(&mut source, &mut bytes, case.limit), case.ended);
-        assert_eq!(rt; bytes.as_slice(), case.taken);
-    }
-    Ok(())
-}
-
-#[test]
-fn small_pieces_make_few_calls(rt: HostRuntime) -> Result<(), Fail> {
-    // The third call would fail: 1,000 bytes go in two.
-    let mut sink = BytesOut::new(rt.alloc(), 2000, 2000, &[3])?;
-    let mut buffer = Buffer::new();
-    for _ in 0..500 {
-        assert!(rt; buffer.put(&mut sink, b"ab").is_ok());
-    }
-    assert!(rt; buffer.flush(&mut sink).is_ok());
-    assert_eq!(rt; sink.held().len(), 1000);
-    Ok(())
-}
-
-#[test]
-fn what_waits_is_given_up_where_the_sink_fails(rt: HostRuntime) -> Result<(), Fail> {
-    // The first call fails: the text that waited and the piece that came are gone, and a later one is sent alone.
-    let mut sink = BytesOut::new(rt.alloc(), 2000, 2000, &[1])?;
-    let mut buffer = Buffer::new();
-    assert_eq!(rt; buffer.put(&mut sink, &[1; 512]), Ok(()));
-    assert_eq!(rt; buffer.put(&mut sink, &[2; 512]), Err(Failed));
-    assert_eq!(rt; buffer.put(&mut sink, b"end"), Ok(()));
-    assert_eq!(rt; buffer.flush(&mut sink), Ok(()));
-    assert_eq!(rt; sink.held(), b"end".as_slice());
-    Ok(())
-}
-
 /// The numbers 0 to 4,999, each less a multiple of 251.
 fn five_thousand(alloc: Global) -> Result<Vec<u8>, Fail> {
     let mut bytes = Vec::new(alloc);
@@ -125,14 +44,54 @@ fn five_thousand(alloc: Global) -> Result<Vec<u8>, Fail> {
 }
 
 #[test]
+fn a_sink_in_front_of_a_sink_sends_where_there_is_no_room(rt: HostRuntime) -> Result<(), Fail> {
+    // Two bytes at a time, 4,096 of them wait; the next two have them sent, in the only call before the flush.
+    let mut sink = Buffered::new(BytesOut::new(rt.alloc(), 5000, 5000, &[3])?);
+    for _ in 0..2049 {
+        assert_eq!(rt; sink.write(b"ab"), Ok(2));
+    }
+    assert_eq!(rt; sink.flush(), Ok(()));
+    assert_eq!(rt; sink.flush(), Ok(()));
+    let inner = sink.into_inner();
+    assert_eq!(rt; inner.held().len(), 4098);
+    assert_eq!(rt; inner.held().last(), Some(&b'b'));
+    Ok(())
+}
+
+#[test]
+fn what_a_sink_did_not_take_waits_after_a_failure(rt: HostRuntime) -> Result<(), Fail> {
+    // The inner sink takes three bytes at a call, and its second call fails.
+    let mut sink = Buffered::new(BytesOut::new(rt.alloc(), 5000, 3, &[2])?);
+    assert_eq!(rt; sink.write(b"abcdefg"), Ok(7));
+    assert_eq!(rt; sink.flush(), Err(Failed));
+    assert_eq!(rt; sink.write(b"h"), Ok(1));
+    assert_eq!(rt; sink.flush(), Ok(()));
+    assert_eq!(rt; sink.into_inner().held(), b"abcdefgh".as_slice());
+    Ok(())
+}
+
+#[test]
+fn more_than_may_wait_is_taken_in_parts(rt: HostRuntime) -> Result<(), Fail> {
+    let bytes = five_thousand(rt.alloc())?;
+    let mut sink = Buffered::new(BytesOut::new(rt.alloc(), 5000, 5000, &[])?);
+    assert_eq!(rt; sink.write(&bytes), Ok(4096));
+    assert_eq!(rt; sink.write(&bytes[4096..]), Ok(904));
+    assert_eq!(rt; sink.flush(), Ok(()));
+    assert!(rt; sink.into_inner().held() == bytes.as_slice());
+    Ok(())
+}
+
+#[test]
 fn a_reader_in_memory_gives_all_its_bytes_and_then_none(rt: HostRuntime) -> Result<(), Fail> {
     let bytes = five_thousand(rt.alloc())?;
     let mut source = StdIn::new(bytes.as_slice());
+    let mut into = [0; 4096];
     let mut read = Vec::new(rt.alloc());
-    assert_eq!(rt; read_all(&mut source, &mut read, 5000), Ok(Reached::End));
+    for count in [4096, 904, 0] {
+        assert_eq!(rt; source.read(&mut into), Ok(count));
+        read.extend_from_slice(&into[..count])?;
+    }
     assert!(rt; read.as_slice() == bytes.as_slice());
-    let mut into = [0; 4];
-    assert_eq!(rt; source.read(&mut into), Ok(0));
     assert_eq!(rt; source.faults, 0);
     Ok(())
 }

@@ -1,6 +1,6 @@
 //! The program, over the outside in memory.
 use crate::run;
-use df1_base::{BytesIn, BytesOut, Failed, NoMemory, ReadFault};
+use df1_base::{BytesIn, BytesOut, Failed, NoMemory};
 use df1_node::{IssueFault, MakeFault};
 use line_replay::StreamFault;
 use line_script::{Cause, LineFault, ScriptFault};
@@ -357,9 +357,7 @@ fn says<R: Abort + AllocGlobal, T: Display>(rt: &R, fault: &T, text: &str) -> Re
 #[test]
 fn faults_of_the_outside_have_texts(rt: HostRuntime) -> Result<(), Fail> {
     says(&rt, &Failed, "a source or a sink failed")?;
-    says(&rt, &NoMemory, "no memory")?;
-    says(&rt, &ReadFault::Failed, "the input failed")?;
-    says(&rt, &ReadFault::NoMemory, "no memory")
+    says(&rt, &NoMemory, "no memory")
 }
 
 #[test]

@@ -1,35 +1,55 @@
 //! Bytes as pairs of hexadecimal digits, high digit first, letters in upper case.
-ghost use Rattle.std.specs.Prelude.{◌≡◌, ◌≤◌, [], ◌∷◌, ◌++◌, OnOk, OnErr};
-ghost use Rattle.df1_base.specs.Outside.{Rose, Wrote, WrotePart};
+ghost use Rattle.std.specs.Prelude.{◌≡◌, ◌≤◌, [], ◌∷◌, OnOk, OnErr, length};
+ghost use Rattle.df1_base.specs.Outside.{Rose, Put, WrotePart};
 ghost use Rattle.hex.specs.Hex.{encode_upper};
 
-use df1_base::{Buffer, Failed, Sink};
+use crate::short::Short;
+use arrayvec::ArrayVec;
+use df1_base::{Failed, Sink, write_all};
 
-/// Sends bytes as two digits each by way of the buffer.
-pub(crate) fn put_hex<K: Sink>(
-    buffer: &mut Buffer,
-    sink: &mut K,
-    bytes: &[u8],
-) -> Result<(), Failed>
-    ensures ok { OnOk result (Wrote (K.held sink.old) (K.held sink.new) (buffer.old ++ encode_upper bytes.now) buffer.new) }
-    ensures part { WrotePart (K.held sink.old) (K.held sink.new) (buffer.old ++ encode_upper bytes.now) }
-    ensures given_up { OnErr result (buffer.new ≡ []) }
+/// The digits, by their values.
+static DIGITS: [u8; 16] = *b"0123456789ABCDEF";
+
+/// How many bytes are written at once, each as two digits.
+const PIECE: usize = 32;
+
+/// Writes bytes as two digits each.
+pub(crate) fn put_hex<K: Sink>(sink: &mut K, bytes: &[u8]) -> Result<(), Failed>
+    ensures ok { OnOk result (Put (K.held sink.old) (K.held sink.new) (encode_upper bytes.now)) }
+    ensures part { WrotePart (K.held sink.old) (K.held sink.new) (encode_upper bytes.now) }
     ensures calm { OnOk result (K.faults sink.new ≡ K.faults sink.old) }
     ensures later { K.faults sink.old ≤ K.faults sink.new }
     ensures cause { OnErr result (Rose (K.faults sink.old) (K.faults sink.new)) }
 {
-    for byte in bytes {
-        buffer.put(sink, &pair(*byte))?;
+    let mut rest = bytes;
+    while !rest.is_empty() {
+        let (piece, more) = rest.split_at(rest.len().min(PIECE));
+        write_all(sink, &pairs(piece))?;
+        rest = more;
     }
     Ok(())
+}
+
+/// The digits of a piece.
+fn pairs(bytes: &[u8]) -> Short
+    requires { length bytes.now ≤ PIECE }
+    ensures { result.items ≡ encode_upper bytes.now }
+{
+    let mut digits = ArrayVec::new();
+    for byte in bytes {
+        let [high, low] = pair(*byte);
+        digits.push(high);
+        digits.push(low);
+    }
+    digits
 }
 
 /// The two digits of a byte.
 pub(crate) fn pair(byte: u8) -> [u8; 2]
     ensures { result ≡ encode_upper (byte ∷ []) }
 {
-    let mut digits = [0; 2];
-    hex::encode_to_slice(&[byte], &mut digits).unwrap();
-    let [high, low] = digits;
-    [high.to_ascii_uppercase(), low.to_ascii_uppercase()]
+    [
+        DIGITS[usize::from(byte / 16)],
+        DIGITS[usize::from(byte % 16)],
+    ]
 }

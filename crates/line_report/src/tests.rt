@@ -1,7 +1,7 @@
 //! Lines of each kind with their text, and the report of a run.
 
 use crate::{Line, Record, print, put_line};
-use df1_base::{Buffer, BytesOut};
+use df1_base::BytesOut;
 use line_script::{Bytes, Items, Who, WordOf};
 use std::alloc::{AllocError, Global};
 use std::test::Fail;
@@ -73,9 +73,7 @@ fn each_line_has_its_text(rt: HostRuntime) -> Result<(), Fail> {
     ];
     for (line, text) in &table {
         let mut sink = BytesOut::new(alloc, 100, 7, &[])?;
-        let mut buffer = Buffer::new();
-        assert!(rt; put_line(&mut buffer, &mut sink, line).is_ok());
-        assert!(rt; buffer.flush(&mut sink).is_ok());
+        assert!(rt; put_line(&mut sink, line).is_ok());
         assert_eq!(rt; sink.held(), text.as_bytes());
     }
     Ok(())

@@ -1,22 +1,28 @@
-use Rattle.std.proofs.Common.{◌∙◌}
-use Rattle.line_report.proofs.Pairs.{pair_of, by_bytes}
-use Rattle.line_report.proofs.Writing.{wrote_item, part_item, part_of_items, wrote_items}
+use Rattle.std.proofs.Common.{◌≡◌, ◌∙◌, ℕ, List, [], ◌∷◌, ap, arith, length, refl}
+use Rattle.std.proofs.lemmas.Bool.Decides.{nat_tests}
+use Rattle.std.proofs.lemmas.Grind.{common_steps}
+use Rattle.hex.specs.Hex.{encode_upper}
+use Rattle.line_report.proofs.Pairs.{piece_part, piece_put, pieces_put}
 use Rattle.line_report.proofs.digits.put_hex.Goals as goal
 
-pub loop-byte-preserved : goal.loop-byte-preserved
-loop-byte-preserved g c = record {
-  wrote = wrote_item pair_of _ _ _ c.args.buffer.now c.loop-byte.buffer _ c.args.bytes.now c.loop-byte.byte-index 0 c.loop-byte-test.true c.loop-byte.invariant.wrote (rw c.pair.ensures at c.in_ok-put.ensures.ok);
-  calm = c.in_ok-put.ensures.calm ∙ c.loop-byte.invariant.calm;
-}
+empty : (bytes : List ℕ) → length bytes ≡ 0 → bytes ≡ []
+empty [] none = refl
+empty (byte ∷ bytes) none = absurd (omega (arith, none))
 
-pub returns-in_err-put-clause-part : goal.returns-in_err-put-clause-part
-returns-in_err-put-clause-part g c =
-    rw (by_bytes c.args.bytes.now) (part_item pair_of _ _ _ c.args.buffer.now c.loop-byte.buffer c.args.bytes.now c.loop-byte.byte-index 0 c.loop-byte-test.true c.loop-byte.invariant.wrote (rw c.pair.ensures at c.put.ensures.part))
+pub returns-in_err-write_all-clause-part : goal.returns-in_err-write_all-clause-part
+returns-in_err-write_all-clause-part g c =
+    let same = c.deref.ensures.0 ∙ c.pairs.ensures ∙ ap encode_upper c.split_at.ensures.front in
+    piece_part _ _ _ c.args.bytes.now c.loop-rest.rest.now c.min.result c.loop-rest.invariant.wrote (rw same at c.write_all.ensures.part)
 
-pub returns-clause-part : goal.returns-clause-part
-returns-clause-part g c =
-    rw (by_bytes c.args.bytes.now) (part_of_items pair_of _ _ c.args.buffer.now c.args.bytes.now c.loop-byte.byte-index (_, c.loop-byte.invariant.wrote))
+pub loop-rest-preserved : goal.loop-rest-preserved
+loop-rest-preserved g c =
+    let same = c.deref.ensures.0 ∙ c.pairs.ensures ∙ ap encode_upper c.split_at.ensures.front in
+    record {
+      wrote = rw c.split_at.ensures.back (piece_put _ _ _ c.args.bytes.now c.loop-rest.rest.now c.min.result c.loop-rest.invariant.wrote (rw same at c.in_ok-write_all.ensures.ok));
+      calm = c.in_ok-write_all.ensures.calm ∙ c.loop-rest.invariant.calm;
+    }
 
 pub returns-clause-ok : goal.returns-clause-ok
 returns-clause-ok g c =
-    rw (by_bytes c.args.bytes.now) (wrote_items pair_of _ _ c.args.buffer.now c.loop-byte.buffer c.args.bytes.now c.loop-byte.byte-index c.loop-byte-test.false c.loop-byte.invariant.wrote)
+    let none : length c.loop-rest.rest.now ≡ 0 = grind (arith, nat_tests, common_steps) in
+    pieces_put _ _ c.args.bytes.now c.loop-rest.rest.now (empty c.loop-rest.rest.now none) c.loop-rest.invariant.wrote

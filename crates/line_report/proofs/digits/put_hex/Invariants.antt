@@ -1,11 +1,13 @@
-use Rattle.std.proofs.Common.{◌≡◌, ◌++◌, take}
-use Rattle.std.specs.List.{flat_map}
+use Rattle.std.proofs.Common.{◌≡◌, length}
+use Rattle.hex.specs.Hex.{encode_upper}
 use Rattle.df1_base.specs.Outside.{Wrote}
-use Rattle.line_report.proofs.Pairs.{pair_of}
 use Rattle.line_report.proofs.digits.put_hex.Given as goal
 
-abbrev pub invariant-loop-byte : goal.invariant-loop-byte
-invariant-loop-byte g l = record {
-  wrote : Wrote (g.K.Sink.held l.initial.sink) (g.K.Sink.held l.sink) (l.initial.buffer ++ flat_map pair_of (take l.byte-index l.bytes)) l.buffer;
+abbrev pub invariant-loop-rest : goal.invariant-loop-rest
+invariant-loop-rest g l = record {
+  wrote : Wrote (g.K.Sink.held l.initial.sink) (g.K.Sink.held l.sink) (encode_upper l.bytes) (encode_upper l.rest);
   calm : g.K.Sink.faults l.sink ≡ g.K.Sink.faults l.initial.sink;
 }
+
+abbrev pub decreases-loop-rest : goal.decreases-loop-rest
+decreases-loop-rest g l = length l.rest

@@ -1,13 +1,20 @@
-use Rattle.std.proofs.lemmas.Result.{on_ok_weaker}
-use Rattle.df1_base.proofs.Laws.{put_rest, part_rest}
+use Rattle.std.proofs.Common.{◌∙◌}
+use Rattle.line_report.specs.Report.{line_text}
+use Rattle.line_report.proofs.Writing.{put_item, put_items, part_item, part_so_far}
 use Rattle.line_report.proofs.printing.print_lines.Goals as goal
 
-pub returns-in_err-put_lines-clause-part : goal.returns-in_err-put_lines-clause-part
-returns-in_err-put_lines-clause-part g c = rw c.new-waiting.ensures at c.put_lines.ensures.part
+pub loop-line-preserved : goal.loop-line-preserved
+loop-line-preserved g c = record {
+  put = put_item line_text _ _ _ c.args.lines.now c.loop-line.line-index c.line-item.result c.loop-line-test.true c.loop-line.invariant.put (rw c.line-item.is at c.in_ok-put_line.ensures.ok);
+  calm = c.in_ok-put_line.ensures.calm ∙ c.loop-line.invariant.calm;
+}
+
+pub returns-in_err-put_line-clause-part : goal.returns-in_err-put_line-clause-part
+returns-in_err-put_line-clause-part g c =
+    part_item line_text _ _ _ c.args.lines.now c.loop-line.line-index c.line-item.result c.loop-line-test.true c.loop-line.invariant.put (rw c.line-item.is at c.put_line.ensures.part)
 
 pub returns-clause-ok : goal.returns-clause-ok
-returns-clause-ok g c =
-    on_ok_weaker c.flush.result (λ put. put_rest _ _ _ _ c.put_lines.new.buffer (rw c.new-waiting.ensures at c.in_ok-put_lines.ensures.ok) put) c.flush.ensures.ok
+returns-clause-ok g c = put_items line_text _ _ c.args.lines.now c.loop-line.line-index c.loop-line-test.false c.loop-line.invariant.put
 
 pub returns-clause-part : goal.returns-clause-part
-returns-clause-part g c = part_rest _ _ _ _ c.put_lines.new.buffer (rw c.new-waiting.ensures at c.in_ok-put_lines.ensures.ok) c.flush.ensures.part
+returns-clause-part g c = part_so_far line_text _ _ c.args.lines.now c.loop-line.line-index c.loop-line.invariant.put

@@ -5,4 +5,4 @@ use Rattle.line_report.proofs.printing.put_word.Goals as goal
 pub returns-clause-part : goal.returns-clause-part
 returns-clause-part g c =
     let same : c.deref.result.now ≡ word_text c.args.word = c.deref.ensures.0 ∙ c.word_line.ensures in
-    rw same at c.put.ensures.part
+    rw same at c.write_all.ensures.part

@@ -1,0 +1,10 @@
+use Rattle.std.proofs.Common.{◌≡◌, ◌*◌, length, take}
+use Rattle.std.specs.List.{flat_map}
+use Rattle.line_report.proofs.Pairs.{pair_of}
+use Rattle.line_report.proofs.digits.pairs.Given as goal
+
+abbrev pub invariant-loop-byte : goal.invariant-loop-byte
+invariant-loop-byte l = record {
+  digits : l.digits.items ≡ flat_map pair_of (take l.byte-index l.bytes);
+  size : length l.digits.items ≡ 2 * l.byte-index;
+}

@@ -1,0 +1,11 @@
+use Rattle.std.proofs.Common.{◌≡◌, take}
+use Rattle.std.specs.List.{flat_map}
+use Rattle.df1_base.specs.Outside.{Put}
+use Rattle.line_report.specs.Report.{line_text}
+use Rattle.line_report.proofs.printing.print_lines.Given as goal
+
+abbrev pub invariant-loop-line : goal.invariant-loop-line
+invariant-loop-line g l = record {
+  put : Put (g.K.Sink.held l.initial.sink) (g.K.Sink.held l.sink) (flat_map line_text (take l.line-index l.lines));
+  calm : g.K.Sink.faults l.sink ≡ g.K.Sink.faults l.initial.sink;
+}
