@@ -1,6 +1,9 @@
 -- A source and a sink in memory: what they know, and what one call does to them.
-use Rattle.std.specs.Prelude.{ℕ, ◌+◌, ◌-◌, ◌^◌, List, ◌++◌, Bool, min, length, take, drop, nat_lt, ◌==◌, ◌&&◌, ◌||◌, if◌then◌else◌}
+use Rattle.std.specs.Prelude.{ℕ, ◌+◌, ◌-◌, ◌^◌, List, [], ◌∷◌, ◌++◌, Bool, min, length, take, drop, nat_lt, ◌==◌, ◌&&◌, ◌||◌, if◌then◌else◌}
 use Rattle.std.specs.List.{list_any}
+use Rattle.df1_base.specs.declared.signal.Signal.{Signal}
+use Rattle.df1_base.specs.declared.signal.Signal.TheVariants.{End}
+use Rattle.df1_base.specs.Signals.{goes_on}
 
 -- a source: the bytes that are left, how many of them it gives at a call at most, how many calls were made, the numbers of the
 -- calls that fail, and how often one has
@@ -52,3 +55,37 @@ after_write s from =
     if refuses_next s from
     then record s { calls = counted s.calls; faults = counted s.faults }
     else record s { calls = counted s.calls; held = s.held ++ take (taken s (length from)) from }
+
+-- a port: the signals that it gives before End, its sink, how many calls of `next` were made, the numbers of those that fail, and
+-- how often one has
+pub record Exchange : Type 0 where
+  pub signals : List Signal
+  pub sink : Taker
+  pub calls : ℕ
+  pub fail : List ℕ
+  pub faults : ℕ
+
+-- these signals up to and with the first that none follow, or else End after them
+abbrev pub up_to_last : List Signal → List Signal
+up_to_last [] = End ∷ []
+up_to_last (signal ∷ signals) = if goes_on signal then signal ∷ up_to_last signals else signal ∷ []
+
+-- the next call of `next` is told to fail
+abbrev pub next_fails : Exchange → Bool
+next_fails p = list_any (λ call. call == counted p.calls) p.fail
+
+-- the signal that comes next
+abbrev pub next_signal : List Signal → Signal
+next_signal [] = End
+next_signal (signal ∷ signals) = signal
+
+-- the signals after it is given: a last one stays
+abbrev pub later_signals : List Signal → List Signal
+later_signals [] = []
+later_signals (signal ∷ signals) = if goes_on signal then signals else signal ∷ signals
+
+abbrev pub after_next : Exchange → Exchange
+after_next p =
+    if next_fails p
+    then record p { calls = counted p.calls; faults = counted p.faults }
+    else record p { calls = counted p.calls; signals = later_signals p.signals }

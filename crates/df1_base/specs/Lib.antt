@@ -1,4 +1,7 @@
 pub mod Buffering
+pub mod Feed
 pub mod Host
 pub mod InMemory
 pub mod Outside
+pub mod PortLaws
+pub mod Signals
