@@ -1,16 +1,14 @@
 -- The host and the slave agree on whether a message is out.
 use Rattle.std.proofs.Common.{◌≡◌, ℕ, Bool, true, false, List, [], ◌∷◌, Option, Some, None, IsSome, sym, subst, ◌∙◌, refl}
-use Rattle.std.specs.Prelude.{is_some, nat_lt, ◌&&◌, if◌then◌else◌}
+use Rattle.std.specs.Prelude.{is_some, if◌then◌else◌}
 use Rattle.std.specs.Option.{option_map}
 use Rattle.df1_base.specs.declared.host.Host.{Ghosts}
 use Rattle.df1_base.specs.declared.host.Fate.{Fate}
-use Rattle.df1_base.specs.declared.host.Fate.TheVariants as fate
-use Rattle.df1_base.specs.declared.link.Out.{Out}
 use Rattle.half_frame.specs.declared.heard.SlaveHeard.{SlaveHeard}
 use Rattle.half_frame.specs.declared.heard.SlaveHeard.TheVariants as heard
 use Rattle.pccc_envelope.specs.Accepted.{Verdict, Repeated, Accepted, Refused}
 use Rattle.half_slave.specs.declared.held.Held.{Held}
-use Rattle.half_slave.specs.Slave.{SlaveState, is_own, is_answered, verdict, told, received, offered, answered, polled, reset, after_heard, after_sending, after_out, ends_here, fate_at_ack, fate_at_reset, heard_at, listened, out_at_take, slave_after_heard}
+use Rattle.half_slave.specs.Slave.{SlaveState, is_own, is_answered, verdict, told, received, offered, answered, polled, after_heard, after_sending, ends_here, fate_at_ack, fate_at_reset, heard_at, listened, out_at_take, slave_after_heard}
 use Rattle.half_slave.specs.Emission.{Letter, Byte, Take, slave_after, slave_after_all}
 
 -- the laws of a host's fates

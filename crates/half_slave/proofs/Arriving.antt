@@ -1,6 +1,6 @@
 -- A slave stands for the bytes that arrived at it, and a whole message is heard exactly where the grammar hears one.
-use Rattle.std.proofs.Common.{◌≡◌, ℕ, Bool, true, List, [], ◌∷◌, ◌++◌, Option, Some, None, inl, inr, ap, sym, subst, ◌∙◌, refl, append-nil}
-use Rattle.std.specs.Prelude.{◌↔◌, ◌⊎◌}
+use Rattle.std.proofs.Common.{◌≡◌, ℕ, true, List, [], ◌∷◌, ◌++◌, Option, Some, None, inl, inr, ap, sym, subst, ◌∙◌, refl, append-nil}
+use Rattle.std.specs.Prelude.{◌⊎◌}
 use Rattle.df1_base.specs.declared.host.Host.{Ghosts}
 use Rattle.df1_check.specs.declared.Check.{Check}
 use Rattle.df1_frame.specs.Line.{ReadOff, last_heard}
@@ -14,7 +14,7 @@ use Rattle.half_frame.proofs.SlaveLemmas.{machine, works}
 use Rattle.half_slave.specs.declared.SlaveSetup.{SlaveSetup}
 use Rattle.half_slave.specs.Slave.{SlaveState, new_slave, is_whole, station_of, slave_after_byte, step_at_byte}
 use Rattle.half_slave.specs.Emission.{Letter, Byte, Take, slave_after, bytes_among}
-use Rattle.half_slave.specs.Arrived.{StandsFor, HearsMessage, TellsMessage, Arrival, bytes_arrived, HeardByGrammar}
+use Rattle.half_slave.specs.Arrived.{StandsFor, TellsMessage, Arrival, bytes_arrived, HeardByGrammar}
 use Rattle.half_slave.proofs.Rows.{byte-ear}
 
 -- a new slave stands for no byte

@@ -1,18 +1,14 @@
 -- Takes until nothing is given.
-use Rattle.std.proofs.Common.{◌≡◌, ℕ, zero, suc, ◌+◌, ◌≤◌, Bool, true, false, List, length, Option, Some, None, IsSome, IsNone, [], ◌∷◌, ◌++◌, ap, sym, subst, ◌∙◌, refl, arith}
-use Rattle.std.proofs.lemmas.Bool.Decides.{nat_tests}
-use Rattle.std.specs.Prelude.{option_to_list, is_some, is_none, ◌&&◌, ◌==◌, if◌then◌else◌}
+use Rattle.std.proofs.Common.{◌≡◌, ℕ, zero, suc, ◌+◌, ◌≤◌, true, List, length, Option, Some, None, IsSome, IsNone, [], ◌∷◌, ◌++◌, ap, sym, subst, ◌∙◌, refl, arith}
+use Rattle.std.specs.Prelude.{option_to_list, is_some, is_none, ◌&&◌, if◌then◌else◌}
 use Rattle.df1_base.specs.declared.host.Host.{Ghosts}
 use Rattle.df1_base.specs.declared.link.Out.{Out}
 use Rattle.df1_base.specs.declared.link.Resp.{Resp}
 use Rattle.half_frame.specs.declared.framer.Sent.{Sent}
 use Rattle.half_mouth.specs.Giving.{Giving, is_done, bytes_left, take}
-use Rattle.half_slave.specs.declared.held.Held.{Held}
 use Rattle.half_slave.specs.Slave.{SlaveState, is_quiet, after_out, mouth_at_take, responds_at_take, out_at_take, slave_after_take, left_to_give}
-use Rattle.half_slave.specs.Emission.{Take, slave_after_all, emission, takes, Drains, gives_none, gives_one}
-
-no-byte : (x : Sent) (more : List Sent) → (length (x ∷ more) == 0) ≡ false
-no-byte x more = grind (arith, nat_tests)
+use Rattle.half_slave.specs.Emission.{slave_after_all, emission, takes, Drains, gives_none, gives_one}
+use Rattle.half_slave.proofs.Sizes.{some-left}
 
 abbrev giving : List Sent → Option ℕ → ℕ → Giving
 giving left number begun = record { left = left; number = number; begun = begun }
@@ -23,7 +19,7 @@ quiet-by : (left : List Sent) (number : Option ℕ) (begun : ℕ) (responds : Op
     → (is_done (giving left number begun) && is_none responds) ≡ is_none (take (mouth_at_take (giving left number begun) responds)).1
 quiet-by [] number begun None = refl
 quiet-by [] number begun (Some r) = refl
-quiet-by (x ∷ more) number begun responds = rw (no-byte x more) refl
+quiet-by (x ∷ more) number begun responds = rw (some-left x more) refl
 
 pub quiet-is : {H : Type 0} (s : SlaveState H) → is_quiet s ≡ is_none (out_at_take s)
 quiet-is s = quiet-by s.mouth.left s.mouth.number s.mouth.begun s.responds
@@ -48,7 +44,7 @@ same-by : {H : Type 0} (s : SlaveState H) (left : List Sent) (number : Option �
     → after_take s (giving left number begun) responds ≡ record s { responds = responds; mouth = giving left number begun }
 same-by s [] number begun None none = refl
 same-by s [] number begun (Some r) none = absurd cc
-same-by s (x ∷ more) number begun responds none = absurd (let no = rw (no-byte x more) at none in cc)
+same-by s (x ∷ more) number begun responds none = absurd (let no = rw (some-left x more) at none in cc)
 
 pub quiet-same : {H : Type 0} (s : SlaveState H) → IsNone (out_at_take s) → slave_after_take s ≡ s
 quiet-same s none = same-by s s.mouth.left s.mouth.number s.mouth.begun s.responds none
@@ -61,7 +57,7 @@ fewer-by : (left : List Sent) (number : Option ℕ) (begun : ℕ) (responds : Op
     → bytes_left (take (mouth_at_take g responds)).0 + (if is_some (responds_at_take g responds) then 2 else 0) + 1 ≡ bytes_left g + (if is_some responds then 2 else 0)
 fewer-by [] number begun None some = cc
 fewer-by [] number begun (Some r) some = refl
-fewer-by (x ∷ more) number begun responds some = rw (no-byte x more) (omega arith)
+fewer-by (x ∷ more) number begun responds some = rw (some-left x more) (omega arith)
 
 pub take-lowers : {H : Type 0} (s : SlaveState H) → IsSome (out_at_take s) → left_to_give (slave_after_take s) + 1 ≡ left_to_give s
 take-lowers s some = fewer-by s.mouth.left s.mouth.number s.mouth.begun s.responds some
@@ -71,7 +67,7 @@ none-left-by : (left : List Sent) (number : Option ℕ) (begun : ℕ) (responds 
     (take (mouth_at_take g responds)).1 ≡ None → bytes_left g + (if is_some responds then 2 else 0) ≡ 0
 none-left-by [] number begun None none = refl
 none-left-by [] number begun (Some r) none = cc
-none-left-by (x ∷ more) number begun responds none = absurd (some-none (rw (no-byte x more) at none))
+none-left-by (x ∷ more) number begun responds none = absurd (some-none (rw (some-left x more) at none))
   where
     some-none : {out : Out} → Some out ≡ None → ⊥
     some-none is = cc

@@ -1,5 +1,5 @@
 -- Where a slave's ear hears a whole message, the body that it lends has at least 6 bytes.
-use Rattle.std.proofs.Common.{◌≡◌, ℕ, ◌+◌, ◌≤◌, Bool, true, false, List, [], ◌∷◌, ◌++◌, length, nat_lt, Option, Some, None, refl, arith}
+use Rattle.std.proofs.Common.{◌≡◌, ℕ, ◌+◌, ◌≤◌, Bool, true, false, [], ◌∷◌, ◌++◌, length, nat_lt, Option, Some, None, refl, arith}
 use Rattle.std.proofs.lemmas.Bool.Decides.{nat_tests}
 use Rattle.std.specs.Prelude.{◌||◌, ◌==◌, if◌then◌else◌}
 use Rattle.df1_check.specs.declared.Check.{Check}
@@ -9,7 +9,7 @@ use Rattle.df1_frame.specs.Gathered.{Gathered}
 use Rattle.df1_frame.specs.Spelling.{check_len, check_bytes, same}
 use Rattle.half_frame.specs.declared.heard.SlaveHeard.{SlaveHeard}
 use Rattle.half_frame.specs.declared.heard.SlaveHeard.TheVariants as heard
-use Rattle.half_frame.specs.TextStep.{Inside, InsideDle, AtCheck, Onward, Goes, Ends, Breaks, is_good}
+use Rattle.half_frame.specs.TextStep.{Inside, InsideDle, AtCheck, Onward, Ends, is_good}
 use Rattle.half_frame.specs.SlaveStanding.{Standing, Outside, Ended, AfterDle, AfterSoh, AfterEnq, AtPollCheck, AfterStation, AfterStationDle, AtText, Listening, lent_at}
 use Rattle.half_frame.specs.SlaveStep.{outside_next, text_next, step, next}
 

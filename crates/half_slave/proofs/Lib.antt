@@ -9,3 +9,4 @@ pub mod Receiving
 pub mod Draining
 pub mod Sizes
 pub mod Reaching
+pub mod GivingUp

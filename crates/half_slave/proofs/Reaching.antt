@@ -1,30 +1,27 @@
 -- What holds of every slave that signals and changes of its host reach.
-use Rattle.std.proofs.Common.{◌≡◌, ℕ, ◌+◌, ◌≤◌, Bool, true, false, List, [], ◌∷◌, ◌++◌, length, nat_lt, Option, Some, None, IfSome, sym, subst, refl, arith}
-use Rattle.std.specs.Prelude.{IsTrue, is_some, ◌==◌, if◌then◌else◌}
+use Rattle.std.proofs.Common.{◌≡◌, ℕ, ◌≤◌, Bool, true, false, List, [], ◌∷◌, ◌++◌, length, Option, Some, None, IfSome, subst, refl, arith}
+use Rattle.std.specs.Prelude.{IsTrue, is_some, if◌then◌else◌}
 use Rattle.std.specs.Option.{option_map}
-use Rattle.std.proofs.lemmas.Bool.Decides.{nat_tests}
 use Rattle.df1_base.specs.Host.{IsBody}
 use Rattle.df1_base.specs.declared.host.Host.{Ghosts}
 use Rattle.df1_base.specs.declared.host.Fate.{Fate}
 use Rattle.df1_base.specs.declared.link.Resp.{Resp}
-use Rattle.df1_base.specs.declared.link.Out.{Out}
 use Rattle.df1_check.specs.declared.Check.{Check}
 use Rattle.half_frame.specs.declared.framer.Sent.{Sent}
 use Rattle.half_frame.specs.declared.heard.SlaveHeard.{SlaveHeard}
 use Rattle.half_frame.specs.declared.heard.SlaveHeard.TheVariants as heard
 use Rattle.half_frame.specs.SlaveStep.{next}
-use Rattle.half_frame.specs.SlaveStanding.{lent_at}
 use Rattle.half_mouth.specs.Giving.{Giving, bytes_left, take}
 use Rattle.pccc_envelope.specs.Envelope.{key_of}
 use Rattle.pccc_envelope.specs.Accepted.{Verdict, Repeated, Accepted, Refused, is_kept}
 use Rattle.half_slave.specs.declared.SlaveSetup.{SlaveSetup}
 use Rattle.half_slave.specs.declared.held.Held.{Held}
-use Rattle.half_slave.specs.Slave.{SlaveState, new_slave, with_host, body_of, is_own, is_answered, verdict, told, received, offered, answered, polled, reset, after_heard, after_out, after_sending, ends_here, fate_at_ack, fate_at_reset, heard_at, listened, slave_after_heard, slave_after_byte, mouth_at_take, out_at_take, slave_after_take, left_to_give}
+use Rattle.half_slave.specs.Slave.{SlaveState, new_slave, with_host, body_of, is_own, is_answered, verdict, told, received, offered, answered, polled, reset, after_heard, after_sending, ends_here, fate_at_ack, fate_at_reset, heard_at, listened, slave_after_heard, slave_after_byte, mouth_at_take, out_at_take, slave_after_take, left_to_give}
 use Rattle.half_slave.specs.Emission.{Letter, Byte, Take, slave_after}
 use Rattle.half_slave.specs.Arrived.{StandsFor}
 use Rattle.half_slave.specs.Reached.{Reached, begins, goes_on, changes, HoldsBody, Fits}
 use Rattle.half_slave.proofs.Lent.{lent-6}
-use Rattle.half_slave.proofs.Sizes.{reply-most, lent-most}
+use Rattle.half_slave.proofs.Sizes.{some-left, reply-most, lent-most}
 use Rattle.half_slave.proofs.Arriving.{stands-new, ear-byte, stands-byte}
 
 -- the laws of a host's bodies
@@ -103,15 +100,12 @@ sent-body true None body fits = tt
 sent-body true (Some message) body fits = fits
 sent-body false held body fits = fits
 
-no-byte : (x : Sent) (more : List Sent) → (length (x ∷ more) == 0) ≡ false
-no-byte x more = grind (arith, nat_tests)
-
 take-short : (left : List Sent) (number : Option ℕ) (begun : ℕ) (responds : Option Resp)
     → let g : Giving = record { left = left; number = number; begun = begun } in
     bytes_left g ≤ 509 → bytes_left (take (mouth_at_take g responds)).0 ≤ 509
 take-short [] number begun None short = omega arith
 take-short [] number begun (Some r) short = omega arith
-take-short (x ∷ more) number begun responds short = rw (no-byte x more) (omega arith)
+take-short (x ∷ more) number begun responds short = rw (some-left x more) (omega arith)
 
 take-fits : {H : Type 0} (m : Ghosts H) (s : SlaveState H) → Fits m s → Fits m (slave_after_take s)
 take-fits m s fits = record {

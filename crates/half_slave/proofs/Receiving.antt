@@ -1,5 +1,5 @@
 -- What is accepted of the messages to a slave's station.
-use Rattle.std.proofs.Common.{◌≡◌, ℕ, Bool, true, false, List, [], ◌∷◌, ◌++◌, Option, Some, None, ap, sym, subst, ◌∙◌, refl, append_assoc, append-nil}
+use Rattle.std.proofs.Common.{◌≡◌, ℕ, Bool, true, false, List, [], ◌∷◌, ◌++◌, Option, Some, None, ap, sym, ◌∙◌, refl, append_assoc, append-nil}
 use Rattle.std.specs.Prelude.{if◌then◌else◌}
 use Rattle.std.specs.List.{fold}
 use Rattle.std.proofs.lemmas.Grind.{fold-append}
@@ -12,7 +12,7 @@ use Rattle.pccc_envelope.specs.declared.key.Key.{Key}
 use Rattle.pccc_envelope.specs.Accepted.{Offer, Verdict, Repeated, Accepted, Refused, judged, last_key, with_offer}
 use Rattle.pccc_envelope.proofs.LastAccepted.{last_key-append}
 use Rattle.half_slave.specs.declared.held.Held.{Held}
-use Rattle.half_slave.specs.Slave.{SlaveState, body_of, is_own, is_answered, verdict, verdict_act, told, received, offered, answered, polled, reset, fate_at_ack, fate_at_reset, heard_at, listened, act_at, slave_after_byte, slave_after_heard, slave_after_take}
+use Rattle.half_slave.specs.Slave.{SlaveState, body_of, is_own, is_answered, verdict, verdict_act, told, received, offered, answered, polled, fate_at_ack, fate_at_reset, heard_at, listened, act_at, slave_after_byte, slave_after_heard, slave_after_take}
 use Rattle.half_slave.specs.Emission.{Letter, Byte, Take, slave_after_all}
 use Rattle.half_slave.specs.Received.{offer_at, offers, handed, handed_over}
 

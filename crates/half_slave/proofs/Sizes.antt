@@ -1,5 +1,5 @@
--- How many bytes a slave's message has, and a body that its ear lends.
-use Rattle.std.proofs.Common.{◌≡◌, ℕ, suc, ap, ◌+◌, ◌*◌, ◌≤◌, Bool, true, false, List, [], ◌∷◌, ◌++◌, length, nat_le, sym, subst, refl, arith, length-append}
+-- How many bytes are left to be given, how many a slave's message has, and how many a body that its ear lends.
+use Rattle.std.proofs.Common.{◌≡◌, ℕ, suc, ap, ◌*◌, ◌≤◌, Bool, true, false, List, [], ◌∷◌, ◌++◌, length, nat_le, sym, subst, refl, arith, length-append}
 use Rattle.std.proofs.lemmas.Bool.Decides.{nat_tests}
 use Rattle.std.specs.List.{flat_map}
 use Rattle.std.specs.Prelude.{◌&&◌, ◌==◌, if◌then◌else◌}
@@ -8,10 +8,14 @@ use Rattle.df1_check.specs.declared.Check.TheVariants as kind
 use Rattle.df1_frame.specs.Line.{ReadOff}
 use Rattle.df1_frame.specs.Spelling.{Doubled, Plain, pieces_of, check_of, check_len, same}
 use Rattle.df1_frame.proofs.SpellingLemmas.{length-check}
+use Rattle.half_frame.specs.declared.framer.Sent.{Sent}
 use Rattle.half_frame.specs.Spelling.{piece_sent, reply_sent, unmarked, station_head}
-use Rattle.half_frame.specs.Text.{is_right}
 use Rattle.half_frame.specs.SlaveGrammar.{Item, Stray, Pair, Poll, Message, NoText, Broken, CutOff, Front, Nothing, Dle, Soh, Enq, Polled, Headed, HeadedDle, InText, slave_hears}
 use Rattle.half_frame.specs.SlaveStanding.{Outside, Ended, Listening, listening, standing, ended, ended_by, lent_at}
+
+-- a list with a byte has some
+pub some-left : (x : Sent) (more : List Sent) → (length (x ∷ more) == 0) ≡ false
+some-left x more = grind (arith, nat_tests)
 
 piece-most : (b : ℕ) (dle : Bool) → length (piece_sent (if dle then Doubled else Plain b)) ≤ 2
 piece-most b true = omega arith

@@ -1,7 +1,7 @@
 -- A message is handed out where none is out, is sent at most so often, and its fate is told once.
-use Rattle.std.proofs.Common.{◌≡◌, ℕ, ◌+◌, ◌<◌, ◌≤◌, Bool, true, false, List, [], ◌∷◌, ◌++◌, length, nat_lt, Option, Some, None, IfSome, ap, sym, subst, ◌∙◌, refl, arith}
+use Rattle.std.proofs.Common.{◌≡◌, ℕ, ◌+◌, ◌<◌, ◌≤◌, Bool, true, false, List, [], ◌∷◌, ◌++◌, nat_lt, Option, Some, None, IfSome, ap, sym, subst, refl, arith}
 use Rattle.std.proofs.lemmas.Bool.Decides.{nat_tests}
-use Rattle.std.specs.Prelude.{is_some, not, ◌&&◌, ◌==◌, ◌^◌, ◌-◌, min, if◌then◌else◌}
+use Rattle.std.specs.Prelude.{is_some, not, ◌&&◌, ◌^◌, ◌-◌, min, if◌then◌else◌}
 use Rattle.std.specs.List.{flat_map}
 use Rattle.std.specs.Option.{option_map}
 use Rattle.df1_base.specs.declared.host.Host.{Ghosts}
@@ -18,10 +18,11 @@ use Rattle.half_mouth.specs.Giving.{Giving, transmit, is_done, take}
 use Rattle.pccc_envelope.specs.Accepted.{Verdict, Repeated, Accepted, Refused}
 use Rattle.half_slave.specs.declared.SlaveSetup.{SlaveSetup}
 use Rattle.half_slave.specs.declared.held.Held.{Held}
-use Rattle.half_slave.specs.Slave.{SlaveState, new_slave, with_host, is_own, is_quiet, is_answered, verdict, told, received, offered, answered, polled, reset, loaded, after_heard, after_sending, after_out, ends_here, fate_at_poll, fate_at_ack, fate_at_reset, heard_at, listened, slave_after_heard, slave_after_byte, mouth_at_take, slave_after_take}
+use Rattle.half_slave.specs.Slave.{SlaveState, new_slave, with_host, is_own, is_quiet, verdict, told, received, offered, answered, polled, reset, loaded, after_heard, after_sending, after_out, fate_at_ack, fate_at_reset, heard_at, listened, slave_after_heard, slave_after_byte, mouth_at_take, slave_after_take}
 use Rattle.half_slave.specs.Emission.{Letter, Byte, Take, slave_after}
 use Rattle.half_slave.specs.Fates.{Event, HandedOut, SentAgain, Told, telling, sending_begun, events_of_poll, events_at_heard, events_at, events, InTurn, ends, hands_out, sends_again, tells, is_transmitting, begun_of, sendings_begun, Counted}
 use Rattle.half_slave.proofs.Rows.{byte-setup}
+use Rattle.half_slave.proofs.Sizes.{some-left}
 
 -- ---- a step
 
@@ -66,13 +67,10 @@ reset-leads m s (Some message) = ended _ fate.Undelivered [] None (stays None)
 
 -- ---- a poll
 
-no-byte : (x : Sent) (more : List Sent) → (length (x ∷ more) == 0) ≡ false
-no-byte x more = grind (arith, nat_tests)
-
 -- a message that has just been begun is under way
 transmits : (g : Giving) (check : Check) (body : List ℕ) → is_transmitting (transmit g (reply_sent check body)) ≡ true
 transmits g check body =
-    ap not (no-byte (record { byte = 16; of_body = false }) (record { byte = 2; of_body = false } ∷ (flat_map piece_sent (pieces_of body) ++ unmarked (16 ∷ 3 ∷ check_of check body))))
+    ap not (some-left (record { byte = 16; of_body = false }) (record { byte = 2; of_body = false } ∷ (flat_map piece_sent (pieces_of body) ++ unmarked (16 ∷ 3 ∷ check_of check body))))
 
 -- where nothing is left, no message is under way
 still : (number : Option ℕ) (done none : Bool) → (done && none) ≡ true → (is_some number && not done) ≡ false
@@ -165,7 +163,7 @@ take-begun most [] None begun (Some r) held fits few = refl
 take-begun most [] (Some n) begun (Some r) held fits few = refl
 take-begun most (x ∷ []) None begun responds held fits few = refl
 take-begun most (x ∷ []) (Some n) begun responds held fits few = last-begun most held fits few
-take-begun most (x ∷ y ∷ more) number begun responds held fits few = rw (no-byte x (y ∷ more), no-byte y more) refl
+take-begun most (x ∷ y ∷ more) number begun responds held fits few = rw (some-left x (y ∷ more), some-left y more) refl
 
 take-same : {H : Type 0} (s : SlaveState H) → Counted s → sendings_begun (slave_after_take s) ≡ sendings_begun s
 take-same s c = take-begun s.setup.max_sends s.mouth.left s.mouth.number s.mouth.begun s.responds s.held c.fits c.at_most

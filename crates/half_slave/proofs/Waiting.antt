@@ -9,7 +9,7 @@ use Rattle.half_frame.specs.declared.heard.SlaveHeard.{SlaveHeard}
 use Rattle.half_frame.specs.declared.heard.SlaveHeard.TheVariants as heard
 use Rattle.pccc_envelope.specs.Accepted.{Verdict, Repeated, Accepted, Refused}
 use Rattle.half_slave.specs.declared.held.Held.{Held}
-use Rattle.half_slave.specs.Slave.{SlaveState, is_own, is_answered, verdict, told, received, offered, answered, polled, reset, closes_wait, after_heard, after_sending, ends_here, fate_at, fate_at_poll, fate_at_ack, fate_at_reset, heard_at, listened, out_at_take, slave_after_byte, slave_after_heard, slave_after_take}
+use Rattle.half_slave.specs.Slave.{SlaveState, is_own, is_answered, verdict, told, received, offered, answered, polled, closes_wait, after_heard, after_sending, ends_here, fate_at, fate_at_poll, fate_at_ack, fate_at_reset, heard_at, listened, out_at_take, slave_after_byte, slave_after_heard, slave_after_take}
 use Rattle.half_slave.specs.Emission.{Letter, Byte, Take, slave_after_all}
 use Rattle.half_slave.specs.Wait.{since_sending, is_waiting}
 

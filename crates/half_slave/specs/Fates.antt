@@ -1,5 +1,5 @@
 -- The messages that a slave's host hands out, how often each is sent, and their fates, over a list of signals.
-use Rattle.std.specs.Prelude.{ℕ, ◌+◌, ◌^◌, ◌<◌, ◌≤◌, IfSome, Bool, List, [], ◌∷◌, ◌++◌, Option, Some, None, is_some, not, ◌&&◌, if◌then◌else◌}
+use Rattle.std.specs.Prelude.{ℕ, ◌+◌, ◌^◌, ◌<◌, ◌≤◌, ◌≡◌, IfSome, IsSome, Bool, true, List, [], ◌∷◌, ◌++◌, Option, Some, None, is_some, not, ◌&&◌, if◌then◌else◌}
 use Rattle.std.specs.Option.{option_map}
 use Rattle.df1_base.specs.declared.host.Host.{Ghosts}
 use Rattle.df1_base.specs.declared.host.Fate.{Fate}
@@ -71,3 +71,14 @@ pub record Counted {H : Type 0} (s : SlaveState H) : Type 0 where
   pub sends : 1 ≤ s.setup.max_sends
   pub fits : s.setup.max_sends < 2 ^ 32
   pub at_most : IfSome (sendings_begun s) (λ begun. begun ≤ s.setup.max_sends)
+
+-- a message is held that was sent at least so often
+abbrev pub WasSent : ℕ → Option Held → Type 0
+WasSent most None = ⊥
+WasSent most (Some message) = most ≤ message.sent
+
+-- a message is given up at a poll that is answered, where it was sent so often as it may be, and at a reset
+abbrev pub IsGivenUp : {H : Type 0} → SlaveState H → Option SlaveHeard → Type 0
+IsGivenUp s (Some (heard.Poll stn)) = (is_answered s stn ≡ true) × WasSent s.setup.max_sends s.held
+IsGivenUp s (Some heard.Reset) = IsSome s.held
+IsGivenUp s _ = ⊥

@@ -21,7 +21,7 @@ use Rattle.half_frame.specs.SlaveStep.{next}
 use Rattle.half_mouth.specs.Giving.{Giving, nothing, transmit, give, is_done, bytes_left, take}
 use Rattle.pccc_envelope.specs.declared.key.Key.{Key}
 use Rattle.pccc_envelope.specs.Envelope.{key_of}
-use Rattle.pccc_envelope.specs.Accepted.{Offer, Verdict, Repeated, Accepted, Refused, judged}
+use Rattle.pccc_envelope.specs.Accepted.{Verdict, Repeated, Accepted, Refused, judged}
 use Rattle.half_slave.specs.declared.SlaveSetup.{SlaveSetup}
 use Rattle.half_slave.specs.declared.held.Held.{Held}
 

@@ -2,7 +2,7 @@
 
 ghost use Rattle.std.specs.Prelude.{◌≡◌, ◌≤◌, ◌<◌, ◌+◌, ◌^◌, ◌↔◌, ◌∷◌, ◌++◌, [], ℕ, List, Bool, length, true, false, is_some, ◌&&◌, Some, IsNone, IsSome};
 ghost use Rattle.std.specs.List.{fold};
-ghost use Rattle.df1_base.specs.declared.host.Fate.TheVariants.{Delivered};
+ghost use Rattle.df1_base.specs.declared.host.Fate.TheVariants.{Delivered, Undelivered};
 ghost use Rattle.df1_base.specs.declared.link.Out.{Out as Given};
 ghost use Rattle.df1_check.specs.declared.Check.{Check as CheckKind};
 ghost use Rattle.half_frame.specs.declared.heard.SlaveHeard.TheVariants.{Ack};
@@ -11,7 +11,7 @@ ghost use Rattle.half_slave.specs.declared.SlaveSetup.{SlaveSetup as Settings};
 ghost use Rattle.half_slave.specs.Slave.{SlaveState, new_slave, with_host, is_quiet, heard_at, listened, fate_at, slave_after_byte, step_at_byte, slave_after_take, out_at_take, left_to_give};
 ghost use Rattle.half_slave.specs.Arrived.{Arrival, StandsFor, HeardByGrammar, bytes_arrived};
 ghost use Rattle.half_slave.specs.Emission.{Letter, slave_after, given_at, slave_after_all, emission, bytes_among, takes, Drains};
-ghost use Rattle.half_slave.specs.Fates.{Counted, InTurn, events, sendings_begun};
+ghost use Rattle.half_slave.specs.Fates.{Counted, InTurn, IsGivenUp, events, sendings_begun};
 ghost use Rattle.half_slave.specs.Wait.{since_sending, is_waiting};
 ghost use Rattle.half_slave.specs.Received.{offers, handed_over};
 ghost use Rattle.half_slave.specs.Reached.{Reached, Fits};
@@ -45,12 +45,14 @@ pub fn messages_are_accepted_once<H: Host>()
 {}
 
 /// A message is handed out where the fate of the one before was told, it is sent at most `max_sends` times, and its own
-/// fate is told once, after that. Where the host and the slave agree on whether a message is out, as at a new slave over a
+/// fate is told once, after that: undelivered exactly at a poll that is answered, where it was sent `max_sends` times, and
+/// at a reset. Where the host and the slave agree on whether a message is out, as at a new slave over a
 /// host with none out, they do so after every signal, so each fate is told of a message that is out.
 pub fn a_fate_is_told_once<H: Host>()
     ensures start { (setup : Settings) (host : H) → 1 ≤ setup.max_sends → setup.max_sends < 2 ^ 32 → Counted (new_slave setup host) }
     ensures goes_on { (s : SlaveState H) (signal : Letter) → Counted s → Counted (slave_after H.Host s signal) }
     ensures changes { (s : SlaveState H) (host : H) → Counted s → Counted (with_host s host) }
+    ensures gives_up { (s : SlaveState H) (b : ℕ) → (fate_at (listened s b) (heard_at s b) ≡ Some Undelivered) ↔ IsGivenUp s (heard_at s b) }
     ensures in_turn { (s : SlaveState H) (signals : List Letter) → Counted s → InTurn s.setup.max_sends (sendings_begun s) (events H.Host s signals) }
     ensures agree { (s : SlaveState H) (signals : List Letter) → H.Host.is_out s.host ≡ is_some s.held
         → H.Host.is_out (slave_after_all H.Host s signals).host ≡ is_some (slave_after_all H.Host s signals).held }

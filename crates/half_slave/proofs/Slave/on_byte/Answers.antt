@@ -1,8 +1,7 @@
-use Rattle.std.proofs.Common.{◌≡◌, ◌≤◌, ◌++◌, ◌∷◌, [], ℕ, List, length, ap, sym, subst, ◌∙◌, true}
+use Rattle.std.proofs.Common.{◌≡◌, ◌≤◌, ◌++◌, ◌∷◌, [], length, ap, sym, subst, ◌∙◌}
 use Rattle.df1_base.specs.declared.link.Step.{Step}
-use Rattle.df1_check.specs.declared.Check.{Check}
 use Rattle.half_frame.specs.SlaveStanding.{Listening, lent_at}
-use Rattle.half_slave.specs.Slave.{SlaveState, station_of, body_of, heard_at, slave_after_heard, step_at_heard, slave_after_byte, step_at_byte}
+use Rattle.half_slave.specs.Slave.{SlaveState, station_of, heard_at, slave_after_byte, step_at_byte}
 use Rattle.half_slave.specs.Arrived.{StandsFor, TellsMessage}
 use Rattle.half_slave.proofs.Rows.{byte-ear}
 use Rattle.half_slave.proofs.Lent.{lent-6}

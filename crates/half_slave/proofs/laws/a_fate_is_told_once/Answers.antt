@@ -1,4 +1,5 @@
 use Rattle.half_slave.proofs.Turns.{counted-new, counted-signal, counted-host, in-turn}
+use Rattle.half_slave.proofs.GivingUp.{byte-gives-up}
 use Rattle.half_slave.proofs.Agreeing.{signals-agree}
 use Rattle.half_slave.proofs.laws.a_fate_is_told_once.Goals as goal
 
@@ -10,6 +11,9 @@ returns-clause-goes_on g c = counted-signal g.H.Host
 
 pub returns-clause-changes : goal.returns-clause-changes
 returns-clause-changes g c = counted-host
+
+pub returns-clause-gives_up : goal.returns-clause-gives_up
+returns-clause-gives_up g c = byte-gives-up
 
 pub returns-clause-in_turn : goal.returns-clause-in_turn
 returns-clause-in_turn g c = in-turn g.H.Host
