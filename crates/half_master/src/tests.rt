@@ -145,20 +145,31 @@ impl Host for OneCommand {
     ghost bodies_at_clear = { λ _ _. tt };
 }
 
-/// A master of these stations whose waits are two ticks, and that gives a message again once.
-fn master_of(stations: &[u8], waits: bool) -> Master<OneCommand> {
-    let setup = MasterSetup {
-        check: Check::Bcc,
-        ack_ticks: 2,
-        max_resends: 1,
-        poll_ticks: 2,
-    };
-    let host = OneCommand {
+/// Waits of two ticks, and a message is given again once.
+const SETUP: MasterSetup = MasterSetup {
+    check: Check::Bcc,
+    ack_ticks: 2,
+    max_resends: 1,
+    poll_ticks: 2,
+};
+
+/// A host with room that has its message out nowhere, and perhaps has it to send.
+fn host_of(waits: bool) -> OneCommand {
+    OneCommand {
         waits,
         is_out: false,
         room: true,
-    };
-    Master::new(setup, stations, host)
+    }
+}
+
+/// A master of the stations 3 and 5.
+fn master_of_two(waits: bool) -> Master<OneCommand> {
+    Master::new(SETUP, &[3, 5], host_of(waits))
+}
+
+/// A master of no stations.
+fn master_of_none() -> Master<OneCommand> {
+    Master::new(SETUP, &[], host_of(true))
 }
 
 /// The master gives these bytes, and then no more.
@@ -193,7 +204,7 @@ fn ticks(master: &mut Master<OneCommand>) -> (Turn, usize) {
 
 #[test]
 fn a_message_that_nobody_acknowledges_is_given_twice(rt: HostRuntime) {
-    let mut master = master_of(&[3, 5], true);
+    let mut master = master_of_two(true);
     assert_eq!(rt; master.sending().len(), 0);
     gives(&rt, &mut master, &COMMAND_SENT);
     assert_eq!(rt; master.sending(), COMMAND.as_slice());
@@ -210,7 +221,7 @@ fn a_message_that_nobody_acknowledges_is_given_twice(rt: HostRuntime) {
 
 #[test]
 fn stations_are_polled_in_turn(rt: HostRuntime) {
-    let mut master = master_of(&[3, 5], false);
+    let mut master = master_of_two(false);
     assert_eq!(rt; master.take(), None);
     for poll in [&POLL_OF_3, &POLL_OF_5, &POLL_OF_3] {
         assert_eq!(rt; ticks(&mut master), (Turn::Still, 1));
@@ -233,7 +244,7 @@ fn stations_are_polled_in_turn(rt: HostRuntime) {
 fn each_station_has_its_own_filter(rt: HostRuntime) {
     let answered = (Act::Accept, Some(Did::Answered(1)), News::Nothing);
     let repeated = (Act::Repeat, None, News::Nothing);
-    let mut master = master_of(&[3, 5], false);
+    let mut master = master_of_two(false);
     for (poll, reply, told) in [
         (&POLL_OF_3, &REPLY_OF_3, answered),
         (&POLL_OF_5, &REPLY_OF_5, answered),
@@ -251,7 +262,7 @@ fn each_station_has_its_own_filter(rt: HostRuntime) {
 #[test]
 fn another_station_is_passed_over_and_a_refusal_is_silent(rt: HostRuntime) {
     let nothing = (Act::Nothing, None, News::Nothing);
-    let mut master = master_of(&[3, 5], false);
+    let mut master = master_of_two(false);
     master.host_mut().room = false;
     assert_eq!(rt; ticks(&mut master), (Turn::Still, 1));
     gives(&rt, &mut master, &POLL_OF_3);
@@ -281,7 +292,7 @@ fn another_station_is_passed_over_and_a_refusal_is_silent(rt: HostRuntime) {
 
 #[test]
 fn what_comes_while_bytes_are_given_is_passed_over(rt: HostRuntime) {
-    let mut master = master_of(&[3, 5], true);
+    let mut master = master_of_two(true);
     let first = Out {
         byte: 0x10,
         last_of: None,
@@ -315,7 +326,7 @@ fn what_comes_while_bytes_are_given_is_passed_over(rt: HostRuntime) {
 
 #[test]
 fn no_stations(rt: HostRuntime) {
-    let mut master = master_of(&[], true);
+    let mut master = master_of_none();
     assert_eq!(rt; ticks(&mut master), (Turn::Still, 0));
     assert!(rt; !master.quiet());
     assert_eq!(rt; master.take(), None);

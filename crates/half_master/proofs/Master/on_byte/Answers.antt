@@ -16,14 +16,14 @@ pub take_in-did-requires : goal.take_in-did-requires
 take_in-did-requires g c =
     let e : MasterState g.row.H.Denot = record { setup = c.self.inside.setup; stations = c.self.inside.stations.items; next = c.self.inside.next; ear = c.feed-heard.new.self; phase = c.self.inside.phase; mouth = c.self.inside.mouth; sending = c.self.inside.sending.items; host = c.self.inside.host } in
     let good : (c.feed-heard.result ≡ Some heard.Good → IsBody (body_of e)) = λ is.
-      (rw c.feed-heard.ensures.value (good-6 c.self.inside.ear c.args.b (sym c.feed-heard.ensures.answer ∙ is)), rw (sym c.body.ensures.value) c.body.ensures.fits) in
+    (rw c.feed-heard.ensures.value (good-6 c.self.inside.ear c.args.b (sym c.feed-heard.ensures.answer ∙ is)), rw (sym c.body.ensures.value) c.body.ensures.fits) in
     λ place is. rw c.body.ensures.value (heard-room g.H.Host e c.feed-heard.result good place (sym c.effect_heard-effect.ensures ∙ is))
 
 pub perform-requires : goal.perform-requires
 perform-requires g c =
     let e : MasterState g.row.H.Denot = record { setup = c.self.inside.setup; stations = c.self.inside.stations.items; next = c.self.inside.next; ear = c.feed-heard.new.self; phase = c.self.inside.phase; mouth = c.self.inside.mouth; sending = c.self.inside.sending.items; host = c.self.inside.host } in
     let good : (c.feed-heard.result ≡ Some heard.Good → IsBody (body_of e)) = λ is.
-      (rw c.feed-heard.ensures.value (good-6 c.self.inside.ear c.args.b (sym c.feed-heard.ensures.answer ∙ is)), rw (sym c.body.ensures.value) c.body.ensures.fits) in
+    (rw c.feed-heard.ensures.value (good-6 c.self.inside.ear c.args.b (sym c.feed-heard.ensures.answer ∙ is)), rw (sym c.body.ensures.value) c.body.ensures.fits) in
     rw c.effect_heard-effect.ensures (heard-suits g.H.Host e c.feed-heard.result c.self.invariant.phase_fits good)
 
 pub returns-clause-state : goal.returns-clause-state

@@ -11,11 +11,11 @@ returns-then-may_begin-clause-no_more g c =
     let before : MasterState g.row.H.Denot = record { setup = c.self.inside.setup; stations = c.self.inside.stations.items; next = c.self.inside.next; ear = c.self.inside.ear; phase = c.self.inside.phase; mouth = c.self.inside.mouth; sending = c.self.inside.sending.items; host = c.self.inside.host } in
     let fits : NextFits g.H.Host before = λ body is. subst (λ (b : List ℕ). length b ≤ 250) (some-same (sym c.hand_out-body.ensures.next ∙ is)) c.hand_out-body.ensures.fits.1 in
     let message : message_next g.H.Host before ≡ Some c.hand_out-body.result.items =
-      subst (λ (e : MasterState g.row.H.Denot). message_next g.H.Host e ≡ g.H.Host.next_body e.host) (sym c.self.view_is) next ∙ c.hand_out-body.ensures.next in
+    subst (λ (e : MasterState g.row.H.Denot). message_next g.H.Host e ≡ g.H.Host.next_body e.host) (sym c.self.view_is) next ∙ c.hand_out-body.ensures.next in
     let state : c.begin_message.new.self ≡ begun g.H.Host before =
-      c.begin_message.ensures
-      ∙ ap (λ (host : g.row.H.Denot). begun_with g.H.Host (with_host before host) c.hand_out-body.result.items) c.hand_out-body.ensures.after
-      ∙ sym (ap (λ (o : Option (List ℕ)). begun_of g.H.Host before o) message) in
+    c.begin_message.ensures
+    ∙ ap (λ (host : g.row.H.Denot). begun_with g.H.Host (with_host before host) c.hand_out-body.result.items) c.hand_out-body.ensures.after
+    ∙ sym (ap (λ (o : Option (List ℕ)). begun_of g.H.Host before o) message) in
     subst (λ (e : MasterState g.row.H.Denot). most_left g.H.Host c.begin_message.new.self ≤ most_left g.H.Host e) c.self.view_is
     (subst (λ (e : MasterState g.row.H.Denot). most_left g.H.Host e ≤ most_left g.H.Host before) (sym state) (begins-no-more g.H.Host before fits))
 
