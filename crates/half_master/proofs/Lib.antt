@@ -9,3 +9,4 @@ pub mod Reaching
 pub mod FateLemmas
 pub mod KeyLemmas
 pub mod Runs
+pub mod WaitLemmas

@@ -6,3 +6,4 @@ pub mod Reached
 pub mod Fates
 pub mod Keys
 pub mod Arrived
+pub mod Waits

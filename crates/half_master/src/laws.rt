@@ -1,6 +1,6 @@
 //! What holds of a master over every list of signals. The functions do nothing.
 
-ghost use Rattle.std.specs.Prelude.{◌≡◌, ◌≤◌, ◌<◌, ◌+◌, ◌∷◌, ◌++◌, [], ℕ, List, length, true, None, is_some, IsNone, IsSome};
+ghost use Rattle.std.specs.Prelude.{◌≡◌, ◌≤◌, ◌<◌, ◌+◌, ◌∷◌, ◌++◌, [], ℕ, List, length, true, false, None, is_some, IsNone, IsSome};
 ghost use Rattle.std.specs.List.{fold};
 ghost use Rattle.df1_base.specs.declared.link.Out.{Out as Given};
 ghost use Rattle.df1_check.specs.declared.Check.{Check as CheckKind};
@@ -12,6 +12,7 @@ ghost use Rattle.half_master.specs.Master.{MasterState, new_master, with_host, s
 ghost use Rattle.half_master.specs.Fitting.{Fits, most_left};
 ghost use Rattle.half_master.specs.Reached.{Reached};
 ghost use Rattle.half_master.specs.Fates.{InTurn, events, out_of, IsWithin};
+ghost use Rattle.half_master.specs.Waits.{HasAllTicks};
 ghost use Rattle.half_master.specs.Keys.{kept_at, offers};
 ghost use Rattle.half_master.specs.Arrived.{Arrival, StandsFor, HeardByGrammar, bytes_arrived};
 ghost use Rattle.half_master.specs.Emission.{Letter, Take, master_after, given_at, master_after_all, emission, bytes_among, takes, Drains};
@@ -60,6 +61,11 @@ pub fn each_station_has_its_own_key<H: Host>()
 pub fn parts_fit<H: Host>()
     ensures fits { (e : MasterState H) → Reached H.Host e → Fits e.stations e.next e.phase e.mouth e.sending }
     ensures holds { (e : MasterState H) → Reached H.Host e → H.Host.holds_bodies e.host }
+{}
+
+/// Of every master that is reached: as long as a byte is left to be given, the wait that follows has all its ticks.
+pub fn a_wait_begins_with_all_ticks<H: Host>()
+    ensures { (e : MasterState H) → Reached H.Host e → is_done e.mouth ≡ false → HasAllTicks e.setup e.phase }
 {}
 
 /// Of every master that is reached: a take that gives a byte leaves fewer to be given, of at most 511. Takes until one

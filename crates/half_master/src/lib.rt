@@ -50,8 +50,8 @@ use df1_check::Check;
 use half_frame::{HalfFramer, MasterEar, MasterHeard};
 use half_mouth::Mouth;
 pub use laws::{
-    a_drain_ends, a_fate_is_told_once, arrivals_are_heard, each_station_has_its_own_key, parts_fit,
-    signals_go_on,
+    a_drain_ends, a_fate_is_told_once, a_wait_begins_with_all_ticks, arrivals_are_heard,
+    each_station_has_its_own_key, parts_fit, signals_go_on,
 };
 use parts::{act_of, hand_out, is_whole, take_in, tell, tick_host, turn_of};
 use stations::{Station, is_listed, keep, listed, place_after};
