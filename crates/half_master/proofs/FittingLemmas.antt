@@ -19,7 +19,7 @@ use Rattle.half_master.specs.declared.table.Phase.{Phase}
 use Rattle.half_master.specs.declared.table.Phase.TheVariants as phase
 use Rattle.half_master.specs.declared.table.Effect.{Effect}
 use Rattle.half_master.specs.declared.table.Effect.TheVariants as effect
-use Rattle.half_master.specs.Stations.{IsNumber, IsList, listed, numbers_of, is_listed, with_key, place_after}
+use Rattle.half_master.specs.Stations.{IsNumber, AreStations, listed, numbers_of, is_listed, with_key, place_after}
 use Rattle.half_master.specs.Master.{MasterState, body_of, unacknowledged, effect_of_verdict, answered, effect_on_message, effect_on_poll, effect_in, effect_heard, effect_of_tick, with_left, is_idle}
 use Rattle.half_master.specs.Fitting.{IsMessage, PhaseFits, Fits, Suits}
 
@@ -69,7 +69,7 @@ listed-numbers [] = refl
 listed-numbers (n ∷ numbers) = ap (λ (l : List ℕ). n ∷ l) (listed-numbers numbers)
 
 -- at most 32 stations are in the list
-pub few-stations : (stations : List Station) → IsList (numbers_of stations) → length stations ≤ 32
+pub few-stations : (stations : List Station) → AreStations (numbers_of stations) → length stations ≤ 32
 few-stations stations list = omega (arith, length-numbers stations, list.at_most)
 
 -- the place after one is in the list too
@@ -103,15 +103,15 @@ sending-fits stations mouth sending body (phase.WaitsAfterPoll left place) messa
 -- with a key that is kept
 pub key-fits : (stations : List Station) (next : ℕ) (at : Phase) (mouth : Giving) (sending : List ℕ) (place : ℕ) (key : Key) → Fits stations next at mouth sending → Fits (with_key stations place key) next at mouth sending
 key-fits stations next at mouth sending place key fits = record {
-  is_list = subst (λ (numbers : List ℕ). IsList numbers) (sym (with_key-numbers stations place key)) fits.is_list;
+  are_stations = subst (λ (numbers : List ℕ). AreStations numbers) (sym (with_key-numbers stations place key)) fits.are_stations;
   next_in = λ some. let same = with_key-length stations place key in let was = fits.next_in (omega (arith, same, some)) in omega (arith, same, was);
   phase_fits = length-fits stations (with_key stations place key) mouth sending at (with_key-length stations place key) fits.phase_fits;
 }
 
 -- at first
-pub new-fits : (numbers : List ℕ) → IsList numbers → Fits (listed numbers) 0 phase.Idle nothing []
+pub new-fits : (numbers : List ℕ) → AreStations numbers → Fits (listed numbers) 0 phase.Idle nothing []
 new-fits numbers list = record {
-  is_list = subst (λ (l : List ℕ). IsList l) (sym (listed-numbers numbers)) list;
+  are_stations = subst (λ (l : List ℕ). AreStations l) (sym (listed-numbers numbers)) list;
   next_in = λ some. omega (arith, some);
   phase_fits = omega arith;
 }
@@ -131,7 +131,7 @@ take-phase stations mouth sending (phase.WaitsForAck left resent) fits = fits
 take-phase stations mouth sending (phase.WaitsAfterPoll left place) fits = fits
 
 pub take-fits : (stations : List Station) (next : ℕ) (at : Phase) (mouth : Giving) (sending : List ℕ) → Fits stations next at mouth sending → Fits stations next at (take mouth).0 sending
-take-fits stations next at mouth sending fits = record { is_list = fits.is_list; next_in = fits.next_in; phase_fits = take-phase stations mouth sending at fits.phase_fits }
+take-fits stations next at mouth sending fits = record { are_stations = fits.are_stations; next_in = fits.next_in; phase_fits = take-phase stations mouth sending at fits.phase_fits }
 
 -- ---- each effect suits the master
 

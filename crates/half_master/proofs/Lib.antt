@@ -10,3 +10,4 @@ pub mod FateLemmas
 pub mod KeyLemmas
 pub mod Runs
 pub mod WaitLemmas
+pub mod SendingLemmas

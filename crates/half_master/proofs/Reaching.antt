@@ -22,7 +22,7 @@ use Rattle.half_master.specs.declared.table.Phase.{Phase}
 use Rattle.half_master.specs.declared.table.Phase.TheVariants as phase
 use Rattle.half_master.specs.declared.table.Effect.{Effect}
 use Rattle.half_master.specs.declared.table.Effect.TheVariants as effect
-use Rattle.half_master.specs.Stations.{IsNumber, IsList, listed, numbers_of, is_listed, with_key, place_after}
+use Rattle.half_master.specs.Stations.{IsNumber, AreStations, listed, numbers_of, is_listed, with_key, place_after}
 use Rattle.half_master.specs.Master.{MasterState, new_master, with_host, with_byte, heard_at, body_of, effect_of_byte, effect_at_tick, polled, acknowledged, transmitted, performed, fate_of, host_told, host_accepted, host_ticked, master_after_byte, master_after_tick, master_after_take, message_next, begun_of, begun}
 use Rattle.half_master.specs.Fitting.{IsMessage, PhaseFits, Fits, Suits, most_left}
 use Rattle.half_master.specs.Emission.{Letter, Byte, Tick, Take, master_after}
@@ -94,28 +94,28 @@ get-below (first ∷ stations) (suc place) station is = let below = get-below st
 polled-fits : {H : Type 0} (e : MasterState H) (o : Option Station) → slice_get e.stations e.next ≡ o → AllFits e → AllFits (polled e o)
 polled-fits e None is fits = fits
 polled-fits e (Some station) is fits = (
-  record { is_list = fits.0.is_list; next_in = λ some. next-in e.stations e.next some; phase_fits = get-below e.stations e.next station is },
+  record { are_stations = fits.0.are_stations; next_in = λ some. next-in e.stations e.next some; phase_fits = get-below e.stations e.next station is },
   omega arith,
 )
 
 idle-fits : {H : Type 0} (e : MasterState H) → AllFits e → is_done e.mouth ≡ true → AllFits (record e { phase = phase.Idle })
-idle-fits e fits done = (record { is_list = fits.0.is_list; next_in = fits.0.next_in; phase_fits = done-few e.mouth.left done }, fits.1)
+idle-fits e fits done = (record { are_stations = fits.0.are_stations; next_in = fits.0.next_in; phase_fits = done-few e.mouth.left done }, fits.1)
 
 acknowledged-fits : {H : Type 0} (e : MasterState H) → Fits e.stations e.next e.phase e.mouth e.sending → AllFits (acknowledged e)
-acknowledged-fits e fits = (record { is_list = fits.is_list; next_in = fits.next_in; phase_fits = omega arith }, omega arith)
+acknowledged-fits e fits = (record { are_stations = fits.are_stations; next_in = fits.next_in; phase_fits = omega arith }, omega arith)
 
-transmitted-fits : {H : Type 0} (e : MasterState H) (resent : ℕ) → IsList (numbers_of e.stations) → (1 ≤ length e.stations → e.next < length e.stations) → IsMessage e.sending → AllFits (transmitted e resent)
+transmitted-fits : {H : Type 0} (e : MasterState H) (resent : ℕ) → AreStations (numbers_of e.stations) → (1 ≤ length e.stations → e.next < length e.stations) → IsMessage e.sending → AllFits (transmitted e resent)
 transmitted-fits e resent list in_list message = (
-  record { is_list = list; next_in = in_list; phase_fits = message },
+  record { are_stations = list; next_in = in_list; phase_fits = message },
   message-length e.setup.check (slice_index e.sending 0) e.sending message.0.1,
 )
 
 performed-fits : {H : Type 0} (e : MasterState H) (what : Effect) → AllFits e → Suits e.stations e.mouth e.sending (body_of e) what → AllFits (performed e what)
 performed-fits e effect.Nothing fits suits = fits
 performed-fits e (effect.Waits left) fits suits =
-    (record { is_list = fits.0.is_list; next_in = fits.0.next_in; phase_fits = left-fits e.stations e.mouth e.sending left e.phase fits.0.phase_fits }, fits.1)
+    (record { are_stations = fits.0.are_stations; next_in = fits.0.next_in; phase_fits = left-fits e.stations e.mouth e.sending left e.phase fits.0.phase_fits }, fits.1)
 performed-fits e effect.Delivered fits suits = idle-fits e fits suits
-performed-fits e (effect.Again resent) fits suits = transmitted-fits e resent fits.0.is_list fits.0.next_in suits
+performed-fits e (effect.Again resent) fits suits = transmitted-fits e resent fits.0.are_stations fits.0.next_in suits
 performed-fits e effect.GivenUp fits suits = idle-fits e fits suits
 performed-fits e effect.PollOver fits suits = idle-fits e fits suits
 performed-fits {H} e (effect.Accepted place) fits suits =
@@ -219,8 +219,8 @@ begun-fits {H} m laws e (Some body) is fits holds =
     let begins = begins-when m e body is in
     cond_both (is_listed e.stations (slice_index body 0)) _ _ (λ (x : MasterState H). AllFits x × m.holds_bodies x.host)
     (λ at. (
-      transmitted-fits (record e { sending = body; host = m.after_next e.host }) 0 fits.0.is_list fits.0.next_in
-          (next-is m laws e.host body holds begins.is_next, listed-number e.stations (slice_index body 0) fits.0.is_list.each at),
+      transmitted-fits (record e { sending = body; host = m.after_next e.host }) 0 fits.0.are_stations fits.0.next_in
+          (next-is m laws e.host body holds begins.is_next, listed-number e.stations (slice_index body 0) fits.0.are_stations.each at),
       laws.at_next e.host holds,
     ))
     (λ at. (fits, laws.at_told (m.after_next e.host) fate.Undelivered (laws.at_next e.host holds)))
@@ -246,7 +246,7 @@ take-carried m laws e c = carried-take m laws e c
 
 -- ---- every master that is reached
 
-carried-new : {H : Type 0} (m : Ghosts H) (setup : MasterSetup) (numbers : List ℕ) (host : H) → IsList numbers → m.holds_bodies host → Carried m (new_master setup numbers host)
+carried-new : {H : Type 0} (m : Ghosts H) (setup : MasterSetup) (numbers : List ℕ) (host : H) → AreStations numbers → m.holds_bodies host → Carried m (new_master setup numbers host)
 carried-new m setup numbers host list holds = record {
   fits = (new-fits numbers list, omega arith);
   holds = holds;

@@ -8,7 +8,7 @@ use Rattle.half_master.specs.declared.table.Phase.{Phase}
 use Rattle.half_master.specs.declared.table.Phase.TheVariants as phase
 use Rattle.half_master.specs.declared.table.Effect.{Effect}
 use Rattle.half_master.specs.declared.table.Effect.TheVariants as effect
-use Rattle.half_master.specs.Stations.{IsNumber, IsList, numbers_of}
+use Rattle.half_master.specs.Stations.{IsNumber, AreStations, numbers_of}
 use Rattle.half_master.specs.Master.{MasterState}
 
 -- a message to a station
@@ -23,7 +23,7 @@ PhaseFits stations mouth sending (phase.WaitsAfterPoll left place) = place < len
 
 -- the numbers are those of a list, the station that is polled next has a place in it, if there is one, and the phase fits
 pub record Fits (stations : List Station) (next : ℕ) (phase : Phase) (mouth : Giving) (sending : List ℕ) : Type 0 where
-  pub is_list : IsList (numbers_of stations)
+  pub are_stations : AreStations (numbers_of stations)
   pub next_in : 1 ≤ length stations → next < length stations
   pub phase_fits : PhaseFits stations mouth sending phase
 

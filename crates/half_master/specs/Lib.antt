@@ -7,3 +7,4 @@ pub mod Fates
 pub mod Keys
 pub mod Arrived
 pub mod Waits
+pub mod Transmissions

@@ -8,8 +8,8 @@ use Rattle.half_master.specs.declared.stations.Station.{Station}
 abbrev pub IsNumber : ℕ → Type 0
 IsNumber number = (number ≢ 16) × (number ≢ 255)
 
--- the numbers of a master's list: at most 32, each a station's, and no two the same
-pub record IsList (numbers : List ℕ) : Type 0 where
+-- the numbers of the stations of a list: at most 32, each one that a station may have, and no two the same
+pub record AreStations (numbers : List ℕ) : Type 0 where
   pub at_most : length numbers ≤ 32
   pub distinct : IsDistinct nat_eq numbers
   pub each : All IsNumber numbers

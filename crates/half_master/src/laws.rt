@@ -12,6 +12,7 @@ ghost use Rattle.half_master.specs.Master.{MasterState, new_master, with_host, s
 ghost use Rattle.half_master.specs.Fitting.{Fits, most_left};
 ghost use Rattle.half_master.specs.Reached.{Reached};
 ghost use Rattle.half_master.specs.Fates.{InTurn, events, out_of, IsWithin};
+ghost use Rattle.half_master.specs.Transmissions.{begun_after, sending_after};
 ghost use Rattle.half_master.specs.Waits.{HasAllTicks};
 ghost use Rattle.half_master.specs.Keys.{kept_at, offers};
 ghost use Rattle.half_master.specs.Arrived.{Arrival, StandsFor, HeardByGrammar, bytes_arrived};
@@ -47,6 +48,13 @@ pub fn a_fate_is_told_once<H: Host>()
     ensures goes_on { (e : MasterState H) (signal : Letter) → IsWithin e.setup.max_resends e.phase → IsWithin (master_after H.Host e signal).setup.max_resends (master_after H.Host e signal).phase }
     ensures agree { (e : MasterState H) (signals : List Letter) → IsWithin e.setup.max_resends e.phase → H.Host.is_out e.host ≡ is_some (out_of e.phase)
         → H.Host.is_out (master_after_all H.Host e signals).host ≡ is_some (out_of (master_after_all H.Host e signals).phase) }
+{}
+
+/// A message that is given, for the first time or again, is one transmission more, and nothing else is: no poll and no
+/// ACK. What is sent is the body of the transmission that was begun last.
+pub fn transmissions_are_counted<H: Host>()
+    ensures begun { (e : MasterState H) (signals : List Letter) → (master_after_all H.Host e signals).mouth.begun ≡ begun_after e.mouth.begun (events H.Host e signals) }
+    ensures sending { (e : MasterState H) (signals : List Letter) → (master_after_all H.Host e signals).sending ≡ sending_after e.sending (events H.Host e signals) }
 {}
 
 /// Each station has its own filter: the key that is kept for the station at a place is the one that a filter keeps over

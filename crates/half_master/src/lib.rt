@@ -31,7 +31,7 @@ ghost use Rattle.half_frame.specs.MasterGrammar.{master_hears};
 ghost use Rattle.half_frame.specs.MasterStanding.{held as held_of, held_at, lent};
 ghost use Rattle.half_mouth.specs.Giving.{bytes_left};
 ghost use Rattle.df1_base.specs.Host.{IsBody};
-ghost use Rattle.half_master.specs.Stations.{IsList};
+ghost use Rattle.half_master.specs.Stations.{AreStations};
 ghost use Rattle.half_master.specs.Master.{new_master, with_host, body_of, effect_heard, effect_at_tick, performed, master_after_byte, step_at_byte, master_after_tick, turn_at_tick, gone_at_tick, transmitted, acknowledged, polled, begun, begun_with, message_next, given_next, master_after_take, out_at_take, is_quiet};
 ghost use Rattle.half_master.specs.Fitting.{IsMessage, Suits, most_left};
 ghost use Rattle.half_master.specs.Arrived.{StandsFor, HearsWhole};
@@ -51,7 +51,7 @@ use half_frame::{HalfFramer, MasterEar, MasterHeard};
 use half_mouth::Mouth;
 pub use laws::{
     a_drain_ends, a_fate_is_told_once, a_wait_begins_with_all_ticks, arrivals_are_heard,
-    each_station_has_its_own_key, parts_fit, signals_go_on,
+    each_station_has_its_own_key, parts_fit, signals_go_on, transmissions_are_counted,
 };
 use parts::{act_of, hand_out, is_whole, take_in, tell, tick_host, turn_of};
 use stations::{Station, is_listed, keep, listed, place_after};
@@ -101,7 +101,7 @@ impl<H: Host + Drop> Master<H> {
     pub fn new(setup: MasterSetup, stations: &[u8], host: H) -> Master<H>
         requires ack_ticks { 1 ≤ setup.ack_ticks }
         requires poll_ticks { 1 ≤ setup.poll_ticks }
-        requires stations { IsList stations.now }
+        requires stations { AreStations stations.now }
         ensures value { result ≡ new_master setup stations.now host }
         ensures stands { StandsFor setup.check [] result }
     {
@@ -133,9 +133,9 @@ impl<H: Host + Drop> Master<H> {
         &mut self.host
     }
 
-    /// Takes a byte that was heard, in constant time, and says what the master made of it. `did` is there exactly at
-    /// Accept, `news` is what the host answered to a fate that was decided here, `whole` says whether a good message was
-    /// heard, whatever was made of it, and `station` is 0.
+    /// Takes a byte that was heard, in constant time but where a message is begun again, and says what the master made of
+    /// it. `did` is there exactly at Accept, `news` is what the host answered to a fate that was decided here, `whole`
+    /// says whether a good message was heard, whatever was made of it, and `station` is 0.
     pub fn on_byte(&mut self, b: u8) -> Step
         ensures state { self.new ≡ master_after_byte H.Host self.old b }
         ensures step { result ≡ step_at_byte H.Host self.old b }
@@ -156,9 +156,9 @@ impl<H: Host + Drop> Master<H> {
         }
     }
 
-    /// A unit of time has passed. `gone` is replaced by the commands that are unanswered from this tick on, none where the
-    /// host has no tick. The answer is Failed, with what the host answered, exactly where a message was given up, and
-    /// else Still.
+    /// A unit of time has passed, in constant time but where a message is begun again. `gone` is replaced by the commands
+    /// that are unanswered from this tick on, none where the host has no tick. The answer is Failed, with what the host
+    /// answered, exactly where a message was given up, and else Still.
     pub fn on_tick(&mut self, gone: &mut ArrayVec<u32, 16>) -> Turn
         ensures state { self.new ≡ master_after_tick H.Host self.old }
         ensures turn { result ≡ turn_at_tick H.Host self.old }

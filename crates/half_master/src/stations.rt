@@ -2,7 +2,7 @@
 
 ghost use Rattle.std.specs.Prelude.{◌≡◌, ◌<◌, ◌≤◌, length};
 ghost use Rattle.pccc_envelope.specs.Envelope.{key_of as key_of_body};
-ghost use Rattle.half_master.specs.Stations.{IsList, listed, is_listed, with_key, place_after};
+ghost use Rattle.half_master.specs.Stations.{AreStations, listed, is_listed, with_key, place_after};
 
 use arrayvec::ArrayVec;
 use pccc_envelope::duplicate_filter::Filter;

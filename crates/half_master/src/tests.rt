@@ -153,7 +153,7 @@ const SETUP: MasterSetup = MasterSetup {
     poll_ticks: 2,
 };
 
-/// A host with room that has its message out nowhere, and perhaps has it to send.
+/// A host with room and with no message out, which perhaps has one to send.
 fn host_of(waits: bool) -> OneCommand {
     OneCommand {
         waits,

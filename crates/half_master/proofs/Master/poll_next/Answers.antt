@@ -11,13 +11,13 @@ pub poll-requires-clause-not_dle : goal.poll-requires-clause-not_dle
 poll-requires-clause-not_dle g c =
     let found = c.in-Some.ensures.lookup in
     let is : slice_get c.self.inside.stations.items c.self.inside.next ≡ Some c.in-Some.station.now = rw (sym c.as_slice.ensures.value) (read-is c.as_slice.result.now c.self.inside.next c.in-Some.station.now found.3.0 found.1) in
-    (number-at c.self.inside.stations.items c.self.inside.next c.in-Some.station.now c.self.invariant.is_list.each is).0
+    (number-at c.self.inside.stations.items c.self.inside.next c.in-Some.station.now c.self.invariant.are_stations.each is).0
 
 pub poll-requires-clause-not_all : goal.poll-requires-clause-not_all
 poll-requires-clause-not_all g c =
     let found = c.in-Some.ensures.lookup in
     let is : slice_get c.self.inside.stations.items c.self.inside.next ≡ Some c.in-Some.station.now = rw (sym c.as_slice.ensures.value) (read-is c.as_slice.result.now c.self.inside.next c.in-Some.station.now found.3.0 found.1) in
-    (number-at c.self.inside.stations.items c.self.inside.next c.in-Some.station.now c.self.invariant.is_list.each is).1
+    (number-at c.self.inside.stations.items c.self.inside.next c.in-Some.station.now c.self.invariant.are_stations.each is).1
 
 pub returns-in-Some : goal.returns-in-Some
 returns-in-Some g c =
