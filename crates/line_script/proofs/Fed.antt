@@ -340,10 +340,10 @@ refused-last-line text events r NoMemory h some is = tt
 
 pub last-line-read : (text : List ℕ) (events : List Event) (r new : Fed) (result : Result (Option Event) ScriptFault) → StandsFor text events r → (r.line ≡ [] → ⊥)
     → MatchResult result
-    (λ event. (after_line r.reader (text_line r.start r.line false) ≡ Ok (new.reader, event)) × (new.number ≡ r.number + 1))
+    (λ event. (after_line r.reader (text_line r.start r.line false) ≡ Ok (new.reader, event)) × (new.line ≡ []) × (new.number ≡ r.number + 1) × (new.start ≡ r.start + (length r.line + 0)))
     (λ fault. (cause : LineFault) × (fault ≡ fault_at r.number cause) × IsFaulty cause (after_line r.reader (text_line r.start r.line false)))
     → MatchResult result (λ event. EndsFor text (events ++ option_to_list event) new) (IsRefusedAtEnd text (script_with r.reader events))
-last-line-read text events r new (Ok event) h some read = ends-with-line text events r new event h some read.0 read.1
+last-line-read text events r new (Ok event) h some read = ends-with-line text events r new event h some read.0 read.2
 last-line-read text events r new (Err fault) h some read = subst (IsRefusedAtEnd text (script_with r.reader events)) (sym read.1) (refused-last-line text events r read.0 h some read.2)
 
 -- what the whole text says

@@ -15,7 +15,7 @@ use Rattle.line_script.proofs.Setup.{Extends, TellsEvents, extends, tells-after}
 use Rattle.line_script.proofs.Standing.{Stands, IfNext, lined, closes, stands_at_first}
 
 -- how many bytes stand behind the last line feed
-left-begun : (text : List ℕ) (events : List Event) (r : Fed) → StandsFor text events r → unfinished text ≡ length r.line
+pub left-begun : (text : List ℕ) (events : List Event) (r : Fed) → StandsFor text events r → unfinished text ≡ length r.line
 left-begun text events r h =
     let size : 0 + length r.line ≡ length r.line = omega arith in
     ap unfinished h.text_is ∙ unfinished-behind 0 h.whole r.line ∙ ap (λ n. unfinished_after n r.line) h.ends ∙ unfinished-line 0 r.line h.begun ∙ size

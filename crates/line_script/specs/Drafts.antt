@@ -153,6 +153,12 @@ abbrev pub gives_block : Statement → Bool
 gives_block (Block end bytes) = true
 gives_block statement = false
 
+-- a statement adds a file or a word to those of an end
+abbrev pub adds_item : Statement → Bool
+adds_item (File (Known side) (Some spec)) = true
+adds_item (Word (Known side) (Some file) index value) = true
+adds_item statement = false
+
 -- what a statement changes beside the stage and the sum of events
 abbrev pub settled : Reader → Statement → Reader
 settled d (Check (Some check)) = record d { check = Some check }

@@ -1,6 +1,6 @@
 //! What a statement with nothing wrong changes, and the event that it is.
-ghost use Rattle.std.specs.Prelude.{◌≡◌, ◌∷◌, ◌++◌, [], IfOk, OnOk, Some, None, false, true, ◌-◌};
-ghost use Rattle.line_script.specs.Drafts.{with_statement as the_draft, settled, gives_block, stage_after as the_stage, event_of as the_event, address_of as the_address, with_end, end_at, lane_from, times_event as the_times};
+ghost use Rattle.std.specs.Prelude.{◌≡◌, ◌∷◌, ◌++◌, [], IfOk, IsTrue, OnOk, OnErr, Some, None, false, true, ◌-◌};
+ghost use Rattle.line_script.specs.Drafts.{with_statement as the_draft, settled, adds_item, gives_block, stage_after as the_stage, event_of as the_event, address_of as the_address, with_end, end_at, lane_from, times_event as the_times};
 
 use crate::first_cause::steps_of;
 use crate::reader::{NODE_OF_A, NODE_OF_B, Reader, Stage};
@@ -25,10 +25,11 @@ impl Reader {
         }
     }
 
-    /// What a statement that gives no block changes beside the stage and the sum of events.
+    /// What a statement that gives no block changes beside the stage and the sum of events. A file and a word alone take memory.
     fn settle(&mut self, statement: &Statement) -> Result<(), NoMemory>
         requires { gives_block statement.now ≡ false }
-        ensures { OnOk result (self.new ≡ settled self.old statement.now) }
+        ensures ok { OnOk result (self.new ≡ settled self.old statement.now) }
+        ensures memory { OnErr result (IsTrue (adds_item statement.now)) }
     {
         match statement {
             Statement::Check(Some(check)) => self.check = Some(*check),
@@ -65,6 +66,7 @@ impl Reader {
     }
 
     /// Sets a setting of an end.
+    #[inline(never)]
     fn set(&mut self, side: Side, setting: Setting)
         ensures { self.new ≡ settled self.old (Statement.Set (EndName.Known side) (Some setting)) }
     {
@@ -75,6 +77,7 @@ impl Reader {
     }
 
     /// Sets the compatibility file of an end.
+    #[inline(never)]
     fn set_compat(&mut self, side: Side, file: u16)
         ensures { self.new ≡ settled self.old (Statement.Compat (EndName.Known side) (Some (Some file))) }
     {
@@ -85,6 +88,7 @@ impl Reader {
     }
 
     /// Keeps the block that a statement gives.
+    #[inline(never)]
     fn keep_block(&mut self, statement: Statement)
         requires { gives_block statement ≡ true }
         ensures { self.new ≡ settled self.old statement }
@@ -106,6 +110,7 @@ impl Reader {
     }
 
     /// Declares a data file of an end.
+    #[inline(never)]
     fn declare(&mut self, side: Side, spec: FileSpec) -> Result<(), NoMemory>
         ensures { OnOk result (self.new ≡ settled self.old (Statement.File (EndName.Known side) (Some spec))) }
     {
@@ -116,6 +121,7 @@ impl Reader {
     }
 
     /// Gives the first value of a word of an end.
+    #[inline(never)]
     fn give_word(&mut self, side: Side, word: WordOf) -> Result<(), NoMemory>
         ensures { OnOk result (self.new ≡ with_end self.old side (record (end_at self.old side) { words = (end_at self.old side).words ++ word ∷ [] })) }
     {

@@ -1,5 +1,5 @@
 //! Reading a script byte by byte: a line is read when its line feed comes, and the last one at the end of the text.
-ghost use Rattle.std.specs.Prelude.{◌≡◌, ◌<◌, ◌≤◌, ◌+◌, ◌^◌, ◌∷◌, ◌++◌, ℕ, List, [], IfOk, MatchResult, Ok, true, false, length};
+ghost use Rattle.std.specs.Prelude.{◌≡◌, ◌<◌, ◌≤◌, ◌+◌, ◌^◌, ◌∷◌, ◌++◌, ℕ, List, [], IfOk, MatchResult, Ok, false, length, if◌then◌else◌};
 ghost use Rattle.std.specs.Option.{option_to_list};
 ghost use Rattle.line_script.specs.declared.fault.ScriptFault.{ScriptFault as TheFault};
 ghost use Rattle.line_script.specs.declared.fault.LineFault.{LineFault as Faulted};
@@ -8,6 +8,7 @@ ghost use Rattle.line_script.specs.Fed.{EndsFor, IsRefusedAtEnd, IsRefusedFor, S
 ghost use Rattle.line_script.specs.Lines.{after_line, script_with, text_line};
 ghost use Rattle.line_script.specs.Refusal.{IsFaulty, fault_at};
 ghost use Rattle.line_script.specs.ScriptText.{script_of};
+ghost use Rattle.line_script.specs.Unfinished.{unfinished};
 
 use crate::reader::{LINE, Reader, SCRIPT};
 use crate::whole_text::at;
@@ -56,6 +57,7 @@ impl TextReader {
     /// How many bytes the line that is begun has so far, at most 1,024.
     pub fn held(&self) -> usize
         ensures value { result ≡ length self.now.line }
+        ensures begun { (text : List ℕ) (events : List OneEvent) → StandsFor text events self.now → result ≡ unfinished text }
         ensures most { result ≤ 1024 }
     {
         self.line.len()
@@ -64,6 +66,7 @@ impl TextReader {
     /// How many bytes it was fed, at most 16,777,216.
     pub fn fed(&self) -> usize
         ensures value { result ≡ self.now.start + length self.now.line }
+        ensures all { (text : List ℕ) (events : List OneEvent) → StandsFor text events self.now → result ≡ length text }
         ensures most { result ≤ 16777216 }
     {
         self.start + self.line.len()
@@ -79,7 +82,7 @@ impl TextReader {
             return Err(self.refusal(Cause::Size));
         }
         if b == b'\n' {
-            return self.end_line();
+            return self.end_line(true);
         }
         if self.line.is_full() {
             return Err(self.refusal(Cause::Long));
@@ -88,17 +91,19 @@ impl TextReader {
         Ok(None)
     }
 
-    /// Reads the line that is begun, which a line feed ends.
-    fn end_line(&mut self) -> Result<Option<Event>, ScriptFault>
-        requires { self.old.start + length self.old.line < 16777216 }
+    /// Reads the line that is begun, which a line feed ends or, where `is_ended` is false, the end of the text.
+    #[inline(never)]
+    fn end_line(&mut self, is_ended: bool) -> Result<Option<Event>, ScriptFault>
+        requires room { self.old.start + (length self.old.line + (if is_ended then 1 else 0)) ≤ 16777216 }
+        requires some { is_ended ≡ false → 0 < length self.old.line }
         ensures { MatchResult result
-            (λ event. (after_line self.old.reader (text_line self.old.start self.old.line true) ≡ Ok (self.new.reader, event))
-            × (self.new.line ≡ []) × (self.new.number ≡ self.old.number + 1) × (self.new.start ≡ self.old.start + (length self.old.line + 1)))
-            (λ fault. (cause : Faulted) × (fault ≡ fault_at self.old.number cause) × IsFaulty cause (after_line self.old.reader (text_line self.old.start self.old.line true))) }
+            (λ event. (after_line self.old.reader (text_line self.old.start self.old.line is_ended) ≡ Ok (self.new.reader, event))
+            × (self.new.line ≡ []) × (self.new.number ≡ self.old.number + 1) × (self.new.start ≡ self.old.start + (length self.old.line + (if is_ended then 1 else 0))))
+            (λ fault. (cause : Faulted) × (fault ≡ fault_at self.old.number cause) × IsFaulty cause (after_line self.old.reader (text_line self.old.start self.old.line is_ended))) }
     {
-        match self.reader.read(self.alloc, self.start, &self.line, true) {
+        match self.reader.read(self.alloc, self.start, &self.line, is_ended) {
             Ok(event) => {
-                self.start += self.line.len() + 1;
+                self.start += self.line.len() + usize::from(is_ended);
                 self.number += 1;
                 self.line.clear();
                 Ok(event)
@@ -116,25 +121,7 @@ impl TextReader {
         if self.line.is_empty() {
             return Ok(None);
         }
-        self.end_last_line()
-    }
-
-    /// Reads the line that is begun, which the end of the text ends.
-    fn end_last_line(&mut self) -> Result<Option<Event>, ScriptFault>
-        requires { 0 < length self.old.line }
-        ensures { MatchResult result
-            (λ event. (after_line self.old.reader (text_line self.old.start self.old.line false) ≡ Ok (self.new.reader, event)) × (self.new.number ≡ self.old.number + 1))
-            (λ fault. (cause : Faulted) × (fault ≡ fault_at self.old.number cause) × IsFaulty cause (after_line self.old.reader (text_line self.old.start self.old.line false))) }
-    {
-        match self.reader.read(self.alloc, self.start, &self.line, false) {
-            Ok(event) => {
-                self.start += self.line.len();
-                self.number += 1;
-                self.line.clear();
-                Ok(event)
-            }
-            Err(fault) => Err(at(self.number, fault)),
-        }
+        self.end_line(false)
     }
 
     /// Whether the text that has ended is a script: `NoEnd` comes exactly where no line of it was `end`.

@@ -18,6 +18,6 @@ returns-then-is_empty c text events h =
 
 pub returns : goal.returns
 returns c text events h =
-    last-line-read text events c.args.self.now c.end_last_line.new.self c.end_last_line.result h
+    last-line-read text events c.args.self.now c.end_line.new.self c.end_line.result h
     (subst (λ (r : Fed). r.line ≡ [] → ⊥) c.self.view_is (not-empty c.self.inside.line.items (sym c.is_empty.ensures ∙ c.if-is_empty.false)))
-    c.end_last_line.ensures
+    c.end_line.ensures
