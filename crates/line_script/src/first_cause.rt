@@ -122,6 +122,7 @@ impl Reader {
     }
 
     /// The declared file that a line names.
+    #[inline(never)]
     fn declared(&self, end: EndName, file: Option<u16>) -> Option<FileSpec>
         ensures { result ≡ the_declared self.now end file }
     {
@@ -132,6 +133,7 @@ impl Reader {
     }
 
     /// Whether the declared file that a line names holds neither bits nor integers.
+    #[inline(never)]
     fn is_of_other_type(&self, end: EndName, file: Option<u16>) -> bool
         ensures { result ≡ option_map_or (λ spec. not (holds_words spec.kind)) (the_declared self.now end file) false }
     {

@@ -10,7 +10,7 @@ use crate::end_draft::EndDraft;
 use crate::{Cause, Ends, Event, Events, LineFault, Script};
 use df1_base::NoMemory;
 use df1_check::Check;
-use line_statement::{EVENTS, Items, Side, Statement, Who, statement_of, words_of};
+use line_statement::{EVENTS, Items, Side, Statement, Who, first_words, statement_of};
 use std::alloc::Global;
 
 /// The longest script, in bytes.
@@ -81,11 +81,10 @@ impl Reader {
         if line.len() > LINE {
             return Err(LineFault::Faulty(Cause::Long));
         }
-        let words = words_of(alloc, content(line, is_ended))?;
-        self.read_words(alloc, &words)
+        self.read_words(alloc, &first_words(content(line, is_ended)))
     }
 
-    /// Reads the words of the next line.
+    /// Reads the first words of the next line.
     fn read_words(&mut self, alloc: Global, words: &[&[u8]]) -> Result<Option<Event>, LineFault>
         ensures { MatchResult result (λ event. after_words self.old (map (λ x. x.now) words.now) ≡ Ok (self.new, event))
             (λ fault. IsFaulty fault (after_words self.old (map (λ x. x.now) words.now))) }

@@ -32,6 +32,15 @@ impl<T> Items<T> {
         }
     }
 
+    /// An empty list, with memory for so many items.
+    pub fn with_room(alloc: Global, room: usize) -> Result<Self, NoMemory>
+        ensures { IfOk result (λ items. items ≡ []) }
+    {
+        Ok(Items {
+            items: Vec::with_capacity(alloc, room)?,
+        })
+    }
+
     /// The items of a vector.
     pub fn from_vec(items: Vec<T>) -> Self
         ensures { result ≡ items.items }

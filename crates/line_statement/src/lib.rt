@@ -13,7 +13,7 @@ pub use items::{Bytes, Items};
 pub use set_line::Setting;
 pub use statement::{EVENTS, EndName, Side, Statement, Verb, statement_of};
 pub use who::Who;
-pub use words::words_of;
+pub use words::{FirstWords, first_words};
 
 #[cfg(test)]
 mod tests;

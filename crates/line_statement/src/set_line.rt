@@ -37,6 +37,7 @@ pub enum Setting {
 }
 
 /// What `set` with a key and a value says, if the key is one.
+#[inline(never)]
 pub(crate) fn set_line(
     alloc: Global,
     key: &[u8],

@@ -179,6 +179,7 @@ fn three_words(
 }
 
 /// The forms of five words.
+#[inline(never)]
 fn five_words(
     verb: &[u8],
     end: &[u8],

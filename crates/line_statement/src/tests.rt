@@ -1,24 +1,25 @@
 //! The words of a line, and the statement that they make.
 
-use crate::{EndName, Side, Statement, Verb, statement_of, words_of};
+use crate::{EndName, Side, Statement, Verb, first_words, statement_of};
 use df1_base::FileType;
 use std::alloc::Global;
 use std::test::Fail;
 
 /// What a line says, if it is one of the forms and there is memory.
 fn said(alloc: Global, line: &str) -> Option<Statement> {
-    let words = words_of(alloc, line.as_bytes()).ok()?;
-    statement_of(alloc, &words).ok()?
+    statement_of(alloc, &first_words(line.as_bytes())).ok()?
 }
 
 #[test]
-fn blanks_and_tabs_part_words(rt: HostRuntime) -> Result<(), Fail> {
-    let words = words_of(rt.alloc(), b" set\ta.room  64\r")?;
+fn blanks_and_tabs_part_words(rt: HostRuntime) {
+    let words = first_words(b" set\ta.room  64\r");
     assert_eq!(rt; words.len(), 3);
     assert_eq!(rt; words[0], b"set".as_slice());
     assert_eq!(rt; words[1], b"a.room".as_slice());
     assert_eq!(rt; words[2], b"64\r".as_slice());
-    Ok(())
+    assert_eq!(rt; first_words(b"\t ").len(), 0);
+    assert_eq!(rt; first_words(b"word a 7 0 0000 ").len(), 5);
+    assert_eq!(rt; first_words(b"a b c d e f g").len(), 6);
 }
 
 #[test]

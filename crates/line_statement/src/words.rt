@@ -1,30 +1,70 @@
 //! Words of a script line, parted by blanks or tabs, and what a word means by itself: a number of 1 to 9 decimal
 //! digits, or pairs of hexadecimal digits of either case.
-ghost use Rattle.std.specs.Prelude.{◌≡◌, ◌&&◌, map, IfOk, length, nat_le};
+ghost use Rattle.std.specs.Prelude.{◌≡◌, ◌<◌, ◌&&◌, [], ◌∷◌, map, take, ◌%◌, not, position, IfOk, OnErr, MatchOption, length, nat_le};
 ghost use Rattle.std.specs.Str.{bytes_eq};
 ghost use Rattle.hex.specs.Hex.{decode_of, decode_sized};
-ghost use Rattle.line_statement.specs.Words.{words, is_blank as the_blank, number_of, within, hex_of as the_bytes, byte_of as the_byte, register_of as the_register, byte_in, register_in};
+ghost use Rattle.line_statement.specs.Words.{words, is_blank, number_of, within, hex_of as the_bytes, byte_of as the_byte, register_of as the_register, byte_in, register_in};
 
 use crate::{Bytes, Items};
+use arrayvec::ArrayVec;
 use df1_base::NoMemory;
 use hex::{FromHex, FromHexError};
-use std::alloc::{AllocError, Global};
+use std::alloc::Global;
 
 /// The most decimal digits that a number has.
 const DIGITS: usize = 9;
 
-/// The words of a line, parted by blanks and tabs.
-pub fn words_of(alloc: Global, line: &[u8]) -> Result<Vec<&[u8]>, AllocError>
-    ensures { IfOk result (λ v. map (λ x. x.now) v.items ≡ words line.now) }
+/// One word more than the longest form has.
+const WORDS: usize = 6;
+
+/// The first words of a line.
+pub type FirstWords<'a> = ArrayVec<&'a [u8], WORDS>;
+
+/// The first words of a line, parted by blanks and tabs: all of them, or as many as are one more than the longest form has.
+pub fn first_words(line: &[u8]) -> FirstWords<'_>
+    ensures { map (λ x. x.now) result.items ≡ take 6 (words line.now) }
 {
-    line.split(|byte| is_blank(*byte))
-        .filter(|word| !word.is_empty())
-        .collect(alloc)
+    let mut words = ArrayVec::new();
+    let mut rest = line;
+    while !words.is_full() {
+        let Some((word, more)) = next_word(rest) else {
+            return words;
+        };
+        words.push(word);
+        rest = more;
+    }
+    words
+}
+
+/// The first word of a line, and what follows it.
+fn next_word(line: &[u8]) -> Option<(&[u8], &[u8])>
+    ensures { MatchOption result (words line.now ≡ [])
+        (λ cut. (words line.now ≡ cut.0.now ∷ words cut.1.now) × (length cut.1.now < length line.now)) }
+{
+    let begun = &line[word_start(line).unwrap_or(line.len())..];
+    if begun.is_empty() {
+        return None;
+    }
+    Some(begun.split_at(word_end(begun).unwrap_or(begun.len())))
+}
+
+/// Where the first byte of a word stands.
+fn word_start(line: &[u8]) -> Option<usize>
+    ensures { result ≡ position (λ byte. not (is_blank byte)) line.now }
+{
+    line.iter().position(|byte| !is_blank(*byte))
+}
+
+/// Where the first blank or tab stands.
+fn word_end(line: &[u8]) -> Option<usize>
+    ensures { result ≡ position is_blank line.now }
+{
+    line.iter().position(|byte| is_blank(*byte))
 }
 
 /// Whether a byte parts words.
 fn is_blank(byte: u8) -> bool
-    ensures { result ≡ the_blank byte }
+    ensures { result ≡ is_blank byte }
 {
     byte == b' ' || byte == b'\t'
 }
@@ -71,9 +111,11 @@ pub(crate) fn is(word: &[u8], text: &str) -> bool
     word == text.as_bytes()
 }
 
-/// The bytes that a word of pairs of hexadecimal digits spells.
+/// The bytes that a word of pairs of hexadecimal digits spells. A word of an odd length takes no memory.
+#[inline(never)]
 pub(crate) fn hex_of(alloc: Global, word: &[u8]) -> Result<Option<Bytes>, NoMemory>
-    ensures { IfOk result (λ bytes. bytes ≡ the_bytes word.now) }
+    ensures value { IfOk result (λ bytes. bytes ≡ the_bytes word.now) }
+    ensures memory { OnErr result (length word.now % 2 ≡ 0) }
 {
     match hex::decode(alloc, word) {
         Ok(bytes) => Ok(Some(Items::from_vec(bytes))),
