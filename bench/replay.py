@@ -9,7 +9,8 @@ run took:
 - drill: 20,000 commands; in turn an ordinary exchange, a damaged frame, a lost ACK, and a lost ACK with a foreign NAK;
 - steps: 16 MB of script, each step a line of its own;
 - ticks: 65,000 commands and 4,000,000 events, nearly all of them ticks;
-- lossless: 65,000 ordinary exchanges of an echo.
+- lossless: 65,000 ordinary exchanges of an echo;
+- words: the first values of 256,000 words, each a line of its own.
 """
 import os
 import subprocess
@@ -69,18 +70,24 @@ def lossless(commands=65_000):
     return "\n".join(lines + ["end"]) + "\n"
 
 
-SCRIPTS = {"drill": drill, "steps": steps, "ticks": ticks, "lossless": lossless}
+def words(files=256, count=1000):
+    lines = [f"file a {number} 89 {count}" for number in range(files)]
+    lines += [f"word a {number} {index} {(number + index) % 65536:04X}" for number in range(files) for index in range(count)]
+    return "\n".join(lines + ["end"]) + "\n"
+
+
+SCRIPTS = {"drill": drill, "steps": steps, "ticks": ticks, "lossless": lossless, "words": words}
 
 
 def events(text):
     total = 0
     for line in text.splitlines():
-        words = line.split()
-        if len(words[0]) == 2 and words[0][0] in "ab":
-            if words[0][1] in "ktdx":
-                total += int(words[1]) if len(words) > 1 else 1
+        parts = line.split()
+        if len(parts[0]) == 2 and parts[0][0] in "ab":
+            if parts[0][1] in "ktdx":
+                total += int(parts[1]) if len(parts) > 1 else 1
             else:
-                total += len(words[1]) // 2 if words[0][1] == "n" else 1
+                total += len(parts[1]) // 2 if parts[0][1] == "n" else 1
     return total
 
 
