@@ -21,6 +21,7 @@ pub record Arrival : Type 0 where
   pub whole : Bool
   pub station : ℕ
 
+-- the bytes alone
 abbrev pub bytes_arrived : List Arrival → List ℕ
 bytes_arrived arrivals = map {A = Arrival} (λ a. a.byte) arrivals
 

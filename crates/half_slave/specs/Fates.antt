@@ -16,6 +16,7 @@ pub data Event : Type 0 where
   SentAgain : Event
   Told : (fate : Fate) → Event
 
+-- a fate that is told, if there is one
 abbrev pub telling : Option Fate → List Event
 telling None = []
 telling (Some fate) = Told fate ∷ []
@@ -63,6 +64,7 @@ is_transmitting g = is_some g.number && not (is_done g)
 abbrev pub begun_of : Bool → Held → ℕ
 begun_of transmits message = message.sent + (if transmits then 1 else 0)
 
+-- none where no message is held
 abbrev pub sendings_begun : {H : Type 0} → SlaveState H → Option ℕ
 sendings_begun s = option_map (begun_of (is_transmitting s.mouth)) s.held
 

@@ -74,6 +74,7 @@ closes_wait (Some (heard.Poll stn)) = true
 closes_wait (Some heard.BadPoll) = true
 closes_wait _ = false
 
+-- a message that is held, after what is heard
 abbrev pub after_heard : Option SlaveHeard → Held → Held
 after_heard what message = record { sent = message.sent; wait_open = if closes_wait what then false else message.wait_open }
 
@@ -123,6 +124,7 @@ news_of m (Some what) host = m.news host what
 abbrev pub verdict : {H : Type 0} → Ghosts H → SlaveState H → Verdict
 verdict m s = judged s.kept (record { body = body_of s; has_room = m.room_for s.host (body_of s) })
 
+-- the act of each
 abbrev pub verdict_act : Verdict → Act
 verdict_act Repeated = act.Repeat
 verdict_act Accepted = act.Accept
@@ -206,11 +208,12 @@ abbrev pub did_at : {H : Type 0} → Ghosts H → Act → H → List ℕ → Opt
 did_at m act.Accept host body = Some (m.did host body)
 did_at m _ host body = None
 
--- a message was heard whole, and the station that it names, which is 0 where none was
+-- a whole message was heard
 abbrev pub is_whole : Option SlaveHeard → Bool
 is_whole (Some (heard.Addressed stn)) = true
 is_whole _ = false
 
+-- the station that it names, 0 where none was heard
 abbrev pub station_of : Option SlaveHeard → ℕ
 station_of (Some (heard.Addressed stn)) = stn
 station_of _ = 0
@@ -249,6 +252,7 @@ with_response g (Some r) = give g (unmarked (pair_bytes (response_code r)))
 abbrev pub mouth_at_take : Giving → Option Resp → Giving
 mouth_at_take g responds = if is_done g then with_response g responds else g
 
+-- and it waits no more then
 abbrev pub responds_at_take : Giving → Option Resp → Option Resp
 responds_at_take g responds = if is_done g then None else responds
 

@@ -8,7 +8,7 @@ use df1_base::{Fate, Out};
 use half_frame::SlaveHeard;
 
 /// A message of the host that a slave holds.
-#[derive(Clone, Copy, Debug, PartialEq, Eq)]
+#[derive(Clone, Copy)]
 pub(crate) struct Held {
     /// How often it was sent to its last byte.
     pub(crate) sent: u32,
