@@ -266,7 +266,7 @@ polled-host : {H : Type 0} (e : MasterState H) (host : H) (station : Option Stat
 polled-host e host None = (refl, refl)
 polled-host e host (Some station) = (refl, refl)
 
-performed-host : {H : Type 0} (e : MasterState H) (host : H) (what : Effect) → ((performed (with_host e host) what).host ≡ host) × ((performed (with_host e host) what).phase ≡ (performed e what).phase)
+pub performed-host : {H : Type 0} (e : MasterState H) (host : H) (what : Effect) → ((performed (with_host e host) what).host ≡ host) × ((performed (with_host e host) what).phase ≡ (performed e what).phase)
 performed-host e host effect.Nothing = (refl, refl)
 performed-host e host (effect.Waits left) = (refl, refl)
 performed-host e host effect.Delivered = (refl, refl)

@@ -15,7 +15,8 @@ refilled new old same =
     ∙ ap (λ (l : List Station). take (length old) l) (append-nil new)
     ∙ take_all (length old) new (omega (arith, same))
 
-abbrev keyed : List Station → ℕ → Key → Option Station → List Station
+-- the list with a key kept for the station that was found at a place
+abbrev pub keyed : List Station → ℕ → Key → Option Station → List Station
 keyed stations place key o = elim o [ None ↦ stations | Some station ↦ slice_set stations place (record { number = station.number; kept = Some key }) ]
 
 pub written : (stations : List Station) (place : ℕ) (key : Key) (d : Station) → place < length stations

@@ -24,6 +24,7 @@ use Rattle.half_master.specs.Master.{MasterState, with_host, with_byte, heard_at
 use Rattle.half_master.specs.Emission.{Letter, Byte, Tick, Take, master_after, master_after_all}
 use Rattle.half_master.specs.Keys.{kept_at, is_polled, is_from, offers_at, offers}
 use Rattle.half_master.proofs.FittingLemmas.{with_key-numbers}
+use Rattle.half_master.proofs.Keeping.{keyed}
 
 -- ---- the list after an effect
 
@@ -68,9 +69,6 @@ set-other (first ∷ stations) zero zero now differ = absurd (differ refl)
 set-other (first ∷ stations) zero (suc other) now differ = refl
 set-other (first ∷ stations) (suc place) zero now differ = refl
 set-other (first ∷ stations) (suc place) (suc other) now differ = set-other stations place other now (λ same. differ (ap (λ n. suc n) same))
-
-abbrev keyed : List Station → ℕ → Key → Option Station → List Station
-keyed stations place key o = elim o [ None ↦ stations | Some station ↦ slice_set stations place (record { number = station.number; kept = Some key }) ]
 
 keyed-same : (stations : List Station) (place : ℕ) (key : Key) (station : Station) (o : Option Station) → slice_get stations place ≡ Some station → o ≡ Some station → kept_at (keyed stations place key o) place ≡ Some key
 keyed-same stations place key station None is at = absurd cc

@@ -32,7 +32,7 @@ use Rattle.half_master.proofs.EarLemmas.{stands-new, stands-byte, stands-tick, s
 use Rattle.half_master.proofs.GoodMessages.{good-6}
 use Rattle.half_master.proofs.MessageLength.{message-length}
 use Rattle.half_master.proofs.FittingLemmas.{listed-number, next-in, new-fits, done-few, left-fits, key-fits, take-few, take-fits, heard-suits, tick-suits, HasRoom, heard-room}
-use Rattle.half_master.proofs.FateLemmas.{Begins, begins-when}
+use Rattle.half_master.proofs.FateLemmas.{Begins, begins-when, performed-host}
 use Rattle.half_master.proofs.Draining.{NextFits}
 
 -- the laws of a host's bodies
@@ -126,23 +126,6 @@ performed-fits e effect.Refused fits suits = fits
 performed-fits e effect.Damaged fits suits = fits
 performed-fits e effect.Polls fits suits = polled-fits e (slice_get e.stations e.next) refl fits
 
-polled-host : {H : Type 0} (e : MasterState H) (o : Option Station) → (polled e o).host ≡ e.host
-polled-host e None = refl
-polled-host e (Some station) = refl
-
-performed-host : {H : Type 0} (e : MasterState H) (what : Effect) → (performed e what).host ≡ e.host
-performed-host e effect.Nothing = refl
-performed-host e (effect.Waits left) = refl
-performed-host e effect.Delivered = refl
-performed-host e (effect.Again resent) = refl
-performed-host e effect.GivenUp = refl
-performed-host e effect.PollOver = refl
-performed-host e (effect.Accepted place) = refl
-performed-host e effect.Repeated = refl
-performed-host e effect.Refused = refl
-performed-host e effect.Damaged = refl
-performed-host e effect.Polls = polled-host e (slice_get e.stations e.next)
-
 -- ---- the host's bodies
 
 told-holds : {H : Type 0} (m : Ghosts H) (laws : KeepsBodies m) (o : Option Fate) (host : H) → m.holds_bodies host → m.holds_bodies (host_told m o host)
@@ -187,7 +170,7 @@ carried-byte {H} m laws e b c =
     let holds : m.holds_bodies host = told-holds m laws (fate_of what) (host_accepted m what e.host body) (accepted-holds m laws what e.host body c.holds (heard-room m (with_byte e b) (heard_at e b) good)) in
     record {
       fits = performed-fits told what c.fits (heard-suits m (with_byte e b) (heard_at e b) c.fits.0.phase_fits good);
-      holds = subst (λ (h : H). m.holds_bodies h) (sym (performed-host told what)) holds;
+      holds = subst (λ (h : H). m.holds_bodies h) (sym (performed-host (with_byte e b) host what).0) holds;
       check = c.check;
       bytes = c.bytes ++ b ∷ [];
       stands = stands-byte m e b c.check c.bytes c.stands;
@@ -201,7 +184,7 @@ carried-tick {H} m laws e c =
     let holds : m.holds_bodies host = told-holds m laws (fate_of what) (host_ticked m what e.host) (ticked-holds m laws what e.host c.holds) in
     record {
       fits = performed-fits told what c.fits (tick-suits e.stations e.mouth e.sending (body_of e) e.setup _ e.phase c.fits.0.phase_fits);
-      holds = subst (λ (h : H). m.holds_bodies h) (sym (performed-host told what)) holds;
+      holds = subst (λ (h : H). m.holds_bodies h) (sym (performed-host e host what).0) holds;
       check = c.check;
       bytes = c.bytes;
       stands = stands-tick m e c.check c.bytes c.stands;

@@ -64,8 +64,8 @@ pub fn each_station_has_its_own_key<H: Host>()
     ensures numbers { (e : MasterState H) (signal : Letter) → numbers_of (master_after H.Host e signal).stations ≡ numbers_of e.stations }
 {}
 
-/// Of every master that is reached: its list is one, the station that is polled next and the one that was polled have
-/// their places in it, and a message that waits for its ACK is one to a station; the host holds bodies.
+/// Of every master that is reached: its stations are such as a list may have, the one that is polled next and the one that
+/// was polled have their places in it, and a message that waits for its ACK is one to a station; the host holds bodies.
 pub fn parts_fit<H: Host>()
     ensures fits { (e : MasterState H) → Reached H.Host e → Fits e.stations e.next e.phase e.mouth e.sending }
     ensures holds { (e : MasterState H) → Reached H.Host e → H.Host.holds_bodies e.host }
