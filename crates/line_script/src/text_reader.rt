@@ -101,7 +101,10 @@ impl TextReader {
             × (self.new.line ≡ []) × (self.new.number ≡ self.old.number + 1) × (self.new.start ≡ self.old.start + (length self.old.line + (if is_ended then 1 else 0))))
             (λ fault. (cause : Faulted) × (fault ≡ fault_at self.old.number cause) × IsFaulty cause (after_line self.old.reader (text_line self.old.start self.old.line is_ended))) }
     {
-        match self.reader.read(self.alloc, self.start, &self.line, is_ended) {
+        match self
+            .reader
+            .read(self.alloc, self.start, &self.line, is_ended)
+        {
             Ok(event) => {
                 self.start += self.line.len() + usize::from(is_ended);
                 self.number += 1;

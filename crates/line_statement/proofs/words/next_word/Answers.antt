@@ -1,9 +1,8 @@
 use Rattle.std.proofs.Common.{◌≡◌, ◌-◌, ◌<◌, ◌∙◌, false, not, eqb, ap, sym, arith, length, take, drop}
 use Rattle.std.specs.Prelude.{unwrap_or}
-use Rattle.std.specs.List.{position_or_len}
 use Rattle.std.proofs.lemmas.Bool.{eqb-true, eqb-false}
 use Rattle.std.proofs.lemmas.List.{take_rest}
-use Rattle.line_statement.specs.Words.{is_blank, words}
+use Rattle.line_statement.specs.Words.{is_blank}
 use Rattle.line_statement.proofs.FirstWords.{none_left, next_words, or_length}
 use Rattle.line_statement.proofs.words.next_word.Goals as goal
 
