@@ -6,6 +6,7 @@ ghost use Rattle.line_replay.specs.declared.replayer.StreamFault.{StreamFault as
 ghost use Rattle.line_script.specs.Fed.{accepted_script};
 ghost use Rattle.line_script.specs.Lines.{script_with};
 ghost use Rattle.line_script.specs.Playable.{IsPlayable};
+ghost use Rattle.line_script.specs.Unfinished.{unfinished};
 ghost use Rattle.duplex_line.specs.Plays.{IsNext, begun, played, printed};
 ghost use Rattle.duplex_line.specs.Run.{record_from};
 ghost use Rattle.line_report.specs.Report.{line_text, report};
@@ -106,6 +107,7 @@ impl Replayer {
     /// How many bytes the line that is begun has so far, at most 1,024.
     pub fn held(&self) -> usize
         ensures value { result ≡ length self.now.text.line }
+        ensures begun { (text : List ℕ) → IsReplayOf text self.now → result ≡ unfinished text }
         ensures most { result ≤ 1024 }
     {
         self.text.held()
@@ -114,6 +116,7 @@ impl Replayer {
     /// How many bytes it was fed, at most 16,777,216.
     pub fn fed(&self) -> usize
         ensures value { result ≡ self.now.text.start + length self.now.text.line }
+        ensures all { (text : List ℕ) → IsReplayOf text self.now → result ≡ length text }
         ensures most { result ≤ 16777216 }
     {
         self.text.fed()
