@@ -1,0 +1,6 @@
+pub mod Planned
+pub mod Told
+pub mod Names
+pub mod Entries
+pub mod Causes
+pub mod Valid

@@ -1,0 +1,133 @@
+-- A plan that is told is one that an end can be made of.
+use Rattle.std.proofs.Common.{◌≡◌, ℕ, ◌+◌, ◌≤◌, Bool, true, false, cond, List, [], ◌∷◌, ◌++◌, length, nat_le, nat_lt, ◌&&◌, Option, Some, None, Result, Ok, Err, refl, arith, length-append}
+use Rattle.std.specs.Prelude.{IsTrue, All, codes}
+use Rattle.std.specs.Option.{option_and_then}
+use Rattle.std.proofs.lemmas.Bool.{and_parts}
+use Rattle.std.proofs.lemmas.Bool.Decides.{nat_tests}
+use Rattle.std.proofs.lemmas.List.Elements.{All-nil, All-push}
+use Rattle.data_files.specs.Tables.{fits_compat}
+use Rattle.line_statement.specs.Statements.{is_payload}
+use Rattle.line_statement.specs.declared.who.Who.TheVariants.{A}
+use Rattle.line_script.specs.Playable.{IsPlanOf}
+use Rattle.toml.specs.Data.{Data, Items, no_items, item, Members, as_array, get_member}
+use Rattle.df1_plan.specs.declared.plan.Plan.{Plan}
+use Rattle.df1_plan.specs.declared.files.PlannedFile.{PlannedFile}
+use Rattle.df1_plan.specs.declared.reading.Front.{Front}
+use Rattle.df1_plan.specs.declared.reading.Back.{Back}
+use Rattle.df1_plan.specs.declared.key.Key.{Key}
+use Rattle.df1_plan.specs.declared.key.Key.TheVariants as key
+use Rattle.df1_plan.specs.declared.fault.PlanFault.{PlanFault}
+use Rattle.df1_plan.specs.declared.fault.PlanFault.TheVariants as fault
+use Rattle.df1_plan.specs.Keys.{has_other, is_known, read_or, told, told_or}
+use Rattle.df1_plan.specs.Values.{at_most, block_in, hex_in}
+use Rattle.df1_plan.specs.Files.{specs_of}
+use Rattle.df1_plan.specs.Issues.{next_of, next_payload, payloads_after, payloads_in, payloads_of_array}
+use Rattle.df1_plan.specs.Plans.{BackSays, FrontSays, Says, files as the_files, first_cause, first_there, issue as the_issue}
+use Rattle.df1_plan.proofs.Planned.{planned_right}
+use Rattle.df1_plan.proofs.Told.{told-between}
+
+-- ---- the block
+
+short : (b : Bool) (bytes block : List ℕ) → nat_le (length bytes) 244 ≡ b → cond b (Some bytes) None ≡ Some block → length block ≤ 244
+short false bytes block e h = cc
+short true bytes block e h = grind (arith, nat_tests, e, h)
+
+short-hex : (o : Option (List ℕ)) (block : List ℕ) → option_and_then (at_most 244) o ≡ Some block → length block ≤ 244
+short-hex None block h = cc
+short-hex (Some bytes) block h = short (nat_le (length bytes) 244) bytes block refl h
+
+ok-is : {T : Type 0} (r : Result T PlanFault) (x y : T) → r ≡ Ok x → r ≡ Ok y → x ≡ y
+ok-is r x y e f = grind (arith, e, f)
+
+short-read : (o : Option (List ℕ)) (block : List ℕ) → read_or key.Block o ≡ Ok block → o ≡ Some block
+short-read None block h = cc
+short-read (Some bytes) block h = grind (arith, h)
+
+short-told : (o : Option Data) (block : List ℕ) → told_or key.Block block_in [] o ≡ Ok block → length block ≤ 244
+short-told None block h = rw (← ok-is (Ok []) [] block refl h) (omega arith)
+short-told (Some value) block h = short-hex (hex_in value) block (short-read (block_in value) block h)
+
+-- ---- the commands
+
+pub record AreCommands (payloads : List (List ℕ)) : Type 0 where
+  pub each : All (λ payload. IsTrue (is_payload payload)) payloads
+  pub few : length payloads ≤ 65535
+
+next-is-if : (b : Bool) (before : List (List ℕ)) (payload next : List ℕ) → (nat_lt (length before) 65535 && is_payload payload) ≡ b → cond b (Some payload) None ≡ Some next → (length (before ++ next ∷ []) ≤ 65535) × (is_payload next ≡ true)
+next-is-if false before payload next e h = cc
+next-is-if true before payload next e h =
+    let parts = and_parts (nat_lt (length before) 65535) (is_payload payload) e in
+    let same : payload ≡ next = grind (arith, h) in
+    (rw (length-append before (next ∷ [])) (grind (arith, nat_tests, parts.0)), rw (← same) parts.1)
+
+next-is : (before : List (List ℕ)) (o : Option (List ℕ)) (next : List ℕ) → next_of before o ≡ Some next → (length (before ++ next ∷ []) ≤ 65535) × (is_payload next ≡ true)
+next-is before None next h = cc
+next-is before (Some payload) next h = next-is-if (nat_lt (length before) 65535 && is_payload payload) before payload next refl h
+
+commands-after : (before : List (List ℕ)) (values : Items) (payloads : List (List ℕ)) → AreCommands before → payloads_after before values ≡ Ok payloads → AreCommands payloads
+commands-after before no_items payloads h e = rw (← ok-is (Ok before) before payloads refl e) h
+commands-after before (item value values) payloads h e =
+    elim (next_payload before value) as (λ (o : Option (List ℕ)). next_payload before value ≡ o → ◌≡◌ {A = Result (List (List ℕ)) PlanFault} (elim o [ None ↦ Err (fault.Issue (length before + 1)) | Some payload ↦ payloads_after (before ++ payload ∷ []) values ]) (Ok payloads) → AreCommands payloads) [
+      | None ↦ λ n g. cc
+      | Some next ↦ λ n g.
+          let both = next-is before (hex_in value) next n in
+          commands-after (before ++ next ∷ []) values payloads (record { each = All-push (λ payload. IsTrue (is_payload payload)) before next h.each both.1; few = both.0 }) g
+    ] refl e
+
+none-at-first : AreCommands []
+none-at-first = record { each = All-nil _; few = omega arith }
+
+commands-of : (o : Option Items) (payloads : List (List ℕ)) → payloads_of_array o ≡ Ok payloads → AreCommands payloads
+commands-of None payloads e = cc
+commands-of (Some entries) payloads e = commands-after [] entries payloads none-at-first e
+
+commands-in : (o : Option Data) (payloads : List (List ℕ)) → payloads_in o ≡ Ok payloads → AreCommands payloads
+commands-in None payloads e = rw (← ok-is (Ok []) [] payloads refl e) none-at-first
+commands-in (Some value) payloads e = commands-of (as_array value) payloads e
+
+-- ---- the compatibility file
+
+fits-if : (b : Bool) → cond b None (Some (fault.Key key.Compat)) ≡ None → b ≡ true
+fits-if true h = refl
+fits-if false h = cc
+
+last-none : (o : Option PlanFault) → first_there (o ∷ []) ≡ None → o ≡ None
+last-none None h = refl
+last-none (Some e) h = cc
+
+others-none : (members : Members) (front : Front) (planned : List PlannedFile) (payloads : List (List ℕ)) (back : Back) → has_other is_known members ≡ false → FrontSays members front → the_files members ≡ Ok planned → the_issue members ≡ Ok payloads → BackSays members back → first_cause members ≡ None → fits_compat (specs_of planned) front.compat ≡ true
+others-none members front planned payloads back known f are is b h =
+    fits-if (fits_compat (specs_of planned) front.compat) (last-none _ (rw (known, f.ack_ticks, f.block, f.check, f.compat, f.embed, are, is, b.max_enqs, b.max_naks, b.node, b.peer, b.reply_ticks, b.room, b.tns) at h))
+
+known-if : (b : Bool) (others : List (Option PlanFault)) → first_there (cond b (Some fault.UnknownKey) None ∷ others) ≡ None → b ≡ false
+known-if true others h = cc
+known-if false others h = refl
+
+-- ---- all of it
+
+pub says_valid : (members : Members) (plan : Plan) → first_cause members ≡ None → Says members plan → IsPlanOf A plan.end × All (λ payload. IsTrue (is_payload payload)) plan.issue × (length plan.issue ≤ 65535)
+says_valid members plan none says =
+    let f = says.front_says in
+    let b = says.back_says in
+    let right = planned_right (get_member (codes "file") members) says.planned says.files_are in
+    let commands = commands-in (get_member (codes "issue") members) says.payloads says.issue_is in
+    let known : has_other is_known members ≡ false = known-if (has_other is_known members) _ none in
+    rw says.plan_is (
+      record {
+        end = refl;
+        files = right.none;
+        words = right.words;
+        ack_ticks = told-between key.AckTicks 1 1000000 10 members says.front.ack_ticks (omega arith, omega arith) f.ack_ticks;
+        max_naks = (told-between key.MaxNaks 0 255 3 members says.back.max_naks (omega arith, omega arith) b.max_naks).1;
+        max_enqs = (told-between key.MaxEnqs 0 255 3 members says.back.max_enqs (omega arith, omega arith) b.max_enqs).1;
+        reply_ticks = told-between key.ReplyTicks 33 1000000 100 members says.back.reply_ticks (omega arith, omega arith) b.reply_ticks;
+        max_resends = omega arith;
+        poll_ticks = (omega arith, omega arith);
+        max_sends = (omega arith, omega arith);
+        room = told-between key.Room 2 64 2 members says.back.room (omega arith, omega arith) b.room;
+        compat = others-none members says.front says.planned says.payloads says.back known f says.files_are says.issue_is b none;
+        block = short-told (get_member (codes "block") members) says.front.block f.block;
+      },
+      commands.each,
+      commands.few,
+    )

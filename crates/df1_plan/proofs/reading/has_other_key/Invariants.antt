@@ -1,0 +1,9 @@
+use Rattle.std.proofs.Common.{◌≡◌, not, string_bytes}
+use Rattle.std.specs.List.{list_any}
+use Rattle.toml.specs.View.{table_view}
+use Rattle.df1_plan.specs.Keys.{has_other, is_known}
+use Rattle.df1_plan.proofs.reading.has_other_key.Given as goal
+
+-- the names that are left decide as all do
+abbrev pub invariant-loop-name : goal.invariant-loop-name
+invariant-loop-name l = list_any (λ k. not (is_known (string_bytes k))) l.name-iterator ≡ has_other is_known (table_view l.table)

@@ -1,0 +1,5 @@
+pub mod Keys
+pub mod Values
+pub mod Files
+pub mod Issues
+pub mod Plans

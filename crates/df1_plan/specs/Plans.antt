@@ -1,0 +1,183 @@
+-- What a plan says, and the first cause why a table is none.
+use Rattle.std.specs.Prelude.{◌≡◌, ℕ, Bool, false, List, [], ◌∷◌, ◌++◌, Option, Some, None, Result, Ok, Err, if◌then◌else◌}
+use Rattle.std.specs.Option.{option_map}
+use Rattle.std.specs.Str.{IsUtf8}
+use Rattle.df1_check.specs.declared.Check.{Check}
+use Rattle.df1_check.specs.declared.Check.TheVariants.{Bcc}
+use Rattle.data_files.specs.Tables.{fits_compat}
+use Rattle.line_statement.specs.declared.who.Who.TheVariants.{A}
+use Rattle.toml.specs.Data.{Members, get_member, as_bool}
+use Rattle.toml.specs.Parse.{parse_document}
+use Rattle.df1_plan.specs.declared.plan.Plan.{Plan}
+use Rattle.df1_plan.specs.declared.reading.Front.{Front}
+use Rattle.df1_plan.specs.declared.reading.Back.{Back}
+use Rattle.df1_plan.specs.declared.files.PlannedFile.{PlannedFile}
+use Rattle.df1_plan.specs.declared.key.Key.TheVariants as key
+use Rattle.df1_plan.specs.declared.fault.PlanFault.{PlanFault}
+use Rattle.df1_plan.specs.declared.fault.PlanFault.TheVariants as fault
+use Rattle.df1_plan.specs.Keys.{is_known, has_other, name_of, told}
+use Rattle.df1_plan.specs.Values.{integer_in, check_in, block_in}
+use Rattle.df1_plan.specs.Files.{files_in, specs_of, words_of_all}
+use Rattle.df1_plan.specs.Issues.{payloads_in}
+
+-- ---- what stands at each key
+
+abbrev pub ack_ticks : Members → Result ℕ PlanFault
+ack_ticks = told key.AckTicks (integer_in 1 1000000) 10
+
+abbrev pub block : Members → Result (List ℕ) PlanFault
+block = told key.Block block_in []
+
+abbrev pub check : Members → Result Check PlanFault
+check = told key.Check check_in Bcc
+
+abbrev pub compat : Members → Result (Option ℕ) PlanFault
+compat = told key.Compat (λ value. option_map Some (integer_in 0 999 value)) None
+
+abbrev pub embed : Members → Result Bool PlanFault
+embed = told key.Embed as_bool false
+
+abbrev pub files : Members → Result (List PlannedFile) PlanFault
+files members = files_in (get_member (name_of key.File) members)
+
+abbrev pub issue : Members → Result (List (List ℕ)) PlanFault
+issue members = payloads_in (get_member (name_of key.Issue) members)
+
+abbrev pub max_enqs : Members → Result ℕ PlanFault
+max_enqs = told key.MaxEnqs (integer_in 0 255) 3
+
+abbrev pub max_naks : Members → Result ℕ PlanFault
+max_naks = told key.MaxNaks (integer_in 0 255) 3
+
+abbrev pub node : Members → Result ℕ PlanFault
+node = told key.Node (integer_in 0 255) 1
+
+abbrev pub peer : Members → Result ℕ PlanFault
+peer = told key.Peer (integer_in 0 255) 0
+
+abbrev pub reply_ticks : Members → Result ℕ PlanFault
+reply_ticks = told key.ReplyTicks (integer_in 33 1000000) 100
+
+abbrev pub room : Members → Result ℕ PlanFault
+room = told key.Room (integer_in 2 64) 2
+
+abbrev pub tns : Members → Result ℕ PlanFault
+tns = told key.Tns (integer_in 0 65535) 1
+
+-- ---- the first cause
+
+-- the cause of a value that is refused
+abbrev pub refusal : {T : Type 0} → Result T PlanFault → Option PlanFault
+refusal (Ok read) = None
+refusal (Err cause) = Some cause
+
+-- the compatibility file is one of the files, and has bits or integers
+abbrev pub compat_refusal : Result (List PlannedFile) PlanFault → Result (Option ℕ) PlanFault → Option PlanFault
+compat_refusal (Ok planned) (Ok number) = if fits_compat (specs_of planned) number then None else Some (fault.Key key.Compat)
+compat_refusal planned number = None
+
+-- the keys before `file`, in the order of their bytes
+abbrev pub front_causes : Members → List (Option PlanFault)
+front_causes members = refusal (ack_ticks members) ∷ refusal (block members) ∷ refusal (check members) ∷ refusal (compat members) ∷ refusal (embed members) ∷ []
+
+-- the keys after `issue`, in the order of their bytes
+abbrev pub back_causes : Members → List (Option PlanFault)
+back_causes members =
+    refusal (max_enqs members) ∷ refusal (max_naks members) ∷ refusal (node members) ∷ refusal (peer members)
+    ∷ refusal (reply_ticks members) ∷ refusal (room members) ∷ refusal (tns members) ∷ []
+
+-- in this order: a key that is none; the keys in the order of their bytes; the compatibility file
+abbrev pub causes : Members → List (Option PlanFault)
+causes members =
+    (if has_other is_known members then Some fault.UnknownKey else None)
+    ∷ front_causes members
+    ++ refusal (files members)
+    ∷ refusal (issue members)
+    ∷ back_causes members
+    ++ compat_refusal (files members) (compat members)
+    ∷ []
+
+-- the first that is there
+abbrev pub first_there : {T : Type 0} → List (Option T) → Option T
+first_there [] = None
+first_there (Some there ∷ others) = Some there
+first_there (None ∷ others) = first_there others
+
+abbrev pub first_cause : Members → Option PlanFault
+first_cause members = first_there (causes members)
+
+-- ---- a plan that is told
+
+-- the keys before `file` say this
+pub record FrontSays (members : Members) (front : Front) : Type 0 where
+  pub ack_ticks : ack_ticks members ≡ Ok front.ack_ticks
+  pub block : block members ≡ Ok front.block
+  pub check : check members ≡ Ok front.check
+  pub compat : compat members ≡ Ok front.compat
+  pub embed : embed members ≡ Ok front.embed
+
+-- the keys after `issue` say this
+pub record BackSays (members : Members) (back : Back) : Type 0 where
+  pub max_enqs : max_enqs members ≡ Ok back.max_enqs
+  pub max_naks : max_naks members ≡ Ok back.max_naks
+  pub node : node members ≡ Ok back.node
+  pub peer : peer members ≡ Ok back.peer
+  pub reply_ticks : reply_ticks members ≡ Ok back.reply_ticks
+  pub room : room members ≡ Ok back.room
+  pub tns : tns members ≡ Ok back.tns
+
+-- the plan of these values. What no key tells is as in a script that doesn't tell it
+abbrev pub plan_with : Front → List PlannedFile → List (List ℕ) → Back → Plan
+plan_with front planned payloads back = record {
+  check = front.check;
+  peer = back.peer;
+  end = record {
+    who = A;
+    embed = front.embed;
+    node = back.node;
+    tns = back.tns;
+    ack_ticks = front.ack_ticks;
+    max_naks = back.max_naks;
+    max_enqs = back.max_enqs;
+    reply_ticks = back.reply_ticks;
+    max_resends = 3;
+    poll_ticks = 10;
+    max_sends = 3;
+    room = back.room;
+    compat = front.compat;
+    block = front.block;
+    files = specs_of planned;
+    words = words_of_all planned;
+  };
+  issue = payloads;
+}
+
+-- the plan says what the table says
+pub record Says (members : Members) (plan : Plan) : Type 0 where
+  pub front : Front
+  pub planned : List PlannedFile
+  pub payloads : List (List ℕ)
+  pub back : Back
+  pub front_says : FrontSays members front
+  pub files_are : files members ≡ Ok planned
+  pub issue_is : issue members ≡ Ok payloads
+  pub back_says : BackSays members back
+  pub plan_is : plan ≡ plan_with front planned payloads back
+
+-- the text is a document with this table, of which this is the plan, and no cause stands against it
+pub record IsPlanOfText (text : List ℕ) (plan : Plan) : Type 0 where
+  pub utf8 : IsUtf8 text
+  pub members : Members
+  pub document : parse_document text ≡ Some members
+  pub none : first_cause members ≡ None
+  pub says : Says members plan
+
+-- the cause of a document
+abbrev pub cause_of : Option Members → Option PlanFault
+cause_of None = Some fault.Text
+cause_of (Some members) = first_cause members
+
+-- the first cause why the text is no plan: a text that isn't UTF-8 is no document
+pub record IsRefusedFor (text : List ℕ) (cause : PlanFault) : Type 0 where
+  pub document : IsUtf8 text → cause_of (parse_document text) ≡ Some cause
+  pub bytes : (IsUtf8 text → ⊥) → cause ≡ fault.Text

@@ -1,0 +1,64 @@
+//! Why a document is no plan.
+ghost use Rattle.std.specs.Prelude.{◌≡◌};
+
+use crate::Key;
+use df1_base::NoMemory;
+use std::alloc::{AllocError, AllocFailed};
+use thiserror::Error;
+
+/// Why a document is no plan. Where several fit, the first is told, in the order of these, and keys in the order of their
+/// bytes: `File` stands in the place of `Key(File)`, and `Issue` in that of `Key(Issue)`.
+#[derive(Clone, Copy, Debug, PartialEq, Eq, Error)]
+pub enum PlanFault {
+    /// TOML refuses the document, for another cause than memory.
+    #[error("text")]
+    Text,
+    /// It has a key that a plan hasn't.
+    #[error("unknown key")]
+    UnknownKey,
+    /// The value of this key is refused.
+    #[error("key {0}")]
+    Key(Key),
+    /// This entry of `file`, counted from 1, is no data file, has the number of an earlier one, or is the 257th.
+    #[error("file {0}")]
+    File(u32),
+    /// This entry of `issue`, counted from 1, is no payload, or is the 65,536th.
+    #[error("issue {0}")]
+    Issue(u32),
+    /// There is no memory left.
+    #[error("no memory")]
+    NoMemory,
+}
+
+impl From<NoMemory> for PlanFault {
+    ghost use Rattle.std.specs.Prelude.{◌≡◌};
+    ghost use Rattle.df1_plan.specs.declared.fault.PlanFault.TheVariants.{NoMemory as Wanting};
+
+    ghost from_gives = { λ _ e. e ≡ Wanting };
+
+    fn from(_: NoMemory) -> Self {
+        PlanFault::NoMemory
+    }
+}
+
+impl From<AllocError> for PlanFault {
+    ghost use Rattle.std.specs.Prelude.{◌≡◌};
+    ghost use Rattle.df1_plan.specs.declared.fault.PlanFault.TheVariants.{NoMemory as Wanting};
+
+    ghost from_gives = { λ _ e. e ≡ Wanting };
+
+    fn from(_: AllocError) -> Self {
+        PlanFault::NoMemory
+    }
+}
+
+impl<T: Drop> From<AllocFailed<T>> for PlanFault {
+    ghost use Rattle.std.specs.Prelude.{◌≡◌};
+    ghost use Rattle.df1_plan.specs.declared.fault.PlanFault.TheVariants.{NoMemory as Wanting};
+
+    ghost from_gives = { λ _ e. e ≡ Wanting };
+
+    fn from(_: AllocFailed<T>) -> Self {
+        PlanFault::NoMemory
+    }
+}
