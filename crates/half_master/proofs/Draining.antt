@@ -1,21 +1,20 @@
 -- Takes until nothing is given.
-use Rattle.std.proofs.Common.{◌≡◌, ◌≤◌, ◌<◌, ℕ, zero, suc, ◌+◌, Bool, true, false, List, [], ◌∷◌, ◌++◌, length, Option, Some, None, IsSome, IsNone, is_some, ap, sym, subst, ◌∙◌, refl, arith}
-use Rattle.std.specs.Prelude.{option_to_list, slice_index, IsTrue, not, ◌&&◌, ◌==◌, if◌then◌else◌, IfSome}
+use Rattle.std.proofs.Common.{◌≡◌, ◌≤◌, ℕ, zero, suc, ◌+◌, Bool, true, false, List, [], ◌∷◌, ◌++◌, length, Option, Some, None, IsSome, IsNone, is_some, ap, sym, subst, ◌∙◌, refl, arith}
+use Rattle.std.specs.Prelude.{option_to_list, slice_index, not, ◌&&◌, ◌==◌, if◌then◌else◌}
 use Rattle.std.proofs.lemmas.Bool.{cond_both, and_parts, eqb-true}
 use Rattle.df1_base.specs.declared.host.Host.{Ghosts}
 use Rattle.df1_base.specs.declared.host.Fate.TheVariants as fate
 use Rattle.df1_base.specs.declared.link.Out.{Out}
 use Rattle.half_frame.specs.declared.framer.Sent.{Sent}
-use Rattle.half_frame.specs.Spelling.{message_sent}
-use Rattle.half_mouth.specs.Giving.{Giving, is_done, bytes_left, transmit, taken, take}
+use Rattle.half_mouth.specs.Giving.{Giving, is_done, bytes_left, taken, take}
 use Rattle.half_master.specs.declared.stations.Station.{Station}
 use Rattle.half_master.specs.declared.table.Phase.{Phase}
 use Rattle.half_master.specs.declared.table.Phase.TheVariants as phase
 use Rattle.half_master.specs.Stations.{is_listed}
-use Rattle.half_master.specs.Master.{MasterState, with_host, is_idle, is_quiet, message_next, transmitted, begun_of, begun, given_next, master_after_take, out_at_take}
+use Rattle.half_master.specs.Master.{MasterState, is_idle, is_quiet, message_next, begun_of, begun, given_next, master_after_take, out_at_take}
 use Rattle.half_master.specs.Fitting.{PhaseFits, message_to_come, most_left}
 use Rattle.half_master.specs.Emission.{Take, master_after_all, emission, takes, Drains, gives_none, gives_one}
-use Rattle.half_master.proofs.FateLemmas.{Begins, begins-when}
+use Rattle.half_master.proofs.FateLemmas.{begins-when}
 use Rattle.half_master.proofs.MessageLength.{message-length}
 
 -- ---- a byte that is given

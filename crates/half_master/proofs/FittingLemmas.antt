@@ -1,7 +1,7 @@
 -- What holds of each master stays so over an effect and a take, and each effect suits the master where it comes about.
-use Rattle.std.proofs.Common.{◌≡◌, ◌<◌, ◌≤◌, ℕ, zero, suc, ◌+◌, Bool, true, false, List, [], ◌∷◌, length, map, Option, Some, None, inl, inr, refl, ap, sym, subst, ◌∙◌, arith}
+use Rattle.std.proofs.Common.{◌≡◌, ◌<◌, ◌≤◌, ℕ, zero, suc, ◌+◌, Bool, true, false, List, [], ◌∷◌, length, Option, Some, None, inl, inr, refl, ap, sym, subst, ◌∙◌, arith}
 use Rattle.std.specs.Prelude.{IsTrue, slice_get, slice_set, slice_index, nat_lt, ◌==◌, if◌then◌else◌}
-use Rattle.std.specs.List.{All, list_any}
+use Rattle.std.specs.List.{All}
 use Rattle.std.proofs.lemmas.Bool.{cond_both, or_cases, eqb-true, ltb-true}
 use Rattle.std.proofs.lemmas.List.{length-map}
 use Rattle.df1_base.specs.declared.host.Host.{Ghosts}
@@ -12,7 +12,7 @@ use Rattle.half_frame.specs.declared.heard.MasterHeard.TheVariants as heard
 use Rattle.half_mouth.specs.Giving.{Giving, nothing, is_done, bytes_left, taken, take}
 use Rattle.pccc_envelope.specs.declared.key.Key.{Key}
 use Rattle.pccc_envelope.specs.Envelope.{key_of}
-use Rattle.pccc_envelope.specs.Accepted.{Verdict, Repeated, Accepted, Refused, is_kept, judged}
+use Rattle.pccc_envelope.specs.Accepted.{Verdict, Repeated, Accepted, Refused, is_kept}
 use Rattle.half_master.specs.declared.MasterSetup.{MasterSetup}
 use Rattle.half_master.specs.declared.stations.Station.{Station}
 use Rattle.half_master.specs.declared.table.Phase.{Phase}
@@ -20,7 +20,7 @@ use Rattle.half_master.specs.declared.table.Phase.TheVariants as phase
 use Rattle.half_master.specs.declared.table.Effect.{Effect}
 use Rattle.half_master.specs.declared.table.Effect.TheVariants as effect
 use Rattle.half_master.specs.Stations.{IsNumber, AreStations, listed, numbers_of, is_listed, with_key, place_after}
-use Rattle.half_master.specs.Master.{MasterState, body_of, unacknowledged, effect_of_verdict, answered, effect_on_message, effect_on_poll, effect_in, effect_heard, effect_of_tick, with_left, is_idle}
+use Rattle.half_master.specs.Master.{MasterState, body_of, unacknowledged, effect_of_verdict, answered, effect_on_message, effect_on_poll, effect_in, effect_heard, effect_of_tick, with_left}
 use Rattle.half_master.specs.Fitting.{IsMessage, PhaseFits, Fits, Suits}
 
 -- ---- the list

@@ -1,5 +1,5 @@
 -- A message that is heard as good has at least 6 bytes.
-use Rattle.std.proofs.Common.{◌≡◌, ℕ, ◌+◌, ◌≤◌, Bool, true, false, List, [], ◌∷◌, ◌++◌, length, nat_lt, Option, Some, None, refl, arith}
+use Rattle.std.proofs.Common.{◌≡◌, ℕ, ◌+◌, ◌≤◌, Bool, true, false, [], ◌∷◌, ◌++◌, length, nat_lt, Option, Some, refl, arith}
 use Rattle.std.proofs.lemmas.Bool.{cond_both}
 use Rattle.std.proofs.lemmas.Bool.Decides.{nat_tests}
 use Rattle.std.specs.Prelude.{◌||◌, ◌==◌, if◌then◌else◌}
@@ -9,7 +9,7 @@ use Rattle.df1_frame.specs.Gathered.{Gathered, verdict}
 use Rattle.df1_frame.specs.Spelling.{same, check_bytes, check_len}
 use Rattle.half_frame.specs.declared.heard.MasterHeard.{MasterHeard}
 use Rattle.half_frame.specs.declared.heard.MasterHeard.TheVariants as heard
-use Rattle.half_frame.specs.TextStep.{Within, Inside, InsideDle, AtCheck, Onward, Goes, Ends, Breaks, is_good, text_step}
+use Rattle.half_frame.specs.TextStep.{Within, Inside, InsideDle, AtCheck, Onward, Ends, is_good, text_step}
 use Rattle.half_frame.specs.MasterGrammar.{pair_heard}
 use Rattle.half_frame.specs.MasterStanding.{Standing, Outside, Ended, AfterDle, AtText, Listening, lent_at}
 use Rattle.half_frame.specs.MasterStep.{outside_next, text_next, step, next}

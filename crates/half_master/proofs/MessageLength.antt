@@ -1,12 +1,11 @@
 -- How many bytes a message has.
-use Rattle.std.proofs.Common.{◌≡◌, ℕ, ◌+◌, ◌*◌, ◌≤◌, Bool, true, false, cond, eqb, List, [], ◌∷◌, ◌++◌, length, map, refl, arith, length-append}
+use Rattle.std.proofs.Common.{◌≡◌, ℕ, ◌*◌, ◌≤◌, Bool, true, false, cond, eqb, List, [], ◌∷◌, ◌++◌, length, arith, length-append}
 use Rattle.std.specs.List.{flat_map}
 use Rattle.std.proofs.lemmas.List.{length-map}
 use Rattle.df1_check.specs.declared.Check.{Check}
 use Rattle.df1_check.specs.declared.Check.TheVariants as kind
-use Rattle.df1_frame.specs.Spelling.{Plain, Doubled, pieces_of, check_bytes, check_of, check_len}
+use Rattle.df1_frame.specs.Spelling.{Plain, Doubled, pieces_of, check_of, check_len}
 use Rattle.df1_frame.proofs.SpellingLemmas.{length-check}
-use Rattle.half_frame.specs.declared.framer.Sent.{Sent}
 use Rattle.half_frame.specs.Spelling.{piece_sent, message_sent, station_head, text_sent, unmarked}
 
 piece-length : (b : ℕ) (dle : Bool) → length (piece_sent (cond dle Doubled (Plain b))) ≤ 2

@@ -1,6 +1,6 @@
 -- What holds of every master that signals and changes of its host reach.
-use Rattle.std.proofs.Common.{◌≡◌, ◌<◌, ◌≤◌, ℕ, zero, suc, ◌+◌, Bool, true, false, List, [], ◌∷◌, ◌++◌, length, Option, Some, None, IfSome, inl, inr, refl, ap, sym, subst, ◌∙◌, arith}
-use Rattle.std.specs.Prelude.{IsTrue, nat_le, slice_get, slice_index, ◌&&◌, ◌==◌, if◌then◌else◌}
+use Rattle.std.proofs.Common.{◌≡◌, ◌<◌, ◌≤◌, ℕ, zero, suc, Bool, true, false, List, [], ◌∷◌, ◌++◌, length, Option, Some, None, IfSome, refl, sym, subst, arith}
+use Rattle.std.specs.Prelude.{IsTrue, nat_le, slice_get, slice_index, ◌&&◌, if◌then◌else◌}
 use Rattle.std.proofs.lemmas.Bool.{cond_both, and_parts, leb-true}
 use Rattle.df1_base.specs.declared.host.Host.{Ghosts}
 use Rattle.df1_base.specs.declared.host.Fate.{Fate}
@@ -10,21 +10,19 @@ use Rattle.df1_check.specs.declared.Check.{Check}
 use Rattle.df1_frame.specs.Line.{ReadOff}
 use Rattle.df1_frame.specs.Spelling.{same, check_of}
 use Rattle.half_frame.specs.Text.{is_right}
-use Rattle.half_frame.specs.declared.heard.MasterHeard.{MasterHeard}
 use Rattle.half_frame.specs.declared.heard.MasterHeard.TheVariants as heard
 use Rattle.half_frame.specs.MasterGrammar.{Item, Stray, Pair, Message, Broken, CutOff, Front, Nothing, Dle, InText, master_hears}
-use Rattle.half_frame.specs.MasterStanding.{Standing, Outside, Ended, Listening, listening, standing, ended, ended_by, lent_at}
-use Rattle.half_mouth.specs.Giving.{Giving, is_done, bytes_left, take}
+use Rattle.half_frame.specs.MasterStanding.{Outside, Ended, Listening, listening, standing, ended, ended_by, lent_at}
+use Rattle.half_mouth.specs.Giving.{is_done, bytes_left}
 use Rattle.pccc_envelope.specs.Envelope.{key_of}
 use Rattle.half_master.specs.declared.MasterSetup.{MasterSetup}
 use Rattle.half_master.specs.declared.stations.Station.{Station}
-use Rattle.half_master.specs.declared.table.Phase.{Phase}
 use Rattle.half_master.specs.declared.table.Phase.TheVariants as phase
 use Rattle.half_master.specs.declared.table.Effect.{Effect}
 use Rattle.half_master.specs.declared.table.Effect.TheVariants as effect
-use Rattle.half_master.specs.Stations.{IsNumber, AreStations, listed, numbers_of, is_listed, with_key, place_after}
+use Rattle.half_master.specs.Stations.{AreStations, numbers_of, is_listed, with_key}
 use Rattle.half_master.specs.Master.{MasterState, new_master, with_host, with_byte, heard_at, body_of, effect_of_byte, effect_at_tick, polled, acknowledged, transmitted, performed, fate_of, host_told, host_accepted, host_ticked, master_after_byte, master_after_tick, master_after_take, message_next, begun_of, begun}
-use Rattle.half_master.specs.Fitting.{IsMessage, PhaseFits, Fits, Suits, most_left}
+use Rattle.half_master.specs.Fitting.{IsMessage, Fits, Suits}
 use Rattle.half_master.specs.Emission.{Letter, Byte, Tick, Take, master_after}
 use Rattle.half_master.specs.Reached.{Reached, begins, goes_on, changes}
 use Rattle.half_master.specs.Arrived.{StandsFor}
@@ -32,7 +30,7 @@ use Rattle.half_master.proofs.EarLemmas.{stands-new, stands-byte, stands-tick, s
 use Rattle.half_master.proofs.GoodMessages.{good-6}
 use Rattle.half_master.proofs.MessageLength.{message-length}
 use Rattle.half_master.proofs.FittingLemmas.{listed-number, next-in, new-fits, done-few, left-fits, key-fits, take-few, take-fits, heard-suits, tick-suits, HasRoom, heard-room}
-use Rattle.half_master.proofs.FateLemmas.{Begins, begins-when, performed-host}
+use Rattle.half_master.proofs.FateLemmas.{begins-when, performed-host}
 use Rattle.half_master.proofs.Draining.{NextFits}
 
 -- the laws of a host's bodies

@@ -1,6 +1,6 @@
 -- As long as a byte is left to be given, the wait that follows has all its ticks.
-use Rattle.std.proofs.Common.{◌≡◌, ℕ, Bool, true, false, List, [], ◌∷◌, length, Option, Some, None, refl, sym, subst, arith}
-use Rattle.std.specs.Prelude.{slice_get, slice_index, is_some, ◌==◌, if◌then◌else◌}
+use Rattle.std.proofs.Common.{◌≡◌, ℕ, true, false, List, [], ◌∷◌, length, Option, Some, None, refl, sym, subst, arith}
+use Rattle.std.specs.Prelude.{slice_get, slice_index, is_some, ◌==◌}
 use Rattle.std.proofs.lemmas.Bool.{cond_both, both_ways, eqb-true, ne_eqb}
 use Rattle.df1_base.specs.declared.host.Host.{Ghosts}
 use Rattle.half_frame.specs.declared.framer.Sent.{Sent}
@@ -9,7 +9,7 @@ use Rattle.half_master.specs.declared.stations.Station.{Station}
 use Rattle.half_master.specs.declared.table.Effect.{Effect}
 use Rattle.half_master.specs.declared.table.Effect.TheVariants as effect
 use Rattle.half_master.specs.Stations.{is_listed}
-use Rattle.half_master.specs.Master.{MasterState, with_host, with_byte, heard_at, body_of, effect_in, effect_of_tick, polled, performed, fate_of, host_told, host_accepted, host_ticked, message_next, begun_of, given_next, master_after_byte, master_after_tick, master_after_take}
+use Rattle.half_master.specs.Master.{MasterState, with_host, with_byte, heard_at, body_of, effect_in, effect_of_tick, polled, performed, fate_of, host_told, host_accepted, host_ticked, message_next, begun_of, given_next, master_after_byte, master_after_tick}
 use Rattle.half_master.specs.Waits.{HasAllTicks}
 use Rattle.half_master.specs.Emission.{Letter, Byte, Tick, Take, master_after}
 use Rattle.half_master.specs.Reached.{Reached, begins, goes_on, changes}

@@ -1,5 +1,5 @@
 -- The masters that signals reach, from new ones over hosts that hold bodies, also where the host is changed.
-use Rattle.std.specs.Prelude.{◌≤◌, ℕ, List}
+use Rattle.std.specs.Prelude.{ℕ, List}
 use Rattle.df1_base.specs.declared.host.Host.{Ghosts}
 use Rattle.half_master.specs.declared.MasterSetup.{MasterSetup}
 use Rattle.half_master.specs.Stations.{AreStations}

@@ -1,5 +1,5 @@
 -- The stations of a master's list, with the key that is kept for each.
-use Rattle.std.specs.Prelude.{◌≢◌, ◌≤◌, ℕ, ◌+◌, Bool, List, length, map, Option, Some, None, nat_eq, nat_lt, ◌==◌, slice_get, slice_set, if◌then◌else◌}
+use Rattle.std.specs.Prelude.{◌≢◌, ◌≤◌, ℕ, ◌+◌, Bool, List, length, map, Some, None, nat_eq, nat_lt, ◌==◌, slice_get, slice_set, if◌then◌else◌}
 use Rattle.std.specs.List.{All, IsDistinct, list_any}
 use Rattle.pccc_envelope.specs.declared.key.Key.{Key}
 use Rattle.half_master.specs.declared.stations.Station.{Station}

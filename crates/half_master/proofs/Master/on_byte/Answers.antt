@@ -1,9 +1,8 @@
-use Rattle.std.proofs.Common.{◌≡◌, ℕ, List, [], ◌∷◌, ◌++◌, Bool, true, Option, Some, refl, ap, sym, subst, ◌∙◌}
+use Rattle.std.proofs.Common.{◌≡◌, [], ◌∷◌, ◌++◌, true, Some, sym, subst, ◌∙◌}
 use Rattle.std.specs.Prelude.{◌↔◌}
 use Rattle.df1_base.specs.Host.{IsBody}
 use Rattle.df1_base.specs.declared.link.Step.{Step}
 use Rattle.half_frame.specs.declared.heard.MasterHeard.TheVariants as heard
-use Rattle.half_frame.specs.MasterStanding.{lent_at}
 use Rattle.half_master.specs.Master.{MasterState, body_of, master_after_byte, step_at_byte}
 use Rattle.half_master.specs.Arrived.{StandsFor, HearsWhole}
 use Rattle.half_master.proofs.GoodMessages.{good-6}

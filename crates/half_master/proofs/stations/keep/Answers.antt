@@ -1,7 +1,6 @@
-use Rattle.std.proofs.Common.{◌≡◌, List, length, Option, sym, subst}
+use Rattle.std.proofs.Common.{◌≡◌, List, length, sym, subst}
 use Rattle.std.specs.Prelude.{Some, slice_set, slice_index_or}
 use Rattle.std.specs.List.{refill}
-use Rattle.pccc_envelope.specs.declared.key.Key.{Key}
 use Rattle.pccc_envelope.specs.Envelope.{key_of}
 use Rattle.half_master.specs.declared.stations.Station.{Station}
 use Rattle.half_master.specs.Stations.{with_key}

@@ -1,4 +1,4 @@
-use Rattle.std.proofs.Common.{ℕ, ◌<◌, [], nat_eq, arith}
+use Rattle.std.proofs.Common.{[], nat_eq, arith}
 use Rattle.std.specs.List.{IsDistinct}
 use Rattle.half_master.proofs.tests.master_of_none.Goals as goal
 
