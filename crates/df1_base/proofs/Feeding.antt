@@ -1,15 +1,14 @@
 -- What a port over a source and a sink gives at a call.
-use Rattle.std.proofs.Common.{◌≡◌, ℕ, ◌+◌, ◌<◌, ◌≤◌, Bool, true, false, List, [], ◌∷◌, ◌++◌, length, drop, Option, Some, None, inl, inr, refl, ap, sym, ◌∙◌, append_assoc, length-append, length-drop, arith}
-use Rattle.std.specs.Prelude.{slice_get, ◌==◌, ◌&&◌, if◌then◌else◌}
+use Rattle.std.proofs.Common.{◌≡◌, ℕ, ◌+◌, ◌<◌, ◌≤◌, Bool, true, false, List, [], ◌∷◌, ◌++◌, length, drop, Option, Some, None, Result, Ok, Err, inl, inr, refl, ap, sym, ◌∙◌, append_assoc, append-nil, arith}
+use Rattle.std.specs.Prelude.{OnErr, slice_get, nat_lt, ◌==◌, ◌&&◌, if◌then◌else◌}
 use Rattle.std.proofs.lemmas.Bool.{lt-ltb, le-ltb}
-use Rattle.std.proofs.lemmas.Option.{slice_get_within}
-use Rattle.std.specs.Io.KnownBytes.{IsAtEnd}
-use Rattle.std.proofs.KnownBytes.{Consumes-nil}
+use Rattle.std.specs.Io.KnownBytes.{IsAtEnd, Keeps}
+use Rattle.std.proofs.KnownBytes.{Consumes-nil, Consumes-kept}
 use Rattle.df1_base.specs.declared.signal.Signal.{Signal}
 use Rattle.df1_base.specs.declared.signal.Signal.TheVariants.{Byte, Tick, Take, Drain, End, Bad, Long}
 use Rattle.df1_base.specs.Outside.{Took}
 use Rattle.df1_base.specs.Signals.{GaveOne, Gave, goes_on, input_limit, input_signals, raw_signals, timed_signals, record_signals, signal_of}
-use Rattle.df1_base.specs.Feed.{Feed, Came, EndsWith, due}
+use Rattle.df1_base.specs.Feed.{Feed, Came, EndsWith, due, holds_signal}
 use Rattle.df1_base.specs.PortLaws.{came-more}
 
 -- bytes were taken from the source
@@ -19,8 +18,48 @@ pub came-taken : {S K : Type 0} (left : S → Option (List ℕ)) (f old : Feed S
 came-taken {S} {K} left f old source waiting is (more, took, waits, few) = rw (← is, waits) (record {
   more = more;
   took = took;
+  gone = [];
+  goes = refl;
+  count = omega arith;
   gives = λ later. ap (λ bytes. due f.drains ++ input_signals f.timed f.used bytes) (sym (append_assoc f.waiting more later));
-  count = omega (arith, length-append f.waiting more);
+})
+
+-- a read failed
+pub came-kept : {S K : Type 0} (left : S → Option (List ℕ)) (f old : Feed S K) (source : S) (waiting : List ℕ) → f ≡ old → Keeps (left f.source) (left source) × (waiting ≡ f.waiting)
+    → Came left old [] (record f { source = source; waiting = waiting })
+came-kept left f old source waiting is (keeps, waits) = rw (← is, waits) (record {
+  more = [];
+  took = Consumes-kept (left f.source) (left f.source) (left source) [] (Consumes-nil (left f.source)) keeps;
+  gone = [];
+  goes = append-nil f.waiting;
+  count = omega arith;
+  gives = λ later. refl;
+})
+
+pub on-err : {T E P : Type 0} (r : Result T E) → P → OnErr r P
+on-err (Ok value) p = tt
+on-err (Err e) p = p
+
+-- bytes went to the sink
+pub came-put : {S K : Type 0} (left : S → Option (List ℕ)) (f old : Feed S K) (sink : K) → f ≡ old → Came left old [] (record f { sink = sink })
+came-put left f old sink is = rw (← is) (record {
+  more = [];
+  took = Consumes-nil (left f.source);
+  gone = [];
+  goes = append-nil f.waiting;
+  count = omega arith;
+  gives = λ later. refl;
+})
+
+-- the Drain that was due came
+pub came-drain : {S K : Type 0} (left : S → Option (List ℕ)) (f old : Feed S K) → f ≡ old → f.drains ≡ true → Came left old (Drain ∷ []) (record f { drains = false })
+came-drain left f old is is_due = rw (← is) (record {
+  more = [];
+  took = Consumes-nil (left f.source);
+  gone = [];
+  goes = append-nil f.waiting;
+  count = omega arith;
+  gives = λ later. rw is_due refl;
 })
 
 -- a signal that came later
@@ -38,13 +77,19 @@ first-byte : (bytes later : List ℕ) (at b : ℕ) → slice_get bytes 0 ≡ Som
 first-byte [] later at b is room = cc
 first-byte (x ∷ bytes) later at b is room = let same : x ≡ b = cc in rw (lt-ltb at input_limit room, same) refl
 
+first-goes : (bytes : List ℕ) (b : ℕ) → slice_get bytes 0 ≡ Some b → bytes ++ [] ≡ b ∷ drop 1 bytes
+first-goes [] b is = cc
+first-goes (x ∷ bytes) b is = let same : x ≡ b = cc in rw same (ap (λ rest. b ∷ rest) (append-nil bytes))
+
 byte-came : {S K : Type 0} (left : S → Option (List ℕ)) (f : Feed S K) (b : ℕ) → slice_get f.waiting 0 ≡ Some b → f.used < input_limit → f.timed ≡ false → f.drains ≡ false
     → Came left f (Byte b ∷ []) (record f { used = f.used + 1; waiting = drop 1 f.waiting; drains = true })
 byte-came left f b first room raw none_due = record {
   more = [];
   took = Consumes-nil (left f.source);
+  gone = b ∷ [];
+  goes = first-goes f.waiting b first;
+  count = refl;
   gives = λ later. rw (raw, none_due) (first-byte f.waiting later f.used b first room);
-  count = omega (arith, length-drop 1 f.waiting, slice_get_within f.waiting 0 b first);
 }
 
 pub came-byte : {S K : Type 0} (left : S → Option (List ℕ)) (f old : Feed S K) (b : ℕ) (waiting : List ℕ) → f ≡ old → waiting ≡ drop 1 f.waiting
@@ -64,14 +109,24 @@ first-record (x ∷ y ∷ bytes) later at form b is next room =
     let same_next : y ≡ b = cc in
     rw (lt-ltb at input_limit room, same, same_next) refl
 
+two-go : (bytes : List ℕ) (form b : ℕ) → slice_get bytes 0 ≡ Some form → slice_get bytes 1 ≡ Some b → bytes ++ [] ≡ form ∷ b ∷ drop 2 bytes
+two-go [] form b is next = cc
+two-go (x ∷ []) form b is next = cc
+two-go (x ∷ y ∷ bytes) form b is next =
+    let same : x ≡ form = cc in
+    let same_next : y ≡ b = cc in
+    rw (same, same_next) (ap (λ rest. form ∷ b ∷ rest) (append-nil bytes))
+
 record-came : {S K : Type 0} (left : S → Option (List ℕ)) (f : Feed S K) (form b : ℕ) (signal : Signal)
     → slice_get f.waiting 0 ≡ Some form → slice_get f.waiting 1 ≡ Some b → signal_of form b ≡ Some signal → f.used < input_limit → f.timed ≡ true → f.drains ≡ false
     → Came left f (signal ∷ []) (record f { used = f.used + 2; waiting = drop 2 f.waiting })
 record-came left f form b signal first next is room timed none_due = record {
   more = [];
   took = Consumes-nil (left f.source);
+  gone = form ∷ b ∷ [];
+  goes = two-go f.waiting form b first next;
+  count = refl;
   gives = λ later. rw (timed, none_due) (first-record f.waiting later f.used form b first next room ∙ ap (λ s. record_signals f.used s (timed_signals (f.used + 2) (drop 2 f.waiting ++ later))) is);
-  count = omega (arith, length-drop 2 f.waiting, slice_get_within f.waiting 1 b next);
 }
 
 -- others may follow each signal of a record
@@ -174,3 +229,12 @@ gave-record left f old source waiting later form b signal is (more, took, waits,
     record-came left mid form b signal front next given (rw is room) (rw is timed) (rw is none_due) in
     rw skipped (gave-one-on left old (record mid { used = mid.used + 2; waiting = drop 2 mid.waiting }) signal (follows form b signal given)
     (came-more left old mid (record mid { used = mid.used + 2; waiting = drop 2 mid.waiting }) [] (signal ∷ []) came last))
+
+-- ---- no signal is held
+
+dry-by : (timed : Bool) (waiting : List ℕ) → length waiting ≤ (if timed then 1 else 0) → nat_lt (if timed then 1 else 0) (length waiting) ≡ false
+dry-by true waiting few = le-ltb 1 (length waiting) few
+dry-by false waiting few = le-ltb 0 (length waiting) few
+
+pub holds-none : {S K : Type 0} (f : Feed S K) → f.drains ≡ false → length f.waiting ≤ (if f.timed then 1 else 0) → holds_signal f ≡ false
+holds-none f none_due few = rw none_due (dry-by f.timed f.waiting few)

@@ -1,29 +1,14 @@
 -- Calls one after another.
-use Rattle.std.proofs.Common.{◌≡◌, List, [], ◌++◌, ℕ, Bool, false, Option, refl, subst, ap, sym, ◌∙◌, arith, append_assoc, append-nil, take, drop, length, ◌-◌, ◌+◌, ◌≤◌, map, take-append-drop}
-use Rattle.std.proofs.lemmas.List.{map-append, take_rest, take_at, drop-drop, length-take-le}
+use Rattle.std.proofs.Common.{◌≡◌, List, [], ◌++◌, ℕ, Bool, false, Option, refl, subst, ap, sym, ◌∙◌, arith, append_assoc, append-nil, take, drop, length, ◌-◌, ◌+◌, ◌≤◌, take-append-drop}
+use Rattle.std.proofs.lemmas.List.{take_rest, take_at, drop-drop, length-take-le}
 use Rattle.std.specs.Prelude.{◌==◌}
 use Rattle.std.specs.List.{list_any}
-use Rattle.std.specs.Io.KnownBytes.{Keeps}
-use Rattle.std.proofs.KnownBytes.{Consumes-nil, Consumes-trans, Consumes-kept, Appends-nil, Appends-trans, Appends-kept}
-use Rattle.df1_base.specs.Outside.{Took, Put, Wrote, WrotePart}
-
--- one read after another
-pub took_more : (a b c : Option (List ℕ)) (xs ys : List ℕ) → Took a b xs → Took b c ys → Took a c (xs ++ ys)
-took_more a b c xs ys first second = Consumes-trans a b c xs ys first second
+use Rattle.std.proofs.KnownBytes.{Appends-nil, Appends-trans}
+use Rattle.df1_base.specs.Outside.{Put, Wrote, WrotePart}
 
 -- nothing is written yet
 pub wrote_none : (a : Option (List ℕ)) (text : List ℕ) → Wrote a a text text
 wrote_none a text = record { part = []; text_is = refl; put = Appends-nil a }
-
--- a call that fails writes nothing more, and takes nothing more
-pub wrote_kept : (a b c : Option (List ℕ)) (text rest : List ℕ) → Wrote a b text rest → Keeps b c → Wrote a c text rest
-wrote_kept a b c text rest w kept = record { part = w.part; text_is = w.text_is; put = Appends-kept a b c w.part w.put kept }
-
-pub took_kept : (a b c : Option (List ℕ)) (xs : List ℕ) → Took a b xs → Keeps b c → Took a c xs
-took_kept a b c xs took kept = Consumes-kept a b c xs took kept
-
-pub took_none : (a : Option (List ℕ)) → Took a a []
-took_none a = Consumes-nil a
 
 -- all is written
 pub wrote_all : (a b : Option (List ℕ)) (text : List ℕ) → Wrote a b text [] → Put a b text
@@ -72,21 +57,6 @@ took_from items into given at n le is =
     let back : drop n (drop at items) ≡ drop (at + n) items = drop-drop n at items in
     rw (front, is, ← back, take-append-drop) refl
 
--- what was left of one text, and more, goes on
-pub wrote_on : (a b c : Option (List ℕ)) (text rest more rest' : List ℕ) → Wrote a b text rest → Wrote b c (rest ++ more) rest' → Wrote a c (text ++ more) rest'
-wrote_on a b c text rest more rest' w v = record {
-  part = w.part ++ v.part;
-  text_is = ap (λ k. k ++ more) w.text_is ∙ append_assoc w.part rest more ∙ ap (λ k. w.part ++ k) v.text_is ∙ sym (append_assoc w.part v.part rest');
-  put = Appends-trans a b c w.part v.part w.put v.put;
-}
-
-pub part_on : (a b c : Option (List ℕ)) (text rest more : List ℕ) → Wrote a b text rest → WrotePart b c (rest ++ more) → WrotePart a c (text ++ more)
-part_on a b c text rest more w (left, v) = (left, wrote_on a b c text rest more left w v)
-
--- what was left of the text goes on
-pub put_rest : (a b c : Option (List ℕ)) (text rest : List ℕ) → Wrote a b text rest → Put b c rest → Put a c text
-put_rest a b c text rest w put = subst (λ (all : List ℕ). Put a c all) (sym w.text_is) (Appends-trans a b c w.part rest w.put put)
-
 pub part_rest : (a b c : Option (List ℕ)) (text rest : List ℕ) → Wrote a b text rest → WrotePart b c rest → WrotePart a c text
 part_rest a b c text rest w (left, v) = (
   left,
@@ -96,12 +66,6 @@ part_rest a b c text rest w (left, v) = (
     put = Appends-trans a b c w.part v.part w.put v.put;
   },
 )
-
--- a part of what the first items make is one of what all make
-pub part_of_map : (f : ℕ → ℕ) (a b : Option (List ℕ)) (n : ℕ) (xs : List ℕ) → WrotePart a b (map f (take n xs)) → WrotePart a b (map f xs)
-part_of_map f a b n xs w =
-    let e : map f (take n xs) ++ map f (drop n xs) ≡ map f xs = sym (map-append f (take n xs) (drop n xs)) ∙ ap (map f) (take-append-drop n xs) in
-    rw (← e) (part_of_more a b (map f (take n xs)) (map f (drop n xs)) w)
 
 -- a test of a list of calls, for a call known by another name
 pub none_among : (fail told : List ℕ) (call next : ℕ) (found : Bool) → told ≡ fail → call ≡ next → found ≡ list_any (λ (n : ℕ). n == call) told → found ≡ false → list_any (λ (n : ℕ). n == next) fail ≡ false

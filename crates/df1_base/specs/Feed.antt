@@ -24,13 +24,15 @@ due drains = if drains then Drain ∷ [] else []
 abbrev pub signals_to_come : {S K : Type 0} → Feed S K → List ℕ → List Signal
 signals_to_come f left = due f.drains ++ input_signals f.timed f.used (f.waiting ++ left)
 
--- between these states the port gave these signals: it took some bytes more, and whatever is left after them, what was to come is
--- these signals, and then what is to come now
+-- between these states the port gave these signals: it took some bytes more; of those that waited and these, the first are gone;
+-- and whatever is left after them, what was to come is these signals, and then what is to come now
 pub record Came {S K : Type 0} (left : S → Option (List ℕ)) (old : Feed S K) (signals : List Signal) (new : Feed S K) : Type 0 where
   pub more : List ℕ
   pub took : Took (left old.source) (left new.source) more
+  pub gone : List ℕ
+  pub goes : old.waiting ++ more ≡ gone ++ new.waiting
+  pub count : new.used ≡ old.used + length gone
   pub gives : (later : List ℕ) → signals_to_come old (more ++ later) ≡ signals ++ signals_to_come new later
-  pub count : old.used + length old.waiting + length more ≡ new.used + length new.waiting
 
 -- this signal alone is to come, whatever is left or since nothing is left
 abbrev pub EndsWith : {S K : Type 0} → (S → Option (List ℕ)) → Feed S K → Signal → Type 0

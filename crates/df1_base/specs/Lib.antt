@@ -1,4 +1,3 @@
-pub mod Buffering
 pub mod Feed
 pub mod Host
 pub mod InMemory

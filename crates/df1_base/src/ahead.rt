@@ -49,6 +49,8 @@ impl Ahead {
         ensures end { IfOk result (λ byte. byte ≡ None → (length self.new ≡ place) × IsAtEnd (S.left source.new)) }
         ensures here { place < length self.old → (source.new ≡ source.old) × (self.new ≡ self.old) }
         ensures failed { OnErr result (Keeps (S.left source.old) (S.left source.new) × (self.new ≡ self.old)) }
+        ensures none_there { OnErr result (length self.old ≤ place) }
+        ensures few { length self.new ≤ 4096 }
         ensures calm { OnOk result (S.faults source.new ≡ S.faults source.old) }
         ensures later { S.faults source.old ≤ S.faults source.new }
         ensures cause { OnErr result (Rose (S.faults source.old) (S.faults source.new)) }
@@ -69,7 +71,8 @@ impl Ahead {
 
     /// How many bytes there are.
     fn len(&self) -> usize
-        ensures { result ≡ length self.now }
+        ensures count { result ≡ length self.now }
+        ensures few { length self.now ≤ 4096 }
     {
         self.end - self.at
     }
@@ -86,6 +89,7 @@ impl Ahead {
         requires { length self.old ≤ 1 }
         ensures took { OnOk result ((more : List ℕ) × Took (S.left source.old) (S.left source.new) more × (self.new ≡ self.old ++ more) × (length more ≤ 4096)
             × (more ≡ [] → IsAtEnd (S.left source.new))) }
+        ensures few { length self.new ≤ 4096 }
         ensures failed { OnErr result (Keeps (S.left source.old) (S.left source.new) × (self.new ≡ self.old)) }
         ensures calm { OnOk result (S.faults source.new ≡ S.faults source.old) }
         ensures later { S.faults source.old ≤ S.faults source.new }

@@ -11,7 +11,7 @@
 //!
 //! Any other record gives Bad with the offset of its first byte, and so does a single last byte. The end of the input
 //! gives End, and a byte after 268,435,456 others Long.
-ghost use Rattle.std.specs.Prelude.{◌≡◌, ◌+◌, ◌≤◌, ◌<◌, [], Some, IfOk, OnOk, OnErr, slice_get, true, false};
+ghost use Rattle.std.specs.Prelude.{◌≡◌, ◌+◌, ◌≤◌, ◌<◌, [], Some, IfOk, OnOk, OnErr, length, slice_get, true, false};
 ghost use Rattle.std.specs.Io.KnownBytes.{Keeps};
 ghost use Rattle.df1_base.specs.Feed.{Came, EndsWith, holds_signal, most_to_come};
 ghost use Rattle.df1_base.specs.Outside.{Rose};
@@ -37,7 +37,7 @@ pub struct FeedPort<S: Source, K: Sink> {
 }
 
 impl<S: Source, K: Sink> Model for FeedPort<S, K> {
-    ghost use Rattle.std.specs.Prelude.{◌≤◌, ◌+◌};
+    ghost use Rattle.std.specs.Prelude.{◌≤◌, ◌+◌, length};
     ghost use Rattle.df1_base.specs.Feed.{Feed};
     ghost use Rattle.df1_base.specs.Signals.{input_limit};
 
@@ -45,7 +45,7 @@ impl<S: Source, K: Sink> Model for FeedPort<S, K> {
 
     ghost view = { λ p. record { source = p.source; sink = p.sink; timed = p.timed; used = p.used; waiting = p.ahead; drains = p.drains } };
 
-    ghost invariant = { λ p. p.used ≤ input_limit + 1 };
+    ghost invariant = { λ p. (p.used ≤ input_limit + 1) × (length p.ahead ≤ 4096) };
 }
 
 impl<S: Source, K: Sink> FeedPort<S, K> {
@@ -63,10 +63,11 @@ impl<S: Source, K: Sink> FeedPort<S, K> {
         }
     }
 
-    /// The source and the sink, as they now are.
+    /// The source and the sink, as they now are. At most 4,096 bytes were taken whose signals were not given.
     pub fn into_parts(self) -> (S, K)
         ensures source { result.0 ≡ self.source }
         ensures sink { result.1 ≡ self.sink }
+        ensures few { length self.waiting ≤ 4096 }
     {
         (self.source, self.sink)
     }
@@ -76,6 +77,7 @@ impl<S: Source, K: Sink> FeedPort<S, K> {
         requires none_due { self.old.drains ≡ false }
         ensures gave { IfOk result (λ signal. Gave (Came S.left) (EndsWith S.left) self.old self.new signal) }
         ensures failed { OnErr result (Came S.left self.old [] self.new) }
+        ensures dry { OnErr result (holds_signal self.new ≡ false) }
         ensures fewer { IfOk result (λ signal. goes_on signal ≡ true → most_to_come self.new + 1 ≤ most_to_come self.old) }
         ensures no_more { most_to_come self.new ≤ most_to_come self.old }
         ensures sink { self.new.sink ≡ self.old.sink }
@@ -121,6 +123,7 @@ impl<S: Source, K: Sink> FeedPort<S, K> {
         requires none_due { self.old.drains ≡ false }
         ensures gave { IfOk result (λ signal. Gave (Came S.left) (EndsWith S.left) self.old self.new signal) }
         ensures failed { OnErr result (Came S.left self.old [] self.new) }
+        ensures dry { OnErr result (holds_signal self.new ≡ false) }
         ensures fewer { IfOk result (λ signal. goes_on signal ≡ true → most_to_come self.new + 1 ≤ most_to_come self.old) }
         ensures no_more { most_to_come self.new ≤ most_to_come self.old }
         ensures sink { self.new.sink ≡ self.old.sink }
@@ -155,12 +158,15 @@ fn signal_of(form: u8, byte: u8) -> Option<Signal>
 }
 
 impl<S: Source, K: Sink> Port for FeedPort<S, K> {
-    ghost use Rattle.df1_base.specs.Feed.{Came, EndsWith, most_to_come};
+    ghost use Rattle.std.specs.Prelude.{◌≡◌, false};
+    ghost use Rattle.df1_base.specs.Feed.{Came, EndsWith, holds_signal, most_to_come};
     ghost use Rattle.df1_base.specs.PortLaws.{came-none, came-more};
 
     ghost came = { λ p signals q. Came S.left p signals q };
 
     ghost ends_with = { λ p signal. EndsWith S.left p signal };
+
+    ghost dry = { λ p. holds_signal p ≡ false };
 
     ghost sent = { λ p. K.held p.sink };
 
@@ -173,6 +179,7 @@ impl<S: Source, K: Sink> Port for FeedPort<S, K> {
     fn next(&mut self) -> Result<Signal, Failed>
         ensures gave { IfOk result (λ signal. Gave (Came S.left) (EndsWith S.left) self.old self.new signal) }
         ensures failed { OnErr result (Came S.left self.old [] self.new) }
+        ensures dry { OnErr result (holds_signal self.new ≡ false) }
         ensures fewer { IfOk result (λ signal. goes_on signal ≡ true → most_to_come self.new + 1 ≤ most_to_come self.old) }
         ensures no_more { most_to_come self.new ≤ most_to_come self.old }
         ensures sink { self.new.sink ≡ self.old.sink }

@@ -1,9 +1,8 @@
 //! What every layer of `df1` stands on: sources of bytes, sinks for them and ports of signals, each with counted faults,
-//! their forms in memory and over std, a buffer in front of a sink, and the types that several layers share.
+//! their forms in memory and over std, and the types that several layers share.
 #![tactic(auto)]
 
 mod ahead;
-mod buffered;
 mod bytes_in;
 mod bytes_out;
 mod code;
@@ -25,7 +24,6 @@ mod tests;
 mod whole;
 mod whole_input;
 
-pub use buffered::Buffered;
 pub use bytes_in::BytesIn;
 pub use bytes_out::BytesOut;
 pub use code::Code;

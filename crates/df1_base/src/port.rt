@@ -18,6 +18,9 @@ pub trait Port {
     /// This signal, after which none follows, is the only one to come.
     ghost ends_with: { Self → OneSignal → Type 0 };
 
+    /// Of what the port took, no signal is left to be given.
+    ghost dry: { Self → Type 0 };
+
     /// The bytes that were put, where the port tells them.
     ghost sent: { Self → Option (List ℕ) };
 
@@ -31,10 +34,11 @@ pub trait Port {
     ghost put_faults: { Self → ℕ };
 
     /// Gives the next signal, which is then no longer to come, unless it is End, Bad or Long. `Failed` comes only where the count for
-    /// `next` rose, and then no signal came. Else the count stands still.
+    /// `next` rose; then no signal came, and the port holds none. Else the count stands still.
     fn next(&mut self) -> Result<Signal, Failed>
         ensures gave { IfOk result (λ signal. Gave came ends_with self.old self.new signal) }
         ensures failed { OnErr result (came self.old [] self.new) }
+        ensures dry { OnErr result (dry self.new) }
         ensures sent { Keeps (sent self.old) (sent self.new) }
         ensures fewer { IfOk result (λ signal. goes_on signal ≡ true → most self.new + 1 ≤ most self.old) }
         ensures no_more { most self.new ≤ most self.old }

@@ -1,5 +1,5 @@
 //! A port in memory, which fails at the calls that it is told to fail at.
-ghost use Rattle.std.specs.Prelude.{◌≡◌, ◌↔◌, ◌≤◌, ◌+◌, [], ◌∷◌, ◌++◌, Some, length, true, IsTrue, IsErr, IfOk, OnOk, OnErr};
+ghost use Rattle.std.specs.Prelude.{◌≡◌, ◌↔◌, ◌≤◌, ◌+◌, [], ◌∷◌, ◌++◌, Some, length, true, ⊤, IsTrue, IsErr, IfOk, OnOk, OnErr};
 ghost use Rattle.std.specs.Io.KnownBytes.{Keeps};
 ghost use Rattle.df1_base.specs.InMemory.{Exchange, after_next, after_write, next_fails, next_signal, refuses_next, up_to_last};
 ghost use Rattle.df1_base.specs.Outside.{Rose, Put};
@@ -63,13 +63,15 @@ impl PortMem {
 }
 
 impl Port for PortMem {
-    ghost use Rattle.std.specs.Prelude.{◌≡◌, [], ◌∷◌, ◌++◌, Some, length, refl};
+    ghost use Rattle.std.specs.Prelude.{◌≡◌, [], ◌∷◌, ◌++◌, Some, length, refl, ⊤};
     ghost use Rattle.df1_base.specs.InMemory.{up_to_last};
     ghost use Rattle.df1_base.specs.PortLaws.{split-more};
 
     ghost came = { λ p signals q. up_to_last p.signals ≡ signals ++ up_to_last q.signals };
 
     ghost ends_with = { λ p signal. up_to_last p.signals ≡ signal ∷ [] };
+
+    ghost dry = { λ _. ⊤ };
 
     ghost sent = { λ p. Some p.sink.held };
 
@@ -85,6 +87,7 @@ impl Port for PortMem {
         ensures after { self.new ≡ after_next self.old }
         ensures gave { IfOk result (λ signal. Gave (λ (p : Exchange) signals (q : Exchange). up_to_last p.signals ≡ signals ++ up_to_last q.signals) (λ (p : Exchange) signal. up_to_last p.signals ≡ signal ∷ []) self.old self.new signal) }
         ensures failed { OnErr result (up_to_last self.old.signals ≡ up_to_last self.new.signals) }
+        ensures dry { OnErr result ⊤ }
         ensures sent { Keeps (Some self.old.sink.held) (Some self.new.sink.held) }
         ensures fewer { IfOk result (λ signal. goes_on signal ≡ true → length self.new.signals + 1 ≤ length self.old.signals) }
         ensures no_more { length self.new.signals ≤ length self.old.signals }

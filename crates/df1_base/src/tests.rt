@@ -1,7 +1,7 @@
 //! The calls of each source and sink, one by one.
 ghost use Rattle.std.specs.Prelude.{◌≤◌, IfOk};
 
-use crate::{Buffered, BytesIn, BytesOut, Failed, Sink, Source, StdIn, StdOut, write_all};
+use crate::{BytesIn, BytesOut, Failed, Sink, Source, StdIn, StdOut, write_all};
 use std::alloc::Global;
 use std::io::{self, ErrorKind, Read, Write};
 use std::test::Fail;
@@ -41,44 +41,6 @@ fn five_thousand(alloc: Global) -> Result<Vec<u8>, Fail> {
         bytes.push((i % 251) as u8)?;
     }
     Ok(bytes)
-}
-
-#[test]
-fn a_sink_in_front_of_a_sink_sends_where_there_is_no_room(rt: HostRuntime) -> Result<(), Fail> {
-    // Two bytes at a time, 4,096 of them wait; the next two have them sent, in the only call before the flush.
-    let mut sink = Buffered::new(BytesOut::new(rt.alloc(), 5000, 5000, &[3])?);
-    for _ in 0..2049 {
-        assert_eq!(rt; sink.write(b"ab"), Ok(2));
-    }
-    assert_eq!(rt; sink.flush(), Ok(()));
-    assert_eq!(rt; sink.flush(), Ok(()));
-    let inner = sink.into_inner();
-    assert_eq!(rt; inner.held().len(), 4098);
-    assert_eq!(rt; inner.held().last(), Some(&b'b'));
-    Ok(())
-}
-
-#[test]
-fn what_a_sink_did_not_take_waits_after_a_failure(rt: HostRuntime) -> Result<(), Fail> {
-    // The inner sink takes three bytes at a call, and its second call fails.
-    let mut sink = Buffered::new(BytesOut::new(rt.alloc(), 5000, 3, &[2])?);
-    assert_eq!(rt; sink.write(b"abcdefg"), Ok(7));
-    assert_eq!(rt; sink.flush(), Err(Failed));
-    assert_eq!(rt; sink.write(b"h"), Ok(1));
-    assert_eq!(rt; sink.flush(), Ok(()));
-    assert_eq!(rt; sink.into_inner().held(), b"abcdefgh".as_slice());
-    Ok(())
-}
-
-#[test]
-fn more_than_may_wait_is_taken_in_parts(rt: HostRuntime) -> Result<(), Fail> {
-    let bytes = five_thousand(rt.alloc())?;
-    let mut sink = Buffered::new(BytesOut::new(rt.alloc(), 5000, 5000, &[])?);
-    assert_eq!(rt; sink.write(&bytes), Ok(4096));
-    assert_eq!(rt; sink.write(&bytes[4096..]), Ok(904));
-    assert_eq!(rt; sink.flush(), Ok(()));
-    assert!(rt; sink.into_inner().held() == bytes.as_slice());
-    Ok(())
 }
 
 #[test]

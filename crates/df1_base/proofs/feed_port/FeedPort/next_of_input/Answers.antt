@@ -1,8 +1,12 @@
 use Rattle.std.proofs.Common.{[], rules}
 use Rattle.std.proofs.lemmas.Result.{IfOk-weaker, on_err_weaker}
 use Rattle.df1_base.specs.PortLaws.{came-more}
-use Rattle.df1_base.proofs.Feeding.{came-taken, gave-after, gave-end}
+use Rattle.df1_base.proofs.Feeding.{came-taken, came-kept, on-err, gave-after, gave-end}
 use Rattle.df1_base.proofs.feed_port.FeedPort.next_of_input.Goals as goal
+
+pub returns-in_err-first-clause-failed : goal.returns-in_err-first-clause-failed
+returns-in_err-first-clause-failed g c =
+    on-err c.from_residual.result (came-kept g.S.Source.left _ c.args.self.now c.peek.new.source c.peek.new.self c.self.view_is c.in_err-first.ensures.failed)
 
 pub returns-in_default-clause-gave : goal.returns-in_default-clause-gave
 returns-in_default-clause-gave g c =

@@ -1,7 +1,11 @@
 use Rattle.std.proofs.Common.{rules, arith}
 use Rattle.std.proofs.lemmas.Option.{slice_get_within}
-use Rattle.df1_base.proofs.Feeding.{gave-cut, gave-bad, gave-record}
+use Rattle.df1_base.proofs.Feeding.{came-kept, on-err, gave-cut, gave-bad, gave-record}
 use Rattle.df1_base.proofs.feed_port.FeedPort.next_of_record.Goals as goal
+
+pub returns-in_err-second-clause-failed : goal.returns-in_err-second-clause-failed
+returns-in_err-second-clause-failed g c =
+    on-err c.from_residual.result (came-kept g.S.Source.left _ c.args.self.now c.peek.new.source c.peek.new.self c.self.view_is c.in_err-second.ensures.failed)
 
 pub returns-in_default-clause-gave : goal.returns-in_default-clause-gave
 returns-in_default-clause-gave g c =
