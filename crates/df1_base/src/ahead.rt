@@ -70,7 +70,7 @@ impl Ahead {
     }
 
     /// How many bytes there are.
-    fn len(&self) -> usize
+    pub fn len(&self) -> usize
         ensures count { result ≡ length self.now }
         ensures few { length self.now ≤ 4096 }
     {

@@ -63,6 +63,13 @@ impl<S: Source, K: Sink> FeedPort<S, K> {
         }
     }
 
+    /// How many bytes were taken whose signals were not given.
+    pub fn held(&self) -> usize
+        ensures { result ≡ length self.now.waiting }
+    {
+        self.ahead.len()
+    }
+
     /// The source and the sink, as they now are. At most 4,096 bytes were taken whose signals were not given.
     pub fn into_parts(self) -> (S, K)
         ensures source { result.0 ≡ self.source }
