@@ -21,6 +21,7 @@ came-taken {S} {K} left f old source waiting is (more, took, waits, few) = rw (�
   gone = [];
   goes = refl;
   count = omega arith;
+  timed_is = refl;
   gives = λ later. ap (λ bytes. due f.drains ++ input_signals f.timed f.used bytes) (sym (append_assoc f.waiting more later));
 })
 
@@ -33,6 +34,7 @@ came-kept left f old source waiting is (keeps, waits) = rw (← is, waits) (reco
   gone = [];
   goes = append-nil f.waiting;
   count = omega arith;
+  timed_is = refl;
   gives = λ later. refl;
 })
 
@@ -48,6 +50,7 @@ came-put left f old sink is = rw (← is) (record {
   gone = [];
   goes = append-nil f.waiting;
   count = omega arith;
+  timed_is = refl;
   gives = λ later. refl;
 })
 
@@ -59,6 +62,7 @@ came-drain left f old is is_due = rw (← is) (record {
   gone = [];
   goes = append-nil f.waiting;
   count = omega arith;
+  timed_is = refl;
   gives = λ later. rw is_due refl;
 })
 
@@ -89,6 +93,7 @@ byte-came left f b first room raw none_due = record {
   gone = b ∷ [];
   goes = first-goes f.waiting b first;
   count = refl;
+  timed_is = refl;
   gives = λ later. rw (raw, none_due) (first-byte f.waiting later f.used b first room);
 }
 
@@ -126,6 +131,7 @@ record-came left f form b signal first next is room timed none_due = record {
   gone = form ∷ b ∷ [];
   goes = two-go f.waiting form b first next;
   count = refl;
+  timed_is = refl;
   gives = λ later. rw (timed, none_due) (first-record f.waiting later f.used form b first next room ∙ ap (λ s. record_signals f.used s (timed_signals (f.used + 2) (drop 2 f.waiting ++ later))) is);
 }
 
@@ -139,7 +145,7 @@ follows-by form b false false true drain signal is = cc
 follows-by form b false false false true signal is = cc
 follows-by form b false false false false signal is = cc
 
-follows : (form b : ℕ) (signal : Signal) → signal_of form b ≡ Some signal → goes_on signal ≡ true
+pub follows : (form b : ℕ) (signal : Signal) → signal_of form b ≡ Some signal → goes_on signal ≡ true
 follows form b signal is = follows-by form b (form == 0) ((form == 1) && (b == 0)) ((form == 2) && (b == 0)) ((form == 3) && (b == 0)) signal is
 
 get-front : (bytes more : List ℕ) (x : ℕ) → slice_get bytes 0 ≡ Some x → slice_get (bytes ++ more) 0 ≡ Some x

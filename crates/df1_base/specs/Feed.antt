@@ -32,6 +32,7 @@ pub record Came {S K : Type 0} (left : S → Option (List ℕ)) (old : Feed S K)
   pub gone : List ℕ
   pub goes : old.waiting ++ more ≡ gone ++ new.waiting
   pub count : new.used ≡ old.used + length gone
+  pub timed_is : new.timed ≡ old.timed
   pub gives : (later : List ℕ) → signals_to_come old (more ++ later) ≡ signals ++ signals_to_come new later
 
 -- this signal alone is to come, whatever is left or since nothing is left
