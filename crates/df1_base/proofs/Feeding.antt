@@ -8,7 +8,7 @@ use Rattle.df1_base.specs.declared.signal.Signal.{Signal}
 use Rattle.df1_base.specs.declared.signal.Signal.TheVariants.{Byte, Tick, Take, Drain, End, Bad, Long}
 use Rattle.df1_base.specs.Outside.{Took}
 use Rattle.df1_base.specs.Signals.{GaveOne, Gave, goes_on, input_limit, input_signals, raw_signals, timed_signals, record_signals, signal_of}
-use Rattle.df1_base.specs.Feed.{Feed, Came, EndsWith, due, holds_signal}
+use Rattle.df1_base.specs.Feed.{Feed, Came, EndsWith, due}
 use Rattle.df1_base.specs.PortLaws.{came-more}
 
 -- bytes were taken from the source
@@ -181,6 +181,11 @@ long-first : (timed : Bool) (at b : ℕ) (bytes later : List ℕ) → slice_get 
 long-first timed at b [] later is over = cc
 long-first timed at b (x ∷ bytes) later is over = long-of timed at x (bytes ++ later) over
 
+long-held : (timed : Bool) (at b : ℕ) (bytes : List ℕ) → slice_get bytes 0 ≡ Some b → input_limit ≤ at → nat_lt (if timed && nat_lt at input_limit then 1 else 0) (length bytes) ≡ true
+long-held timed at b [] is over = cc
+long-held true at b (x ∷ bytes) is over = rw (le-ltb at input_limit over) (lt-ltb 0 (length (x ∷ bytes)) (omega arith))
+long-held false at b (x ∷ bytes) is over = lt-ltb 0 (length (x ∷ bytes)) (omega arith)
+
 -- a byte past the limit
 pub gave-long : {S K : Type 0} (left : S → Option (List ℕ)) (f old : Feed S K) (source : S) (waiting : List ℕ) (b : ℕ) → f ≡ old
     → (more : List ℕ) × Took (left f.source) (left source) more × (waiting ≡ f.waiting ++ more) × (length more ≤ 4096)
@@ -188,8 +193,16 @@ pub gave-long : {S K : Type 0} (left : S → Option (List ℕ)) (f old : Feed S 
     → Gave (Came left) (EndsWith left) old (record f { source = source; waiting = waiting }) Long
 gave-long left f old source waiting b is taken first over none_due = (
   came-taken left f old source waiting is taken,
-  inl (λ later. rw (is, none_due) (long-first old.timed old.used b waiting later first (rw is at over))),
+  inl (
+    rw (is, none_due) (long-held old.timed old.used b waiting first (rw is at over)),
+    λ later. rw (is, none_due) (long-first old.timed old.used b waiting later first (rw is at over)),
+  ),
 )
+
+two-held : (at b : ℕ) (bytes : List ℕ) → slice_get bytes 1 ≡ Some b → at < input_limit → nat_lt (if nat_lt at input_limit then 1 else 0) (length bytes) ≡ true
+two-held at b [] is room = cc
+two-held at b (x ∷ []) is room = cc
+two-held at b (x ∷ y ∷ bytes) is room = rw (lt-ltb at input_limit room) (lt-ltb 1 (length (x ∷ y ∷ bytes)) (omega arith))
 
 -- a record of none of the forms
 pub gave-bad : {S K : Type 0} (left : S → Option (List ℕ)) (f old : Feed S K) (source : S) (waiting : List ℕ) (form b : ℕ) → f ≡ old
@@ -199,8 +212,11 @@ pub gave-bad : {S K : Type 0} (left : S → Option (List ℕ)) (f old : Feed S K
 gave-bad left f old source waiting form b is (more, took, waits, few) first next bad room timed none_due =
     let front : slice_get waiting 0 ≡ Some form = rw (waits, is) (get-front old.waiting more form first) in (
       came-taken left f old source waiting is (more, took, waits, few),
-      inl (λ later. rw (is, timed, none_due)
-          (first-record waiting later old.used form b front next room ∙ ap (λ s. record_signals old.used s (timed_signals (old.used + 2) (drop 2 waiting ++ later))) bad)),
+      inl (
+        rw (is, timed, none_due) (two-held old.used b waiting next room),
+        λ later. rw (is, timed, none_due)
+            (first-record waiting later old.used form b front next room ∙ ap (λ s. record_signals old.used s (timed_signals (old.used + 2) (drop 2 waiting ++ later))) bad),
+      ),
     )
 
 cut-of : (bytes : List ℕ) (at : ℕ) → length bytes ≡ 1 → at < input_limit → timed_signals at (bytes ++ []) ≡ Bad at ∷ []
@@ -235,12 +251,3 @@ gave-record left f old source waiting later form b signal is (more, took, waits,
     record-came left mid form b signal front next given (rw is room) (rw is timed) (rw is none_due) in
     rw skipped (gave-one-on left old (record mid { used = mid.used + 2; waiting = drop 2 mid.waiting }) signal (follows form b signal given)
     (came-more left old mid (record mid { used = mid.used + 2; waiting = drop 2 mid.waiting }) [] (signal ∷ []) came last))
-
--- ---- no signal is held
-
-dry-by : (timed : Bool) (waiting : List ℕ) → length waiting ≤ (if timed then 1 else 0) → nat_lt (if timed then 1 else 0) (length waiting) ≡ false
-dry-by true waiting few = le-ltb 1 (length waiting) few
-dry-by false waiting few = le-ltb 0 (length waiting) few
-
-pub holds-none : {S K : Type 0} (f : Feed S K) → f.drains ≡ false → length f.waiting ≤ (if f.timed then 1 else 0) → holds_signal f ≡ false
-holds-none f none_due few = rw none_due (dry-by f.timed f.waiting few)

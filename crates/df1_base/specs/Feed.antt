@@ -1,5 +1,5 @@
 -- A port over a source and a sink.
-use Rattle.std.specs.Prelude.{◌≡◌, ℕ, ◌+◌, ◌-◌, ◌*◌, ◌⊎◌, Bool, List, [], ◌∷◌, ◌++◌, length, Option, if◌then◌else◌, nat_lt, ◌||◌}
+use Rattle.std.specs.Prelude.{◌≡◌, ℕ, ◌+◌, ◌-◌, ◌*◌, ◌⊎◌, Bool, true, List, [], ◌∷◌, ◌++◌, length, Option, if◌then◌else◌, nat_lt, ◌&&◌, ◌||◌}
 use Rattle.std.specs.Io.KnownBytes.{IsAtEnd}
 use Rattle.df1_base.specs.declared.signal.Signal.{Signal}
 use Rattle.df1_base.specs.declared.signal.Signal.TheVariants.{Drain}
@@ -35,16 +35,16 @@ pub record Came {S K : Type 0} (left : S → Option (List ℕ)) (old : Feed S K)
   pub timed_is : new.timed ≡ old.timed
   pub gives : (later : List ℕ) → signals_to_come old (more ++ later) ≡ signals ++ signals_to_come new later
 
--- this signal alone is to come, whatever is left or since nothing is left
+-- the bytes taken hold a further signal: one byte of a raw input, two of a record, and one past the limit
+abbrev pub holds_signal : {S K : Type 0} → Feed S K → Bool
+holds_signal f = f.drains || nat_lt (if f.timed && nat_lt f.used input_limit then 1 else 0) (length f.waiting)
+
+-- this signal alone is to come: the bytes taken hold it, whatever is left, or nothing is left
 abbrev pub EndsWith : {S K : Type 0} → (S → Option (List ℕ)) → Feed S K → Signal → Type 0
 EndsWith left f signal =
-    ((later : List ℕ) → signals_to_come f later ≡ signal ∷ [])
+    ((holds_signal f ≡ true) × ((later : List ℕ) → signals_to_come f later ≡ signal ∷ []))
     ⊎ (IsAtEnd (left f.source) × (signals_to_come f [] ≡ signal ∷ []))
 
 -- at most so many signals may still come
 abbrev pub most_to_come : {S K : Type 0} → Feed S K → ℕ
 most_to_come f = 2 * (input_limit - f.used) + (if f.drains then 1 else 0)
-
--- the bytes taken hold a further signal
-abbrev pub holds_signal : {S K : Type 0} → Feed S K → Bool
-holds_signal f = f.drains || nat_lt (if f.timed then 1 else 0) (length f.waiting)
