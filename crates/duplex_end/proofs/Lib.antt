@@ -8,3 +8,4 @@ pub mod Arriving
 pub mod Fates
 pub mod Responses
 pub mod Reaching
+pub mod Signals

@@ -4,3 +4,4 @@ pub mod Emission
 pub mod Reached
 pub mod Fates
 pub mod Arrived
+pub mod Serving

@@ -37,6 +37,9 @@ ghost use Rattle.duplex_end.specs.contracts.End.{the_row};
 
 mod laws;
 mod parts;
+mod serving;
+#[cfg(test)]
+mod serving_tests;
 #[cfg(test)]
 mod tests;
 
@@ -51,6 +54,7 @@ pub use laws::{
     last_response_is_by_the_acts, parts_stay_joined, signals_go_on,
 };
 use parts::{drop_wish, fill, hear_peer, is_whole, note_out, respond, take_in, tell, tick_sender};
+pub use serving::{Served, serve};
 use std::marker::Model;
 
 /// How an end is set up.

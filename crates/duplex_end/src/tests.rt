@@ -10,18 +10,18 @@ const COMMAND: [u8; 14] = [
     0x01, 0x00, 0x0F, 0x00, 0x01, 0x00, 0xAA, 0x02, 0x07, 0x89, 0x00, 0x00, 0x34, 0x12,
 ];
 
-const COMMAND_FRAME: [u8; 19] = [
+pub(crate) const COMMAND_FRAME: [u8; 19] = [
     0x10, 0x02, 0x01, 0x00, 0x0F, 0x00, 0x01, 0x00, 0xAA, 0x02, 0x07, 0x89, 0x00, 0x00, 0x34, 0x12,
     0x10, 0x03, 0x6D,
 ];
 
-const REPLY_FRAME: [u8; 11] = [
+pub(crate) const REPLY_FRAME: [u8; 11] = [
     0x10, 0x02, 0x00, 0x01, 0x4F, 0x00, 0x01, 0x00, 0x10, 0x03, 0xAF,
 ];
 
 /// A host that hands the command out once, and answers each message and each fate.
 #[derive(Drop)]
-struct OneCommand {
+pub(crate) struct OneCommand {
     waits: bool,
     is_out: bool,
 }
@@ -130,7 +130,7 @@ impl Host for OneCommand {
     ghost bodies_at_clear = { λ _ _. tt };
 }
 
-fn end_with_embedding() -> End<OneCommand> {
+pub(crate) fn end_with_embedding() -> End<OneCommand> {
     End::new(
         Setup {
             check: Check::Bcc,
