@@ -32,7 +32,7 @@ pub enum Served {
 /// Takes the signals of a port until it gives End, Bad or Long, or fails, and puts the bytes that the end gives at each,
 /// all of them before the next is taken. `Ended`, `Bad` and `Long` come exactly at these signals; `InFailed` only where
 /// the port's count for `next` rose, and `OutFailed` only where that for `put` did, with a first part of what was to be
-/// given at the last signal. It takes no memory.
+/// given at the last signal. At `InFailed` the port holds no signal of what it took. It takes no memory.
 pub fn serve<P: Port, H: Host + Drop>(port: &mut P, end: &mut End<H>) -> Served
     ensures served { result ≢ Served.OutFailed → (signals : List OneSignal)
         × P.came port.old signals port.new × Serves H.Host end.old signals end.new (P.sent port.old) (P.sent port.new) }
@@ -40,6 +40,7 @@ pub fn serve<P: Port, H: Host + Drop>(port: &mut P, end: &mut End<H>) -> Served
     ensures breaks_off { result ≡ Served.OutFailed → (signals : List OneSignal) × (last : OneSignal)
         × P.came port.old (signals ++ last ∷ []) port.new × BreaksOff H.Host end.old signals last end.new (P.sent port.old) (P.sent port.new) }
     ensures in_failed { result ≡ Served.InFailed → Rose (P.next_faults port.old) (P.next_faults port.new) }
+    ensures dry { result ≡ Served.InFailed → P.dry port.new }
     ensures out_failed { result ≡ Served.OutFailed → Rose (P.put_faults port.old) (P.put_faults port.new) }
     ensures in_calm { result ≢ Served.InFailed → P.next_faults port.new ≡ P.next_faults port.old }
     ensures out_calm { result ≢ Served.OutFailed → P.put_faults port.new ≡ P.put_faults port.old }
