@@ -3,7 +3,7 @@
 //!
 //! The place of the command that is out, and the place from which on the commands wait, are kept beside the commands,
 //! so no step looks at all of them.
-ghost use Rattle.std.specs.Prelude.{◌≡◌, ◌+◌, ◌≤◌, ◌<◌, [], ◌++◌, ◌∷◌, length, All, IfOk, IfErr, OnOk, OnErr, Err, IfSome, MatchOption, is_some, nat_lt, slice_get, ◌==◌, IfNone, IsTrue, if◌then◌else◌};
+ghost use Rattle.std.specs.Prelude.{◌≡◌, ◌+◌, ◌≤◌, ◌<◌, [], ◌++◌, ◌∷◌, length, All, IfOk, IfErr, OnOk, OnErr, Err, IfSome, MatchOption, is_some, nat_lt, slice_get, ◌==◌, IfNone, IsSome, IsTrue, if◌then◌else◌};
 ghost use Rattle.std.specs.Option.{option_copied, option_map};
 ghost use Rattle.std.specs.Int.{bit_at};
 ghost use Rattle.df1_base.specs.Host.{IsBody};
@@ -87,16 +87,18 @@ impl Initiator {
         Ok(count as u32 + 1)
     }
 
-    /// What became of command `n`, and None exactly where `n` is 0 or a number that was not issued.
+    /// What became of command `n`, and None exactly where `n` is 0 or a number that was not issued, as each over 65,535.
     pub fn outcome(&self, n: u32) -> Option<Outcome>
-        ensures { result ≡ outcome_of self.now n }
+        ensures outcome { result ≡ outcome_of self.now n }
+        ensures few { IsSome result → n ≤ 65535 }
     {
         Some(self.command(n)?.outcome())
     }
 
-    /// The accepted reply to command `n`, empty unless it is answered.
+    /// The accepted reply to command `n`, empty unless it is answered: at most 250 bytes.
     pub fn reply(&self, n: u32) -> &[u8]
-        ensures { result.now ≡ reply_of self.now n }
+        ensures reply { result.now ≡ reply_of self.now n }
+        ensures size { length result.now ≤ 250 }
     {
         match self.command(n) {
             Some(command) => command.accepted(),
@@ -204,7 +206,8 @@ impl Initiator {
 
     /// Command `n`, from 1.
     fn command(&self, n: u32) -> Option<&Command>
-        ensures { option_map issued_of (option_copied result) ≡ command self.now n }
+        ensures found { option_map issued_of (option_copied result) ≡ command self.now n }
+        ensures few { IsSome result → n ≤ 65535 }
     {
         let place = n.checked_sub(1)?;
         command_at(&self.issued, place as usize)
@@ -242,7 +245,8 @@ fn is_at(out: Option<usize>, place: usize) -> bool
 
 /// The command at a place.
 fn command_at(issued: &[Command], place: usize) -> Option<&Command>
-    ensures { option_copied result ≡ slice_get issued.now place }
+    ensures found { option_copied result ≡ slice_get issued.now place }
+    ensures within { IsSome result → place < length issued.now }
 {
     issued.get(place)
 }

@@ -1,5 +1,5 @@
 //! A command that was issued, and what becomes of it.
-ghost use Rattle.std.specs.Prelude.{◌≡◌, ℕ, List};
+ghost use Rattle.std.specs.Prelude.{◌≡◌, ◌≤◌, ℕ, List, length};
 ghost use Rattle.df1_base.specs.Host.{IsBody};
 ghost use Rattle.df1_node.specs.Initiator.{is_last_tick, is_reply_to, ticked, told_outcome, told_reply};
 ghost use Rattle.df1_node.specs.Commands.{issued_of, standing_of};
@@ -67,7 +67,8 @@ impl Command {
 
     /// The reply that was accepted, and nothing where none was.
     pub fn accepted(&self) -> &[u8]
-        ensures { result.now ≡ told_reply (issued_of self.now).standing }
+        ensures reply { result.now ≡ told_reply (issued_of self.now).standing }
+        ensures size { length result.now ≤ 250 }
     {
         match self.state {
             State::Answered => &self.reply,
