@@ -20,39 +20,10 @@ use Rattle.line_script.specs.Plans.{plan_of, fresh_end}
 use Rattle.line_report.specs.declared.record.Line.{Line}
 use Rattle.line_report.specs.declared.record.Line.TheVariants as line
 use Rattle.line_report.specs.declared.record.Record.{Record}
+pub use Rattle.outset.specs.Outset.{with_first, with_all, first_tables, first_station, first_node, limits_of, setup_of}
 use Rattle.duplex_line.specs.Acts.{SideState, LineState, swapped, Deed, Issue, Take, Deliver, Lose, Alter, Foreign, Tick, after_deeds, lines_over, given_over}
 
 -- ---- the first state
-
--- a word has its first value, where there is such a word
-abbrev pub with_first : DataTables → WordOf → DataTables
-with_first tables w = if has_word tables.specs w.file w.index then with_word tables w.file w.index w.value else tables
-
-abbrev pub with_all : DataTables → List WordOf → DataTables
-with_all tables [] = tables
-with_all tables (w ∷ words) = with_all (with_first tables w) words
-
--- the tables of an end before anything happens: its files, with the first values of their words
-abbrev pub first_tables : EndPlan → DataTables
-first_tables plan = with_all (fresh plan.files) plan.words
-
-abbrev pub first_station : EndPlan → StationState
-first_station plan = record { tables = first_tables plan; compat = plan.compat; block = plan.block }
-
-abbrev pub first_node : EndPlan → NodeState
-first_node plan = record {
-  room = plan.room;
-  station = first_station plan;
-  replies = [];
-  initiator = record { node = plan.node; tns = plan.tns; reply_ticks = plan.reply_ticks; issued = [] };
-  last = handed.Nothing;
-}
-
-abbrev pub limits_of : EndPlan → Limits
-limits_of plan = record { ack_ticks = plan.ack_ticks; max_naks = plan.max_naks; max_enqs = plan.max_enqs }
-
-abbrev pub setup_of : Check → EndPlan → Setup
-setup_of check plan = record { check = check; embed = plan.embed; limits = limits_of plan }
 
 abbrev pub first_side : Check → EndPlan → SideState
 first_side check plan = record { end = new_end (setup_of check plan) (first_node plan); lane = [] }

@@ -19,7 +19,6 @@ mod cell;
 mod deal;
 mod deceit;
 pub mod laws;
-mod outset;
 mod reported;
 mod side;
 mod words;

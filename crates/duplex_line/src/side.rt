@@ -4,15 +4,19 @@ ghost use Rattle.std.specs.Prelude.{◌≡◌, [], ◌++◌, IfOk, OnOk, None, s
 ghost use Rattle.duplex_receiver.specs.Receiver.{body_at};
 ghost use Rattle.df1_node.specs.Initiator.{issue_fault};
 ghost use Rattle.duplex_end.specs.End.{turn_at_tick, gone_at_tick, out_at_take};
+ghost use Rattle.line_script.specs.Playable.{IsPlanOf};
 ghost use Rattle.each_once.specs.NodeHost.{node_host};
 ghost use Rattle.duplex_line.specs.Acts.{after_issue, after_take, after_leaving, after_alter, after_cell, after_tick, byte_taken, step_of, taken};
-ghost use Rattle.duplex_line.specs.Run.{tables_of};
+ghost use Rattle.duplex_line.specs.Run.{first_side, tables_of};
 
 use crate::cell::Cell;
 use arrayvec::ArrayVec;
 use df1_base::{NoMemory, Step, Turn};
+use df1_check::Check;
 use df1_node::{IssueFault, Node, Tables};
 use duplex_end::End;
+use line_script::EndPlan;
+use outset::{node_of, setup_of};
 use std::alloc::Global;
 use std::collections::VecDeque;
 use std::marker::Model;
@@ -120,4 +124,13 @@ impl Side {
     {
         self.end.host().tables()
     }
+}
+
+/// An end by its plan, with nothing heard, given or issued.
+pub(crate) fn side_of(alloc: Global, check: Check, plan: &EndPlan) -> Result<Side, NoMemory>
+    requires { IsPlanOf plan.now.who plan.now }
+    ensures { IfOk result (λ side. side ≡ first_side check plan.now) }
+{
+    let node = node_of(alloc, plan)?;
+    Ok(Side::new(alloc, End::new(setup_of(check, plan), node)))
 }

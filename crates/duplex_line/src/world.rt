@@ -9,9 +9,8 @@ ghost use Rattle.duplex_line.specs.Run.{record_from, all_words, who_of};
 ghost use Rattle.duplex_line.specs.Plays.{IsNext, begun, played, printed, takes_no_memory};
 
 use crate::deal::deal;
-use crate::outset::side_of;
 use crate::reported::Reported;
-use crate::side::Side;
+use crate::side::{Side, side_of};
 use crate::words::push_all;
 use df1_base::{Failed, NoMemory, Sink};
 use line_report::{Lines, Record, print_lines};

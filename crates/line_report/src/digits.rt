@@ -44,8 +44,8 @@ fn pairs(bytes: &[u8]) -> Short
     digits
 }
 
-/// The two digits of a byte.
-pub(crate) fn pair(byte: u8) -> [u8; 2]
+/// The two hexadecimal digits of a byte, high digit first, letters in upper case.
+pub fn pair(byte: u8) -> [u8; 2]
     ensures { result ≡ encode_upper (byte ∷ []) }
 {
     [

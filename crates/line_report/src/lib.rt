@@ -7,6 +7,7 @@ mod printing;
 mod record;
 mod short;
 
+pub use digits::pair;
 pub use printing::{print, print_lines, put_line};
 pub use record::{Line, Lines, Record};
 

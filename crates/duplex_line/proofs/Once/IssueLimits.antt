@@ -1,4 +1,4 @@
--- How many commands an end has issued, and that a payload that may be issued is.
+-- How many commands an end has issued.
 use Rattle.std.proofs.Common.{◌≡◌, ◌∙◌, ℕ, zero, suc, ◌+◌, ◌<◌, Bool, true, false, List, [], ◌∷◌, length, map, not, eqb, Option, Some, None, is_some, is_none, length-append, refl, sym, ap, arith}
 use Rattle.std.specs.Prelude.{IsTrue, ◌&&◌, ◌==◌, nat_le, nat_lt, bit_and, replicate, slice_get, if◌then◌else◌}
 use Rattle.std.specs.Int.{bit_at}
@@ -31,22 +31,6 @@ use Rattle.each_once.specs.NodeHost.{node_host}
 use Rattle.duplex_line.specs.Acts.{SideState, LineState, swapped, Deed, Issue, Take, Deliver, Lose, Alter, Foreign, Tick, near_after, arriving, after_arrival, after_deed, after_deeds}
 use Rattle.duplex_line.specs.Run.{seen_from, after_event}
 use Rattle.duplex_line.specs.Plays.{issued_by}
-
--- ---- tests
-
-and-both : (a b : Bool) → IsTrue (a && b) → (a ≡ true) × (b ≡ true)
-and-both true true h = (refl, refl)
-and-both true false h = absurd cc
-and-both false b h = absurd cc
-
-cons-some : (x : ℕ) (xs : List ℕ) → (length (x ∷ xs) == 0) ≡ false
-cons-some x xs = grind (arith, nat_tests)
-
-fits-not-over : (n : ℕ) → nat_le n 245 ≡ true → nat_lt 245 n ≡ false
-fits-not-over n h = grind (arith, nat_tests)
-
-few-left : (n : ℕ) → n < 65535 → nat_le 65535 n ≡ false
-few-left n h = grind (arith, nat_tests)
 
 -- ---- the commands of a node
 
@@ -222,16 +206,3 @@ commands-of-b (event.Lose lane n) s h = plus-none _ _ (quiet-b lane.from (replic
 commands-of-b (event.Alter lane mask) s h = plus-none _ _ (quiet-b lane.from (Alter mask ∷ []) s same)
 commands-of-b (event.Foreign lane bytes) s h = plus-none _ _ (quiet-b lane.from (map Foreign bytes) s (counted-foreign bytes))
 commands-of-b (event.Tick who n) s h = plus-none _ _ (quiet-b who (replicate n Tick) s (counted-same Tick same n))
-
--- ---- a payload that may be issued
-
--- it is issued, where the end has commands left
-pub payload-issues : (s : InitiatorState) (payload : List ℕ) → IsTrue (is_payload payload) → length s.issued < 65535 → issue_fault s payload ≡ None
-payload-issues s [] h few = absurd cc
-payload-issues s (cmd ∷ rest) h few =
-    let parts = and-both (nat_le (length (cmd ∷ rest)) 245) (bit_and cmd 0x40 == 0) h in
-    let some : (length (cmd ∷ rest) == 0) ≡ false = cons-some cmd rest in
-    let fits : nat_lt 245 (length (cmd ∷ rest)) ≡ false = fits-not-over (length (cmd ∷ rest)) parts.0 in
-    let command : eqb (bit_at cmd 6) 1 ≡ false = sym (and_64 cmd) ∙ ap not parts.1 in
-    let left : nat_le 65535 (length s.issued) ≡ false = few-left (length s.issued) few in
-    rw (some, fits, command, left) refl

@@ -1,7 +1,7 @@
 use Rattle.std.proofs.Common.{map}
 use Rattle.std.specs.Prelude.{replicate}
 use Rattle.duplex_line.specs.Acts.{LineState, Deliver, Foreign}
-use Rattle.duplex_line.proofs.Once.IssueLimits.{payload-issues}
+use Rattle.outset.proofs.IssuedPayloads.{payload-issues}
 use Rattle.duplex_line.proofs.Steps.EventSteps.{on_ok, without-bytes, delivers-give-none, foreign-give-none, takes-state, takes-lines, losses-state, losses-lines, ticks-state, ticks-lines}
 use Rattle.duplex_line.proofs.deal.deal.Goals as goal
 

@@ -1,6 +1,6 @@
 use Rattle.std.proofs.Common.{◌≡◌, drop}
-use Rattle.duplex_line.specs.Run.{with_all}
-use Rattle.duplex_line.proofs.outset.set_words.Given as goal
+use Rattle.outset.specs.Outset.{with_all}
+use Rattle.outset.proofs.node.set_words.Given as goal
 
 -- what is set and what is still to be set
 abbrev pub invariant-loop-word : goal.invariant-loop-word

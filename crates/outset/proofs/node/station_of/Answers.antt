@@ -1,8 +1,8 @@
 use Rattle.std.proofs.Common.{◌≡◌, Bool, true, false, cond, List, [], ◌∷◌, refl, ◌∙◌}
 use Rattle.data_files.specs.Tables.{DataTables, fresh, has_word, with_word}
 use Rattle.line_script.specs.declared.script.WordOf.{WordOf}
-use Rattle.duplex_line.specs.Run.{with_all, with_first}
-use Rattle.duplex_line.proofs.outset.station_of.Goals as goal
+use Rattle.outset.specs.Outset.{with_all, with_first}
+use Rattle.outset.proofs.node.station_of.Goals as goal
 
 -- a first value changes no file
 same_files : (there : Bool) (tables : DataTables) (w : WordOf) → (cond there (with_word tables w.file w.index w.value) tables).specs ≡ tables.specs

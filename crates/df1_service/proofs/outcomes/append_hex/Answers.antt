@@ -1,0 +1,10 @@
+use Rattle.std.proofs.Common.{◌∙◌, ◌++◌, ℕ, List, ap, sym}
+use Rattle.std.specs.List.{flat_map}
+use Rattle.std.proofs.lemmas.List.{take_all}
+use Rattle.line_report.proofs.Pairs.{by_bytes, pair_of}
+use Rattle.df1_service.proofs.outcomes.append_hex.Goals as goal
+
+pub returns-clause-text : goal.returns-clause-text
+returns-clause-text c =
+    let all = ap (flat_map pair_of) (take_all c.loop-byte.byte-index c.args.bytes.now c.loop-byte-test.false) ∙ sym (by_bytes c.args.bytes.now) in
+    c.loop-byte.invariant.text ∙ ap (λ (digits : List ℕ). c.args.line.now.items ++ digits) all

@@ -1,0 +1,38 @@
+use Rattle.std.proofs.Common.{◌≡◌, ◌∙◌, ◌≤◌, ◌+◌, ◌-◌, ℕ, List, Option, Some, None, drop, sym, subst, ap, arith}
+use Rattle.df1_base.specs.Outside.{Wrote}
+use Rattle.df1_base.proofs.Laws.{wrote_all}
+use Rattle.df1_node.specs.Initiator.{outcome_of, reply_of}
+use Rattle.df1_service.specs.Service.{outcome_line, outcome_lines, outcomes_text}
+use Rattle.df1_service.proofs.OutcomeLines.{next_line, last_line, line_put, line_part}
+use Rattle.df1_service.proofs.outcomes.write_outcomes.Goals as goal
+
+pub returns-in_err-write_all-clause-part : goal.returns-in_err-write_all-clause-part
+returns-in_err-write_all-clause-part g c =
+    let s = c.args.initiator.now in
+    let n = c.loop-outcome.n in
+    let o = c.in-Some.outcome in
+    let line = outcome_line n o (reply_of s n) in
+    let text : c.deref.result.now ≡ line = c.deref.ensures.0 ∙ c.line_of.ensures ∙ ap (outcome_line n o) c.reply.ensures.reply in
+    let wrote = rw (next_line s n o c.loop-outcome.invariant.some (sym c.outcome.ensures.outcome ∙ c.in-Some.is)) at c.loop-outcome.invariant.wrote in
+    line_part _ _ _ (outcomes_text s) line (outcome_lines (n + 1) (drop (n + 1 - 1) s.issued)) wrote (rw text at c.write_all.ensures.part)
+
+pub loop-outcome-preserved : goal.loop-outcome-preserved
+loop-outcome-preserved g c =
+    let s = c.args.initiator.now in
+    let n = c.loop-outcome.n in
+    let o = c.in-Some.outcome in
+    let line = outcome_line n o (reply_of s n) in
+    let text : c.deref.result.now ≡ line = c.deref.ensures.0 ∙ c.line_of.ensures ∙ ap (outcome_line n o) c.reply.ensures.reply in
+    let wrote = rw (next_line s n o c.loop-outcome.invariant.some (sym c.outcome.ensures.outcome ∙ c.in-Some.is)) at c.loop-outcome.invariant.wrote in
+    record {
+      some = omega arith;
+      wrote = line_put _ _ _ (outcomes_text s) line (outcome_lines (n + 1) (drop (n + 1 - 1) s.issued)) wrote (rw text at c.in_ok-write_all.ensures.ok);
+      calm = c.in_ok-write_all.ensures.calm ∙ c.loop-outcome.invariant.calm;
+    }
+
+pub returns-clause-ok : goal.returns-clause-ok
+returns-clause-ok g c =
+    let s = c.args.initiator.now in
+    let n = c.loop-outcome.n in
+    let none : outcome_of s n ≡ None = sym c.in_default.ensures.outcome in
+    wrote_all _ _ (outcomes_text s) (rw (last_line s n c.loop-outcome.invariant.some none) at c.loop-outcome.invariant.wrote)

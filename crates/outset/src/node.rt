@@ -1,0 +1,66 @@
+//! The node of an end.
+
+ghost use Rattle.std.specs.Prelude.{◌≡◌, IfOk, None};
+ghost use Rattle.data_files.specs.Tables.{faults, fresh};
+ghost use Rattle.line_script.specs.Playable.{IsPlanOf};
+ghost use Rattle.outset.specs.Outset.{first_node, first_station, first_tables, with_all};
+
+use df1_base::NoMemory;
+use df1_node::{FileSpec, MakeFault, Node, NodeSetup, Station, Tables};
+use line_script::{EndPlan, WordOf};
+use std::alloc::Global;
+
+/// The node of the end of a plan: its data files with the first values of their words, and no command issued. An error
+/// is want of memory.
+pub fn node_of(alloc: Global, plan: &EndPlan) -> Result<Node, NoMemory>
+    requires { IsPlanOf plan.now.who plan.now }
+    ensures { IfOk result (λ node. node ≡ first_node plan.now) }
+{
+    let setup = NodeSetup {
+        node: plan.node,
+        tns: plan.tns,
+        reply_ticks: plan.reply_ticks,
+        room: plan.room,
+    };
+    Node::new(alloc, setup, station_of(alloc, plan)?)
+}
+
+/// The station of an end.
+fn station_of(alloc: Global, plan: &EndPlan) -> Result<Station, NoMemory>
+    requires { IsPlanOf plan.now.who plan.now }
+    ensures { IfOk result (λ station. station ≡ first_station plan.now) }
+{
+    let tables = tables_of(alloc, plan)?;
+    Ok(Station::new(tables, plan.compat, plan.block.as_slice()))
+}
+
+/// The data tables of an end: its files, with the first values of their words.
+fn tables_of(alloc: Global, plan: &EndPlan) -> Result<Tables, NoMemory>
+    requires { IsPlanOf plan.now.who plan.now }
+    ensures { IfOk result (λ tables. tables ≡ first_tables plan.now) }
+{
+    let mut tables = zero_tables(alloc, plan.files.as_slice())?;
+    set_words(&mut tables, plan.words.as_slice());
+    Ok(tables)
+}
+
+/// Data tables of these files, all words 0.
+fn zero_tables(alloc: Global, files: &[FileSpec]) -> Result<Tables, NoMemory>
+    requires { faults files.now ≡ None }
+    ensures { IfOk result (λ tables. tables ≡ fresh files.now) }
+{
+    match Tables::new(alloc, files) {
+        Ok(tables) => Ok(tables),
+        Err(MakeFault::NoMemory) => Err(NoMemory),
+        Err(_) => unreachable!(),
+    }
+}
+
+/// Gives words their first values.
+fn set_words(tables: &mut Tables, words: &[WordOf])
+    ensures { tables.new ≡ with_all tables.old words.now }
+{
+    for word in words {
+        let _ = tables.set(word.file, word.index, word.value);
+    }
+}
