@@ -1,4 +1,4 @@
--- A slave stands for the bytes that arrived at it, and a whole message is heard exactly where the grammar hears one.
+-- A slave stands for the bytes that arrived at it, and hears at a byte what the grammar hears at the last of them.
 use Rattle.std.proofs.Common.{◌≡◌, ℕ, true, List, [], ◌∷◌, ◌++◌, Option, Some, None, inl, inr, ap, sym, subst, ◌∙◌, refl, append-nil}
 use Rattle.std.specs.Prelude.{◌⊎◌}
 use Rattle.df1_base.specs.declared.host.Host.{Ghosts}
@@ -12,9 +12,9 @@ use Rattle.half_frame.specs.SlaveStanding.{Listening, listening}
 use Rattle.half_frame.specs.SlaveStep.{next}
 use Rattle.half_frame.proofs.SlaveLemmas.{machine, works}
 use Rattle.half_slave.specs.declared.SlaveSetup.{SlaveSetup}
-use Rattle.half_slave.specs.Slave.{SlaveState, new_slave, is_whole, station_of, slave_after_byte, step_at_byte}
+use Rattle.half_slave.specs.Slave.{SlaveState, new_slave, is_whole, station_of, heard_at, slave_after_byte, step_at_byte}
 use Rattle.half_slave.specs.Emission.{Letter, Byte, Take, slave_after, bytes_among}
-use Rattle.half_slave.specs.Arrived.{StandsFor, TellsMessage, Arrival, bytes_arrived, HeardByGrammar}
+use Rattle.half_slave.specs.Arrived.{StandsFor, Hears, TellsMessage, Arrival, bytes_arrived, HeardByGrammar}
 use Rattle.half_slave.proofs.Rows.{byte-ear}
 
 -- a new slave stands for no byte
@@ -36,6 +36,12 @@ pub stands-signal : {H : Type 0} (m : Ghosts H) (check : Check) (bytes : List �
 stands-signal m check bytes s (Byte b) stands = stands-byte m s b check bytes stands
 stands-signal m check bytes s Take stands = rw (append-nil bytes) stands
 
+-- ---- what is heard
+
+-- at a byte it is what the grammar hears at the last of all
+pub byte-hears : {H : Type 0} (s : SlaveState H) (b : ℕ) (check : Check) (bytes : List ℕ) → StandsFor check bytes s → Hears check (bytes ++ b ∷ []) (heard_at s b)
+byte-hears s b check bytes stands = heard-next (slave_hears check 250) (machine check 250) (works check 250) b bytes s.ear stands
+
 -- ---- whole messages
 
 pub whole-is : (what : Option SlaveHeard) → is_whole what ≡ true → what ≡ Some (heard.Addressed (station_of what))
@@ -51,12 +57,12 @@ whole-is (Some (heard.Stray b)) whole = cc
 whole-is (Some (heard.StrayPair code)) whole = cc
 
 -- what is heard is told as whole, with its station, exactly where the grammar hears a whole message to that station
-heard-tells : (check : Check) (bytes : List ℕ) (what : Option SlaveHeard) → ReadOff (slave_hears check 250) bytes (last_heard (slave_hears check 250)) what
+heard-tells : (check : Check) (bytes : List ℕ) (what : Option SlaveHeard) → Hears check bytes what
     → TellsMessage check bytes (is_whole what) (station_of what)
 heard-tells check bytes what hears stn = (
   λ told.
       let named : what ≡ Some (heard.Addressed stn) = whole-is what told.0 ∙ ap (λ (n : ℕ). Some (heard.Addressed n)) told.1 in
-      subst (λ (w : Option SlaveHeard). ReadOff (slave_hears check 250) bytes (last_heard (slave_hears check 250)) w) named hears,
+      subst (λ (w : Option SlaveHeard). Hears check bytes w) named hears,
   λ whole.
       let same : Some (heard.Addressed stn) ≡ what =
       same-split (slave_hears check 250) (machine check 250) (works check 250) bytes (last_heard (slave_hears check 250)) (last_heard (slave_hears check 250)) what (Some (heard.Addressed stn)) hears whole
@@ -66,8 +72,7 @@ heard-tells check bytes what hears stn = (
 
 pub byte-tells : {H : Type 0} (m : Ghosts H) (s : SlaveState H) (b : ℕ) (check : Check) (bytes : List ℕ) → StandsFor check bytes s
     → TellsMessage check (bytes ++ b ∷ []) (step_at_byte m s b).whole (step_at_byte m s b).station
-byte-tells m s b check bytes stands =
-    heard-tells check (bytes ++ b ∷ []) (next 250 s.ear b).1 (heard-next (slave_hears check 250) (machine check 250) (works check 250) b bytes s.ear stands)
+byte-tells m s b check bytes stands = heard-tells check (bytes ++ b ∷ []) (heard_at s b) (byte-hears s b check bytes stands)
 
 -- ---- what arrived
 

@@ -1,7 +1,8 @@
 -- The bytes that arrived at a slave, and what the grammar of the master's bytes hears in them.
-use Rattle.std.specs.Prelude.{◌≡◌, ◌↔◌, ℕ, Bool, true, List, [], ◌∷◌, ◌++◌, map, Some}
+use Rattle.std.specs.Prelude.{◌≡◌, ◌↔◌, ℕ, Bool, true, List, [], ◌∷◌, ◌++◌, map, Option, Some}
 use Rattle.df1_check.specs.declared.Check.{Check}
 use Rattle.df1_frame.specs.Line.{ReadOff, last_heard}
+use Rattle.half_frame.specs.declared.heard.SlaveHeard.{SlaveHeard}
 use Rattle.half_frame.specs.declared.heard.SlaveHeard.TheVariants as heard
 use Rattle.half_frame.specs.SlaveGrammar.{slave_hears}
 use Rattle.half_frame.specs.SlaveStanding.{listening}
@@ -11,9 +12,13 @@ use Rattle.half_slave.specs.Slave.{SlaveState}
 abbrev pub StandsFor : {H : Type 0} → Check → List ℕ → SlaveState H → Type 0
 StandsFor check bytes s = ReadOff (slave_hears check 250) bytes (listening check 250) s.ear
 
+-- the grammar hears this at the last of these bytes
+abbrev pub Hears : Check → List ℕ → Option SlaveHeard → Type 0
+Hears check bytes what = ReadOff (slave_hears check 250) bytes (last_heard (slave_hears check 250)) what
+
 -- the grammar hears a whole message to this station at the last of these bytes
 abbrev pub HearsMessage : Check → List ℕ → ℕ → Type 0
-HearsMessage check bytes stn = ReadOff (slave_hears check 250) bytes (last_heard (slave_hears check 250)) (Some (heard.Addressed stn))
+HearsMessage check bytes stn = Hears check bytes (Some (heard.Addressed stn))
 
 -- a byte that arrived, whether a whole message was heard there, and the station that it names
 pub record Arrival : Type 0 where

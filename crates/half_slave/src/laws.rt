@@ -9,7 +9,7 @@ ghost use Rattle.half_frame.specs.declared.heard.SlaveHeard.TheVariants.{Ack};
 ghost use Rattle.pccc_envelope.specs.Accepted.{last_key, with_offer};
 ghost use Rattle.half_slave.specs.declared.SlaveSetup.{SlaveSetup as Settings};
 ghost use Rattle.half_slave.specs.Slave.{SlaveState, new_slave, with_host, is_quiet, heard_at, listened, fate_at, slave_after_byte, step_at_byte, slave_after_take, out_at_take, left_to_give};
-ghost use Rattle.half_slave.specs.Arrived.{Arrival, StandsFor, HeardByGrammar, bytes_arrived};
+ghost use Rattle.half_slave.specs.Arrived.{Arrival, StandsFor, Hears, HeardByGrammar, bytes_arrived};
 ghost use Rattle.half_slave.specs.Emission.{Letter, slave_after, given_at, slave_after_all, emission, bytes_among, takes, Drains};
 ghost use Rattle.half_slave.specs.Fates.{Counted, InTurn, IsGivenUp, events, sendings_begun};
 ghost use Rattle.half_slave.specs.Wait.{since_sending, is_waiting};
@@ -24,13 +24,14 @@ pub fn signals_go_on<H: Host>()
     ensures given { (s : SlaveState H) (before : List Letter) (signal : Letter) → emission H.Host s (before ++ signal ∷ []) ≡ emission H.Host s before ++ given_at (slave_after_all H.Host s before) signal }
 {}
 
-/// At each byte that arrives at a slave a whole message is heard exactly where the grammar of the master's bytes, over all
-/// bytes that arrived so far, hears one at its last. A slave stands for what arrived from its beginning on, over every
-/// signal, and a change of the host changes nothing of it.
+/// What a slave hears at a byte that arrives, be it a message, a poll, a response or nothing, is what the grammar of the
+/// master's bytes, over all bytes that arrived so far, hears at the last of them; a whole message is told exactly there. A
+/// slave stands for what arrived from its beginning on, over every signal, and a change of the host changes nothing of it.
 pub fn arrivals_are_heard<H: Host>()
     ensures none { (check : CheckKind) → HeardByGrammar check [] }
     ensures more { (check : CheckKind) (arrivals : List Arrival) (s : SlaveState H) (b : ℕ) → StandsFor check (bytes_arrived arrivals) s → HeardByGrammar check arrivals
         → HeardByGrammar check (arrivals ++ record { byte = b; whole = (step_at_byte H.Host s b).whole; station = (step_at_byte H.Host s b).station } ∷ []) }
+    ensures hears { (check : CheckKind) (bytes : List ℕ) (s : SlaveState H) (b : ℕ) → StandsFor check bytes s → Hears check (bytes ++ b ∷ []) (heard_at s b) }
     ensures start { (setup : Settings) (host : H) → StandsFor setup.check [] (new_slave setup host) }
     ensures goes_on { (check : CheckKind) (bytes : List ℕ) (s : SlaveState H) (signal : Letter) → StandsFor check bytes s → StandsFor check (bytes ++ bytes_among (signal ∷ [])) (slave_after H.Host s signal) }
     ensures changes { (check : CheckKind) (bytes : List ℕ) (s : SlaveState H) (host : H) → StandsFor check bytes s → StandsFor check bytes (with_host s host) }

@@ -23,8 +23,8 @@
 //! byte the wait opens, if the message is still held. The wait closes at the next header or poll, right or wrong, whatever
 //! station it names, and where the message is dropped (manual topic: half-duplex protocol).
 //!
-//! A slave stands for the bytes that arrived at it: a whole message is heard exactly where the grammar of the master's
-//! bytes hears one at the last of all these bytes, whatever else happened to the slave and to its host.
+//! A slave stands for the bytes that arrived at it: what it hears at a byte is what the grammar of the master's bytes
+//! hears at the last of all these bytes, whatever else happened to the slave and to its host.
 #![tactic(auto)]
 
 ghost use Rattle.std.specs.Prelude.{◌≡◌, ◌≢◌, ◌≤◌, ◌+◌, ◌∷◌, ◌++◌, [], ℕ, List, length, is_none, false, IsSome, IsTrue};
