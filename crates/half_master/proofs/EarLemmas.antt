@@ -1,4 +1,4 @@
--- A master stands for the bytes that arrived at it, and a whole message is heard exactly where the grammar hears one.
+-- A master stands for the bytes that arrived at it, and hears at a byte what the grammar hears at the last of them.
 use Rattle.std.proofs.Common.{◌≡◌, ℕ, true, List, [], ◌∷◌, ◌++◌, Option, Some, None, inl, inr, ap, sym, subst, ◌∙◌, refl, append-nil}
 use Rattle.std.specs.Prelude.{◌↔◌, ◌⊎◌, slice_get, slice_index}
 use Rattle.std.proofs.lemmas.Bool.{cond_both}
@@ -19,7 +19,7 @@ use Rattle.half_master.specs.declared.table.Effect.TheVariants as effect
 use Rattle.half_master.specs.Stations.{is_listed}
 use Rattle.half_master.specs.Master.{MasterState, new_master, with_host, with_byte, heard_at, polled, performed, effect_of_byte, effect_at_tick, fate_of, host_told, host_accepted, host_ticked, body_of, is_good, master_after_byte, master_after_tick, master_after_take, step_at_byte, message_next, begun_of}
 use Rattle.half_master.specs.Emission.{Letter, Byte, Tick, Take, master_after, bytes_among}
-use Rattle.half_master.specs.Arrived.{StandsFor, HearsWhole, Arrival, bytes_arrived, HeardByGrammar}
+use Rattle.half_master.specs.Arrived.{StandsFor, Hears, HearsWhole, Arrival, bytes_arrived, HeardByGrammar}
 
 -- ---- the ear after an effect and a take
 
@@ -83,6 +83,12 @@ stands-signal m check bytes e (Byte b) stands = stands-byte m e b check bytes st
 stands-signal m check bytes e Tick stands = rw (append-nil bytes) (stands-tick m e check bytes stands)
 stands-signal m check bytes e Take stands = rw (append-nil bytes) (stands-take m e check bytes stands)
 
+-- ---- what is heard
+
+-- at a byte it is what the grammar hears at the last of all
+pub byte-hears : {H : Type 0} (e : MasterState H) (b : ℕ) (check : Check) (bytes : List ℕ) → StandsFor check bytes e → Hears check (bytes ++ b ∷ []) (heard_at e b)
+byte-hears e b check bytes stands = heard-next (master_hears check 250) (machine check 250) (works check 250) b bytes e.ear stands
+
 -- ---- whole messages
 
 good-is : (what : Option MasterHeard) → is_good what ≡ true → what ≡ Some heard.Good
@@ -96,10 +102,9 @@ good-is (Some (heard.Stray b)) good = cc
 good-is (Some (heard.StrayPair c)) good = cc
 
 -- what is heard is good exactly where the grammar hears a whole message
-pub good-heard : (check : Check) (bytes : List ℕ) (what : Option MasterHeard) → ReadOff (master_hears check 250) bytes (last_heard (master_hears check 250)) what
-    → (is_good what ≡ true) ↔ HearsWhole check bytes
+pub good-heard : (check : Check) (bytes : List ℕ) (what : Option MasterHeard) → Hears check bytes what → (is_good what ≡ true) ↔ HearsWhole check bytes
 good-heard check bytes what told = (
-  λ good. subst (λ w. ReadOff (master_hears check 250) bytes (last_heard (master_hears check 250)) w) (good-is what good) told,
+  λ good. subst (λ (w : Option MasterHeard). Hears check bytes w) (good-is what good) told,
   λ whole.
       let same : Some heard.Good ≡ what =
       same-split (master_hears check 250) (machine check 250) (works check 250) bytes (last_heard (master_hears check 250)) (last_heard (master_hears check 250)) what (Some heard.Good) told whole
@@ -109,8 +114,7 @@ good-heard check bytes what told = (
 
 pub whole-byte : {H : Type 0} (m : Ghosts H) (e : MasterState H) (b : ℕ) (check : Check) (bytes : List ℕ) → StandsFor check bytes e
     → ((step_at_byte m e b).whole ≡ true) ↔ HearsWhole check (bytes ++ b ∷ [])
-whole-byte m e b check bytes stands =
-    good-heard check (bytes ++ b ∷ []) (heard_at e b) (heard-next (master_hears check 250) (machine check 250) (works check 250) b bytes e.ear stands)
+whole-byte m e b check bytes stands = good-heard check (bytes ++ b ∷ []) (heard_at e b) (byte-hears e b check bytes stands)
 
 -- ---- what arrived
 

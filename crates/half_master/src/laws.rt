@@ -8,14 +8,14 @@ ghost use Rattle.half_mouth.specs.Giving.{is_done};
 ghost use Rattle.pccc_envelope.specs.Accepted.{kept_after};
 ghost use Rattle.half_master.specs.declared.MasterSetup.{MasterSetup as Settings};
 ghost use Rattle.half_master.specs.Stations.{numbers_of};
-ghost use Rattle.half_master.specs.Master.{MasterState, new_master, with_host, step_at_byte, master_after_take, out_at_take};
+ghost use Rattle.half_master.specs.Master.{MasterState, new_master, with_host, heard_at, step_at_byte, master_after_take, out_at_take};
 ghost use Rattle.half_master.specs.Fitting.{Fits, most_left};
 ghost use Rattle.half_master.specs.Reached.{Reached};
 ghost use Rattle.half_master.specs.Fates.{InTurn, events, out_of, IsWithin};
 ghost use Rattle.half_master.specs.Transmissions.{begun_after, sending_after};
 ghost use Rattle.half_master.specs.Waits.{HasAllTicks};
 ghost use Rattle.half_master.specs.Keys.{kept_at, offers};
-ghost use Rattle.half_master.specs.Arrived.{Arrival, StandsFor, HeardByGrammar, bytes_arrived};
+ghost use Rattle.half_master.specs.Arrived.{Arrival, StandsFor, Hears, HeardByGrammar, bytes_arrived};
 ghost use Rattle.half_master.specs.Emission.{Letter, Take, master_after, given_at, master_after_all, emission, bytes_among, takes, Drains};
 
 use df1_base::Host;
@@ -26,13 +26,14 @@ pub fn signals_go_on<H: Host>()
     ensures given { (e : MasterState H) (before : List Letter) (signal : Letter) → emission H.Host e (before ++ signal ∷ []) ≡ emission H.Host e before ++ given_at H.Host (master_after_all H.Host e before) signal }
 {}
 
-/// At each byte that arrives at a master a whole message is heard exactly where the grammar of the line, over all bytes
-/// that arrived so far, hears one at its last. A master stands for what arrived from its beginning on, over every signal,
-/// and a change of the host changes nothing of it.
+/// What a master hears at a byte that arrives, be it a message, a response or nothing, is what the grammar of the line,
+/// over all bytes that arrived so far, hears at the last of them; a whole message is told exactly there. A master stands
+/// for what arrived from its beginning on, over every signal, and a change of the host changes nothing of it.
 pub fn arrivals_are_heard<H: Host>()
     ensures none { (check : CheckKind) → HeardByGrammar check [] }
     ensures more { (check : CheckKind) (arrivals : List Arrival) (e : MasterState H) (b : ℕ) → StandsFor check (bytes_arrived arrivals) e → HeardByGrammar check arrivals
         → HeardByGrammar check (arrivals ++ record { byte = b; whole = (step_at_byte H.Host e b).whole } ∷ []) }
+    ensures hears { (check : CheckKind) (bytes : List ℕ) (e : MasterState H) (b : ℕ) → StandsFor check bytes e → Hears check (bytes ++ b ∷ []) (heard_at e b) }
     ensures start { (setup : Settings) (numbers : List ℕ) (host : H) → StandsFor setup.check [] (new_master setup numbers host) }
     ensures goes_on { (check : CheckKind) (bytes : List ℕ) (e : MasterState H) (signal : Letter) → StandsFor check bytes e → StandsFor check (bytes ++ bytes_among (signal ∷ [])) (master_after H.Host e signal) }
     ensures changes { (check : CheckKind) (bytes : List ℕ) (e : MasterState H) (host : H) → StandsFor check bytes e → StandsFor check bytes (with_host e host) }

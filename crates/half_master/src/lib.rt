@@ -18,8 +18,8 @@
 //! other than those of the second row aren't passed to the host. A message whose first byte is the number of no station
 //! is told Undelivered, and the master stays idle (manual topic: half-duplex protocol).
 //!
-//! A master stands for the bytes that arrived at it: a whole message is heard exactly where the grammar of the line
-//! hears one at the last of all these bytes, whatever else happened to the master and to its host.
+//! A master stands for the bytes that arrived at it: what it hears at a byte is what the grammar of the line hears at
+//! the last of all these bytes, whatever else happened to the master and to its host.
 #![tactic(auto)]
 
 ghost use Rattle.std.specs.Prelude.{◌≡◌, ◌≤◌, ◌+◌, ◌↔◌, ◌∷◌, ◌++◌, [], ℕ, List, length, Option, Some, slice_get, is_some, IfSome, IsNone, IsSome, IsTrue};
