@@ -5,7 +5,8 @@ use Rattle.df1_plan.specs.declared.fault.PlanFault.{PlanFault}
 use Rattle.df1_plan.specs.declared.files.PlannedFile.{PlannedFile}
 use Rattle.df1_plan.specs.declared.reading.Front.{Front}
 use Rattle.df1_plan.specs.Keys.{has_other, is_known}
-use Rattle.df1_plan.specs.Plans.{FrontSays, back_causes, compat, files, first_cause, first_there, front_causes, issue}
+use Rattle.df1_plan.specs.Plans.{back_causes, files, first_cause, first_there, front_causes, issue}
+use Rattle.df1_plan.specs.Parts.{FrontSays}
 
 there-more : {T : Type 0} (found others : List (Option T)) (e : T) → first_there found ≡ Some e → first_there (found ++ others) ≡ Some e
 there-more [] others e h = cc

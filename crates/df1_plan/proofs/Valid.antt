@@ -11,18 +11,14 @@ use Rattle.line_statement.specs.declared.who.Who.TheVariants.{A}
 use Rattle.line_script.specs.Playable.{IsPlanOf}
 use Rattle.toml.specs.Data.{Data, Items, no_items, item, Members, as_array, get_member}
 use Rattle.df1_plan.specs.declared.plan.Plan.{Plan}
-use Rattle.df1_plan.specs.declared.files.PlannedFile.{PlannedFile}
-use Rattle.df1_plan.specs.declared.reading.Front.{Front}
-use Rattle.df1_plan.specs.declared.reading.Back.{Back}
-use Rattle.df1_plan.specs.declared.key.Key.{Key}
 use Rattle.df1_plan.specs.declared.key.Key.TheVariants as key
 use Rattle.df1_plan.specs.declared.fault.PlanFault.{PlanFault}
 use Rattle.df1_plan.specs.declared.fault.PlanFault.TheVariants as fault
-use Rattle.df1_plan.specs.Keys.{has_other, is_known, read_or, told, told_or}
+use Rattle.df1_plan.specs.Keys.{has_other, is_known, read_or, told_or}
 use Rattle.df1_plan.specs.Values.{at_most, block_in, hex_in}
 use Rattle.df1_plan.specs.Files.{specs_of}
 use Rattle.df1_plan.specs.Issues.{next_of, next_payload, payloads_after, payloads_in, payloads_of_array}
-use Rattle.df1_plan.specs.Plans.{BackSays, FrontSays, Says, files as the_files, first_cause, first_there, issue as the_issue}
+use Rattle.df1_plan.specs.Plans.{Says, first_cause, first_there}
 use Rattle.df1_plan.proofs.Planned.{planned_right}
 use Rattle.df1_plan.proofs.Told.{told-between}
 
@@ -95,9 +91,10 @@ last-none : (o : Option PlanFault) → first_there (o ∷ []) ≡ None → o ≡
 last-none None h = refl
 last-none (Some e) h = cc
 
-others-none : (members : Members) (front : Front) (planned : List PlannedFile) (payloads : List (List ℕ)) (back : Back) → has_other is_known members ≡ false → FrontSays members front → the_files members ≡ Ok planned → the_issue members ≡ Ok payloads → BackSays members back → first_cause members ≡ None → fits_compat (specs_of planned) front.compat ≡ true
-others-none members front planned payloads back known f are is b h =
-    fits-if (fits_compat (specs_of planned) front.compat) (last-none _ (rw (known, f.ack_ticks, f.block, f.check, f.compat, f.embed, are, is, b.max_enqs, b.max_naks, b.node, b.peer, b.reply_ticks, b.room, b.tns) at h))
+others-none : (members : Members) (plan : Plan) → has_other is_known members ≡ false → Says members plan → first_cause members ≡ None → fits_compat plan.end.files plan.end.compat ≡ true
+others-none members plan known s h =
+    let fits : fits_compat (specs_of s.planned) plan.end.compat ≡ true = fits-if (fits_compat (specs_of s.planned) plan.end.compat) (last-none _ (rw (known, s.ack_ticks_are, s.block_is, s.check_is, s.compat_is, s.embed_is, s.files_are, s.issue_is, s.max_enqs_are, s.max_naks_are, s.node_is, s.peer_is, s.reply_ticks_are, s.room_is, s.tns_is) at h)) in
+    rw s.specs_are fits
 
 known-if : (b : Bool) (others : List (Option PlanFault)) → first_there (cond b (Some fault.UnknownKey) None ∷ others) ≡ None → b ≡ false
 known-if true others h = cc
@@ -107,26 +104,23 @@ known-if false others h = refl
 
 pub says_valid : (members : Members) (plan : Plan) → first_cause members ≡ None → Says members plan → IsPlanOf A plan.end × All (λ payload. IsTrue (is_payload payload)) plan.issue × (length plan.issue ≤ 65535)
 says_valid members plan none says =
-    let f = says.front_says in
-    let b = says.back_says in
     let right = planned_right (get_member (codes "file") members) says.planned says.files_are in
-    let commands = commands-in (get_member (codes "issue") members) says.payloads says.issue_is in
-    let known : has_other is_known members ≡ false = known-if (has_other is_known members) _ none in
-    rw says.plan_is (
+    let commands = commands-in (get_member (codes "issue") members) plan.issue says.issue_is in
+    let known : has_other is_known members ≡ false = known-if (has_other is_known members) _ none in (
       record {
-        end = refl;
-        files = right.none;
-        words = right.words;
-        ack_ticks = told-between key.AckTicks 1 1000000 10 members says.front.ack_ticks (omega arith, omega arith) f.ack_ticks;
-        max_naks = (told-between key.MaxNaks 0 255 3 members says.back.max_naks (omega arith, omega arith) b.max_naks).1;
-        max_enqs = (told-between key.MaxEnqs 0 255 3 members says.back.max_enqs (omega arith, omega arith) b.max_enqs).1;
-        reply_ticks = told-between key.ReplyTicks 33 1000000 100 members says.back.reply_ticks (omega arith, omega arith) b.reply_ticks;
-        max_resends = omega arith;
-        poll_ticks = (omega arith, omega arith);
-        max_sends = (omega arith, omega arith);
-        room = told-between key.Room 2 64 2 members says.back.room (omega arith, omega arith) b.room;
-        compat = others-none members says.front says.planned says.payloads says.back known f says.files_are says.issue_is b none;
-        block = short-told (get_member (codes "block") members) says.front.block f.block;
+        end = says.untold.who;
+        files = rw says.specs_are right.none;
+        words = rw (says.specs_are, says.words_are) right.words;
+        ack_ticks = told-between key.AckTicks 1 1000000 10 members plan.end.ack_ticks (omega arith, omega arith) says.ack_ticks_are;
+        max_naks = (told-between key.MaxNaks 0 255 3 members plan.end.max_naks (omega arith, omega arith) says.max_naks_are).1;
+        max_enqs = (told-between key.MaxEnqs 0 255 3 members plan.end.max_enqs (omega arith, omega arith) says.max_enqs_are).1;
+        reply_ticks = told-between key.ReplyTicks 33 1000000 100 members plan.end.reply_ticks (omega arith, omega arith) says.reply_ticks_are;
+        max_resends = rw says.untold.max_resends (omega arith);
+        poll_ticks = rw says.untold.poll_ticks (omega arith, omega arith);
+        max_sends = rw says.untold.max_sends (omega arith, omega arith);
+        room = told-between key.Room 2 64 2 members plan.end.room (omega arith, omega arith) says.room_is;
+        compat = others-none members plan known says none;
+        block = short-told (get_member (codes "block") members) plan.end.block says.block_is;
       },
       commands.each,
       commands.few,

@@ -3,3 +3,4 @@ pub mod Values
 pub mod Files
 pub mod Issues
 pub mod Plans
+pub mod Parts

@@ -6,11 +6,10 @@ use Rattle.df1_check.specs.declared.Check.{Check}
 use Rattle.df1_check.specs.declared.Check.TheVariants.{Bcc}
 use Rattle.data_files.specs.Tables.{fits_compat}
 use Rattle.line_statement.specs.declared.who.Who.TheVariants.{A}
+use Rattle.line_script.specs.declared.script.EndPlan.{EndPlan}
 use Rattle.toml.specs.Data.{Members, get_member, as_bool}
 use Rattle.toml.specs.Parse.{parse_document}
 use Rattle.df1_plan.specs.declared.plan.Plan.{Plan}
-use Rattle.df1_plan.specs.declared.reading.Front.{Front}
-use Rattle.df1_plan.specs.declared.reading.Back.{Back}
 use Rattle.df1_plan.specs.declared.files.PlannedFile.{PlannedFile}
 use Rattle.df1_plan.specs.declared.key.Key.TheVariants as key
 use Rattle.df1_plan.specs.declared.fault.PlanFault.{PlanFault}
@@ -108,61 +107,33 @@ first_cause members = first_there (causes members)
 
 -- ---- a plan that is told
 
--- the keys before `file` say this
-pub record FrontSays (members : Members) (front : Front) : Type 0 where
-  pub ack_ticks : ack_ticks members ≡ Ok front.ack_ticks
-  pub block : block members ≡ Ok front.block
-  pub check : check members ≡ Ok front.check
-  pub compat : compat members ≡ Ok front.compat
-  pub embed : embed members ≡ Ok front.embed
+-- what no key tells has its standard value, that of a script that doesn't tell it
+pub record HasStandards (end : EndPlan) : Type 0 where
+  pub who : end.who ≡ A
+  pub max_resends : end.max_resends ≡ 3
+  pub poll_ticks : end.poll_ticks ≡ 10
+  pub max_sends : end.max_sends ≡ 3
 
--- the keys after `issue` say this
-pub record BackSays (members : Members) (back : Back) : Type 0 where
-  pub max_enqs : max_enqs members ≡ Ok back.max_enqs
-  pub max_naks : max_naks members ≡ Ok back.max_naks
-  pub node : node members ≡ Ok back.node
-  pub peer : peer members ≡ Ok back.peer
-  pub reply_ticks : reply_ticks members ≡ Ok back.reply_ticks
-  pub room : room members ≡ Ok back.room
-  pub tns : tns members ≡ Ok back.tns
-
--- the plan of these values. What no key tells is as in a script that doesn't tell it
-abbrev pub plan_with : Front → List PlannedFile → List (List ℕ) → Back → Plan
-plan_with front planned payloads back = record {
-  check = front.check;
-  peer = back.peer;
-  end = record {
-    who = A;
-    embed = front.embed;
-    node = back.node;
-    tns = back.tns;
-    ack_ticks = front.ack_ticks;
-    max_naks = back.max_naks;
-    max_enqs = back.max_enqs;
-    reply_ticks = back.reply_ticks;
-    max_resends = 3;
-    poll_ticks = 10;
-    max_sends = 3;
-    room = back.room;
-    compat = front.compat;
-    block = front.block;
-    files = specs_of planned;
-    words = words_of_all planned;
-  };
-  issue = payloads;
-}
-
--- the plan says what the table says
+-- the plan says what the table says, key by key
 pub record Says (members : Members) (plan : Plan) : Type 0 where
-  pub front : Front
+  pub ack_ticks_are : ack_ticks members ≡ Ok plan.end.ack_ticks
+  pub block_is : block members ≡ Ok plan.end.block
+  pub check_is : check members ≡ Ok plan.check
+  pub compat_is : compat members ≡ Ok plan.end.compat
+  pub embed_is : embed members ≡ Ok plan.end.embed
   pub planned : List PlannedFile
-  pub payloads : List (List ℕ)
-  pub back : Back
-  pub front_says : FrontSays members front
   pub files_are : files members ≡ Ok planned
-  pub issue_is : issue members ≡ Ok payloads
-  pub back_says : BackSays members back
-  pub plan_is : plan ≡ plan_with front planned payloads back
+  pub specs_are : plan.end.files ≡ specs_of planned
+  pub words_are : plan.end.words ≡ words_of_all planned
+  pub issue_is : issue members ≡ Ok plan.issue
+  pub max_enqs_are : max_enqs members ≡ Ok plan.end.max_enqs
+  pub max_naks_are : max_naks members ≡ Ok plan.end.max_naks
+  pub node_is : node members ≡ Ok plan.end.node
+  pub peer_is : peer members ≡ Ok plan.peer
+  pub reply_ticks_are : reply_ticks members ≡ Ok plan.end.reply_ticks
+  pub room_is : room members ≡ Ok plan.end.room
+  pub tns_is : tns members ≡ Ok plan.end.tns
+  pub untold : HasStandards plan.end
 
 -- the text is a document with this table, of which this is the plan, and no cause stands against it
 pub record IsPlanOfText (text : List ℕ) (plan : Plan) : Type 0 where

@@ -8,7 +8,8 @@ ghost use Rattle.toml.specs.View.{table_view};
 ghost use Rattle.df1_plan.specs.Keys.{has_other, is_known as the_known, told};
 ghost use Rattle.df1_plan.specs.Values.{integer_in as the_integer};
 ghost use Rattle.df1_plan.specs.Files.{HoldsItsWords, specs_of as the_specs};
-ghost use Rattle.df1_plan.specs.Plans.{BackSays, FrontSays, IsPlanOfText, IsRefusedFor, Says, back_causes, block as the_block, check as the_check, compat as the_compat, embed as the_embed, first_cause, first_there, front_causes, plan_with};
+ghost use Rattle.df1_plan.specs.Plans.{IsPlanOfText, IsRefusedFor, Says, back_causes, block as the_block, check as the_check, compat as the_compat, embed as the_embed, first_cause, first_there, front_causes};
+ghost use Rattle.df1_plan.specs.Parts.{BackSays, FrontSays, plan_with};
 
 use crate::files::{PlannedFile, files_at, specs_of, words_of_all};
 use crate::issue::issue_at;

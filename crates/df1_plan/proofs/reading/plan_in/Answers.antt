@@ -1,6 +1,7 @@
 use Rattle.std.proofs.Common.{◌≡◌, Ok, Some, false, rules}
 use Rattle.df1_plan.specs.Keys.{has_other, is_known}
-use Rattle.df1_plan.specs.Plans.{FrontSays, back_causes, files, first_cause, first_there, issue}
+use Rattle.df1_plan.specs.Plans.{back_causes, files, first_cause, first_there, issue}
+use Rattle.df1_plan.specs.Parts.{FrontSays}
 use Rattle.df1_plan.specs.declared.fault.PlanFault.{PlanFault}
 use Rattle.toml.specs.Data.{get_member}
 use Rattle.toml.specs.View.{table_view}
