@@ -2,12 +2,7 @@
 use Rattle.std.specs.Prelude.{ℕ, ◌+◌, List, [], ◌∷◌, ◌++◌, map, replicate, Option, Some, None, zero, suc, ◌==◌, slice_index_or, if◌then◌else◌}
 use Rattle.std.specs.List.{flat_map}
 use Rattle.df1_check.specs.declared.Check.{Check}
-use Rattle.df1_node.specs.declared.handed.Handed.TheVariants as handed
-use Rattle.data_files.specs.Tables.{DataTables, fresh, has_word, with_word, word_at, word_count}
-use Rattle.df1_node.specs.Answer.{StationState}
-use Rattle.df1_node.specs.Node.{NodeState}
-use Rattle.duplex_sender.specs.declared.Limits.{Limits}
-use Rattle.duplex_end.specs.declared.Setup.{Setup}
+use Rattle.data_files.specs.Tables.{DataTables, word_at, word_count}
 use Rattle.duplex_end.specs.End.{new_end}
 use Rattle.line_statement.specs.declared.who.Who.{Who}
 use Rattle.line_statement.specs.declared.who.Who.TheVariants.{A, B, M, S}

@@ -1,18 +1,15 @@
 -- How many commands an end has issued.
-use Rattle.std.proofs.Common.{◌≡◌, ◌∙◌, ℕ, zero, suc, ◌+◌, ◌<◌, Bool, true, false, List, [], ◌∷◌, length, map, not, eqb, Option, Some, None, is_some, is_none, length-append, refl, sym, ap, arith}
-use Rattle.std.specs.Prelude.{IsTrue, ◌&&◌, ◌==◌, nat_le, nat_lt, bit_and, replicate, slice_get, if◌then◌else◌}
-use Rattle.std.specs.Int.{bit_at}
+use Rattle.std.proofs.Common.{◌≡◌, ◌∙◌, ℕ, zero, suc, ◌+◌, Bool, true, false, List, [], ◌∷◌, length, map, Option, Some, None, is_some, is_none, length-append, refl, ap, arith}
+use Rattle.std.specs.Prelude.{replicate, slice_get, if◌then◌else◌}
 use Rattle.std.specs.Option.{option_map_or}
-use Rattle.std.proofs.lemmas.Bool.Decides.{nat_tests}
 use Rattle.df1_base.specs.declared.host.Fate.{Fate}
 use Rattle.df1_base.specs.declared.host.Fate.TheVariants as fate
 use Rattle.df1_base.specs.declared.link.Act.{Act}
 use Rattle.df1_base.specs.declared.link.Act.TheVariants as act
 use Rattle.pccc_envelope.specs.Envelope.{is_reply}
-use Rattle.pccc_envelope.proofs.Replies.{and_64}
 use Rattle.df1_node.specs.declared.handed.Handed.{Handed}
 use Rattle.df1_node.specs.declared.handed.Handed.TheVariants as handed
-use Rattle.df1_node.specs.Initiator.{Issued, Standing, Answered, Out, Undelivered, InitiatorState, restated, after_reply, answered_place, is_out_at, after_hand_out, next_place, all_ticked, issue_fault}
+use Rattle.df1_node.specs.Initiator.{Issued, Standing, Answered, Out, Undelivered, InitiatorState, restated, after_reply, answered_place, is_out_at, after_hand_out, next_place, all_ticked}
 use Rattle.df1_node.specs.Node.{NodeState, after_next, after_told, initiator_after, next_body}
 use Rattle.duplex_sender.specs.declared.Phase.{Phase}
 use Rattle.duplex_sender.specs.declared.Phase.TheVariants as phase
@@ -24,7 +21,6 @@ use Rattle.line_statement.specs.declared.who.Who.{Who}
 use Rattle.line_statement.specs.declared.who.Who.TheVariants.{A, B, M, S}
 use Rattle.line_script.specs.declared.script.Event.{Event}
 use Rattle.line_script.specs.declared.script.Event.TheVariants as event
-use Rattle.line_statement.specs.Statements.{is_payload}
 use Rattle.line_script.specs.Playable.{IsPossible, issues}
 use Rattle.duplex_line.specs.declared.cell.Cell.{Cell}
 use Rattle.each_once.specs.NodeHost.{node_host}
