@@ -27,7 +27,7 @@ type Text = ArrayVec<u8, LINE>;
 
 /// Writes the outcome of each command of an initiator, each line at once. `Failed` comes where the sink failed; then it
 /// holds a first part of the text.
-pub(crate) fn write_outcomes<K: Sink>(initiator: &Initiator, sink: &mut K) -> Result<(), Failed>
+pub fn write_outcomes<K: Sink>(initiator: &Initiator, sink: &mut K) -> Result<(), Failed>
     ensures ok { OnOk result (Put (K.held sink.old) (K.held sink.new) (outcomes_text initiator.now)) }
     ensures part { WrotePart (K.held sink.old) (K.held sink.new) (outcomes_text initiator.now) }
     ensures calm { OnOk result (K.faults sink.new ≡ K.faults sink.old) }

@@ -1,5 +1,4 @@
-use Rattle.std.proofs.Common.{◌≡◌, ◌∙◌, ◌≤◌, ◌+◌, ◌-◌, ℕ, List, Option, Some, None, drop, sym, subst, ap, arith}
-use Rattle.df1_base.specs.Outside.{Wrote}
+use Rattle.std.proofs.Common.{◌≡◌, ◌∙◌, ◌+◌, ◌-◌, None, drop, sym, ap, arith}
 use Rattle.df1_base.proofs.Laws.{wrote_all}
 use Rattle.df1_node.specs.Initiator.{outcome_of, reply_of}
 use Rattle.df1_service.specs.Service.{outcome_line, outcome_lines, outcomes_text}

@@ -1,0 +1,160 @@
+//! The service of a plan's end over an input and an output: the plan is read, its node made and, where the service issues
+//! them, the plan's commands are issued, before the first signal. From there on it takes no memory.
+ghost use Rattle.std.specs.Prelude.{◌≡◌, ◌≤◌, ◌+◌, ℕ, List, length, true, All, IsTrue, IfOk, IfErr, IsErrOf};
+ghost use Rattle.df1_base.specs.Outside.{Rose};
+ghost use Rattle.df1_base.specs.declared.signal.Signal.TheVariants as signal;
+ghost use Rattle.df1_shelf.specs.Shelves.{IsLonger, is_sound};
+ghost use Rattle.df1_service.specs.Plans.{IsOfPlan, SaysNone, TellsNone, plan_limit};
+ghost use Rattle.line_statement.specs.declared.who.Who.TheVariants.{A};
+ghost use Rattle.line_statement.specs.Statements.{is_payload};
+ghost use Rattle.line_script.specs.Playable.{IsPlanOf};
+ghost use Rattle.df1_service.specs.Wire.{BrokenOff, CutOff, HasNoForm, IsCut, IsServed, OfPlan, Reached, TellsRecord, ended_of, outset_node};
+
+use crate::ServiceFault;
+use crate::commands::issue_all;
+use crate::plan_file::plan_on;
+use df1_base::{FeedPort, NoMemory, Sink, Source};
+use df1_node::Node;
+use df1_plan::Plan;
+use df1_shelf::Shelf;
+use duplex_end::{End, Served, serve};
+use outset::{node_of, setup_of};
+use std::alloc::Global;
+
+/// How an end is served.
+#[derive(Clone, Copy, Debug, PartialEq, Eq)]
+pub struct Service {
+    /// Whether the input has records, with ticks and takes of their own; else each of its bytes is one of the line.
+    pub timed: bool,
+    /// Whether the plan's commands are issued.
+    pub issues: bool,
+}
+
+/// A service that has ended, with the input and the output as it left them.
+#[derive(Drop)]
+pub struct Ended<S, K> {
+    /// The end, where the input was read to its end and all is written; or else why not.
+    pub end: Result<End<Node>, ServiceFault>,
+    /// The input.
+    pub input: S,
+    /// The output.
+    pub out: K,
+}
+
+/// Serves the end of the plan of this name: its signals are those of the input, and what it gives goes to the output.
+/// Where the plan can't be read or is refused, and where there is no memory, nothing was read and nothing is written.
+/// After any other fault what the end gave before it is written, after one of the output a part of it.
+pub fn serve_plan<H: Shelf, S: Source, K: Sink>(
+    alloc: Global,
+    shelf: &mut H,
+    name: &str,
+    service: Service,
+    input: S,
+    out: K,
+) -> Ended<S, K>
+    ensures done { IfOk result.end (λ end. OfPlan (H.file shelf.old name.now) service.issues (λ before.
+        IsServed service.timed before end (S.left input) (S.left result.input) (K.held out) (K.held result.out))) }
+    ensures none { IfErr result.end (TellsNone (SaysNone (H.file shelf.old name.now))) }
+    ensures too_long { IsErrOf result.end ServiceFault.PlanTooLong → IsLonger (H.file shelf.old name.now) plan_limit }
+    ensures failed { IsErrOf result.end ServiceFault.PlanFailed → Rose (H.faults shelf.old) (H.faults shelf.new) }
+    ensures sound { is_sound (H.file shelf.old name.now) ≡ true → ¬ IsErrOf result.end ServiceFault.PlanFailed }
+    ensures untouched { IfErr result.end (λ fault. IsOfPlan fault → (result.input ≡ input) × (result.out ≡ out)) }
+    ensures record { IfErr result.end (TellsRecord
+        (λ at. OfPlan (H.file shelf.old name.now) service.issues (λ before. HasNoForm service.timed before at (S.left input) (S.left result.input) (K.held out) (K.held result.out)))
+        (λ at. OfPlan (H.file shelf.old name.now) service.issues (λ before. IsCut service.timed before at (S.left input) (S.left result.input) (K.held out) (K.held result.out)))) }
+    ensures long { IsErrOf result.end ServiceFault.TooLong → OfPlan (H.file shelf.old name.now) service.issues (λ before.
+        Reached service.timed before signal.Long (S.left input) (S.left result.input) (K.held out) (K.held result.out)) }
+    ensures broken { IsErrOf result.end ServiceFault.Input → Rose (S.faults input) (S.faults result.input)
+        × OfPlan (H.file shelf.old name.now) service.issues (λ before. BrokenOff service.timed before (S.left input) (S.left result.input) (K.held out) (K.held result.out)) }
+    ensures cut { IsErrOf result.end ServiceFault.Output → Rose (K.faults out) (K.faults result.out)
+        × OfPlan (H.file shelf.old name.now) service.issues (λ before. CutOff service.timed before (S.left input) (S.left result.input) (K.held out) (K.held result.out)) }
+    ensures calm { ¬ IsErrOf result.end ServiceFault.Input → S.faults result.input ≡ S.faults input }
+    ensures steady { ¬ IsErrOf result.end ServiceFault.Output → K.faults result.out ≡ K.faults out }
+    ensures shelf { (other : List ℕ) → H.file shelf.new other ≡ H.file shelf.old other }
+    ensures shelf_calm { ¬ IsErrOf result.end ServiceFault.PlanFailed → H.faults shelf.new ≡ H.faults shelf.old }
+{
+    match end_of(alloc, shelf, name, service.issues) {
+        Ok(end) => serve_end(end, service.timed, input, out),
+        Err(fault) => Ended {
+            end: Err(fault),
+            input,
+            out,
+        },
+    }
+}
+
+/// The end of the plan of this name, before the first signal. The faults are `PlanFailed`, `PlanTooLong`, `Plan` and
+/// `NoMemory`.
+fn end_of<H: Shelf>(
+    alloc: Global,
+    shelf: &mut H,
+    name: &str,
+    issues: bool,
+) -> Result<End<Node>, ServiceFault>
+    ensures of_plan { IfOk result (λ end. OfPlan (H.file shelf.old name.now) issues (λ before. end ≡ before)) }
+    ensures none { IfErr result (TellsNone (SaysNone (H.file shelf.old name.now))) }
+    ensures too_long { IsErrOf result ServiceFault.PlanTooLong → IsLonger (H.file shelf.old name.now) plan_limit }
+    ensures failed { IsErrOf result ServiceFault.PlanFailed → Rose (H.faults shelf.old) (H.faults shelf.new) }
+    ensures sound { is_sound (H.file shelf.old name.now) ≡ true → ¬ IsErrOf result ServiceFault.PlanFailed }
+    ensures known { IfErr result IsOfPlan }
+    ensures same { (other : List ℕ) → H.file shelf.new other ≡ H.file shelf.old other }
+    ensures calm { ¬ IsErrOf result ServiceFault.PlanFailed → H.faults shelf.new ≡ H.faults shelf.old }
+{
+    let plan = plan_on(alloc, shelf, name)?;
+    match node_before(alloc, &plan, issues) {
+        Ok(node) => Ok(End::new(setup_of(plan.check, &plan.end), node)),
+        Err(fault) => Err(fault.into()),
+    }
+}
+
+/// The node of a plan before the first signal.
+fn node_before(alloc: Global, plan: &Plan, issues: bool) -> Result<Node, NoMemory>
+    requires end { IsPlanOf A plan.now.end }
+    requires payloads { All (λ payload. IsTrue (is_payload payload)) plan.now.issue }
+    requires few { length plan.now.issue ≤ 65535 }
+    ensures { IfOk result (λ node. node ≡ outset_node issues plan.now) }
+{
+    let mut node = node_of(alloc, &plan.end)?;
+    if issues {
+        issue_all(&mut node, plan.peer, plan.issue.as_slice())?;
+    }
+    Ok(node)
+}
+
+/// Serves an end over an input and an output.
+fn serve_end<S: Source, K: Sink>(mut end: End<Node>, timed: bool, input: S, out: K) -> Ended<S, K>
+    ensures done { IfOk result.end (λ after. IsServed timed end after (S.left input) (S.left result.input) (K.held out) (K.held result.out)) }
+    ensures record { IfErr result.end (TellsRecord
+        (λ at. HasNoForm timed end at (S.left input) (S.left result.input) (K.held out) (K.held result.out))
+        (λ at. IsCut timed end at (S.left input) (S.left result.input) (K.held out) (K.held result.out))) }
+    ensures long { IsErrOf result.end ServiceFault.TooLong → Reached timed end signal.Long (S.left input) (S.left result.input) (K.held out) (K.held result.out) }
+    ensures broken { IsErrOf result.end ServiceFault.Input → Rose (S.faults input) (S.faults result.input) × BrokenOff timed end (S.left input) (S.left result.input) (K.held out) (K.held result.out) }
+    ensures cut { IsErrOf result.end ServiceFault.Output → Rose (K.faults out) (K.faults result.out) × CutOff timed end (S.left input) (S.left result.input) (K.held out) (K.held result.out) }
+    ensures calm { ¬ IsErrOf result.end ServiceFault.Input → S.faults result.input ≡ S.faults input }
+    ensures steady { ¬ IsErrOf result.end ServiceFault.Output → K.faults result.out ≡ K.faults out }
+    ensures known { IfErr result.end (λ fault. ¬ IsOfPlan fault) }
+{
+    let mut port = FeedPort::new(input, out, timed);
+    let served = serve(&mut port, &mut end);
+    let held = port.held();
+    let (input, out) = port.into_parts();
+    Ended {
+        end: ended_with(served, end, held),
+        input,
+        out,
+    }
+}
+
+/// How a service ended, by its end's serving, of which so many bytes were taken and made no signal.
+fn ended_with(served: Served, end: End<Node>, held: usize) -> Result<End<Node>, ServiceFault>
+    ensures { result ≡ ended_of served end held }
+{
+    match served {
+        Served::Ended => Ok(end),
+        Served::InFailed => Err(ServiceFault::Input),
+        Served::OutFailed => Err(ServiceFault::Output),
+        Served::Bad(at) if held == 1 => Err(ServiceFault::Cut(at)),
+        Served::Bad(at) => Err(ServiceFault::Form(at)),
+        Served::Long => Err(ServiceFault::TooLong),
+    }
+}
