@@ -1,7 +1,8 @@
-//! The program `df1` over standard input, standard output and standard error.
+//! The program `df1` over standard input, standard output, standard error and the files of the current folder.
 #![tactic(auto)]
 
 use df1_base::{StdIn, StdOut, write_all};
+use df1_shelf::DirShelf;
 use std::io::ErrorKind;
 use std::process::ExitCode;
 use std::rt::Env;
@@ -18,6 +19,7 @@ fn main(rt: HostRuntime) -> ExitCode {
     let ran = df1_tool::run(
         rt.alloc(),
         &words,
+        DirShelf::new(&rt),
         StdIn::new(rt.stdin().lock()),
         StdOut::new(rt.stdout()),
         StdOut::new(rt.stderr()),

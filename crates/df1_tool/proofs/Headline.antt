@@ -13,13 +13,11 @@ use Rattle.duplex_line.specs.Prompt.{IsPrompt, EndsQuiet}
 use Rattle.duplex_line.specs.Complete.{IsComplete}
 use Rattle.duplex_line.proofs.Complete.WholeRun.{is-complete}
 use Rattle.duplex_line.proofs.Once.WholeRun.{each-once}
-use Rattle.df1_tool.specs.declared.form.Form.TheVariants.{Replay}
 use Rattle.df1_tool.specs.declared.trouble.Trouble.{Trouble}
 use Rattle.df1_tool.specs.declared.trouble.Trouble.TheVariants.{Usage, Refusal, Input, Output, NoMemory}
-use Rattle.df1_tool.specs.Tool.{answer_of, form_of, report_of, status_of, status_of_trouble}
+use Rattle.df1_tool.specs.Tool.{replayed, report_of, status_of, status_of_trouble}
 use Rattle.df1_tool.specs.Outcome.{Answered}
 use Rattle.df1_tool.specs.Replayed.{Replayed}
-use Rattle.df1_tool.proofs.Statuses.{answer_is}
 
 -- a text that is written is the report of a script
 script-read : (read : Result Script (ℕ × Cause)) (text : List ℕ) → report_of read ≡ Some text → (script : Script) × (read ≡ Ok script) × (report (record_of script) ≡ text)
@@ -34,9 +32,9 @@ record-complete : (script : Script) → IsPlayable script → IsPrompt script �
 unfolding record_of
 record-complete script playable prompt quiet = is-complete script playable prompt quiet
 
-pub replayed-well : (words : List (List ℕ)) (left left' held held' : Option (List ℕ)) → form_of words ≡ Some Replay → Answered (answer_of words) left left' held held' → Replayed left left' held held'
-replayed-well words left left' held held' is a =
-    let read = script-read (script_of a.input) a.text (sym (answer_is words a.input is) ∙ a.answered) in
+pub replayed-well : (left left' held held' : Option (List ℕ)) → Answered replayed left left' held held' → Replayed left left' held held'
+replayed-well left left' held held' a =
+    let read = script-read (script_of a.input) a.text a.answered in
     record {
       input = a.input;
       script = read.0;

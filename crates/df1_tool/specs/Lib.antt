@@ -1,4 +1,5 @@
 pub mod Collecting
 pub mod Outcome
 pub mod Replayed
+pub mod Served
 pub mod Tool

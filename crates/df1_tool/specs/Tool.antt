@@ -1,25 +1,44 @@
 -- What the program answers, and with which status and note.
-use Rattle.std.specs.Prelude.{◌≡◌, ◌⊎◌, ℕ, List, [], ◌∷◌, ◌++◌, Option, Some, None, Result, Ok, Err, if◌then◌else◌, ◌==◌, is_none, codes, decimal, option_and_then}
-use Rattle.std.specs.Option.{option_map_or}
+use Rattle.std.specs.Prelude.{◌≡◌, ◌⊎◌, ℕ, List, [], ◌∷◌, ◌++◌, Option, Some, None, Result, Ok, Err, true, false, if◌then◌else◌, ◌==◌, is_none, codes, decimal, option_and_then, slice_index_or}
 use Rattle.std.specs.Str.{bytes_eq}
 use Rattle.line_script.specs.declared.fault.Cause.{Cause}
 use Rattle.line_replay.specs.declared.replayer.StreamFault.{StreamFault}
 use Rattle.line_replay.specs.declared.replayer.StreamFault.TheVariants as stream
-use Rattle.line_replay.specs.Fed.{told}
 use Rattle.line_script.specs.declared.fault.Cause.TheVariants as cause
 use Rattle.line_script.specs.declared.script.Script.{Script}
 use Rattle.line_script.specs.ScriptText.{script_of}
 use Rattle.line_report.specs.Report.{report}
 use Rattle.duplex_line.specs.Run.{record_of}
 use Rattle.df1_tool.specs.declared.form.Form.{Form}
-use Rattle.df1_tool.specs.declared.form.Form.TheVariants.{Replay}
+use Rattle.df1_tool.specs.declared.form.Form.TheVariants.{Replay, Serve, Issue}
+use Rattle.df1_service.specs.declared.service.Service.{Service}
 use Rattle.df1_tool.specs.declared.trouble.Trouble.{Trouble}
 use Rattle.df1_tool.specs.declared.trouble.Trouble.TheVariants.{Usage, Refusal, Input, Output, NoMemory}
+
+-- what the last word of `serve` asks for
+abbrev pub mode_of : List ℕ → Option Form
+mode_of word = if bytes_eq word (codes "raw") then Some (Serve false) else if bytes_eq word (codes "timed") then Some (Serve true) else None
 
 -- what the words ask for
 unfoldable pub form_of : List (List ℕ) → Option Form
 form_of (word ∷ []) = if bytes_eq word (codes "replay") then Some Replay else None
+form_of (word ∷ plan ∷ []) = if bytes_eq word (codes "issue") then Some Issue else None
+form_of (word ∷ plan ∷ mode ∷ []) = if bytes_eq word (codes "serve") then mode_of mode else None
 form_of words = None
+
+-- how an end is served, where a form asks for that
+abbrev pub service_of : Form → Option Service
+service_of Replay = None
+service_of (Serve timed) = Some (record { timed = timed; issues = false })
+service_of Issue = Some (record { timed = true; issues = true })
+
+-- the same of the words
+abbrev pub service_for : List (List ℕ) → Option Service
+service_for words = option_and_then service_of (form_of words)
+
+-- the name of the plan: the second word
+abbrev pub plan_name : List (List ℕ) → List ℕ
+plan_name words = slice_index_or words 1 []
 
 -- the report of the run of a script, where there is one
 abbrev pub report_of : Result Script (ℕ × Cause) → Option (List ℕ)
@@ -29,21 +48,6 @@ report_of (Err fault) = None
 -- the report of the run of the script that the input says, if it says one
 abbrev pub replayed : List ℕ → Option (List ℕ)
 replayed input = report_of (script_of input)
-
--- the text that a form defines for an input, if it takes the input
-unfoldable pub answer : Form → List ℕ → Option (List ℕ)
-answer Replay = replayed
-
--- the text that is defined for these words and an input
-abbrev pub answer_of : List (List ℕ) → List ℕ → Option (List ℕ)
-answer_of words input = option_and_then (λ form. answer form input) (form_of words)
-
--- what is written for these words and an input: where it answers, all of the answer
-unfoldable pub text : Form → List ℕ → List ℕ
-text Replay = told
-
-abbrev pub text_of : List (List ℕ) → List ℕ → List ℕ
-text_of words input = option_map_or (λ form. text form input) (form_of words) []
 
 -- the trouble of a replay that stopped; lines that no memory holds are collected nowhere
 abbrev pub trouble_of_replay : StreamFault → Trouble
@@ -85,28 +89,24 @@ abbrev pub line_note : ℕ → Cause → List ℕ
 line_note line fault = codes "df1: line " ++ decimal line ++ codes ": " ++ cause_text fault ++ codes "\n"
 
 abbrev pub note_of : Trouble → List ℕ
-note_of Usage = codes "df1: usage: df1 replay\n"
+note_of Usage = codes "df1: usage: df1 replay | serve PLAN raw|timed | issue PLAN\n"
 note_of (Refusal line cause) = line_note line cause
 note_of Input = codes "df1: input cannot be read\n"
 note_of Output = codes "df1: output cannot be written\n"
 note_of NoMemory = codes "df1: no memory\n"
 
--- the note of a run with this status, which isn't 3
+-- the note of a replay with this status, which isn't 3
 abbrev pub note_at : ℕ → List ℕ
 note_at status =
-    if status == 2 then note_of Usage
-    else if status == 4 then note_of Input
+    if status == 4 then note_of Input
     else if status == 5 then note_of Output
     else if status == 7 then note_of NoMemory
     else []
 
--- the status of a run with these words over an input, where nothing fails
-abbrev pub status_for : List (List ℕ) → List ℕ → ℕ
-status_for words input =
-    if is_none (form_of words) then 2
-    else if is_none (answer_of words input) then 3
-    else 0
+-- the status of a replay of an input, where nothing fails
+abbrev pub status_for : List ℕ → ℕ
+status_for input = if is_none (replayed input) then 3 else 0
 
--- one of the statuses of the program
-abbrev pub IsStatus : ℕ → Type 0
-IsStatus status = (status ≡ 0) ⊎ (status ≡ 2) ⊎ (status ≡ 3) ⊎ (status ≡ 4) ⊎ (status ≡ 5) ⊎ (status ≡ 7)
+-- one of the statuses of a replay
+abbrev pub IsReplayStatus : ℕ → Type 0
+IsReplayStatus status = (status ≡ 0) ⊎ (status ≡ 3) ⊎ (status ≡ 4) ⊎ (status ≡ 5) ⊎ (status ≡ 7)

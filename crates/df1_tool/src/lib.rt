@@ -3,7 +3,11 @@
 
 mod collected;
 mod form;
+mod note;
 mod replaying;
+mod serving;
+#[cfg(test)]
+mod serving_tests;
 #[cfg(test)]
 mod tests;
 mod top;

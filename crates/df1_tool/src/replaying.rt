@@ -3,12 +3,15 @@ ghost use Rattle.std.specs.Prelude.{◌≡◌, ◌⊎◌, ◌≢◌, ◌≤◌, 
 ghost use Rattle.df1_base.specs.Outside.{Rose, Put, WrotePart};
 ghost use Rattle.line_script.specs.ScriptText.{script_of};
 ghost use Rattle.line_replay.specs.Fed.{IsReplay, IsReplayOf, IsScript, ShowsFront, ShowsMore, shown, told};
-ghost use Rattle.df1_tool.specs.Tool.{replayed, result_of};
-ghost use Rattle.df1_tool.specs.Outcome.{Answered, BrokenOff, CutOff, IsFromPiece, Refused, TellsRefusal, Written};
+ghost use Rattle.line_script.specs.declared.fault.Cause.{Cause as Fault};
+ghost use Rattle.df1_tool.specs.Tool.{IsReplayStatus, line_note, note_at, replayed, result_of, status_for};
+ghost use Rattle.df1_tool.specs.Replayed.{Replayed};
+ghost use Rattle.std.specs.Option.{ForSome};
+ghost use Rattle.df1_tool.specs.Outcome.{Answered, BrokenOff, CutOff, IsFromPiece, IsNoted, Refused, TellsRefusal, Written};
 ghost use Rattle.df1_tool.specs.declared.trouble.Trouble.{Trouble as Ending};
 
 use crate::collected::Collected;
-use crate::trouble::Trouble;
+use crate::trouble::{Trouble, tell};
 use df1_base::{Failed, Sink, Source, write_all};
 use line_replay::{Replayer, StreamFault};
 use line_script::{LINE, SCRIPT};
@@ -17,13 +20,37 @@ use std::alloc::Global;
 /// How many bytes one read asks for.
 const PIECE: usize = 4096;
 
-/// Reads a script from the input, runs it and writes its report, in the order in which things happen: of each piece that
-/// was read, first its lines' events happen, then the report's lines of these are written, and then the next is read.
-pub(crate) fn answer<S: Source, K: Sink>(
+/// Replays the input to the output, and answers the status. Where it isn't 0, the note is written.
+pub(crate) fn run<S: Source, K: Sink, N: Sink>(
     alloc: Global,
     input: &mut S,
     out: &mut K,
-) -> Result<(), Trouble>
+    note: &mut N,
+) -> u8
+    ensures statuses { IsReplayStatus result }
+    ensures done { result ≡ 0 → Answered replayed (S.left input.old) (S.left input.new) (K.held out.old) (K.held out.new) }
+    ensures calm { result ≡ 0 → (S.faults input.new ≡ S.faults input.old) × (note.new ≡ note.old) }
+    ensures replayed { result ≡ 0 → Replayed (S.left input.old) (S.left input.new) (K.held out.old) (K.held out.new) }
+    ensures refusal { result ≡ 3 → (line : ℕ) × (fault : Fault)
+        × Refused (S.left input.old) (S.left input.new) (K.held out.old) (K.held out.new) (S.faults input.old) (S.faults input.new) line fault
+        × IsNoted (N.held note.old) (N.held note.new) (N.faults note.old) (N.faults note.new) (line_note line fault) }
+    ensures input { result ≡ 4 → BrokenOff (S.left input.old) (S.left input.new) (K.held out.old) (K.held out.new) (S.faults input.old) (S.faults input.new) }
+    ensures output { result ≡ 5 → Rose (K.faults out.old) (K.faults out.new) × (S.faults input.new ≡ S.faults input.old)
+        × CutOff (S.left input.old) (S.left input.new) (K.held out.old) (K.held out.new) }
+    ensures steady { result ≢ 5 → K.faults out.new ≡ K.faults out.old }
+    ensures memory { result ≡ 7 → S.faults input.new ≡ S.faults input.old }
+    ensures exact { ¬ Rose (S.faults input.old) (S.faults input.new) → ¬ Rose (K.faults out.old) (K.faults out.new)
+        → ForSome (S.left input.old) (λ bytes. (result ≡ status_for bytes) ⊎ (result ≡ 7)) }
+    ensures written { Written told (S.left input.old) (S.left input.new) (K.held out.old) (K.held out.new) }
+    ensures note { result ≢ 0 → result ≢ 3 → IsNoted (N.held note.old) (N.held note.new) (N.faults note.old) (N.faults note.new) (note_at result) }
+{
+    let ended = answer(alloc, input, out);
+    tell(ended, note)
+}
+
+/// Reads a script from the input, runs it and writes its report, in the order in which things happen: of each piece that
+/// was read, first its lines' events happen, then the report's lines of these are written, and then the next is read.
+fn answer<S: Source, K: Sink>(alloc: Global, input: &mut S, out: &mut K) -> Result<(), Trouble>
     ensures done { OnOk result (Answered replayed (S.left input.old) (S.left input.new) (K.held out.old) (K.held out.new)) }
     ensures calm { OnOk result (S.faults input.new ≡ S.faults input.old) }
     ensures refusal { IfErr result (TellsRefusal (Refused (S.left input.old) (S.left input.new) (K.held out.old) (K.held out.new) (S.faults input.old) (S.faults input.new))) }

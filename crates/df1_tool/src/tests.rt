@@ -2,6 +2,7 @@
 use crate::run;
 use df1_base::{BytesIn, BytesOut, Failed, NoMemory};
 use df1_node::{IssueFault, MakeFault};
+use df1_shelf::ShelfMem;
 use line_replay::StreamFault;
 use line_script::{Cause, LineFault, ScriptFault};
 use std::alloc::Global;
@@ -34,6 +35,7 @@ fn check<R: Abort + AllocGlobal>(rt: &R, case: &Case) -> Result<(), Fail> {
     let ran = run(
         rt.alloc(),
         &words,
+        ShelfMem::new(rt.alloc()),
         BytesIn::new(rt.alloc(), case.input.as_bytes(), 1, case.read_fails)?,
         BytesOut::new(rt.alloc(), case.room, 7, &[])?,
         BytesOut::new(rt.alloc(), 100, 100, &[])?,
@@ -191,7 +193,7 @@ fn a_run_that_does_not_end_well_tells_why(rt: HostRuntime) -> Result<(), Fail> {
             room: 4000,
             status: 2,
             out: "",
-            note: "df1: usage: df1 replay\n",
+            note: "df1: usage: df1 replay | serve PLAN raw|timed | issue PLAN\n",
         },
         // A read that fails.
         Case {
@@ -296,6 +298,7 @@ fn plays<R: Abort + AllocGlobal>(rt: &R, script: &str, report: &[&str]) -> Resul
     let ran = run(
         rt.alloc(),
         &words,
+        ShelfMem::new(rt.alloc()),
         BytesIn::new(rt.alloc(), script.as_bytes(), 4096, &[])?,
         BytesOut::new(rt.alloc(), 4096, 4096, &[])?,
         BytesOut::new(rt.alloc(), 100, 100, &[])?,
@@ -420,6 +423,7 @@ fn an_end_issues_65535_commands_and_no_more(rt: HostRuntime) -> Result<(), Fail>
         let ran = run(
             rt.alloc(),
             &words,
+            ShelfMem::new(rt.alloc()),
             BytesIn::new(rt.alloc(), text.as_bytes(), 4096, &[])?,
             BytesOut::new(rt.alloc(), 100, 100, &[])?,
             BytesOut::new(rt.alloc(), 100, 100, &[])?,

@@ -1,21 +1,19 @@
-//! Why a run didn't end well, with its status and its note.
+//! Why a replay didn't end well, or that the words are none of the forms, with status and note.
 //!
 //! | Status | Note |
 //! |---|---|
-//! | 2 | `df1: usage: df1 replay` |
+//! | 2 | `df1: usage: df1 replay \| serve PLAN raw\|timed \| issue PLAN` |
 //! | 3 | `df1: line N: CAUSE` |
 //! | 4 | `df1: input cannot be read` |
 //! | 5 | `df1: output cannot be written` |
 //! | 7 | `df1: no memory` |
-ghost use Rattle.std.specs.Prelude.{◌≡◌, ◌+◌, ◌≤◌, ◌++◌, [], length};
-ghost use Rattle.arrayvec.specs.ArrayVec.{array_vec_len};
-ghost use Rattle.df1_tool.specs.Tool.{status_of_trouble, note_of, cause_text, line_note};
+ghost use Rattle.std.specs.Prelude.{◌≡◌, ◌≤◌, MatchResult, length};
+ghost use Rattle.df1_tool.specs.Outcome.{IsNoted};
+ghost use Rattle.df1_tool.specs.Tool.{cause_text, line_note, note_of, status_of, status_of_trouble};
 
-use arrayvec::ArrayVec;
+use crate::note::{Note, append, noted};
+use df1_base::{Sink, write_all};
 use line_replay::{Cause, StreamFault};
-
-/// Room for a note, in bytes.
-const NOTE: usize = 96;
 
 /// Why a run didn't end well.
 #[derive(Clone, Copy, Debug, PartialEq, Eq)]
@@ -61,11 +59,13 @@ impl Trouble {
     }
 
     /// The note, which ends with a line feed.
-    pub fn note(self) -> ArrayVec<u8, NOTE>
+    pub fn note(self) -> Note
         ensures { result.items ≡ note_of self }
     {
         match self {
-            Trouble::Usage => noted(b"df1: usage: df1 replay\n"),
+            Trouble::Usage => noted(
+                b"df1: usage: df1 replay | serve PLAN raw|timed | issue PLAN\n",
+            ),
             Trouble::Refusal(line, cause) => refused(line, cause),
             Trouble::Input => noted(b"df1: input cannot be read\n"),
             Trouble::Output => noted(b"df1: output cannot be written\n"),
@@ -74,18 +74,8 @@ impl Trouble {
     }
 }
 
-/// A note of these bytes.
-fn noted(text: &[u8]) -> ArrayVec<u8, NOTE>
-    requires { length text.now ≤ NOTE }
-    ensures { result.items ≡ text.now }
-{
-    let mut note = ArrayVec::new();
-    append(&mut note, text);
-    note
-}
-
 /// The note of a refused line.
-fn refused(line: u32, cause: Cause) -> ArrayVec<u8, NOTE>
+fn refused(line: u32, cause: Cause) -> Note
     ensures { result.items ≡ line_note line cause }
 {
     let mut note = noted(b"df1: line ");
@@ -117,10 +107,18 @@ fn text_of(cause: Cause) -> &'static [u8]
     }
 }
 
-/// Adds bytes to a note that has room for them.
-fn append(note: &mut ArrayVec<u8, NOTE>, bytes: &[u8])
-    requires { array_vec_len note.old + length bytes.now ≤ NOTE }
-    ensures { note.new.items ≡ note.old.items ++ bytes.now }
+/// Writes the note of a run that ended so, where it has one, once, and answers the status. A note that fails changes no
+/// status.
+pub(crate) fn tell<N: Sink>(ended: Result<(), Trouble>, note: &mut N) -> u8
+    ensures status { result ≡ status_of ended }
+    ensures note { MatchResult ended (λ _. note.new ≡ note.old)
+        (λ trouble. IsNoted (N.held note.old) (N.held note.new) (N.faults note.old) (N.faults note.new) (note_of trouble)) }
 {
-    note.try_extend_from_slice(bytes).unwrap();
+    match ended {
+        Ok(()) => 0,
+        Err(trouble) => {
+            let _ = write_all(note, &trouble.note());
+            trouble.status()
+        }
+    }
 }

@@ -1,0 +1,42 @@
+//! The text of a note: at most 96 bytes.
+ghost use Rattle.std.specs.Prelude.{◌≡◌, ◌+◌, ◌≤◌, ◌++◌, decimal, length};
+ghost use Rattle.arrayvec.specs.ArrayVec.{array_vec_len};
+
+use arrayvec::ArrayVec;
+
+/// Room for a note, in bytes.
+const NOTE: usize = 96;
+
+/// A note, or the beginning of one.
+pub(crate) type Note = ArrayVec<u8, NOTE>;
+
+/// A note of these bytes.
+pub(crate) fn noted(text: &[u8]) -> Note
+    requires { length text.now ≤ NOTE }
+    ensures { result.items ≡ text.now }
+{
+    let mut note = ArrayVec::new();
+    append(&mut note, text);
+    note
+}
+
+/// A note of a text, a number and a text.
+pub(crate) fn with_number(before: &[u8], number: u64, after: &[u8]) -> Note
+    requires before { length before.now ≤ 32 }
+    requires after { length after.now ≤ 32 }
+    ensures { result.items ≡ before.now ++ decimal number ++ after.now }
+{
+    let mut note = noted(before);
+    let mut digits = itoa::Buffer::new();
+    append(&mut note, digits.format(number).as_bytes());
+    append(&mut note, after);
+    note
+}
+
+/// Adds bytes to a note that has room for them.
+pub(crate) fn append(note: &mut Note, bytes: &[u8])
+    requires { array_vec_len note.old + length bytes.now ≤ NOTE }
+    ensures { note.new.items ≡ note.old.items ++ bytes.now }
+{
+    note.try_extend_from_slice(bytes).unwrap();
+}

@@ -1,0 +1,138 @@
+//! The commands `serve` and `issue`: a plan's end over the input and the output, and how they end.
+//!
+//! | Status | Note |
+//! |---|---|
+//! | 0 | none, or the outcomes of the plan's commands |
+//! | 3 | `df1: plan: CAUSE`, `df1: record at P: form`, `df1: record at P: cut` |
+//! | 4 | `df1: input cannot be read` |
+//! | 5 | `df1: output cannot be written` |
+//! | 6 | `df1: plan cannot be read`, `df1: plan is over 1048576 bytes` |
+//! | 7 | `df1: no memory` |
+//! | 8 | `df1: input is over 268435456 bytes` |
+ghost use Rattle.std.specs.Prelude.{◌≡◌, ◌⊎◌, ◌≤◌, ◌++◌, IfErr, IfOk, codes, length};
+ghost use Rattle.df1_tool.specs.Outcome.{IsNoted};
+ghost use Rattle.df1_tool.specs.Served.{IsFinished, Serves, note_of_fault, status_of_fault, told};
+
+use crate::note::{Note, append, noted, with_number};
+use crate::top::Ran;
+use df1_base::{Sink, Source, write_all};
+use df1_node::Node;
+use df1_plan::PlanFault;
+use df1_service::{Service, ServiceFault, serve_plan, write_outcomes};
+use df1_shelf::Shelf;
+use duplex_end::End;
+use std::alloc::Global;
+
+/// Serves the end of the plan of this name.
+pub(crate) fn run<H: Shelf, S: Source, K: Sink, N: Sink>(
+    alloc: Global,
+    mut shelf: H,
+    name: &str,
+    service: Service,
+    input: S,
+    out: K,
+    mut note: N,
+) -> Ran<H, S, K, N>
+    ensures serves { Serves service name.now
+        (record { files = H.file shelf; shelf_faults = H.faults shelf; left = S.left input; input_faults = S.faults input; held = K.held out; out_faults = K.faults out; noted = N.held note; note_faults = N.faults note })
+        (record { files = H.file result.shelf; shelf_faults = H.faults result.shelf; left = S.left result.input; input_faults = S.faults result.input; held = K.held result.out; out_faults = K.faults result.out; noted = N.held result.note; note_faults = N.faults result.note })
+        result.status }
+    ensures before { (result.status ≡ 6) ⊎ (result.status ≡ 7) → (result.input ≡ input) × (result.out ≡ out) }
+{
+    let ended = serve_plan(alloc, &mut shelf, name, service, input, out);
+    let status = tell(&ended.end, service.issues, &mut note);
+    Ran {
+        status,
+        shelf,
+        input: ended.input,
+        out: ended.out,
+        note,
+    }
+}
+
+/// Tells how a service ended, and answers the status.
+fn tell<N: Sink>(ended: &Result<End<Node>, ServiceFault>, issues: bool, note: &mut N) -> u8
+    ensures finished { IfOk ended.now (λ end. IsFinished (N.held note.old) (N.held note.new) (N.faults note.old) (N.faults note.new) (told issues end) result) }
+    ensures refused { IfErr ended.now (λ fault. (result ≡ status_of_fault fault) × IsNoted (N.held note.old) (N.held note.new) (N.faults note.old) (N.faults note.new) (note_of_fault fault)) }
+{
+    match ended {
+        Ok(end) => finish(end, issues, note),
+        Err(fault) => refuse(*fault, note),
+    }
+}
+
+/// Tells the outcomes of the commands of an end, where any were issued, and answers the status.
+fn finish<N: Sink>(end: &End<Node>, issues: bool, note: &mut N) -> u8
+    ensures { IsFinished (N.held note.old) (N.held note.new) (N.faults note.old) (N.faults note.new) (told issues end.now) result }
+{
+    if issues && write_outcomes(end.host().initiator(), note).is_err() {
+        return 5;
+    }
+    0
+}
+
+/// Writes the note of a fault, once, and answers its status. A note that fails changes no status.
+fn refuse<N: Sink>(fault: ServiceFault, note: &mut N) -> u8
+    ensures status { result ≡ status_of_fault fault }
+    ensures note { IsNoted (N.held note.old) (N.held note.new) (N.faults note.old) (N.faults note.new) (note_of_fault fault) }
+{
+    let _ = write_all(note, &note_of(fault));
+    status_of(fault)
+}
+
+/// The status of a fault.
+fn status_of(fault: ServiceFault) -> u8
+    ensures { result ≡ status_of_fault fault }
+{
+    match fault {
+        ServiceFault::Plan(_) | ServiceFault::Form(_) | ServiceFault::Cut(_) => 3,
+        ServiceFault::Input => 4,
+        ServiceFault::Output => 5,
+        ServiceFault::PlanFailed | ServiceFault::PlanTooLong => 6,
+        ServiceFault::NoMemory => 7,
+        ServiceFault::TooLong => 8,
+    }
+}
+
+/// The note of a fault.
+fn note_of(fault: ServiceFault) -> Note
+    ensures { result.items ≡ note_of_fault fault }
+{
+    match fault {
+        ServiceFault::PlanFailed => noted(b"df1: plan cannot be read\n"),
+        ServiceFault::PlanTooLong => noted(b"df1: plan is over 1048576 bytes\n"),
+        ServiceFault::Plan(cause) => plan_note(cause),
+        ServiceFault::Form(at) => with_number(b"df1: record at ", at, b": form\n"),
+        ServiceFault::Cut(at) => with_number(b"df1: record at ", at, b": cut\n"),
+        ServiceFault::Input => noted(b"df1: input cannot be read\n"),
+        ServiceFault::Output => noted(b"df1: output cannot be written\n"),
+        ServiceFault::TooLong => noted(b"df1: input is over 268435456 bytes\n"),
+        ServiceFault::NoMemory => noted(b"df1: no memory\n"),
+    }
+}
+
+/// The note of a plan that is refused.
+fn plan_note(cause: PlanFault) -> Note
+    ensures { result.items ≡ note_of_fault (ServiceFault.Plan cause) }
+{
+    match cause {
+        PlanFault::Text => noted(b"df1: plan: text\n"),
+        PlanFault::UnknownKey => noted(b"df1: plan: unknown key\n"),
+        PlanFault::Key(key) => with_word(b"df1: plan: key ", key.name().as_bytes()),
+        PlanFault::File(n) => with_number(b"df1: plan: file ", u64::from(n), b"\n"),
+        PlanFault::Issue(n) => with_number(b"df1: plan: issue ", u64::from(n), b"\n"),
+        PlanFault::NoMemory => noted(b"df1: plan: no memory\n"),
+    }
+}
+
+/// A note of a text and a word.
+fn with_word(text: &[u8], word: &[u8]) -> Note
+    requires text { length text.now ≤ 16 }
+    requires word { length word.now ≤ 16 }
+    ensures { result.items ≡ text.now ++ word.now ++ codes "\n" }
+{
+    let mut note = noted(text);
+    append(&mut note, word);
+    append(&mut note, b"\n");
+    note
+}
