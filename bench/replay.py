@@ -10,7 +10,8 @@ run took:
 - steps: 16 MB of script, each step a line of its own;
 - ticks: 65,000 commands and 4,000,000 events, nearly all of them ticks;
 - lossless: 65,000 ordinary exchanges of an echo;
-- words: the first values of 256,000 words, each a line of its own.
+- words: the first values of 256,000 words, each a line of its own;
+- polled8, polled32: 20,000 polls over 8 stations, and 15,000 over 32, each byte of the master delivered to every station.
 """
 import os
 import subprocess
@@ -76,18 +77,39 @@ def words(files=256, count=1000):
     return "\n".join(lines + ["end"]) + "\n"
 
 
-SCRIPTS = {"drill": drill, "steps": steps, "ticks": ticks, "lossless": lossless, "words": words}
+def polled(stations, rounds):
+    numbers = range(17, 17 + stations)
+    lines = ["set mode half"] + [f"station {number}" for number in numbers]
+    for i in range(rounds):
+        lines += ["mt", "mk 4"] + [f"md {number} 4" for number in numbers] + [f"{numbers[i % stations]}{verb} 2" for verb in "kd"]
+    return "\n".join(lines + ["end"]) + "\n"
+
+
+SCRIPTS = {
+    "drill": drill,
+    "steps": steps,
+    "ticks": ticks,
+    "lossless": lossless,
+    "words": words,
+    "polled8": lambda: polled(8, 20_000),
+    "polled32": lambda: polled(32, 15_000),
+}
 
 
 def events(text):
-    total = 0
+    total, stations = 0, 0
     for line in text.splitlines():
         parts = line.split()
-        if len(parts[0]) == 2 and parts[0][0] in "ab":
-            if parts[0][1] in "ktdx":
-                total += int(parts[1]) if len(parts) > 1 else 1
-            else:
-                total += len(parts[1]) // 2 if parts[0][1] == "n" else 1
+        end, verb = parts[0][:-1], parts[0][-1]
+        stations += parts[0] == "station"
+        if end not in ("a", "b", "m") and not end.isdigit():
+            continue
+        operands = parts[2:] if end == "m" and verb in "idxcn" else parts[1:]
+        if verb in "ktdx":
+            count = int(operands[0]) if operands else 1
+            total += count * max(stations, 1) if end + verb == "mk" else count
+        else:
+            total += len(operands[0]) // 2 if verb == "n" else 1
     return total
 
 

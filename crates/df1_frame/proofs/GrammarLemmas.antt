@@ -19,10 +19,10 @@ use Rattle.df1_frame.proofs.LineLemmas.{Machine, Continues, Works, after, run, S
 use Rattle.df1_frame.proofs.SpellingLemmas.{ArePieces-push, not_response, length-pieces, length-unheard, length-check_heard, check_heard-push, unheard-push, length-check, same-same}
 use Rattle.df1_frame.proofs.GatheredLemmas.{gathered-nothing, gather-gathered, close-gathered, verdict-gathered, left_by-gathered}
 
-abbrev To : Type 0
+abbrev pub To : Type 0
 To = List Item × Front
 
-abbrev respond : List Piece → ℕ → Option Heard → To
+abbrev pub respond : List Piece → ℕ → Option Heard → To
 respond pieces b None = (Broken pieces b ∷ [], Nothing)
 respond pieces b (Some h) = ([], Opened (pieces ++ Response b ∷ []))
 
@@ -114,7 +114,7 @@ ended-push N [] item = refl
 ended-push N (x ∷ []) item = refl
 ended-push N (x ∷ y ∷ items) item = ended-push N (y ∷ items) item
 
-step-ended : (kind : Check) (N : ℕ) (items : List Item) (b : ℕ) → step kind N (ended N items) b ≡ outside_next b
+pub step-ended : (kind : Check) (N : ℕ) (items : List Item) (b : ℕ) → step kind N (ended N items) b ≡ outside_next b
 step-ended kind N [] b = refl
 step-ended kind N (Stray x ∷ []) b = refl
 step-ended kind N (Pair code ∷ []) b = refl

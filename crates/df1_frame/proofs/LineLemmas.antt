@@ -50,7 +50,7 @@ pub record Works (G : Grammar) (M : Machine G) : Type 0 where
 
 -- ---- behind the items that came before
 
-last_front : (G : Grammar) (items : List G.Item) (front : G.Front) → AreItems G items front → G.IsFront front
+pub last_front : (G : Grammar) (items : List G.Item) (front : G.Front) → AreItems G items front → G.IsFront front
 last_front G [] front h = h
 last_front G (item ∷ items) front h = last_front G items front h.1
 
@@ -74,7 +74,7 @@ length-answers G M w at [] front h = w.length_front at front
 length-answers G M w at (item ∷ items) front h =
     simp length-append (omega (arith, w.length_item at item (spelling G items front) h.0, length-answers G M w (G.leaves item) items front h.1))
 
-Splits-more : (G : Grammar) (M : Machine G) (w : Works G M) (b : ℕ) (l : List ℕ) (items : List G.Item) (front : G.Front) → Splits G l items front → Splits G (l ++ b ∷ []) (items ++ (M.advance front b).0) (M.advance front b).1
+pub Splits-more : (G : Grammar) (M : Machine G) (w : Works G M) (b : ℕ) (l : List ℕ) (items : List G.Item) (front : G.Front) → Splits G l items front → Splits G (l ++ b ∷ []) (items ++ (M.advance front b).0) (M.advance front b).1
 Splits-more G M w b l items front s =
     let c = w.continues front b (last_front G items front s.each) in
     record {

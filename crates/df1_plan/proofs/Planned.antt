@@ -15,9 +15,9 @@ use Rattle.data_files.specs.Tables.{faults, file_of, has_word, word_count}
 use Rattle.data_files.specs.WordBytes.{words_of}
 use Rattle.line_statement.specs.Statements.{file_spec}
 use Rattle.line_statement.specs.declared.who.Who.TheVariants.{A}
-use Rattle.line_script.specs.declared.script.WordOf.{WordOf}
-use Rattle.line_script.specs.Playable.{IsBetween}
-use Rattle.line_script.proofs.EndStanding.{faults-push}
+use Rattle.script_parts.specs.declared.script.WordOf.{WordOf}
+use Rattle.script_parts.specs.Playable.{IsBetween}
+use Rattle.script_parts.proofs.MoreFiles.{faults-push}
 use Rattle.toml.specs.Data.{Data, string, integer, float, boolean, datetime, array, table, Items, no_items, item, Members, get_member, as_array}
 use Rattle.df1_plan.specs.declared.files.PlannedFile.{PlannedFile}
 use Rattle.df1_plan.specs.declared.fault.PlanFault.{PlanFault}

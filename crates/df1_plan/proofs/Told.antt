@@ -2,7 +2,7 @@
 use Rattle.std.proofs.Common.{◌≡◌, ℕ, Option, Some, None, Result, Ok, refl, arith, pos, negsuc}
 use Rattle.std.proofs.lemmas.Bool.Decides.{nat_tests}
 use Rattle.line_statement.specs.Words.{within}
-use Rattle.line_script.specs.Playable.{IsBetween}
+use Rattle.script_parts.specs.Playable.{IsBetween}
 use Rattle.toml.specs.Data.{Data, string, integer, float, boolean, datetime, array, table, Members, get_member}
 use Rattle.df1_plan.specs.declared.key.Key.{Key}
 use Rattle.df1_plan.specs.declared.fault.PlanFault.{PlanFault}

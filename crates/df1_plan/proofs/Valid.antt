@@ -8,7 +8,7 @@ use Rattle.std.proofs.lemmas.List.Elements.{All-nil, All-push}
 use Rattle.data_files.specs.Tables.{fits_compat}
 use Rattle.line_statement.specs.Statements.{is_payload}
 use Rattle.line_statement.specs.declared.who.Who.TheVariants.{A}
-use Rattle.line_script.specs.Playable.{IsPlanOf}
+use Rattle.script_parts.specs.Playable.{IsPlanOf}
 use Rattle.toml.specs.Data.{Data, Items, no_items, item, Members, as_array, get_member}
 use Rattle.df1_plan.specs.declared.plan.Plan.{Plan}
 use Rattle.df1_plan.specs.declared.key.Key.TheVariants as key

@@ -8,8 +8,8 @@ use Rattle.data_files.specs.Tables.{word_count}
 use Rattle.data_files.specs.WordBytes.{words_of}
 use Rattle.line_statement.specs.Statements.{file_spec}
 use Rattle.line_statement.specs.declared.who.Who.TheVariants.{A}
-use Rattle.line_script.specs.declared.script.WordOf.{WordOf}
-use Rattle.line_script.specs.Playable.{IsBetween}
+use Rattle.script_parts.specs.declared.script.WordOf.{WordOf}
+use Rattle.script_parts.specs.Playable.{IsBetween}
 use Rattle.toml.specs.Data.{Data, table, Items, no_items, item, Members, get_member, as_array}
 use Rattle.df1_plan.specs.declared.files.PlannedFile.{PlannedFile}
 use Rattle.df1_plan.specs.declared.fault.PlanFault.{PlanFault}

@@ -9,7 +9,7 @@ use crate::plan::Payloads;
 use crate::values::{hex_in, value_at};
 use crate::{Key, PlanFault};
 use df1_base::{MAX_PAYLOAD, NoMemory, REPLY};
-use line_script::{Bytes, Items};
+use line_statement::{Bytes, Items};
 use std::alloc::Global;
 use toml::{Table, Value};
 

@@ -16,7 +16,8 @@ use Rattle.duplex_end.specs.Serving.{Serves, BreaksOff, last_signal}
 use Rattle.duplex_end.specs.declared.serving.Served.{Served}
 use Rattle.duplex_end.specs.declared.serving.Served.TheVariants as ended
 use Rattle.each_once.specs.NodeHost.{node_host}
-use Rattle.df1_service.specs.Wire.{Reached, IsServed, HasNoForm, IsCut, BrokenOff, CutOff, OfPlan, TellsRecord, ended_of}
+use Rattle.df1_service.specs.Wire.{Reached, IsServed, HasNoForm, IsCut, StoppedByInput, StoppedByOutput, OfPlan, TellsRecord}
+use Rattle.df1_service.specs.Ending.{ended_of}
 use Rattle.df1_service.specs.declared.fault.ServiceFault.{ServiceFault}
 use Rattle.df1_service.specs.declared.fault.ServiceFault.TheVariants as fault
 
@@ -191,7 +192,7 @@ few-by true false n none = grind (arith, nat_tests)
 few-by false within n none = grind (arith, nat_tests)
 
 pub broken-off : {S K : Type 0} (left : S → Option (List ℕ)) (input : S) (out : K) (timed : Bool) (f : Feed S K) (signals : List Signal) (before after : EndState NodeState) (held held' : Option (List ℕ))
-    → Came left (fresh input out timed) signals f → holds_signal f ≡ false → Serves node_host before signals after held held' → BrokenOff timed before (left input) (left f.source) held held'
+    → Came left (fresh input out timed) signals f → holds_signal f ≡ false → Serves node_host before signals after held held' → StoppedByInput timed before (left input) (left f.source) held held'
 broken-off left input out timed f signals before after held held' came dry served =
     let none = or-none f.drains (nat_lt (if f.timed && nat_lt f.used input_limit then 1 else 0) (length f.waiting)) dry in
     record {
@@ -210,7 +211,7 @@ broken-off left input out timed f signals before after held held' came dry serve
     }
 
 pub cut-off : {S K : Type 0} (left : S → Option (List ℕ)) (input : S) (out : K) (timed : Bool) (f : Feed S K) (signals : List Signal) (last : Signal) (before after : EndState NodeState) (held held' : Option (List ℕ))
-    → Came left (fresh input out timed) (signals ++ last ∷ []) f → length f.waiting ≤ 4096 → BreaksOff node_host before signals last after held held' → CutOff timed before (left input) (left f.source) held held'
+    → Came left (fresh input out timed) (signals ++ last ∷ []) f → length f.waiting ≤ 4096 → BreaksOff node_host before signals last after held held' → StoppedByOutput timed before (left input) (left f.source) held held'
 cut-off left input out timed f signals last before after held held' came few broke = record {
   bytes = came.more;
   took = came.took;
@@ -277,14 +278,14 @@ served-to-cut left hold input out timed old new before after ending place held i
     is-cut left input out timed new s.0 place before after (hold out) (hold new.sink) s.1 (stops-with left new ending (ended.Bad place) at f.stopped) s.2 (sym count ∙ one)
 
 pub served-to-failure : {S K : Type 0} (left : S → Option (List ℕ)) (hold : K → Option (List ℕ)) (input : S) (out : K) (timed : Bool) (old new : Feed S K) (before after : EndState NodeState) (ending : Served)
-    → old ≡ fresh input out timed → Facts left hold old new before after ending → ending ≡ ended.InFailed → BrokenOff timed before (left input) (left new.source) (hold out) (hold new.sink)
+    → old ≡ fresh input out timed → Facts left hold old new before after ending → ending ≡ ended.InFailed → StoppedByInput timed before (left input) (left new.source) (hold out) (hold new.sink)
 served-to-failure left hold input out timed old new before after ending is facts at =
     let f = of-fresh left hold input out timed old new before after ending is facts in
     let s = f.served (not-output ending ended.InFailed at (λ same. cc)) in
     broken-off left input out timed new s.0 before after (hold out) (hold new.sink) s.1 (f.dry at) s.2
 
 pub served-in-part : {S K : Type 0} (left : S → Option (List ℕ)) (hold : K → Option (List ℕ)) (input : S) (out : K) (timed : Bool) (old new : Feed S K) (before after : EndState NodeState) (ending : Served)
-    → old ≡ fresh input out timed → Facts left hold old new before after ending → ending ≡ ended.OutFailed → length new.waiting ≤ 4096 → CutOff timed before (left input) (left new.source) (hold out) (hold new.sink)
+    → old ≡ fresh input out timed → Facts left hold old new before after ending → ending ≡ ended.OutFailed → length new.waiting ≤ 4096 → StoppedByOutput timed before (left input) (left new.source) (hold out) (hold new.sink)
 served-in-part left hold input out timed old new before after ending is facts at few =
     let f = of-fresh left hold input out timed old new before after ending is facts in
     let b = f.breaks_off at in
@@ -329,7 +330,7 @@ long-of left hold input out timed old new before after (ended.Bad at) held is fa
 long-of left hold input out timed old new before after ended.Long held is facts told = served-to-long left hold input out timed old new before after ended.Long is facts refl
 
 pub broken-of : {S K : Type 0} (left : S → Option (List ℕ)) (hold : K → Option (List ℕ)) (input : S) (out : K) (timed : Bool) (old new : Feed S K) (before after : EndState NodeState) (ending : Served) (held : ℕ) → old ≡ fresh input out timed → Facts left hold old new before after ending → IsErrOf (ended_of ending after held) fault.Input
-    → BrokenOff timed before (left input) (left new.source) (hold out) (hold new.sink)
+    → StoppedByInput timed before (left input) (left new.source) (hold out) (hold new.sink)
 broken-of left hold input out timed old new before after ended.Ended held is facts told = absurd cc
 broken-of left hold input out timed old new before after ended.InFailed held is facts told = served-to-failure left hold input out timed old new before after ended.InFailed is facts refl
 broken-of left hold input out timed old new before after ended.OutFailed held is facts told = absurd cc
@@ -337,7 +338,7 @@ broken-of left hold input out timed old new before after (ended.Bad at) held is 
 broken-of left hold input out timed old new before after ended.Long held is facts told = absurd cc
 
 pub cut-of : {S K : Type 0} (left : S → Option (List ℕ)) (hold : K → Option (List ℕ)) (input : S) (out : K) (timed : Bool) (old new : Feed S K) (before after : EndState NodeState) (ending : Served) (held : ℕ) → old ≡ fresh input out timed → Facts left hold old new before after ending → length new.waiting ≤ 4096 → IsErrOf (ended_of ending after held) fault.Output
-    → CutOff timed before (left input) (left new.source) (hold out) (hold new.sink)
+    → StoppedByOutput timed before (left input) (left new.source) (hold out) (hold new.sink)
 cut-of left hold input out timed old new before after ended.Ended held is facts few told = absurd cc
 cut-of left hold input out timed old new before after ended.InFailed held is facts few told = absurd cc
 cut-of left hold input out timed old new before after ended.OutFailed held is facts few told = served-in-part left hold input out timed old new before after ended.OutFailed is facts refl few

@@ -1,3 +1,4 @@
+pub mod Ending
 pub mod Plans
 pub mod Service
 pub mod Wire

@@ -1,5 +1,5 @@
 -- What a plan's end gives over the signals of an input.
-use Rattle.std.specs.Prelude.{◌≡◌, ◌≤◌, ◌+◌, ℕ, Bool, false, List, [], ◌∷◌, ◌++◌, length, Option, Result, Ok, Err, ◌==◌, if◌then◌else◌}
+use Rattle.std.specs.Prelude.{◌≡◌, ◌≤◌, ◌+◌, ℕ, Bool, false, List, [], ◌∷◌, ◌++◌, length, Option, if◌then◌else◌}
 use Rattle.std.specs.Io.KnownBytes.{IsAtEnd}
 use Rattle.df1_base.specs.Outside.{Took}
 use Rattle.df1_base.specs.Feed.{due}
@@ -10,8 +10,6 @@ use Rattle.df1_shelf.specs.Shelves.{Filed}
 use Rattle.df1_node.specs.Node.{NodeState}
 use Rattle.duplex_end.specs.End.{EndState, new_end}
 use Rattle.duplex_end.specs.Serving.{Serves, BreaksOff}
-use Rattle.duplex_end.specs.declared.serving.Served.{Served}
-use Rattle.duplex_end.specs.declared.serving.Served.TheVariants as served
 use Rattle.df1_plan.specs.declared.plan.Plan.{Plan}
 use Rattle.each_once.specs.NodeHost.{node_host}
 use Rattle.outset.specs.Outset.{first_node, setup_of}
@@ -62,7 +60,7 @@ IsCut timed before at left left' held held' = (reached : Reached timed before (B
 
 -- A read has failed: all signals of the bytes that were taken were served, and the last of these bytes, fewer than a record has,
 -- make none.
-pub record BrokenOff (timed : Bool) (before : EndState NodeState) (left left' held held' : Option (List ℕ)) : Type 0 where
+pub record StoppedByInput (timed : Bool) (before : EndState NodeState) (left left' held held' : Option (List ℕ)) : Type 0 where
   pub bytes : List ℕ
   pub took : Took left left' bytes
   pub signals : List Signal
@@ -74,7 +72,7 @@ pub record BrokenOff (timed : Bool) (before : EndState NodeState) (left left' he
 
 -- The output has failed: at most 4,096 bytes were taken beyond those whose signals were served, and of what the end gave at the
 -- last of these a part is put.
-pub record CutOff (timed : Bool) (before : EndState NodeState) (left left' held held' : Option (List ℕ)) : Type 0 where
+pub record StoppedByOutput (timed : Bool) (before : EndState NodeState) (left left' held held' : Option (List ℕ)) : Type 0 where
   pub bytes : List ℕ
   pub took : Took left left' bytes
   pub signals : List Signal
@@ -97,11 +95,3 @@ TellsRecord Formless Cut fault.Input = Unit {0}
 TellsRecord Formless Cut fault.Output = Unit {0}
 TellsRecord Formless Cut fault.TooLong = Unit {0}
 TellsRecord Formless Cut fault.NoMemory = Unit {0}
-
--- how a service ended, by its end's serving and how many bytes were held then
-abbrev pub ended_of : Served → EndState NodeState → ℕ → Result (EndState NodeState) ServiceFault
-ended_of served.Ended end held = Ok end
-ended_of served.InFailed end held = Err fault.Input
-ended_of served.OutFailed end held = Err fault.Output
-ended_of (served.Bad at) end held = Err (if held == 1 then fault.Cut at else fault.Form at)
-ended_of served.Long end held = Err fault.TooLong

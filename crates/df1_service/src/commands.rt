@@ -8,7 +8,7 @@ ghost use Rattle.df1_service.specs.Service.{all_issued};
 
 use df1_base::NoMemory;
 use df1_node::{IssueFault, Node};
-use line_script::Bytes;
+use line_statement::Bytes;
 
 /// Issues commands to the node `dst`, in order. Each payload has 1 to 245 bytes with bit 6 of its CMD clear, and at most
 /// 65,535 commands are issued in all. An error is want of memory; the node is then only dropped.

@@ -4,7 +4,7 @@ ghost use Rattle.df1_base.specs.Outside.{Rose};
 ghost use Rattle.df1_shelf.specs.Shelves.{IsLonger, is_sound};
 ghost use Rattle.line_statement.specs.declared.who.Who.TheVariants.{A};
 ghost use Rattle.line_statement.specs.Statements.{is_payload};
-ghost use Rattle.line_script.specs.Playable.{IsPlanOf};
+ghost use Rattle.script_parts.specs.Playable.{IsPlanOf};
 ghost use Rattle.df1_service.specs.Plans.{IsOfPlan, SaysNone, SaysPlan, TellsNone, plan_limit};
 
 use crate::ServiceFault;

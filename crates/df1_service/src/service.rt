@@ -7,8 +7,9 @@ ghost use Rattle.df1_shelf.specs.Shelves.{IsLonger, is_sound};
 ghost use Rattle.df1_service.specs.Plans.{IsOfPlan, SaysNone, TellsNone, plan_limit};
 ghost use Rattle.line_statement.specs.declared.who.Who.TheVariants.{A};
 ghost use Rattle.line_statement.specs.Statements.{is_payload};
-ghost use Rattle.line_script.specs.Playable.{IsPlanOf};
-ghost use Rattle.df1_service.specs.Wire.{BrokenOff, CutOff, HasNoForm, IsCut, IsServed, OfPlan, Reached, TellsRecord, ended_of, outset_node};
+ghost use Rattle.script_parts.specs.Playable.{IsPlanOf};
+ghost use Rattle.df1_service.specs.Wire.{HasNoForm, IsCut, IsServed, OfPlan, Reached, StoppedByInput, StoppedByOutput, TellsRecord, outset_node};
+ghost use Rattle.df1_service.specs.Ending.{ended_of};
 
 use crate::ServiceFault;
 use crate::commands::issue_all;
@@ -65,9 +66,9 @@ pub fn serve_plan<H: Shelf, S: Source, K: Sink>(
     ensures long { IsErrOf result.end ServiceFault.TooLong → OfPlan (H.file shelf.old name.now) service.issues (λ before.
         Reached service.timed before signal.Long (S.left input) (S.left result.input) (K.held out) (K.held result.out)) }
     ensures broken { IsErrOf result.end ServiceFault.Input → Rose (S.faults input) (S.faults result.input)
-        × OfPlan (H.file shelf.old name.now) service.issues (λ before. BrokenOff service.timed before (S.left input) (S.left result.input) (K.held out) (K.held result.out)) }
+        × OfPlan (H.file shelf.old name.now) service.issues (λ before. StoppedByInput service.timed before (S.left input) (S.left result.input) (K.held out) (K.held result.out)) }
     ensures cut { IsErrOf result.end ServiceFault.Output → Rose (K.faults out) (K.faults result.out)
-        × OfPlan (H.file shelf.old name.now) service.issues (λ before. CutOff service.timed before (S.left input) (S.left result.input) (K.held out) (K.held result.out)) }
+        × OfPlan (H.file shelf.old name.now) service.issues (λ before. StoppedByOutput service.timed before (S.left input) (S.left result.input) (K.held out) (K.held result.out)) }
     ensures calm { ¬ IsErrOf result.end ServiceFault.Input → S.faults result.input ≡ S.faults input }
     ensures steady { ¬ IsErrOf result.end ServiceFault.Output → K.faults result.out ≡ K.faults out }
     ensures shelf { (other : List ℕ) → H.file shelf.new other ≡ H.file shelf.old other }
@@ -128,8 +129,8 @@ fn serve_end<S: Source, K: Sink>(mut end: End<Node>, timed: bool, input: S, out:
         (λ at. HasNoForm timed end at (S.left input) (S.left result.input) (K.held out) (K.held result.out))
         (λ at. IsCut timed end at (S.left input) (S.left result.input) (K.held out) (K.held result.out))) }
     ensures long { IsErrOf result.end ServiceFault.TooLong → Reached timed end signal.Long (S.left input) (S.left result.input) (K.held out) (K.held result.out) }
-    ensures broken { IsErrOf result.end ServiceFault.Input → Rose (S.faults input) (S.faults result.input) × BrokenOff timed end (S.left input) (S.left result.input) (K.held out) (K.held result.out) }
-    ensures cut { IsErrOf result.end ServiceFault.Output → Rose (K.faults out) (K.faults result.out) × CutOff timed end (S.left input) (S.left result.input) (K.held out) (K.held result.out) }
+    ensures broken { IsErrOf result.end ServiceFault.Input → Rose (S.faults input) (S.faults result.input) × StoppedByInput timed end (S.left input) (S.left result.input) (K.held out) (K.held result.out) }
+    ensures cut { IsErrOf result.end ServiceFault.Output → Rose (K.faults out) (K.faults result.out) × StoppedByOutput timed end (S.left input) (S.left result.input) (K.held out) (K.held result.out) }
     ensures calm { ¬ IsErrOf result.end ServiceFault.Input → S.faults result.input ≡ S.faults input }
     ensures steady { ¬ IsErrOf result.end ServiceFault.Output → K.faults result.out ≡ K.faults out }
     ensures known { IfErr result.end (λ fault. ¬ IsOfPlan fault) }

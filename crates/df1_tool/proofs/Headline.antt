@@ -1,18 +1,17 @@
 -- What a run of `replay` that ended well shows.
-use Rattle.std.proofs.Common.{◌≡◌, ◌∙◌, ℕ, List, Option, Some, Result, Ok, Err, OnOk, refl, sym, subst, arith}
+use Rattle.std.proofs.Common.{◌≡◌, ◌∙◌, ℕ, Bool, false, List, Option, Some, Result, Ok, Err, OnOk, refl, sym, subst, arith}
 use Rattle.df1_base.specs.Outside.{Put}
 use Rattle.line_script.specs.declared.fault.Cause.{Cause}
-use Rattle.line_script.specs.declared.script.Script.{Script}
+use Rattle.script_parts.specs.declared.script.Script.{Script}
 use Rattle.line_script.specs.ScriptText.{script_of}
-use Rattle.line_script.specs.Playable.{IsPlayable}
-use Rattle.line_script.proofs.Standing.{IsPlayable-script_of}
+use Rattle.script_parts.specs.HalfPlayable.{CanBePlayed}
+use Rattle.line_script.proofs.Standing.{CanBePlayed-script_of}
 use Rattle.line_report.specs.Report.{report}
-use Rattle.duplex_line.specs.Run.{record_of}
-use Rattle.duplex_line.specs.Once.{EachOnce}
 use Rattle.duplex_line.specs.Prompt.{IsPrompt, EndsQuiet}
 use Rattle.duplex_line.specs.Complete.{IsComplete}
-use Rattle.duplex_line.proofs.Complete.WholeRun.{is-complete}
-use Rattle.duplex_line.proofs.Once.WholeRun.{each-once}
+use Rattle.line_replay.specs.Once.{EachCommandOnce}
+use Rattle.line_replay.specs.Runs.{record_of}
+use Rattle.line_replay.proofs.EitherMode.{duplex-complete, each-command-once}
 use Rattle.df1_tool.specs.declared.trouble.Trouble.{Trouble}
 use Rattle.df1_tool.specs.declared.trouble.Trouble.TheVariants.{Usage, Refusal, Input, Output, NoMemory}
 use Rattle.df1_tool.specs.Tool.{replayed, report_of, status_of, status_of_trouble}
@@ -24,13 +23,11 @@ script-read : (read : Result Script (ℕ × Cause)) (text : List ℕ) → report
 script-read (Ok script) text is = (script, refl, cc)
 script-read (Err fault) text is = absurd cc
 
-record-once : (script : Script) → IsPlayable script → (record_of script).deceived ≡ 0 → EachOnce script (record_of script)
-unfolding record_of
-record-once script playable honest = each-once script playable honest
+record-once : (script : Script) → CanBePlayed script → (record_of script).deceived ≡ 0 → EachCommandOnce script (record_of script)
+record-once script playable = each-command-once script playable
 
-record-complete : (script : Script) → IsPlayable script → IsPrompt script → EndsQuiet script → IsComplete script (record_of script)
-unfolding record_of
-record-complete script playable prompt quiet = is-complete script playable prompt quiet
+record-complete : (script : Script) → CanBePlayed script → script.half ≡ false → IsPrompt script → EndsQuiet script → IsComplete script (record_of script)
+record-complete script playable mode = duplex-complete script (playable.full mode)
 
 pub replayed-well : (left left' held held' : Option (List ℕ)) → Answered replayed left left' held held' → Replayed left left' held held'
 replayed-well left left' held held' a =
@@ -42,8 +39,8 @@ replayed-well left left' held held' a =
       end = a.end;
       reads = read.1;
       put = subst (λ (text : List ℕ). Put held held' text) (sym read.2) a.put;
-      once = record-once read.0 (IsPlayable-script_of a.input read.0 read.1);
-      complete = record-complete read.0 (IsPlayable-script_of a.input read.0 read.1);
+      once = record-once read.0 (CanBePlayed-script_of a.input read.0 read.1);
+      complete = record-complete read.0 (CanBePlayed-script_of a.input read.0 read.1);
     }
 
 -- status 0 comes of success alone

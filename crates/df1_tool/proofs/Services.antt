@@ -15,11 +15,11 @@ use Rattle.df1_plan.specs.declared.plan.Plan.{Plan}
 use Rattle.df1_plan.specs.declared.fault.PlanFault.{PlanFault}
 use Rattle.df1_plan.specs.Plans.{IsPlanOfText, cause_of, first_cause}
 use Rattle.df1_service.specs.Plans.{IsOfPlan, SaysNone, TellsNone, plan_limit}
-use Rattle.df1_service.specs.Wire.{BrokenOff, CutOff, HasNoForm, IsCut, IsServed, OfPlan, Reached, TellsRecord}
+use Rattle.df1_service.specs.Wire.{HasNoForm, IsCut, IsServed, OfPlan, Reached, StoppedByInput, StoppedByOutput, TellsRecord}
 use Rattle.df1_service.specs.declared.service.Service.{Service}
 use Rattle.df1_service.specs.declared.fault.ServiceFault.{ServiceFault}
 use Rattle.df1_service.specs.declared.fault.ServiceFault.TheVariants as fault
-use Rattle.df1_tool.specs.Served.{IsFinished, Outside, Serves, IsUntouched, Notes, note_of_fault, status_of_fault, told}
+use Rattle.df1_tool.specs.Served.{IsFinished, Outside, ServiceRun, IsUntouched, Notes, note_of_fault, outcomes_told, status_of_fault}
 use Rattle.df1_tool.specs.Outcome.{IsNoted}
 use Rattle.df1_tool.proofs.Statuses.{whole, at_end}
 
@@ -34,8 +34,8 @@ pub record Faulted (service : Service) (name : List ℕ) (before after : Outside
       (λ at. OfPlan (before.files name) service.issues (λ begun. HasNoForm service.timed begun at before.left after.left before.held after.held))
       (λ at. OfPlan (before.files name) service.issues (λ begun. IsCut service.timed begun at before.left after.left before.held after.held)) why
   pub long : why ≡ fault.TooLong → OfPlan (before.files name) service.issues (λ begun. Reached service.timed begun Long before.left after.left before.held after.held)
-  pub broken : why ≡ fault.Input → Rose before.input_faults after.input_faults × OfPlan (before.files name) service.issues (λ begun. BrokenOff service.timed begun before.left after.left before.held after.held)
-  pub cut : why ≡ fault.Output → Rose before.out_faults after.out_faults × OfPlan (before.files name) service.issues (λ begun. CutOff service.timed begun before.left after.left before.held after.held)
+  pub broken : why ≡ fault.Input → Rose before.input_faults after.input_faults × OfPlan (before.files name) service.issues (λ begun. StoppedByInput service.timed begun before.left after.left before.held after.held)
+  pub cut : why ≡ fault.Output → Rose before.out_faults after.out_faults × OfPlan (before.files name) service.issues (λ begun. StoppedByOutput service.timed begun before.left after.left before.held after.held)
   pub calm : (why ≡ fault.Input → ⊥) → after.input_faults ≡ before.input_faults
   pub steady : (why ≡ fault.Output → ⊥) → after.out_faults ≡ before.out_faults
   pub shelf_calm : (why ≡ fault.PlanFailed → ⊥) → after.shelf_faults ≡ before.shelf_faults
@@ -45,7 +45,7 @@ pub record Faulted (service : Service) (name : List ℕ) (before after : Outside
 -- the same, where it ended well
 pub record Finished (service : Service) (name : List ℕ) (before after : Outside) (ended : EndState NodeState) (status : ℕ) : Type 0 where
   pub served : OfPlan (before.files name) service.issues (λ begun. IsServed service.timed begun ended before.left after.left before.held after.held)
-  pub finish : IsFinished before.noted after.noted before.note_faults after.note_faults (told service.issues ended) status
+  pub finish : IsFinished before.noted after.noted before.note_faults after.note_faults (outcomes_told service.issues ended) status
   pub calm : after.input_faults ≡ before.input_faults
   pub steady : after.out_faults ≡ before.out_faults
   pub shelf_calm : after.shelf_faults ≡ before.shelf_faults
@@ -221,7 +221,7 @@ complete-of service name before after fault.NoMemory f file plan bytes signals f
 
 -- ---- a run
 
-pub faulted : (service : Service) (name : List ℕ) (before after : Outside) (why : ServiceFault) → Faulted service name before after why → Serves service name before after (status_of_fault why)
+pub faulted : (service : Service) (name : List ℕ) (before after : Outside) (why : ServiceFault) → Faulted service name before after why → ServiceRun service name before after (status_of_fault why)
 faulted service name before after why f =
     let noted : (what : ServiceFault) → why ≡ what → Notes before after what = λ what same. subst (λ (w : ServiceFault). Notes before after w) same f.noted in
     record {
@@ -241,7 +241,7 @@ faulted service name before after why f =
           complete-of service name before after why f file plan bytes signals filed sound few is_plan known_left are no_input no_output;
     }
 
-finished-by : (service : Service) (name : List ℕ) (before after : Outside) (ended : EndState NodeState) (status : ℕ) → Finished service name before after ended status → (status ≡ 0) ⊎ (status ≡ 5) → Serves service name before after status
+finished-by : (service : Service) (name : List ℕ) (before after : Outside) (ended : EndState NodeState) (status : ℕ) → Finished service name before after ended status → (status ≡ 0) ⊎ (status ≡ 5) → ServiceRun service name before after status
 finished-by service name before after ended status f (inl is) = record {
   statuses = inl is;
   done = λ zero. (f.served.0, f.served.1, (ended, f.served.2, (f.finish.done is).0, (f.finish.done is).1));
@@ -273,7 +273,7 @@ finished-by service name before after ended status f (inr is) = record {
   complete = λ file plan bytes signals filed sound few is_plan known_left are no_input no_output no_note. absurd (no_note (f.finish.failed is).0);
 }
 
-pub finished : (service : Service) (name : List ℕ) (before after : Outside) (ended : EndState NodeState) (status : ℕ) → Finished service name before after ended status → Serves service name before after status
+pub finished : (service : Service) (name : List ℕ) (before after : Outside) (ended : EndState NodeState) (status : ℕ) → Finished service name before after ended status → ServiceRun service name before after status
 finished service name before after ended status f = finished-by service name before after ended status f f.finish.statuses
 
 -- what the service of a plan's end tells, and its note
@@ -288,13 +288,13 @@ pub record Serviced (service : Service) (name : List ℕ) (before after : Outsid
       (λ at. OfPlan (before.files name) service.issues (λ begun. HasNoForm service.timed begun at before.left after.left before.held after.held))
       (λ at. OfPlan (before.files name) service.issues (λ begun. IsCut service.timed begun at before.left after.left before.held after.held)))
   pub long : IsErrOf ended fault.TooLong → OfPlan (before.files name) service.issues (λ begun. Reached service.timed begun Long before.left after.left before.held after.held)
-  pub broken : IsErrOf ended fault.Input → Rose before.input_faults after.input_faults × OfPlan (before.files name) service.issues (λ begun. BrokenOff service.timed begun before.left after.left before.held after.held)
-  pub cut : IsErrOf ended fault.Output → Rose before.out_faults after.out_faults × OfPlan (before.files name) service.issues (λ begun. CutOff service.timed begun before.left after.left before.held after.held)
+  pub broken : IsErrOf ended fault.Input → Rose before.input_faults after.input_faults × OfPlan (before.files name) service.issues (λ begun. StoppedByInput service.timed begun before.left after.left before.held after.held)
+  pub cut : IsErrOf ended fault.Output → Rose before.out_faults after.out_faults × OfPlan (before.files name) service.issues (λ begun. StoppedByOutput service.timed begun before.left after.left before.held after.held)
   pub calm : (IsErrOf ended fault.Input → ⊥) → after.input_faults ≡ before.input_faults
   pub steady : (IsErrOf ended fault.Output → ⊥) → after.out_faults ≡ before.out_faults
   pub shelf_calm : (IsErrOf ended fault.PlanFailed → ⊥) → after.shelf_faults ≡ before.shelf_faults
   pub same_files : (other : List ℕ) → after.files other ≡ before.files other
-  pub finish : IfOk ended (λ end. IsFinished before.noted after.noted before.note_faults after.note_faults (told service.issues end) status)
+  pub finish : IfOk ended (λ end. IsFinished before.noted after.noted before.note_faults after.note_faults (outcomes_told service.issues end) status)
   pub refuse : IfErr ended (λ why. (status ≡ status_of_fault why) × IsNoted before.noted after.noted before.note_faults after.note_faults (note_of_fault why))
 
 is-ok : {T E : Type 0} (value : T) (e : E) → IsErrOf {T = T} (Ok value) e → ⊥
@@ -303,7 +303,7 @@ is-ok value e is = absurd cc
 same-err : {T E : Type 0} (a b : E) → IsErrOf {T = T} (Err a) b → a ≡ b
 same-err a b is = cc
 
-pub run-of : (service : Service) (name : List ℕ) (before after : Outside) (ended : Result (EndState NodeState) ServiceFault) (status : ℕ) → Serviced service name before after ended status → Serves service name before after status
+pub run-of : (service : Service) (name : List ℕ) (before after : Outside) (ended : Result (EndState NodeState) ServiceFault) (status : ℕ) → Serviced service name before after ended status → ServiceRun service name before after status
 run-of service name before after (Ok end) status s = finished service name before after end status (record {
   served = s.done;
   finish = s.finish;
@@ -313,7 +313,7 @@ run-of service name before after (Ok end) status s = finished service name befor
   same_files = s.same_files;
 })
 run-of service name before after (Err why) status s =
-    let shown : Serves service name before after (status_of_fault why) = faulted service name before after why (record {
+    let shown : ServiceRun service name before after (status_of_fault why) = faulted service name before after why (record {
       none = s.none;
       too_long = λ same. s.too_long (ap Err same);
       failed = λ same. s.failed (ap Err same);
@@ -329,7 +329,7 @@ run-of service name before after (Err why) status s =
       same_files = s.same_files;
       noted = s.refuse.1;
     }) in
-    subst (λ (n : ℕ). Serves service name before after n) (sym s.refuse.0) shown
+    subst (λ (n : ℕ). ServiceRun service name before after n) (sym s.refuse.0) shown
 
 pub err-so : {T E : Type 0} (P Q : E → Type 0) (result : Result T E) → ((e : E) → P e → Q e) → IfErr result P → IfErr result Q
 err-so P Q (Ok value) go p = tt

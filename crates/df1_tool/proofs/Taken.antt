@@ -7,8 +7,9 @@ use Rattle.std.proofs.lemmas.Bool.{le-ltb}
 use Rattle.df1_base.specs.Outside.{Put, Rose, Took, WrotePart}
 use Rattle.line_script.specs.declared.fault.Cause.{Cause}
 use Rattle.line_script.specs.declared.fault.Cause.TheVariants as cause
-use Rattle.line_script.specs.declared.script.Script.{Script}
+use Rattle.script_parts.specs.declared.script.Script.{Script}
 use Rattle.line_script.specs.Fed.{accepted_script, ended}
+use Rattle.line_script.specs.Readers.{stage_of}
 use Rattle.line_script.specs.Lines.{is_ended, script_with}
 use Rattle.line_script.specs.ScriptText.{at_line, script_of}
 use Rattle.line_script.specs.Unfinished.{IsAccepted, IsOpen, settled, unfinished, unfinished_after}
@@ -163,7 +164,7 @@ still-open text r h few =
     let short : ltb 1024 (unfinished text) ≡ false = le-ltb 1024 (unfinished text) (omega (arith, begun)) in
     let whole : settled text ≡ h.reads.whole = ap (λ b. cond b text (ended text)) short ∙ ended-is-whole text h.events r.text h.reads in
     let says = ap script_of (sym (append-nil h.reads.whole)) ∙ goes-on text h.events r.text [] h.reads in
-    subst (λ t. IsAccepted (script_of t)) (sym whole) (subst IsAccepted (sym says) (accepted-or-open (is_ended r.text.reader.stage) r.text.number (script_with r.text.reader h.events)))
+    subst (λ t. IsAccepted (script_of t)) (sym whole) (subst IsAccepted (sym says) (accepted-or-open (is_ended (stage_of r.text.reader)) r.text.number (script_with r.text.reader h.events)))
 
 pub broken-off : (left left' left'' held held' : Option (List ℕ)) (faults faults' : ℕ) (r : Replaying) (s : SoFar left left' held held' r) → Keeps left' left'' → length r.text.line ≤ 1024 → Rose faults faults' → BrokenOff left left'' held held' faults faults'
 broken-off left left' left'' held held' faults faults' r s kept few rose = record {

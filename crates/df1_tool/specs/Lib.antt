@@ -1,4 +1,8 @@
+pub mod Captures
 pub mod Collecting
+pub mod Counted
+pub mod Dissected
+pub mod Notes
 pub mod Outcome
 pub mod Replayed
 pub mod Served

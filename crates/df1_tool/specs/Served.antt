@@ -14,10 +14,11 @@ use Rattle.df1_plan.specs.Keys.{name_of}
 use Rattle.df1_plan.specs.Plans.{IsPlanOfText}
 use Rattle.df1_service.specs.Plans.{SaysNone, plan_limit}
 use Rattle.df1_service.specs.Service.{outcomes_text}
-use Rattle.df1_service.specs.Wire.{BrokenOff, CutOff, HasNoForm, IsCut, IsServed, OfPlan, Reached}
+use Rattle.df1_service.specs.Wire.{HasNoForm, IsCut, IsServed, OfPlan, Reached, StoppedByInput, StoppedByOutput}
 use Rattle.df1_service.specs.declared.service.Service.{Service}
 use Rattle.df1_service.specs.declared.fault.ServiceFault.{ServiceFault}
 use Rattle.df1_service.specs.declared.fault.ServiceFault.TheVariants as fault
+use Rattle.df1_tool.specs.Notes.{input_failed, input_too_long, output_failed, no_memory}
 use Rattle.df1_tool.specs.Outcome.{IsNoted}
 
 -- ---- statuses and notes
@@ -48,14 +49,14 @@ note_of_fault fault.PlanTooLong = codes "df1: plan is over 1048576 bytes\n"
 note_of_fault (fault.Plan refused) = codes "df1: plan: " ++ cause_words refused ++ codes "\n"
 note_of_fault (fault.Form at) = codes "df1: record at " ++ decimal at ++ codes ": form\n"
 note_of_fault (fault.Cut at) = codes "df1: record at " ++ decimal at ++ codes ": cut\n"
-note_of_fault fault.Input = codes "df1: input cannot be read\n"
-note_of_fault fault.Output = codes "df1: output cannot be written\n"
-note_of_fault fault.TooLong = codes "df1: input is over 268435456 bytes\n"
-note_of_fault fault.NoMemory = codes "df1: no memory\n"
+note_of_fault fault.Input = input_failed
+note_of_fault fault.Output = output_failed
+note_of_fault fault.TooLong = input_too_long
+note_of_fault fault.NoMemory = no_memory
 
 -- what is told in the end: the outcomes of the commands, where any were issued
-abbrev pub told : Bool → EndState NodeState → List ℕ
-told issues end = if issues then outcomes_text end.host.initiator else []
+abbrev pub outcomes_told : Bool → EndState NodeState → List ℕ
+outcomes_told issues end = if issues then outcomes_text end.host.initiator else []
 
 -- it is told, with status 0, or the note failed and a part is, with status 5
 pub record IsFinished (noted noted' : Option (List ℕ)) (faults faults' : ℕ) (text : List ℕ) (status : ℕ) : Type 0 where
@@ -92,25 +93,25 @@ IsUntouched before after = (after.left ≡ before.left) × (after.held ≡ befor
 -- 5: the output has failed, at most 4,096 bytes after those that made the first missing byte due; or the note has.
 -- 6: the plan can't be read, or is over its limit. 7: no memory, before the first signal.
 -- 8: the input is over its limit: all that the end gave over the signals before it is written.
-pub record Serves (service : Service) (name : List ℕ) (before after : Outside) (status : ℕ) : Type 0 where
+pub record ServiceRun (service : Service) (name : List ℕ) (before after : Outside) (status : ℕ) : Type 0 where
   pub statuses : (status ≡ 0) ⊎ (status ≡ 3) ⊎ (status ≡ 4) ⊎ (status ≡ 5) ⊎ (status ≡ 6) ⊎ (status ≡ 7) ⊎ (status ≡ 8)
   pub done : status ≡ 0 → OfPlan (before.files name) service.issues (λ begun.
       (ended : EndState NodeState) × IsServed service.timed begun ended before.left after.left before.held after.held
-      × Put before.noted after.noted (told service.issues ended) × (after.note_faults ≡ before.note_faults))
+      × Put before.noted after.noted (outcomes_told service.issues ended) × (after.note_faults ≡ before.note_faults))
   pub refused : status ≡ 3 →
       ((reason : PlanFault) × SaysNone (before.files name) reason × IsUntouched before after × Notes before after (fault.Plan reason))
       ⊎ ((at : ℕ) × OfPlan (before.files name) service.issues (λ begun. HasNoForm service.timed begun at before.left after.left before.held after.held) × Notes before after (fault.Form at))
       ⊎ ((at : ℕ) × OfPlan (before.files name) service.issues (λ begun. IsCut service.timed begun at before.left after.left before.held after.held) × Notes before after (fault.Cut at))
   pub broken : status ≡ 4 → Rose before.input_faults after.input_faults
-      × OfPlan (before.files name) service.issues (λ begun. BrokenOff service.timed begun before.left after.left before.held after.held)
+      × OfPlan (before.files name) service.issues (λ begun. StoppedByInput service.timed begun before.left after.left before.held after.held)
       × Notes before after fault.Input
   pub cut : status ≡ 5 →
       (Rose before.out_faults after.out_faults
-      × OfPlan (before.files name) service.issues (λ begun. CutOff service.timed begun before.left after.left before.held after.held)
+      × OfPlan (before.files name) service.issues (λ begun. StoppedByOutput service.timed begun before.left after.left before.held after.held)
       × Notes before after fault.Output)
       ⊎ (Rose before.note_faults after.note_faults
       × OfPlan (before.files name) service.issues (λ begun.
-      (ended : EndState NodeState) × IsServed service.timed begun ended before.left after.left before.held after.held × WrotePart before.noted after.noted (told service.issues ended)))
+      (ended : EndState NodeState) × IsServed service.timed begun ended before.left after.left before.held after.held × WrotePart before.noted after.noted (outcomes_told service.issues ended)))
   pub planless : status ≡ 6 →
       (Rose before.shelf_faults after.shelf_faults × (is_sound (before.files name) ≡ true → ⊥) × Notes before after fault.PlanFailed)
       ⊎ (IsLonger (before.files name) plan_limit × Notes before after fault.PlanTooLong)

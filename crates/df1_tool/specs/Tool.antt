@@ -1,16 +1,22 @@
 -- What the program answers, and with which status and note.
-use Rattle.std.specs.Prelude.{◌≡◌, ◌⊎◌, ℕ, List, [], ◌∷◌, ◌++◌, Option, Some, None, Result, Ok, Err, true, false, if◌then◌else◌, ◌==◌, is_none, codes, decimal, option_and_then, slice_index_or}
+use Rattle.std.specs.Prelude.{◌≡◌, ◌⊎◌, ℕ, List, [], ◌∷◌, ◌++◌, Option, Some, None, Result, Ok, Err, true, false, if◌then◌else◌, ◌==◌, is_none, codes, decimal, option_and_then, option_map, slice_index_or}
 use Rattle.std.specs.Str.{bytes_eq}
 use Rattle.line_script.specs.declared.fault.Cause.{Cause}
 use Rattle.line_replay.specs.declared.replayer.StreamFault.{StreamFault}
 use Rattle.line_replay.specs.declared.replayer.StreamFault.TheVariants as stream
 use Rattle.line_script.specs.declared.fault.Cause.TheVariants as cause
-use Rattle.line_script.specs.declared.script.Script.{Script}
+use Rattle.script_parts.specs.declared.script.Script.{Script}
 use Rattle.line_script.specs.ScriptText.{script_of}
 use Rattle.line_report.specs.Report.{report}
-use Rattle.duplex_line.specs.Run.{record_of}
+use Rattle.line_replay.specs.Runs.{record_of}
+use Rattle.df1_tool.specs.Notes.{input_failed, output_failed, no_memory}
 use Rattle.df1_tool.specs.declared.form.Form.{Form}
-use Rattle.df1_tool.specs.declared.form.Form.TheVariants.{Replay, Serve, Issue}
+use Rattle.df1_tool.specs.declared.form.Form.TheVariants.{Replay, Serve, Issue, Dissect, Check as Count}
+use Rattle.df1_tool.specs.declared.capture.Capture.{Capture}
+use Rattle.df1_check.specs.declared.Check.{Check}
+use Rattle.df1_check.specs.declared.Check.TheVariants.{Bcc, Crc}
+use Rattle.df1_dissect.specs.declared.ear.Side.{Side}
+use Rattle.df1_dissect.specs.declared.ear.Side.TheVariants.{Full, Master, Slave}
 use Rattle.df1_service.specs.declared.service.Service.{Service}
 use Rattle.df1_tool.specs.declared.trouble.Trouble.{Trouble}
 use Rattle.df1_tool.specs.declared.trouble.Trouble.TheVariants.{Usage, Refusal, Input, Output, NoMemory}
@@ -19,11 +25,39 @@ use Rattle.df1_tool.specs.declared.trouble.Trouble.TheVariants.{Usage, Refusal, 
 abbrev pub mode_of : List ℕ → Option Form
 mode_of word = if bytes_eq word (codes "raw") then Some (Serve false) else if bytes_eq word (codes "timed") then Some (Serve true) else None
 
+-- whose bytes are captured, and with which check
+abbrev pub side_of : List ℕ → Option Side
+side_of word = if bytes_eq word (codes "full") then Some Full else if bytes_eq word (codes "master") then Some Master else if bytes_eq word (codes "slave") then Some Slave else None
+
+abbrev pub check_of : List ℕ → Option Check
+check_of word = if bytes_eq word (codes "bcc") then Some Bcc else if bytes_eq word (codes "crc") then Some Crc else None
+
+-- a capture that both words name
+abbrev pub captured : Option Side → Option Check → Option Capture
+captured None check = None
+captured (Some side) None = None
+captured (Some side) (Some check) = Some (record { side = side; check = check })
+
+abbrev pub capture_of : List ℕ → List ℕ → Option Capture
+capture_of side check = captured (side_of side) (check_of check)
+
+-- what two words ask for
+abbrev pub form_of_two : List ℕ → Option Form
+form_of_two word = if bytes_eq word (codes "issue") then Some Issue else None
+
+-- what three words ask for
+abbrev pub form_of_three : List ℕ → List ℕ → List ℕ → Option Form
+form_of_three word second third =
+    if bytes_eq word (codes "serve") then mode_of third
+    else if bytes_eq word (codes "dissect") then option_map Dissect (capture_of second third)
+    else if bytes_eq word (codes "check") then option_map Count (capture_of second third)
+    else None
+
 -- what the words ask for
 unfoldable pub form_of : List (List ℕ) → Option Form
 form_of (word ∷ []) = if bytes_eq word (codes "replay") then Some Replay else None
-form_of (word ∷ plan ∷ []) = if bytes_eq word (codes "issue") then Some Issue else None
-form_of (word ∷ plan ∷ mode ∷ []) = if bytes_eq word (codes "serve") then mode_of mode else None
+form_of (word ∷ plan ∷ []) = form_of_two word
+form_of (word ∷ second ∷ third ∷ []) = form_of_three word second third
 form_of words = None
 
 -- how an end is served, where a form asks for that
@@ -31,6 +65,8 @@ abbrev pub service_of : Form → Option Service
 service_of Replay = None
 service_of (Serve timed) = Some (record { timed = timed; issues = false })
 service_of Issue = Some (record { timed = true; issues = true })
+service_of (Dissect capture) = None
+service_of (Count capture) = None
 
 -- the same of the words
 abbrev pub service_for : List (List ℕ) → Option Service
@@ -89,11 +125,11 @@ abbrev pub line_note : ℕ → Cause → List ℕ
 line_note line fault = codes "df1: line " ++ decimal line ++ codes ": " ++ cause_text fault ++ codes "\n"
 
 abbrev pub note_of : Trouble → List ℕ
-note_of Usage = codes "df1: usage: df1 replay | serve PLAN raw|timed | issue PLAN\n"
+note_of Usage = codes "df1: usage: df1 replay | serve PLAN raw|timed | issue PLAN | dissect SIDE CHECK | check SIDE CHECK\n"
 note_of (Refusal line cause) = line_note line cause
-note_of Input = codes "df1: input cannot be read\n"
-note_of Output = codes "df1: output cannot be written\n"
-note_of NoMemory = codes "df1: no memory\n"
+note_of Input = input_failed
+note_of Output = output_failed
+note_of NoMemory = no_memory
 
 -- the note of a replay with this status, which isn't 3
 abbrev pub note_at : ℕ → List ℕ

@@ -1,6 +1,10 @@
 //! What the words of a call ask for.
 ghost use Rattle.std.specs.Prelude.{◌≡◌, ◌≤◌, IfSome, IsSome, length, map, string_bytes};
-ghost use Rattle.df1_tool.specs.Tool.{form_of as the_form, mode_of as the_mode, service_of};
+ghost use Rattle.df1_tool.specs.Tool.{capture_of as the_capture, captured, check_of as the_check, form_of as the_form, form_of_three as of_three, form_of_two as of_two, mode_of as the_mode, service_of, side_of as the_side};
+
+use crate::capture::Capture;
+use df1_check::Check;
+use df1_dissect::Side;
 
 /// A command of the program.
 #[derive(Clone, Copy, Debug, PartialEq, Eq)]
@@ -14,6 +18,10 @@ pub(crate) enum Form {
     },
     /// `issue PLAN`: serves it over a timed input, with the plan's commands issued, and tells their outcomes.
     Issue,
+    /// `dissect SIDE CHECK`: tells what is heard in a capture.
+    Dissect(Capture),
+    /// `check SIDE CHECK`: tells how much of that is a fault of the line.
+    Check(Capture),
 }
 
 /// What the words ask for, if they are one of the forms. A plan's name is the second word.
@@ -24,8 +32,30 @@ pub(crate) fn form_of(words: &[String]) -> Option<Form>
 {
     match words {
         [word] if word.as_str() == "replay" => Some(Form::Replay),
-        [word, _, mode] if word.as_str() == "serve" => mode_of(mode),
-        [word, _] if word.as_str() == "issue" => Some(Form::Issue),
+        [word, _] => form_of_two(word),
+        [word, second, third] => form_of_three(word, second, third),
+        _ => None,
+    }
+}
+
+/// What two words ask for.
+fn form_of_two(word: &str) -> Option<Form>
+    ensures { result ≡ of_two word.now }
+{
+    match word {
+        "issue" => Some(Form::Issue),
+        _ => None,
+    }
+}
+
+/// What three words ask for.
+fn form_of_three(word: &str, second: &str, third: &str) -> Option<Form>
+    ensures { result ≡ of_three word.now second.now third.now }
+{
+    match word {
+        "serve" => mode_of(third),
+        "dissect" => Some(Form::Dissect(capture_of(second, third)?)),
+        "check" => Some(Form::Check(capture_of(second, third)?)),
         _ => None,
     }
 }
@@ -37,6 +67,46 @@ fn mode_of(word: &str) -> Option<Form>
     match word {
         "raw" => Some(Form::Serve { timed: false }),
         "timed" => Some(Form::Serve { timed: true }),
+        _ => None,
+    }
+}
+
+/// The capture that these words name, if each is one of its own.
+fn capture_of(side: &str, check: &str) -> Option<Capture>
+    ensures { result ≡ the_capture side.now check.now }
+{
+    captured(side_of(side), check_of(check))
+}
+
+/// A capture that both name.
+fn captured(side: Option<Side>, check: Option<Check>) -> Option<Capture>
+    ensures { result ≡ captured side check }
+{
+    match (side, check) {
+        (Some(side), Some(check)) => Some(Capture { side, check }),
+        _ => None,
+    }
+}
+
+/// Whose bytes a word names, if it is one of the three.
+fn side_of(word: &str) -> Option<Side>
+    ensures { result ≡ the_side word.now }
+{
+    match word {
+        "full" => Some(Side::Full),
+        "master" => Some(Side::Master),
+        "slave" => Some(Side::Slave),
+        _ => None,
+    }
+}
+
+/// The check that a word names, if it is one of the two.
+fn check_of(word: &str) -> Option<Check>
+    ensures { result ≡ the_check word.now }
+{
+    match word {
+        "bcc" => Some(Check::Bcc),
+        "crc" => Some(Check::Crc),
         _ => None,
     }
 }

@@ -1,7 +1,12 @@
 //! The program `df1` as one call: it is given its words and the outside world, and answers a status.
 #![tactic(auto)]
 
+mod capture;
+mod checking;
 mod collected;
+mod dissecting;
+#[cfg(test)]
+mod dissecting_tests;
 mod form;
 mod note;
 mod replaying;

@@ -1,11 +1,12 @@
-//! The text of a note: at most 96 bytes.
+//! The text of a note: at most 160 bytes.
 ghost use Rattle.std.specs.Prelude.{◌≡◌, ◌+◌, ◌≤◌, ◌++◌, decimal, length};
 ghost use Rattle.arrayvec.specs.ArrayVec.{array_vec_len};
+ghost use Rattle.df1_tool.specs.Notes.{input_failed as the_input, output_failed as the_output, input_too_long as the_size, no_memory as the_want};
 
 use arrayvec::ArrayVec;
 
 /// Room for a note, in bytes.
-const NOTE: usize = 96;
+const NOTE: usize = 160;
 
 /// A note, or the beginning of one.
 pub(crate) type Note = ArrayVec<u8, NOTE>;
@@ -18,6 +19,34 @@ pub(crate) fn noted(text: &[u8]) -> Note
     let mut note = ArrayVec::new();
     append(&mut note, text);
     note
+}
+
+/// The note of an input that has failed.
+pub(crate) fn input_failed() -> Note
+    ensures { result.items ≡ the_input }
+{
+    noted(b"df1: input cannot be read\n")
+}
+
+/// The note of an output that has failed.
+pub(crate) fn output_failed() -> Note
+    ensures { result.items ≡ the_output }
+{
+    noted(b"df1: output cannot be written\n")
+}
+
+/// The note of an input that is over its limit.
+pub(crate) fn input_too_long() -> Note
+    ensures { result.items ≡ the_size }
+{
+    noted(b"df1: input is over 268435456 bytes\n")
+}
+
+/// The note of want of memory.
+pub(crate) fn no_memory() -> Note
+    ensures { result.items ≡ the_want }
+{
+    noted(b"df1: no memory\n")
 }
 
 /// A note of a text, a number and a text.

@@ -11,9 +11,11 @@
 //! | 8 | `df1: input is over 268435456 bytes` |
 ghost use Rattle.std.specs.Prelude.{◌≡◌, ◌⊎◌, ◌≤◌, ◌++◌, IfErr, IfOk, codes, length};
 ghost use Rattle.df1_tool.specs.Outcome.{IsNoted};
-ghost use Rattle.df1_tool.specs.Served.{IsFinished, Serves, note_of_fault, status_of_fault, told};
+ghost use Rattle.df1_tool.specs.Served.{IsFinished, ServiceRun, note_of_fault, outcomes_told, status_of_fault};
 
-use crate::note::{Note, append, noted, with_number};
+use crate::note::{
+    Note, append, input_failed, input_too_long, no_memory, noted, output_failed, with_number,
+};
 use crate::top::Ran;
 use df1_base::{Sink, Source, write_all};
 use df1_node::Node;
@@ -33,7 +35,7 @@ pub(crate) fn run<H: Shelf, S: Source, K: Sink, N: Sink>(
     out: K,
     mut note: N,
 ) -> Ran<H, S, K, N>
-    ensures serves { Serves service name.now
+    ensures serves { ServiceRun service name.now
         (record { files = H.file shelf; shelf_faults = H.faults shelf; left = S.left input; input_faults = S.faults input; held = K.held out; out_faults = K.faults out; noted = N.held note; note_faults = N.faults note })
         (record { files = H.file result.shelf; shelf_faults = H.faults result.shelf; left = S.left result.input; input_faults = S.faults result.input; held = K.held result.out; out_faults = K.faults result.out; noted = N.held result.note; note_faults = N.faults result.note })
         result.status }
@@ -52,7 +54,7 @@ pub(crate) fn run<H: Shelf, S: Source, K: Sink, N: Sink>(
 
 /// Tells how a service ended, and answers the status.
 fn tell<N: Sink>(ended: &Result<End<Node>, ServiceFault>, issues: bool, note: &mut N) -> u8
-    ensures finished { IfOk ended.now (λ end. IsFinished (N.held note.old) (N.held note.new) (N.faults note.old) (N.faults note.new) (told issues end) result) }
+    ensures finished { IfOk ended.now (λ end. IsFinished (N.held note.old) (N.held note.new) (N.faults note.old) (N.faults note.new) (outcomes_told issues end) result) }
     ensures refused { IfErr ended.now (λ fault. (result ≡ status_of_fault fault) × IsNoted (N.held note.old) (N.held note.new) (N.faults note.old) (N.faults note.new) (note_of_fault fault)) }
 {
     match ended {
@@ -63,7 +65,7 @@ fn tell<N: Sink>(ended: &Result<End<Node>, ServiceFault>, issues: bool, note: &m
 
 /// Tells the outcomes of the commands of an end, where any were issued, and answers the status.
 fn finish<N: Sink>(end: &End<Node>, issues: bool, note: &mut N) -> u8
-    ensures { IsFinished (N.held note.old) (N.held note.new) (N.faults note.old) (N.faults note.new) (told issues end.now) result }
+    ensures { IsFinished (N.held note.old) (N.held note.new) (N.faults note.old) (N.faults note.new) (outcomes_told issues end.now) result }
 {
     if issues && write_outcomes(end.host().initiator(), note).is_err() {
         return 5;
@@ -104,10 +106,10 @@ fn note_of(fault: ServiceFault) -> Note
         ServiceFault::Plan(cause) => plan_note(cause),
         ServiceFault::Form(at) => with_number(b"df1: record at ", at, b": form\n"),
         ServiceFault::Cut(at) => with_number(b"df1: record at ", at, b": cut\n"),
-        ServiceFault::Input => noted(b"df1: input cannot be read\n"),
-        ServiceFault::Output => noted(b"df1: output cannot be written\n"),
-        ServiceFault::TooLong => noted(b"df1: input is over 268435456 bytes\n"),
-        ServiceFault::NoMemory => noted(b"df1: no memory\n"),
+        ServiceFault::Input => input_failed(),
+        ServiceFault::Output => output_failed(),
+        ServiceFault::TooLong => input_too_long(),
+        ServiceFault::NoMemory => no_memory(),
     }
 }
 

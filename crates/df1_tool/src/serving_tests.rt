@@ -1,4 +1,5 @@
 //! The commands `serve` and `issue`, over the outside in memory.
+use crate::tests::words;
 use crate::{Ran, run};
 use df1_base::{BytesIn, BytesOut};
 use df1_shelf::ShelfMem;
@@ -41,7 +42,7 @@ fn served(
         input,
         read_fails: &[],
         room: 4000,
-        note_room: 100,
+        note_room: 200,
         status: 0,
         out,
         note,
@@ -63,19 +64,11 @@ fn stopped(
         input,
         read_fails: &[],
         room: 4000,
-        note_room: 100,
+        note_room: 200,
         status,
         out,
         note,
     }
-}
-
-fn words(alloc: Global, texts: &[&str]) -> Result<Vec<String>, Fail> {
-    let mut words = Vec::new(alloc);
-    for text in texts {
-        words.push(String::from_str(alloc, text)?)?;
-    }
-    Ok(words)
 }
 
 fn ran(
@@ -94,7 +87,7 @@ fn ran(
         shelf,
         BytesIn::new(alloc, case.input, piece, case.read_fails)?,
         BytesOut::new(alloc, case.room, 7, &[])?,
-        BytesOut::new(alloc, case.note_room, 100, &[])?,
+        BytesOut::new(alloc, case.note_room, 200, &[])?,
     ))
 }
 
@@ -230,7 +223,7 @@ fn a_service_that_does_not_end_well_tells_why(rt: HostRuntime) -> Result<(), Fai
             b"",
             2,
             b"",
-            "df1: usage: df1 replay | serve PLAN raw|timed | issue PLAN\n",
+            "df1: usage: df1 replay | serve PLAN raw|timed | issue PLAN | dissect SIDE CHECK | check SIDE CHECK\n",
         ),
         stopped(
             &["issue", "p", "raw"],
@@ -238,7 +231,7 @@ fn a_service_that_does_not_end_well_tells_why(rt: HostRuntime) -> Result<(), Fai
             b"",
             2,
             b"",
-            "df1: usage: df1 replay | serve PLAN raw|timed | issue PLAN\n",
+            "df1: usage: df1 replay | serve PLAN raw|timed | issue PLAN | dissect SIDE CHECK | check SIDE CHECK\n",
         ),
         // No plan.
         Case {
@@ -303,7 +296,7 @@ fn a_plan_has_at_most_1048576_bytes(rt: HostRuntime) -> Result<(), Fail> {
             shelf,
             BytesIn::new(rt.alloc(), b"", 1, &[])?,
             BytesOut::new(rt.alloc(), 10, 10, &[])?,
-            BytesOut::new(rt.alloc(), 100, 100, &[])?,
+            BytesOut::new(rt.alloc(), 200, 200, &[])?,
         );
         assert_eq!(rt; ran.status, status);
         assert_eq!(rt; ran.note.held(), note.as_bytes());

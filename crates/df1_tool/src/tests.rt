@@ -2,7 +2,9 @@
 use crate::run;
 use df1_base::{BytesIn, BytesOut, Failed, NoMemory};
 use df1_node::{IssueFault, MakeFault};
-use df1_shelf::ShelfMem;
+use df1_plan::{Key, PlanFault};
+use df1_service::ServiceFault;
+use df1_shelf::{FetchFault, ShelfMem};
 use line_replay::StreamFault;
 use line_script::{Cause, LineFault, ScriptFault};
 use std::alloc::Global;
@@ -22,7 +24,8 @@ struct Case {
     note: &'static str,
 }
 
-fn words(alloc: Global, texts: &[&str]) -> Result<Vec<String>, Fail> {
+/// The words of a command line.
+pub(crate) fn words(alloc: Global, texts: &[&str]) -> Result<Vec<String>, Fail> {
     let mut words = Vec::new(alloc);
     for text in texts {
         words.push(String::from_str(alloc, text)?)?;
@@ -38,7 +41,7 @@ fn check<R: Abort + AllocGlobal>(rt: &R, case: &Case) -> Result<(), Fail> {
         ShelfMem::new(rt.alloc()),
         BytesIn::new(rt.alloc(), case.input.as_bytes(), 1, case.read_fails)?,
         BytesOut::new(rt.alloc(), case.room, 7, &[])?,
-        BytesOut::new(rt.alloc(), 100, 100, &[])?,
+        BytesOut::new(rt.alloc(), 200, 200, &[])?,
     );
     assert_eq!(rt; ran.status, case.status);
     assert_eq!(rt; ran.out.held(), case.out.as_bytes());
@@ -164,6 +167,18 @@ fn a_script_is_played_and_reported(rt: HostRuntime) -> Result<(), Fail> {
             "set a.reply_ticks 33\nai 060055\nai 060055\nai 060055\nak 13\nad 13\nbk 2\nbd 2\nat 33\nak 13\nad 13\nbk 2\nbd 2\nat 33\nak 13\nad 13\nbk 2\nend\n",
             "a sent 100201000600010000551003A3\nb exec 0100060001000055\nb sent 1006\na unanswered 1\na sent 100201000600020000551003A2\nb exec 0100060002000055\nb sent 1006\na unanswered 2\na sent 100201000600030000551003A1\nb full\nb sent 1015\ndeceived 0\n",
         ),
+        // A half-duplex line without stations.
+        played("set mode half\nend\n", "deceived 0\n"),
+        // A write to a polled station, whose reply is lost and comes again at a later poll.
+        played(
+            "set mode half\nstation 3\nstation 5\nfile 3 7 89 16\nmi 3 0FAA02078900003412\nmk 22\nmd 3 22\nmd 5 22\n3k 2\n3d 2\nmt\nmk 4\nmd 3 4\nmd 5 4\n3k 11\n3x 11\nmt 10\nmt\nmk 4\nmd 3 4\nmd 5 4\n5k 2\n5d 2\nmt\nmk 4\nmd 3 4\nmd 5 4\n3k 11\n3d 11\nmk 2\nmd 3 2\nmd 5 2\nend\n",
+            "m sent 100103100203000F000100AA02078900003412100368\n3 exec 03000F000100AA02078900003412\n3 sent 1006\nm sent 100503FD\n3 sent 100200034F0001001003AD\nm sent 100505FB\n5 sent 1004\nm sent 100503FD\n3 sent 100200034F0001001003AD\nm answered 1 00034F000100\nm sent 1006\n3 word 7 0 1234\ndeceived 0\n",
+        ),
+        // A write to a polled station over a line that loses nothing.
+        played(
+            "set mode half\nstation 3\nstation 5\nfile 3 7 89 16\nmi 3 0FAA02078900003412\nmk 22\nmd 3 22\nmd 5 22\n3k 2\n3d 2\nmt\nmk 4\nmd 3 4\nmd 5 4\n3k 11\n3d 11\nmk 2\nmd 3 2\nmd 5 2\nmt\nmk 4\nmd 3 4\nmd 5 4\n5k 2\n5d 2\nend\n",
+            "m sent 100103100203000F000100AA02078900003412100368\n3 exec 03000F000100AA02078900003412\n3 sent 1006\nm sent 100503FD\n3 sent 100200034F0001001003AD\nm answered 1 00034F000100\nm sent 1006\nm sent 100505FB\n5 sent 1004\n3 word 7 0 1234\ndeceived 0\n",
+        ),
     ];
     for case in &cases {
         check(&rt, case)?;
@@ -193,7 +208,7 @@ fn a_run_that_does_not_end_well_tells_why(rt: HostRuntime) -> Result<(), Fail> {
             room: 4000,
             status: 2,
             out: "",
-            note: "df1: usage: df1 replay | serve PLAN raw|timed | issue PLAN\n",
+            note: "df1: usage: df1 replay | serve PLAN raw|timed | issue PLAN | dissect SIDE CHECK | check SIDE CHECK\n",
         },
         // A read that fails.
         Case {
@@ -301,7 +316,7 @@ fn plays<R: Abort + AllocGlobal>(rt: &R, script: &str, report: &[&str]) -> Resul
         ShelfMem::new(rt.alloc()),
         BytesIn::new(rt.alloc(), script.as_bytes(), 4096, &[])?,
         BytesOut::new(rt.alloc(), 4096, 4096, &[])?,
-        BytesOut::new(rt.alloc(), 100, 100, &[])?,
+        BytesOut::new(rt.alloc(), 200, 200, &[])?,
     );
     let mut expected = String::new(rt.alloc());
     for part in report {
@@ -387,6 +402,47 @@ fn faults_of_a_node_have_texts(rt: HostRuntime) -> Result<(), Fail> {
 }
 
 #[test]
+fn faults_of_a_service_have_texts(rt: HostRuntime) -> Result<(), Fail> {
+    for (fault, text) in [
+        (FetchFault::Failed, "the file cannot be read"),
+        (FetchFault::TooLong, "the file is over its limit"),
+        (FetchFault::NoMemory, "no memory"),
+    ] {
+        says(&rt, &fault, text)?;
+    }
+    for (cause, text) in [
+        (PlanFault::Text, "text"),
+        (PlanFault::UnknownKey, "unknown key"),
+        (PlanFault::Key(Key::Room), "key room"),
+        (PlanFault::File(2), "file 2"),
+        (PlanFault::Issue(3), "issue 3"),
+        (PlanFault::NoMemory, "no memory"),
+    ] {
+        says(&rt, &cause, text)?;
+    }
+    for (fault, text) in [
+        (ServiceFault::PlanFailed, "the plan cannot be read"),
+        (ServiceFault::PlanTooLong, "the plan is over its limit"),
+        (
+            ServiceFault::Plan(PlanFault::Text),
+            "the plan is refused: text",
+        ),
+        (
+            ServiceFault::Form(4),
+            "the record at 4 has none of the forms",
+        ),
+        (ServiceFault::Cut(4), "the record at 4 is cut"),
+        (ServiceFault::Input, "the input cannot be read"),
+        (ServiceFault::Output, "the output cannot be written"),
+        (ServiceFault::TooLong, "the input is over its limit"),
+        (ServiceFault::NoMemory, "no memory"),
+    ] {
+        says(&rt, &fault, text)?;
+    }
+    Ok(())
+}
+
+#[test]
 fn faults_of_a_script_have_texts(rt: HostRuntime) -> Result<(), Fail> {
     for (cause, text) in [
         (Cause::Size, "size"),
@@ -425,8 +481,8 @@ fn an_end_issues_65535_commands_and_no_more(rt: HostRuntime) -> Result<(), Fail>
             &words,
             ShelfMem::new(rt.alloc()),
             BytesIn::new(rt.alloc(), text.as_bytes(), 4096, &[])?,
-            BytesOut::new(rt.alloc(), 100, 100, &[])?,
-            BytesOut::new(rt.alloc(), 100, 100, &[])?,
+            BytesOut::new(rt.alloc(), 200, 200, &[])?,
+            BytesOut::new(rt.alloc(), 200, 200, &[])?,
         );
         assert_eq!(rt; ran.status, status);
         assert_eq!(rt; ran.note.held(), note.as_bytes());

@@ -3,13 +3,14 @@
 //! | Status | Comes |
 //! |---|---|
 //! | 0 | the input was read to its end and all text was written |
+//! | 1 | `check`: the same, and something that is heard is a fault of the line, or an item is unfinished |
 //! | 2 | exactly where the words are none of the forms |
 //! | 3 | the script, the plan or a timed record is refused: the note tells which and why |
 //! | 4 | only where the input's count of faults rose |
 //! | 5 | only where the output's count of faults rose, or the note's |
 //! | 6 | the plan can't be read, or is over its limit |
-//! | 7 | want of memory |
-//! | 8 | the input of `serve` or `issue` is over its limit |
+//! | 7 | want of memory; never with `dissect` and `check` |
+//! | 8 | the input of `serve`, `issue`, `dissect` or `check` is over its limit |
 //!
 //! Of several the one is told that came first, in the order in which things happen.
 ghost use Rattle.std.specs.Prelude.{◌≡◌, ◌⊎◌, ◌↔◌, ◌≢◌, ℕ, None, Some, map, string_bytes};
@@ -17,8 +18,11 @@ ghost use Rattle.std.specs.Option.{ForSome};
 ghost use Rattle.df1_base.specs.Outside.{Rose};
 ghost use Rattle.df1_tool.specs.Outcome.{Answered, BrokenOff, CutOff, IsNoted, Refused, Written};
 ghost use Rattle.df1_tool.specs.Replayed.{Replayed};
-ghost use Rattle.df1_tool.specs.Served.{Serves};
-ghost use Rattle.df1_tool.specs.declared.form.Form.TheVariants.{Replay};
+ghost use Rattle.df1_tool.specs.Served.{ServiceRun};
+ghost use Rattle.df1_tool.specs.Counted.{CheckRun};
+ghost use Rattle.df1_tool.specs.Dissected.{DissectRun};
+ghost use Rattle.df1_tool.specs.declared.capture.Capture.{Capture as OneCapture};
+ghost use Rattle.df1_tool.specs.declared.form.Form.TheVariants.{Replay, Dissect, Check as Count};
 ghost use Rattle.df1_tool.specs.Tool.{form_of as the_form, line_note, note_at, note_of, plan_name, replayed, service_for, status_for, IsReplayStatus};
 ghost use Rattle.df1_tool.specs.declared.trouble.Trouble.TheVariants.{Usage as ForNone};
 ghost use Rattle.df1_service.specs.declared.service.Service.{Service as OneService};
@@ -27,7 +31,7 @@ ghost use Rattle.line_script.specs.declared.fault.Cause.{Cause as Fault};
 
 use crate::form::{Form, form_of};
 use crate::trouble::{Trouble, tell};
-use crate::{replaying, serving};
+use crate::{checking, dissecting, replaying, serving};
 use df1_base::{Sink, Source};
 use df1_service::Service;
 use df1_shelf::Shelf;
@@ -48,6 +52,21 @@ pub struct Ran<H, S, K, N> {
     pub note: N,
 }
 
+impl<H, S, K, N> Ran<H, S, K, N> {
+    /// A run that ended with this status, and left the four so.
+    fn new(status: u8, shelf: H, input: S, out: K, note: N) -> Self
+        ensures { result ≡ record { status = status; shelf = shelf; input = input; out = out; note = note } }
+    {
+        Ran {
+            status,
+            shelf,
+            input,
+            out,
+            note,
+        }
+    }
+}
+
 /// Runs the program: its words are those after its name, the plan is a file of the shelf, the input is read at most 4,096
 /// bytes at a time, the text or the bytes of the line go to `out` and the note to `note`. The four are handed back.
 pub fn run<H: Shelf, S: Source, K: Sink, N: Sink>(
@@ -64,11 +83,23 @@ pub fn run<H: Shelf, S: Source, K: Sink, N: Sink>(
         × IsNoted (N.held note) (N.held result.note) (N.faults note) (N.faults result.note) (note_of ForNone) }
 
     // `serve` and `issue`.
-    ensures serves { (service : OneService) → service_for (map string_bytes words.now) ≡ Some service → Serves service (plan_name (map string_bytes words.now))
+    ensures serves { (service : OneService) → service_for (map string_bytes words.now) ≡ Some service → ServiceRun service (plan_name (map string_bytes words.now))
         (record { files = H.file shelf; shelf_faults = H.faults shelf; left = S.left input; input_faults = S.faults input; held = K.held out; out_faults = K.faults out; noted = N.held note; note_faults = N.faults note })
         (record { files = H.file result.shelf; shelf_faults = H.faults result.shelf; left = S.left result.input; input_faults = S.faults result.input; held = K.held result.out; out_faults = K.faults result.out; noted = N.held result.note; note_faults = N.faults result.note })
         result.status }
     ensures before { (service : OneService) → service_for (map string_bytes words.now) ≡ Some service → (result.status ≡ 6) ⊎ (result.status ≡ 7) → (result.input ≡ input) × (result.out ≡ out) }
+
+    // `dissect` and `check`. They leave the shelf.
+    ensures dissects { (capture : OneCapture) → the_form (map string_bytes words.now) ≡ Some (Dissect capture) → DissectRun capture.side capture.check
+        (record { left = S.left input; input_faults = S.faults input; held = K.held out; out_faults = K.faults out; noted = N.held note; note_faults = N.faults note })
+        (record { left = S.left result.input; input_faults = S.faults result.input; held = K.held result.out; out_faults = K.faults result.out; noted = N.held result.note; note_faults = N.faults result.note })
+        result.status }
+    ensures checks { (capture : OneCapture) → the_form (map string_bytes words.now) ≡ Some (Count capture) → CheckRun capture.side capture.check
+        (record { left = S.left input; input_faults = S.faults input; held = K.held out; out_faults = K.faults out; noted = N.held note; note_faults = N.faults note })
+        (record { left = S.left result.input; input_faults = S.faults result.input; held = K.held result.out; out_faults = K.faults result.out; noted = N.held result.note; note_faults = N.faults result.note })
+        result.status }
+    ensures same_shelf { (capture : OneCapture) → (the_form (map string_bytes words.now) ≡ Some (Dissect capture)) ⊎ (the_form (map string_bytes words.now) ≡ Some (Count capture))
+        → result.shelf ≡ shelf }
 
     // `replay` leaves the shelf.
     ensures statuses { the_form (map string_bytes words.now) ≡ Some Replay → IsReplayStatus result.status }
@@ -115,24 +146,12 @@ pub fn run<H: Shelf, S: Source, K: Sink, N: Sink>(
 {
     let Some(form) = form_of(words) else {
         let status = tell(Err(Trouble::Usage), &mut note);
-        return Ran {
-            status,
-            shelf,
-            input,
-            out,
-            note,
-        };
+        return Ran::new(status, shelf, input, out, note);
     };
     match form {
         Form::Replay => {
             let status = replaying::run(alloc, &mut input, &mut out, &mut note);
-            Ran {
-                status,
-                shelf,
-                input,
-                out,
-                note,
-            }
+            Ran::new(status, shelf, input, out, note)
         }
         Form::Serve { timed } => {
             let service = Service {
@@ -147,6 +166,14 @@ pub fn run<H: Shelf, S: Source, K: Sink, N: Sink>(
                 issues: true,
             };
             serving::run(alloc, shelf, &words[1], service, input, out, note)
+        }
+        Form::Dissect(capture) => {
+            let status = dissecting::run(capture, &mut input, &mut out, &mut note);
+            Ran::new(status, shelf, input, out, note)
+        }
+        Form::Check(capture) => {
+            let status = checking::run(capture, &mut input, &mut out, &mut note);
+            Ran::new(status, shelf, input, out, note)
         }
     }
 }

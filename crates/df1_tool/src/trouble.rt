@@ -2,7 +2,7 @@
 //!
 //! | Status | Note |
 //! |---|---|
-//! | 2 | `df1: usage: df1 replay \| serve PLAN raw\|timed \| issue PLAN` |
+//! | 2 | `df1: usage: df1 replay \| serve PLAN raw\|timed \| issue PLAN \| dissect SIDE CHECK \| check SIDE CHECK` |
 //! | 3 | `df1: line N: CAUSE` |
 //! | 4 | `df1: input cannot be read` |
 //! | 5 | `df1: output cannot be written` |
@@ -11,7 +11,7 @@ ghost use Rattle.std.specs.Prelude.{◌≡◌, ◌≤◌, MatchResult, length};
 ghost use Rattle.df1_tool.specs.Outcome.{IsNoted};
 ghost use Rattle.df1_tool.specs.Tool.{cause_text, line_note, note_of, status_of, status_of_trouble};
 
-use crate::note::{Note, append, noted};
+use crate::note::{Note, append, input_failed, no_memory, noted, output_failed};
 use df1_base::{Sink, write_all};
 use line_replay::{Cause, StreamFault};
 
@@ -64,12 +64,12 @@ impl Trouble {
     {
         match self {
             Trouble::Usage => noted(
-                b"df1: usage: df1 replay | serve PLAN raw|timed | issue PLAN\n",
+                b"df1: usage: df1 replay | serve PLAN raw|timed | issue PLAN | dissect SIDE CHECK | check SIDE CHECK\n",
             ),
             Trouble::Refusal(line, cause) => refused(line, cause),
-            Trouble::Input => noted(b"df1: input cannot be read\n"),
-            Trouble::Output => noted(b"df1: output cannot be written\n"),
-            Trouble::NoMemory => noted(b"df1: no memory\n"),
+            Trouble::Input => input_failed(),
+            Trouble::Output => output_failed(),
+            Trouble::NoMemory => no_memory(),
         }
     }
 }

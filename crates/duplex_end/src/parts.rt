@@ -19,9 +19,21 @@ pub(crate) fn take_in<H: Host>(host: &mut H, act: Act, body: &[u8]) -> Option<Di
     ensures after { host.new ≡ host_after H.Host act host.old body.now }
 {
     match act {
-        Act::Accept => Some(host.accept(body)),
+        Act::Accept => Some(hand_over(host, body)),
         _ => None,
     }
+}
+
+/// Hands a body to the host. It isn't inlined, since a byte at which none is accepted would pay for the room that this
+/// one takes on the stack.
+#[inline(never)]
+fn hand_over<H: Host>(host: &mut H, body: &[u8]) -> Did
+    requires body { IsBody body.now }
+    requires room { IsTrue (H.room_for host.old body.now) }
+    ensures did { result ≡ H.did host.old body.now }
+    ensures after { host.new ≡ H.after_accept host.old body.now }
+{
+    host.accept(body)
 }
 
 /// Puts in the response of an act.

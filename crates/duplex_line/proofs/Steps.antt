@@ -1,4 +1,4 @@
--- What is counted up one by one: words of a file, and unit steps of one kind.
+-- What is counted up one by one: unit steps of one kind, and bytes.
 pub mod CountedUp
 -- An event at one end, by what its steps do there.
 pub mod EventSteps

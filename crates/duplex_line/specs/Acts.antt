@@ -1,23 +1,21 @@
 -- The unit steps on a full-duplex line between two nodes: what each does to the ends and to the bytes on their way.
-use Rattle.std.specs.Prelude.{ℕ, ◌+◌, List, [], ◌∷◌, ◌++◌, drop, slice_get, bit_xor, Option, Some, None}
+use Rattle.std.specs.Prelude.{ℕ, ◌+◌, List, [], ◌∷◌, ◌++◌, drop, slice_get, Option, Some, None}
 use Rattle.std.specs.Option.{option_map, option_to_list}
-use Rattle.df1_base.specs.declared.link.Out.{Out}
 use Rattle.df1_base.specs.declared.link.Step.{Step}
 use Rattle.duplex_receiver.specs.Receiver.{body_at}
 use Rattle.df1_node.specs.Node.{NodeState, after_node_issue}
 use Rattle.duplex_end.specs.End.{EndState, with_host, end_after_byte, step_at_byte, end_after_tick, turn_at_tick, gone_at_tick, end_after_take, out_at_take}
 use Rattle.line_statement.specs.declared.who.Who.{Who}
 use Rattle.line_report.specs.declared.record.Line.{Line}
-use Rattle.duplex_line.specs.declared.cell.Cell.{Cell}
-use Rattle.duplex_line.specs.declared.cell.Ending.{Ending}
+use Rattle.line_cells.specs.Cells.{LaneCell, altered, bare, cell_of}
 use Rattle.each_once.specs.NodeHost.{node_host}
-use Rattle.each_once.specs.NodeLines.{step_lines, turn_lines, gone_lines}
-use Rattle.duplex_line.specs.Deception.{deceptions}
+use Rattle.told_lines.specs.NodeLines.{step_lines, turn_lines, gone_lines}
+use Rattle.line_cells.specs.Deception.{deceptions}
 
 -- an end with its node, and the bytes that it gave and that are on their way to the other end
 pub record SideState : Type 0 where
   pub end : EndState NodeState
-  pub lane : List Cell
+  pub lane : List LaneCell
 
 -- two ends and their lanes, and how often an end was deceived
 pub record LineState : Type 0 where
@@ -48,16 +46,8 @@ pub data Deed : Type 0 where
 abbrev pub after_issue : SideState → ℕ → List ℕ → SideState
 after_issue s dst payload = record { end = with_host s.end (after_node_issue s.end.host dst payload); lane = s.lane }
 
--- the transmission of this body and number ends
-abbrev pub ending_of : List ℕ → ℕ → Ending
-ending_of body number = record { number = number; body = body }
-
--- the cell of a byte that an end gave while it sent this body
-abbrev pub cell_of : List ℕ → Out → Cell
-cell_of sending out = record { byte = out.byte; ends = option_map (ending_of sending) out.last_of; body_of = out.body_of }
-
 -- the cells that a take puts into the lane: one, or none where the end has nothing to give
-abbrev pub taken : SideState → List Cell
+abbrev pub taken : SideState → List LaneCell
 taken s = option_to_list (option_map (cell_of (end_after_take node_host s.end).sending) (out_at_take node_host s.end))
 
 -- the byte that a take gives
@@ -71,15 +61,6 @@ after_take s = record { end = end_after_take node_host s.end; lane = s.lane ++ t
 -- the head of the lane leaves it
 abbrev pub after_leaving : SideState → SideState
 after_leaving s = record { end = s.end; lane = drop 1 s.lane }
-
--- a byte without numbers
-abbrev pub bare : ℕ → Cell
-bare byte = record { byte = byte; ends = None; body_of = None }
-
--- the head of the lane is altered, and loses its numbers
-abbrev pub altered : ℕ → List Cell → List Cell
-altered mask [] = []
-altered mask (cell ∷ cells) = bare (bit_xor cell.byte mask) ∷ cells
 
 abbrev pub after_alter : SideState → ℕ → SideState
 after_alter s mask = record { end = s.end; lane = altered mask s.lane }
@@ -100,7 +81,7 @@ near_after s Tick = after_tick s
 -- ---- at the other end
 
 -- what arrives at the other end
-abbrev pub arriving : SideState → Deed → Option Cell
+abbrev pub arriving : SideState → Deed → Option LaneCell
 arriving s (Issue dst payload) = None
 arriving s Take = None
 arriving s Deliver = slice_get s.lane 0
@@ -110,27 +91,27 @@ arriving s (Foreign byte) = Some (bare byte)
 arriving s Tick = None
 
 -- a byte arrives
-abbrev pub after_cell : SideState → Cell → SideState
+abbrev pub after_cell : SideState → LaneCell → SideState
 after_cell s cell = record { end = end_after_byte node_host s.end cell.byte; lane = s.lane }
 
-abbrev pub after_arrival : SideState → Option Cell → SideState
+abbrev pub after_arrival : SideState → Option LaneCell → SideState
 after_arrival s None = s
 after_arrival s (Some cell) = after_cell s cell
 
 -- what the end makes of a cell
-abbrev pub step_of : SideState → Cell → Step
+abbrev pub step_of : SideState → LaneCell → Step
 step_of s cell = step_at_byte node_host s.end cell.byte
 
 -- the body of the frame that is heard at a cell
-abbrev pub body_heard : SideState → Cell → List ℕ
+abbrev pub body_heard : SideState → LaneCell → List ℕ
 body_heard s cell = body_at (end_after_byte node_host s.end cell.byte).receiver
 
 -- how often the end is deceived at a cell
-abbrev pub deceptions_at : SideState → Cell → ℕ
+abbrev pub deceptions_at : SideState → LaneCell → ℕ
 deceptions_at s cell = deceptions (step_of s cell).whole cell.ends (body_heard s cell)
 
 -- how often an end was deceived, with what arrives
-abbrev pub deceived_after : ℕ → SideState → Option Cell → ℕ
+abbrev pub deceived_after : ℕ → SideState → Option LaneCell → ℕ
 deceived_after count s None = count
 deceived_after count s (Some cell) = count + deceptions_at s cell
 
@@ -151,10 +132,10 @@ abbrev pub tick_lines : Who → SideState → List Line
 tick_lines who s = turn_lines who (turn_at_tick node_host s.end) ++ gone_lines who (gone_at_tick node_host s.end)
 
 -- at a cell that arrives
-abbrev pub cell_lines : Who → SideState → Cell → List Line
+abbrev pub cell_lines : Who → SideState → LaneCell → List Line
 cell_lines who s cell = step_lines who (step_of s cell) (body_heard s cell)
 
-abbrev pub arrival_lines : Who → SideState → Option Cell → List Line
+abbrev pub arrival_lines : Who → SideState → Option LaneCell → List Line
 arrival_lines who s None = []
 arrival_lines who s (Some cell) = cell_lines who s cell
 

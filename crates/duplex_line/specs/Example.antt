@@ -3,16 +3,16 @@ use Rattle.std.specs.Prelude.{ℕ, false, List, [], ◌∷◌}
 use Rattle.df1_base.specs.declared.file_type.FileType.TheVariants.{Integer}
 use Rattle.df1_check.specs.declared.Check.TheVariants.{Bcc}
 use Rattle.line_statement.specs.declared.who.Who.TheVariants.{A, B}
-use Rattle.line_script.specs.declared.script.Event.TheVariants.{Issue, Take, Deliver}
-use Rattle.line_script.specs.declared.script.Script.{Script}
-use Rattle.line_script.specs.Plans.{plan_of, fresh_end}
+use Rattle.script_parts.specs.declared.script.Event.TheVariants.{Issue, Take, Deliver}
+use Rattle.script_parts.specs.declared.script.Script.{Script}
+use Rattle.script_parts.specs.Plans.{first_plan}
 
 -- a write of 1234 to word 0 of integer file 7, over a line that loses nothing
 abbrev pub one_write : Script
 one_write = record {
   half = false;
   check = Bcc;
-  ends = plan_of A 0 fresh_end ∷ plan_of B 1 (record fresh_end { files = record { number = 7; kind = Integer; count = 16 } ∷ [] }) ∷ [];
+  ends = first_plan A 0 ∷ record (first_plan B 1) { files = record { number = 7; kind = Integer; count = 16 } ∷ [] } ∷ [];
   events =
       Issue A 1 (0x0F ∷ 0xAA ∷ 0x02 ∷ 0x07 ∷ 0x89 ∷ 0x00 ∷ 0x00 ∷ 0x34 ∷ 0x12 ∷ [])
       ∷ Take A 19 ∷ Deliver (record { from = A; to = B }) 19

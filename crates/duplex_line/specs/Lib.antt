@@ -1,7 +1,6 @@
 pub mod Acts
 pub mod Arrivals
 pub mod Complete
-pub mod Deception
 pub mod Example
 pub mod Issues
 pub mod Once

@@ -1,9 +1,9 @@
 -- A world: what it holds while a script is played, and which event may come next.
 use Rattle.std.specs.Prelude.{ℕ, ◌+◌, ◌<◌, ◌≤◌, Bool, true, false, List, [], ◌++◌, length}
-use Rattle.line_script.specs.declared.script.Event.{Event}
-use Rattle.line_script.specs.declared.script.Event.TheVariants as event
-use Rattle.line_script.specs.declared.script.Script.{Script}
-use Rattle.line_script.specs.Playable.{IsPossible, count_of}
+use Rattle.script_parts.specs.declared.script.Event.{Event}
+use Rattle.script_parts.specs.declared.script.Event.TheVariants as event
+use Rattle.script_parts.specs.declared.script.Script.{Script}
+use Rattle.script_parts.specs.Playable.{IsPossible, count_of}
 use Rattle.line_report.specs.declared.record.Line.{Line}
 use Rattle.duplex_line.specs.Acts.{SideState, LineState}
 use Rattle.duplex_line.specs.Run.{start, after_event, lines_of, seen_from, who_of}

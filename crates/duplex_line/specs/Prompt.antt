@@ -3,8 +3,8 @@ use Rattle.std.specs.Prelude.{◌≡◌, ℕ, ◌+◌, ◌<◌, Bool, ◌&&◌, 
 use Rattle.duplex_end.specs.End.{out_at_take}
 use Rattle.line_statement.specs.declared.who.Who.{Who}
 use Rattle.line_statement.specs.declared.who.Who.TheVariants.{A, B, M, S}
-use Rattle.line_script.specs.declared.script.Event.{Event}
-use Rattle.line_script.specs.declared.script.Script.{Script}
+use Rattle.script_parts.specs.declared.script.Event.{Event}
+use Rattle.script_parts.specs.declared.script.Script.{Script}
 use Rattle.each_once.specs.NodeHost.{node_host}
 use Rattle.duplex_line.specs.Acts.{SideState, LineState, Deed, Issue, Take, Deliver, Lose, Alter, Foreign, Tick, after_deed}
 use Rattle.duplex_line.specs.Run.{start, who_of, deeds_of, seen_from, after_event, last_state}

@@ -1,21 +1,21 @@
 -- The run of a script: its first state, what each event leaves, the lines of the report that it makes, and the record.
-use Rattle.std.specs.Prelude.{ℕ, ◌+◌, List, [], ◌∷◌, ◌++◌, map, replicate, Option, Some, None, zero, suc, ◌==◌, slice_index_or, if◌then◌else◌}
-use Rattle.std.specs.List.{flat_map}
+use Rattle.std.specs.Prelude.{ℕ, List, [], ◌∷◌, ◌++◌, map, replicate, slice_index_or}
 use Rattle.df1_check.specs.declared.Check.{Check}
-use Rattle.data_files.specs.Tables.{DataTables, word_at, word_count}
+use Rattle.data_files.specs.Tables.{DataTables}
 use Rattle.duplex_end.specs.End.{new_end}
 use Rattle.line_statement.specs.declared.who.Who.{Who}
 use Rattle.line_statement.specs.declared.who.Who.TheVariants.{A, B, M, S}
-use Rattle.line_script.specs.declared.script.Event.{Event}
-use Rattle.line_script.specs.declared.script.Event.TheVariants as event
-use Rattle.line_script.specs.declared.script.EndPlan.{EndPlan}
-use Rattle.line_script.specs.declared.script.Script.{Script}
-use Rattle.line_script.specs.declared.script.WordOf.{WordOf}
-use Rattle.line_script.specs.Plans.{plan_of, fresh_end}
+use Rattle.script_parts.specs.declared.script.Event.{Event}
+use Rattle.script_parts.specs.declared.script.Event.TheVariants as event
+use Rattle.script_parts.specs.declared.script.EndPlan.{EndPlan}
+use Rattle.script_parts.specs.declared.script.Script.{Script}
+use Rattle.script_parts.specs.declared.script.WordOf.{WordOf}
+use Rattle.script_parts.specs.Plans.{first_plan}
 use Rattle.line_report.specs.declared.record.Line.{Line}
 use Rattle.line_report.specs.declared.record.Line.TheVariants as line
 use Rattle.line_report.specs.declared.record.Record.{Record}
 pub use Rattle.outset.specs.Outset.{with_first, with_all, first_tables, first_station, first_node, limits_of, setup_of}
+use Rattle.told_lines.specs.Words.{words_of}
 use Rattle.duplex_line.specs.Acts.{SideState, LineState, swapped, Deed, Issue, Take, Deliver, Lose, Alter, Foreign, Tick, after_deeds, lines_over, given_over}
 
 -- ---- the first state
@@ -25,10 +25,10 @@ first_side check plan = record { end = new_end (setup_of check plan) (first_node
 
 -- the plan of end a, and of end b; where a script has none, an end is as it is where no line tells of it
 abbrev pub plan_of_a : Script → EndPlan
-plan_of_a script = slice_index_or script.ends 0 (plan_of A 0 fresh_end)
+plan_of_a script = slice_index_or script.ends 0 (first_plan A 0)
 
 abbrev pub plan_of_b : Script → EndPlan
-plan_of_b script = slice_index_or script.ends 1 (plan_of B 1 fresh_end)
+plan_of_b script = slice_index_or script.ends 1 (first_plan B 1)
 
 abbrev pub start : Script → LineState
 start script = record {
@@ -101,22 +101,6 @@ abbrev pub last_state : Script → LineState
 last_state script = state_after (start script) script.events
 
 -- ---- the record
-
--- a word of a file, if it isn't 0
-abbrev pub word_line : Who → ℕ → ℕ → Option ℕ → List WordOf
-word_line who number index None = []
-word_line who number index (Some value) =
-    if value == 0 then [] else record { who = who; file = number; index = index; value = value } ∷ []
-
--- so many words of a file, from an index on
-abbrev pub words_from : Who → DataTables → ℕ → ℕ → ℕ → List WordOf
-words_from who tables number index zero = []
-words_from who tables number index (suc more) =
-    word_line who number index (word_at tables number index) ++ words_from who tables number (index + 1) more
-
--- the words that aren't 0: files in their order, words rising
-abbrev pub words_of : Who → DataTables → List WordOf
-words_of who tables = flat_map (λ spec. words_from who tables spec.number 0 (word_count spec)) tables.specs
 
 -- the tables of an end
 abbrev pub tables_of : SideState → DataTables

@@ -5,16 +5,21 @@ ghost use Rattle.duplex_line.specs.Acts.{Deed, Take, Deliver, Lose, Foreign, Tic
 ghost use Rattle.duplex_line.specs.Run.{other, sent_lines, deeds_of, deed_lines};
 ghost use Rattle.duplex_line.specs.Plays.{IsUnspent, most_events, takes_no_memory};
 ghost use Rattle.duplex_line.specs.Steps.{near_over, near_lines_over};
-ghost use Rattle.line_script.specs.Playable.{IsPossible, count_of};
+ghost use Rattle.script_parts.specs.Playable.{IsPossible, count_of};
 
-use crate::cell::Cell;
-use crate::reported::{Reported, arrive, tell_gone, tell_turn};
+use crate::reported::{Reported, arrive};
 use crate::side::Side;
 use arrayvec::ArrayVec;
 use df1_base::NoMemory;
+use line_cells::Cell;
 use line_report::{Line, Lines};
-use line_script::{Bytes, Event, Who};
+use line_statement::{Bytes, Who};
+use script_parts::Event;
 use std::alloc::Global;
+use told_lines::{tell_gone, tell_turn};
+
+/// For how many bytes of one event memory is asked for at once.
+const ROOM: usize = 32;
 
 /// The end at the other end of the line.
 fn other(who: Who) -> Who
@@ -80,7 +85,7 @@ fn take_all(alloc: Global, near: &mut Side, n: u32) -> Result<Bytes, NoMemory>
     ensures near { OnOk result (near.new ≡ near_over near.old (replicate n Take)) }
     ensures bytes { IfOk result (λ bytes. bytes ≡ given_over near.old (replicate n Take)) }
 {
-    let mut bytes = Bytes::new(alloc);
+    let mut bytes = Bytes::with_room(alloc, ROOM.min(n as usize))?;
     for _ in 0..n {
         let Some(byte) = near.take(alloc)? else {
             return Ok(bytes);
@@ -153,19 +158,24 @@ fn pass(who: Who, near: &mut Side, n: u32, lines: &mut Lines) -> Result<(), NoMe
     ensures near { OnOk result (near.new ≡ near_over near.old (replicate n Tick)) }
     ensures lines { OnOk result (lines.new ≡ lines.old ++ near_lines_over who near.old (replicate n Tick)) }
 {
+    let mut gone = ArrayVec::new();
     for _ in 0..n {
-        tick(who, near, lines)?;
+        tick(who, near, &mut gone, lines)?;
     }
     Ok(())
 }
 
-/// A unit of time passes: first the sender's line is told, then the unanswered commands.
-fn tick(who: Who, near: &mut Side, lines: &mut Lines) -> Result<(), NoMemory>
+/// A unit of time passes: first the sender's line is told, then the unanswered commands, which replace those in `gone`.
+fn tick(
+    who: Who,
+    near: &mut Side,
+    gone: &mut ArrayVec<u32, 16>,
+    lines: &mut Lines,
+) -> Result<(), NoMemory>
     ensures near { OnOk result (near.new ≡ after_tick near.old) }
     ensures lines { OnOk result (lines.new ≡ lines.old ++ tick_lines who near.old) }
 {
-    let mut gone = ArrayVec::new();
-    let turn = near.tick(&mut gone);
+    let turn = near.tick(gone);
     tell_turn(who, turn, lines)?;
-    tell_gone(who, &gone, lines)
+    tell_gone(who, gone, lines)
 }

@@ -1,8 +1,8 @@
 //! Laws of the run of a script. The functions do nothing.
 ghost use Rattle.std.specs.Prelude.{◌≡◌, ◌∷◌, []};
-ghost use Rattle.line_script.specs.declared.script.Script.{Script};
+ghost use Rattle.script_parts.specs.declared.script.Script.{Script};
 ghost use Rattle.line_statement.specs.declared.who.Who.TheVariants.{A, B};
-ghost use Rattle.line_script.specs.Playable.{IsPlayable};
+ghost use Rattle.script_parts.specs.Playable.{IsPlayable};
 ghost use Rattle.each_once.specs.Commands.{AreOutcomesTold};
 ghost use Rattle.duplex_end.specs.Arrived.{HeardByGrammar};
 ghost use Rattle.duplex_line.specs.Arrivals.{arrivals_in};

@@ -15,13 +15,10 @@
 //! another body (manual topic: full-duplex protocol).
 #![tactic(auto)]
 
-mod cell;
 mod deal;
-mod deceit;
 pub mod laws;
 mod reported;
 mod side;
-mod words;
 mod world;
 
 pub use world::World;

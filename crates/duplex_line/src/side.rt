@@ -4,19 +4,19 @@ ghost use Rattle.std.specs.Prelude.{◌≡◌, [], ◌++◌, IfOk, OnOk, None, s
 ghost use Rattle.duplex_receiver.specs.Receiver.{body_at};
 ghost use Rattle.df1_node.specs.Initiator.{issue_fault};
 ghost use Rattle.duplex_end.specs.End.{turn_at_tick, gone_at_tick, out_at_take};
-ghost use Rattle.line_script.specs.Playable.{IsPlanOf};
+ghost use Rattle.script_parts.specs.Playable.{IsPlanOf};
 ghost use Rattle.each_once.specs.NodeHost.{node_host};
 ghost use Rattle.duplex_line.specs.Acts.{after_issue, after_take, after_leaving, after_alter, after_cell, after_tick, byte_taken, step_of, taken};
 ghost use Rattle.duplex_line.specs.Run.{first_side, tables_of};
 
-use crate::cell::Cell;
 use arrayvec::ArrayVec;
 use df1_base::{NoMemory, Step, Turn};
 use df1_check::Check;
 use df1_node::{IssueFault, Node, Tables};
 use duplex_end::End;
-use line_script::EndPlan;
+use line_cells::Cell;
 use outset::{node_of, setup_of};
+use script_parts::EndPlan;
 use std::alloc::Global;
 use std::collections::VecDeque;
 use std::marker::Model;

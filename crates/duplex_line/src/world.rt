@@ -4,19 +4,20 @@ ghost use Rattle.std.specs.Prelude.{◌≡◌, ◌≤◌, ◌++◌, IfOk, OnOk, 
 ghost use Rattle.std.specs.List.{flat_map};
 ghost use Rattle.df1_base.specs.Outside.{Rose, Put, WrotePart};
 ghost use Rattle.line_report.specs.Report.{line_text};
-ghost use Rattle.line_script.specs.Playable.{IsPlayable, IsPossible, count_of};
+ghost use Rattle.script_parts.specs.Playable.{IsPlayable, IsPossible, count_of};
 ghost use Rattle.duplex_line.specs.Run.{record_from, all_words, who_of};
 ghost use Rattle.duplex_line.specs.Plays.{IsNext, begun, played, printed, takes_no_memory};
 
 use crate::deal::deal;
 use crate::reported::Reported;
 use crate::side::{Side, side_of};
-use crate::words::push_all;
 use df1_base::{Failed, NoMemory, Sink};
 use line_report::{Lines, Record, print_lines};
-use line_script::{Event, Script, Who, Words};
+use line_statement::Who;
+use script_parts::{Event, Script, Words};
 use std::alloc::Global;
 use std::marker::Model;
+use told_lines::push_all;
 
 /// Two ends with their nodes, and the bytes on their way between them. After want of memory it is only dropped.
 #[derive(Drop)]

@@ -20,7 +20,7 @@ use Rattle.line_statement.specs.declared.who.Who.{Who}
 use Rattle.line_report.specs.declared.record.Line.{Line}
 use Rattle.line_report.specs.declared.record.Line.TheVariants as line
 use Rattle.each_once.specs.Commands.{told_of, told_of_command, AreOutcomesTold}
-use Rattle.each_once.specs.NodeLines.{did_lines, news_lines, gone_lines}
+use Rattle.told_lines.specs.NodeLines.{did_lines, news_lines, gone_lines}
 use Rattle.each_once.specs.Tells.{is_who, outcome_at, outcomes_in}
 use Rattle.each_once.proofs.CommandBodies.{answered-some, first-waiting}
 

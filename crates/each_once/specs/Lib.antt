@@ -2,6 +2,6 @@ pub mod Commands
 pub mod Direction
 pub mod Exchanges
 pub mod NodeHost
-pub mod NodeLines
+pub mod OfStation
 pub mod Once
 pub mod Tells

@@ -132,13 +132,15 @@ impl Mouth {
         self.second.is_none() && !framed && self.waiting.is_none() && !self.asking
     }
 
-    /// Gives the next byte: None exactly where no half-given pair, response, ENQ or frame is left.
+    /// Gives the next byte: None exactly where no half-given pair, response, ENQ or frame is left. It is inlined, since a byte
+    /// that is handed over in memory costs more than all else here.
+    #[inline(always)]
     pub fn take(&mut self) -> Option<Out>
         ensures after { self.new ≡ (take self.old).0 }
         ensures out { result ≡ (take self.old).1 }
     {
-        if let Some(out) = self.second.take() {
-            return Some(out);
+        if self.second.is_some() {
+            return self.second.take();
         }
         let may_embed = may_embed(self.embed, self.gap, &self.framer);
         if let Some(r) = take_if(&mut self.waiting, may_embed) {
@@ -211,20 +213,18 @@ fn begin_pair(second: &mut Option<Out>, code: u8) -> Out
     unmarked(DLE)
 }
 
-/// Gives the first byte of a unit, and keeps the second of a pair.
+/// Gives the first byte of a unit, and keeps the second of a pair, where none is kept.
 fn begin_unit(second: &mut Option<Out>, unit: Unit, number: u64) -> Out
+    requires { second.old ≡ None }
     ensures out { result ≡ (unit_out unit unit.second number).0 }
     ensures second { second.new ≡ (unit_out unit unit.second number).1 }
 {
     match unit.second {
-        None => {
-            *second = None;
-            Out {
-                byte: unit.first,
-                last_of: unit.last.then_some(number),
-                body_of: unit.gap.then_some(number),
-            }
-        }
+        None => Out {
+            byte: unit.first,
+            last_of: unit.last.then_some(number),
+            body_of: unit.gap.then_some(number),
+        },
         Some(code) => {
             *second = Some(unmarked(code));
             unmarked(unit.first)

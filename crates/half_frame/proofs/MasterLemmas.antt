@@ -17,14 +17,14 @@ use Rattle.half_frame.specs.MasterStanding.{Outside, Ended, Listening, ended, en
 use Rattle.half_frame.specs.MasterStep.{outside_next, step, next}
 use Rattle.half_frame.proofs.TextLemmas.{To, On, Whole, Cut, advance_text, Continues as TextContinues, continues, more-begins, seam, own-right, right-bytes, within-begun, Carries, carried, text-tail, run-text, run-whole, run-cut, length-text, length-whole, length-opened}
 
-abbrev Split : Type 0
+abbrev pub Split : Type 0
 Split = List Item × Front
 
 -- a pair that doesn't go on with a text
-abbrev cut : List ℕ → ℕ → Split
+abbrev pub cut : List ℕ → ℕ → Split
 cut body b = cond (eqb b 2) (CutOff body ∷ [], InText (Opened [])) (Broken body b ∷ [], Nothing)
 
-abbrev on_text : ℕ → To → Split
+abbrev pub on_text : ℕ → To → Split
 on_text b (On text) = ([], InText text)
 on_text b (Whole body check) = (Message body check ∷ [], Nothing)
 on_text b (Cut body) = cut body b
@@ -85,7 +85,7 @@ ended-push kind N [] item = refl
 ended-push kind N (x ∷ []) item = refl
 ended-push kind N (x ∷ y ∷ items) item = ended-push kind N (y ∷ items) item
 
-step-ended : (kind : Check) (N : ℕ) (items : List Item) (b : ℕ) → step kind N (ended kind N items) b ≡ outside_next b
+pub step-ended : (kind : Check) (N : ℕ) (items : List Item) (b : ℕ) → step kind N (ended kind N items) b ≡ outside_next b
 step-ended kind N [] b = refl
 step-ended kind N (Stray x ∷ []) b = refl
 step-ended kind N (Pair code ∷ []) b = refl

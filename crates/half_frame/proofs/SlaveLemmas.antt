@@ -18,14 +18,14 @@ use Rattle.half_frame.specs.SlaveStanding.{Outside, Ended, Listening, ended, end
 use Rattle.half_frame.specs.SlaveStep.{outside_next, begun_by, step, next}
 use Rattle.half_frame.proofs.TextLemmas.{To, On, Whole, Cut, advance_text, Continues as TextContinues, continues, more-begins, seam, own-right, right-bytes, within-begun, Carries, carried, text-tail, run-text, run-whole, run-cut, length-text, length-whole, length-opened}
 
-abbrev Split : Type 0
+abbrev pub Split : Type 0
 Split = List Item × Front
 
 -- a pair that doesn't go on with what has begun
-abbrev cut : Begun → ℕ → Split
+abbrev pub cut : Begun → ℕ → Split
 cut begun b = cond (eqb b 1) (CutOff begun ∷ [], Soh) (cond (eqb b 5) (CutOff begun ∷ [], Enq) (Broken begun b ∷ [], Nothing))
 
-abbrev on_text : ℕ → ℕ → To → Split
+abbrev pub on_text : ℕ → ℕ → To → Split
 on_text stn b (On text) = ([], InText stn text)
 on_text stn b (Whole body check) = (Message stn body check ∷ [], Nothing)
 on_text stn b (Cut body) = cut (Body stn body) b
@@ -115,7 +115,7 @@ step-ended_by kind N (NoText stn x) b = refl
 step-ended_by kind N (Broken begun code) b = refl
 step-ended_by kind N (CutOff begun) b = refl
 
-step-ended : (kind : Check) (N : ℕ) (items : List Item) (b : ℕ) → step kind N (ended kind N items) b ≡ outside_next b
+pub step-ended : (kind : Check) (N : ℕ) (items : List Item) (b : ℕ) → step kind N (ended kind N items) b ≡ outside_next b
 step-ended kind N [] b = refl
 step-ended kind N (item ∷ []) b = step-ended_by kind N item b
 step-ended kind N (x ∷ y ∷ items) b = step-ended kind N (y ∷ items) b

@@ -11,3 +11,6 @@ pub mod KeyLemmas
 pub mod Runs
 pub mod WaitLemmas
 pub mod SendingLemmas
+pub mod HostSteps
+pub mod LastMessage
+pub mod Seen

@@ -1,5 +1,5 @@
 -- What a replay shows, event by event and byte by byte.
-use Rattle.std.proofs.Common.{◌≡◌, inl, inr, ℕ, ◌+◌, ◌<◌, cond, suc, List, [], ◌∷◌, ◌++◌, length, take, drop, get_or, drop-cons, take-append-drop, Option, Some, None, Result, Ok, Err, refl, sym, ap, subst, ◌∙◌, arith, append_assoc, append-nil}
+use Rattle.std.proofs.Common.{◌≡◌, inl, inr, Bool, true, false, ℕ, ◌+◌, cond, List, [], ◌∷◌, ◌++◌, Option, Some, None, Result, Ok, Err, refl, sym, ap, subst, ◌∙◌, arith, append_assoc, append-nil}
 use Rattle.std.specs.Prelude.{◌≢◌, unwrap_or, OnErr, All, count_by, sum_by}
 use Rattle.std.specs.List.{flat_map}
 use Rattle.std.proofs.lemmas.Grind.{flat_map-append}
@@ -10,57 +10,65 @@ use Rattle.std.proofs.KnownBytes.{Appends-nil, Appends-trans}
 use Rattle.line_statement.specs.declared.who.Who.TheVariants.{A, B}
 use Rattle.line_script.specs.declared.fault.Cause.{Cause}
 use Rattle.line_script.specs.declared.reader.Reader.{Reader}
-use Rattle.line_script.specs.declared.script.Event.{Event}
-use Rattle.line_script.specs.declared.script.Script.{Script}
+use Rattle.line_script.specs.declared.reader.Reader.TheVariants.{Full, Half}
+use Rattle.df1_check.specs.declared.Check.{Check}
+use Rattle.script_parts.specs.declared.script.EndPlan.{EndPlan}
+use Rattle.script_parts.specs.declared.script.Event.{Event}
+use Rattle.script_parts.specs.declared.script.Script.{Script}
 use Rattle.line_script.specs.declared.fault.ScriptFault.{ScriptFault}
 use Rattle.line_script.specs.declared.fault.ScriptFault.TheVariants as script
 use Rattle.line_script.specs.Fed.{Fed, StandsFor, EndsFor, IsRefusedFor, IsRefusedAtEnd, accepted_script, script_at}
 use Rattle.line_script.specs.Lines.{script_with}
-use Rattle.line_script.specs.Playable.{IsPossible, IsPlayable, issues, count_of}
+use Rattle.script_parts.specs.Playable.{IsPlayable}
+use Rattle.script_parts.specs.HalfPlayable.{CanBePlayed, IsHalfPlayable}
 use Rattle.line_script.specs.ScriptText.{script_of}
 use Rattle.line_script.proofs.Setup.{Extends, TellsEvents, script-accepted}
 use Rattle.line_script.proofs.Shown.{shown-script, script-at-end, tells, front-of, front-by-byte, front-at-end, playable, playable-at-end}
 use Rattle.line_report.specs.Report.{line_text, word_text, deceived_text, report}
-use Rattle.duplex_line.specs.Acts.{LineState}
-use Rattle.duplex_line.specs.Plays.{Played, IsNext, begun, issued_by, played, printed}
-use Rattle.duplex_line.specs.Run.{start, after_event, lines_of, state_after, lines_after, last_state, all_words, record_of}
-use Rattle.duplex_line.proofs.Once.IssueLimits.{commands-of-a, commands-of-b}
-use Rattle.duplex_line.proofs.Steps.EventsToCome.{unspent}
+use Rattle.line_replay.specs.declared.world.World.{World}
+use Rattle.line_replay.specs.Runs.{IsNext, after_event, after_events, all_lines, begun, begun_in, last_world, lines_in, lines_of, lines_after, played, printed, record_from, record_of}
+use Rattle.line_replay.proofs.EitherMode.{after-behind, lines-behind, no-lines, report-from}
+use Rattle.line_replay.proofs.Next.{next-at}
 use Rattle.line_replay.specs.declared.replayer.StreamFault.{StreamFault}
 use Rattle.line_replay.specs.declared.replayer.StreamFault.TheVariants as stream
-use Rattle.line_replay.specs.Fed.{Replaying, IsReplayOf, IsReplayAtEnd, IsWorldOf, IsDue, IsRefusedAs, IsRefusedHere, IsRefusedWith, ShowsFront, ShowsMore, event_text, events_text, played_out, rest_text, shown, stream_fault, told, told_by, world_for}
+use Rattle.line_replay.specs.Fed.{Replaying, IsReplayOf, IsReplayAtEnd, IsWorldOf, IsDue, IsRefusedAs, IsRefusedHere, IsRefusedWith, ShowsFront, ShowsMore, event_text, events_text, rest_text, shown, stream_fault, told, told_by, world_for}
 
 -- ---- some events, and then others
 
-pub state-behind : (s : LineState) (events more : List Event) → state_after s (events ++ more) ≡ state_after (state_after s events) more
-state-behind s [] more = refl
-state-behind s (e ∷ events) more = state-behind (after_event s e) events more
+behind : (half : Bool) (check : Check) (ends : List EndPlan) (events more : List Event) → (let script : List Event → Script = λ all. record { half = half; check = check; ends = ends; events = all } in
+    events_text (script (events ++ more)) ≡ events_text (script events) ++ flat_map line_text (lines_after (last_world (script events)) more))
+behind half check ends events more =
+    ap (flat_map line_text) (lines-behind (begun_in half check ends) events more)
+    ∙ flat_map-append line_text (lines_after (begun_in half check ends) events) (lines_after (after_events (begun_in half check ends) events) more)
 
-lines-behind : (s : LineState) (events more : List Event) → lines_after s (events ++ more) ≡ lines_after s events ++ lines_after (state_after s events) more
-lines-behind s [] more = refl
-lines-behind s (e ∷ events) more =
-    ap (λ l. lines_of s e ++ l) (lines-behind (after_event s e) events more) ∙ sym (append_assoc (lines_of s e) (lines_after (after_event s e) events) (lines_after (state_after (after_event s e) events) more))
-
-pub text-behind : (d : Reader) (events more : List Event) → events_text (script_with d (events ++ more)) ≡ events_text (script_with d events) ++ flat_map line_text (lines_after (last_state (script_with d events)) more)
-text-behind d events more =
-    ap (flat_map line_text) (lines-behind (start (script_with d events)) events more) ∙ flat_map-append line_text (lines_after (start (script_with d events)) events) (lines_after (last_state (script_with d events)) more)
+pub text-behind : (d : Reader) (events more : List Event) → events_text (script_with d (events ++ more)) ≡ events_text (script_with d events) ++ flat_map line_text (lines_after (last_world (script_with d events)) more)
+text-behind (Full d) events more = behind false (script_with (Full d) []).check (script_with (Full d) []).ends events more
+text-behind (Half d) events more = behind true (script_with (Half d) []).check (script_with (Half d) []).ends events more
 
 -- one event more
 pub text-with : (d : Reader) (events : List Event) (e : Event) → events_text (script_with d (events ++ e ∷ [])) ≡ events_text (script_with d events) ++ event_text (script_with d events) e
 text-with d events e =
-    text-behind d events (e ∷ []) ∙ ap (λ l. events_text (script_with d events) ++ flat_map line_text l) (append-nil (lines_of (last_state (script_with d events)) e))
+    text-behind d events (e ∷ []) ∙ ap (λ l. events_text (script_with d events) ++ flat_map line_text l) (append-nil (lines_of (last_world (script_with d events)) e))
 
 -- ---- what was shown stays a front
 
+no-text : (d : Reader) → events_text (script_with d []) ≡ []
+no-text (Full d) = refl
+no-text (Half d) = refl
+
+events-of : (d : Reader) (events : List Event) → (script_with d events).events ≡ events
+events-of (Full d) events = refl
+events-of (Half d) events = refl
+
 -- the setup is that of the first event on
 same-text : (d e : Reader) (events all : List Event) → TellsEvents d events → Extends d events (e, all) → events_text (script_with e events) ≡ events_text (script_with d events)
-same-text d e events all (inl none) on = rw none refl
+same-text d e events all (inl none) on = rw none (no-text e ∙ sym (no-text d))
 same-text d e events all (inr begun) on = ap events_text (on.setup begun events)
 
 pub front-text : (d : Reader) (events : List Event) (read : Reader × List Event) → TellsEvents d events → Extends d events read → (rest : List ℕ) × (events_text (script_at read) ≡ events_text (script_with d events) ++ rest)
-front-text d events read (inl none) on = (events_text (script_at read), rw none refl)
+front-text d events read (inl none) on = (events_text (script_at read), rw none (sym (ap (λ t. t ++ events_text (script_at read)) (no-text d))))
 front-text d events read (inr begun) on = (
-  flat_map line_text (lines_after (last_state (script_with d events)) on.more),
+  flat_map line_text (lines_after (last_world (script_with d events)) on.more),
   ap (λ all. events_text (script_with read.0 all)) on.are ∙ ap events_text (on.setup begun (events ++ on.more)) ∙ text-behind d events on.more,
 )
 
@@ -69,9 +77,12 @@ unfolding shown
 shown-is text events r h = ap events_text (shown-script text events r h)
 
 -- the report of a script is its events' lines, and more
+report-parts : (script : Script) → report (record_of script) ≡ events_text script ++ rest_text script
+unfolding record_of
+report-parts script = report-from (last_world script) (all_lines script)
+
 report-front : (script : Script) → (rest : List ℕ) × (report (record_of script) ≡ events_text script ++ rest)
-unfolding report record_of
-report-front script = (flat_map word_text (all_words (last_state script)) ++ deceived_text (last_state script).deceived, append_assoc (events_text script) (flat_map word_text (all_words (last_state script))) (deceived_text (last_state script).deceived))
+report-front script = (rest_text script, report-parts script)
 
 pub told-front : (text : List ℕ) (events : List Event) (r : Fed) (more : List ℕ) → StandsFor text events r → (rest : List ℕ) × (told (text ++ more) ≡ shown text ++ rest)
 unfolding told accepted_script
@@ -87,72 +98,37 @@ told-front text events r more h =
 
 -- ---- the world
 
-pub world-is : (d : Reader) (events : List Event) (w : Option Played) → IsWorldOf (script_with d events) w → world_for (script_with d []) w ≡ played_out (script_with d events)
-world-is d events None none = rw none refl
+pub world-is : (d : Reader) (events : List Event) (w : Option World) → IsWorldOf (script_with d events) w → world_for (script_with d []) w ≡ last_world (script_with d events)
+world-is (Full d) events None none = rw none refl
+world-is (Half d) events None none = rw none refl
 world-is d events (Some w) is = is.1
 
-pub world-same : (w v : Played) → (let o : Option Played = Some w in o) ≡ Some v → w ≡ v
+pub world-same : (w v : World) → (let o : Option World = Some w in o) ≡ Some v → w ≡ v
 world-same w v is = ap (λ o. unwrap_or o w) is
 
 -- it stays the world where only the setup is read anew
-pub world-on : (d e : Reader) (events all : List Event) (w : Option Played) → TellsEvents d events → Extends d events (e, all) → IsWorldOf (script_with d events) w → IsWorldOf (script_with e events) w
-world-on d e events all None tell on is = is
-world-on d e events all (Some w) (inl none) on is = absurd (is.0 none)
-world-on d e events all (Some w) (inr begun) on is = (is.0, is.1 ∙ ap played_out (sym (on.setup begun events)))
+pub world-on : (d e : Reader) (events all : List Event) (w : Option World) → TellsEvents d events → Extends d events (e, all) → IsWorldOf (script_with d events) w → IsWorldOf (script_with e events) w
+world-on d e events all None tell on is = events-of e events ∙ sym (events-of d events) ∙ is
+world-on d e events all (Some w) (inl none) on is = absurd (is.0 (events-of d events ∙ none))
+world-on d e events all (Some w) (inr begun) on is = ((λ none. is.0 (events-of d events ∙ sym (events-of e events) ∙ none)), is.1 ∙ ap last_world (sym (on.setup begun events)))
 
 not-empty : (events : List Event) (e : Event) → events ++ e ∷ [] ≡ [] → ⊥
 not-empty [] e is = cc
 not-empty (x ∷ events) e is = cc
 
-pub world-with : (d : Reader) (events : List Event) (e : Event) → IsWorldOf (script_with d (events ++ e ∷ [])) (Some (printed (played (played_out (script_with d events)) e)))
-world-with d events e =
-    let sum = sum_by-append count_of events (e ∷ []) in
-    let one = sum_by-cons count_of e [] in
-    let all : sum_by count_of (events ++ e ∷ []) ≡ sum_by count_of events + count_of e = omega (arith, sum, one) in
-    (not-empty events e, rw (state-behind (start (script_with d events)) events (e ∷ []), all) refl)
+pub world-with : (d : Reader) (events : List Event) (e : Event) → IsWorldOf (script_with d (events ++ e ∷ [])) (Some (after_event (last_world (script_with d events)) e))
+world-with (Full d) events e = (not-empty events e, sym (after-behind (begun (script_with (Full d) events)) events (e ∷ [])))
+world-with (Half d) events e = (not-empty events e, sym (after-behind (begun (script_with (Half d) events)) events (e ∷ [])))
 
 -- ---- an event that may come next
 
-all-front : (events : List Event) (e : Event) → All IsPossible (events ++ e ∷ []) → All IsPossible events × IsPossible e
-all-front [] e all = (λ k d lt. absurd (omega (arith, lt)), All-head IsPossible e [] all)
-all-front (x ∷ events) e all =
-    let rest = all-front events e (All-tail IsPossible x (events ++ e ∷ []) all) in
-    (All-cons IsPossible x events (All-head IsPossible x (events ++ e ∷ []) all) rest.0, rest.1)
+pub is-next : (d : Reader) (events : List Event) (e : Event) → CanBePlayed (script_with d (events ++ e ∷ [])) → IsNext (last_world (script_with d events)) e
+is-next (Full d) events e h = next-at (script_with (Full d) (events ++ e ∷ [])) events e [] h refl
+is-next (Half d) events e h = next-at (script_with (Half d) (events ++ e ∷ [])) events e [] h refl
 
-issued-of-a : (events : List Event) (s : LineState) → All IsPossible events → issued_by (state_after s events).a ≡ issued_by s.a + count_by (issues A) events
-issued-of-a [] s all = omega arith
-issued-of-a (e ∷ events) s all =
-    let one = commands-of-a e s (All-head IsPossible e events all) in
-    let more = issued-of-a events (after_event s e) (All-tail IsPossible e events all) in
-    let sum = sum_by-cons (λ (x : Event). cond (issues A x) 1 0) e events in
-    omega (arith, one, more, sum)
-
-issued-of-b : (events : List Event) (s : LineState) → All IsPossible events → issued_by (state_after s events).b ≡ issued_by s.b + count_by (issues B) events
-issued-of-b [] s all = omega arith
-issued-of-b (e ∷ events) s all =
-    let one = commands-of-b e s (All-head IsPossible e events all) in
-    let more = issued-of-b events (after_event s e) (All-tail IsPossible e events all) in
-    let sum = sum_by-cons (λ (x : Event). cond (issues B x) 1 0) e events in
-    omega (arith, one, more, sum)
-
-pub is-next : (d : Reader) (events : List Event) (e : Event) → IsPlayable (script_with d (events ++ e ∷ [])) → IsNext (played_out (script_with d events)) e
-is-next d events e h =
-    let all = all-front events e h.events in
-    let s = start (script_with d events) in
-    let a = issued-of-a events s all.0 in
-    let b = issued-of-b events s all.0 in
-    let sum-a = sum_by-append (λ (x : Event). cond (issues A x) 1 0) events (e ∷ []) in
-    let sum-b = sum_by-append (λ (x : Event). cond (issues B x) 1 0) events (e ∷ []) in
-    let sum = sum_by-append count_of events (e ∷ []) in
-    let one = sum_by-cons count_of e [] in
-    let few-a = h.commands_of_a in
-    let few-b = h.commands_of_b in
-    let few = h.sum in
-    record {
-      possible = all.1;
-      unspent = unspent (last_state (script_with d events)) e [] all.1 (omega (arith, a, sum-a, few-a)) (omega (arith, b, sum-b, few-b));
-      sum = omega (arith, sum, one, few);
-    }
+-- the lines that stand after an event are the event's
+pub lines-with : (d : Reader) (events : List Event) (e : Event) → lines_in (played (last_world (script_with d events)) e) ≡ lines_of (last_world (script_with d events)) e
+lines-with d events e = no-lines (script_with d events) e
 
 -- ---- a byte more
 
@@ -224,11 +200,11 @@ told-refused : (text : List ℕ) (script : Script) (fault : ℕ × Cause) → sc
 unfolding told
 told-refused text script fault is same = ap (λ x. told_by x text) is ∙ ap events_text same
 
-pub refused-here : (text : List ℕ) (r : Replaying) (b : ℕ) (fault : ScriptFault) (h : IsReplayOf text r) → IsRefusedFor (text ++ b ∷ []) (script_with r.text.reader h.events) fault → IsRefusedHere (text ++ b ∷ []) (shown text) (stream_fault fault)
-refused-here text r b (script.At line cause) h refused = λ more.
+pub refused-here : (text whole : List ℕ) (r : Replaying) (fault : ScriptFault) (h : IsReplayOf text r) → IsRefusedFor whole (script_with r.text.reader h.events) fault → IsRefusedHere whole (shown text) (stream_fault fault)
+refused-here text whole r (script.At line cause) h refused = λ more.
     let at = refused more in
-    (at.0, told-refused ((text ++ b ∷ []) ++ more) (script_with r.text.reader h.events) (line, cause) at.0 at.1 ∙ sym (shown-is text h.events r.text h.reads))
-refused-here text r b script.NoMemory h refused = tt
+    (at.0, told-refused (whole ++ more) (script_with r.text.reader h.events) (line, cause) at.0 at.1 ∙ sym (shown-is text h.events r.text h.reads))
+refused-here text whole r script.NoMemory h refused = tt
 
 pub at_err : {T E P : Type 0} (r : Result T E) → P → OnErr r P
 at_err (Ok value) p = tt
@@ -236,15 +212,18 @@ at_err (Err fault) p = p
 
 -- ---- at the end of the text
 
-playable-none : (d : Reader) (events : List Event) → IsPlayable (script_with d events) → IsPlayable (script_with d [])
-playable-none d events h = record { mode = h.mode; ends = h.ends; events = All-nil IsPossible; commands_of_a = omega arith; commands_of_b = omega arith; sum = omega arith }
+none-full : (script : Script) → IsPlayable script → IsPlayable (record script { events = [] })
+none-full script h = record { mode = h.mode; ends = h.ends; events = All-nil _; commands_of_a = omega arith; commands_of_b = omega arith; sum = omega arith }
 
-pub playable-rest : (text : List ℕ) (r : Replaying) → IsReplayAtEnd text r → IsPlayable (script_with r.text.reader [])
+none-half : (script : Script) → IsHalfPlayable script → IsHalfPlayable (record script { events = [] })
+none-half script h = record { mode = h.mode; ends = h.ends; events = All-nil _; commands = omega arith; sum = omega arith }
+
+playable-none : (d : Reader) (events : List Event) → CanBePlayed (script_with d events) → CanBePlayed (script_with d [])
+playable-none (Full d) events h = record { full = λ mode. none-full (script_with (Full d) events) (h.full mode); half = λ mode. none-half (script_with (Full d) events) (h.half mode) }
+playable-none (Half d) events h = record { full = λ mode. none-full (script_with (Half d) events) (h.full mode); half = λ mode. none-half (script_with (Half d) events) (h.half mode) }
+
+pub playable-rest : (text : List ℕ) (r : Replaying) → IsReplayAtEnd text r → CanBePlayed (script_with r.text.reader [])
 playable-rest text r h = playable-none r.text.reader h.events (playable-at-end text h.events r.text h.reads)
-
-report-parts : (script : Script) → report (record_of script) ≡ events_text script ++ rest_text script
-unfolding report record_of
-report-parts script = append_assoc (events_text script) (flat_map word_text (all_words (last_state script))) (deceived_text (last_state script).deceived)
 
 told-at-end : (text : List ℕ) (all : List Event) (new : Fed) → EndsFor text all new → (rest : List ℕ) × (told text ≡ events_text (script_with new.reader all) ++ rest)
 unfolding told
@@ -385,26 +364,15 @@ shows-behind before middle after a b c first second = record {
   put = Appends-trans a b c first.more second.more first.put second.put;
 }
 
--- a list is what stands before an element, the element, and the rest
-pub parted : (xs : List ℕ) (i d : ℕ) → i < length xs → xs ≡ take i xs ++ get_or xs i d ∷ drop (suc i) xs
-parted xs i d lt = sym (take-append-drop i xs) ∙ ap (λ t. take i xs ++ t) (drop-cons xs i d lt)
-
-regrouped : (text front rest more bytes : List ℕ) (b : ℕ) → bytes ≡ front ++ b ∷ rest → (text ++ bytes) ++ more ≡ ((text ++ front) ++ b ∷ []) ++ (rest ++ more)
-regrouped text front rest more bytes b is =
-    ap (λ p. (text ++ p) ++ more) is ∙ ap (λ t. t ++ more) (sym (append_assoc text front (b ∷ rest)))
-    ∙ append_assoc (text ++ front) (b ∷ rest) more ∙ sym (append_assoc (text ++ front) (b ∷ []) (rest ++ more))
-
-pub stops-here : (text front rest bytes : List ℕ) (b : ℕ) (held held' : Option (List ℕ)) (fault : StreamFault) → bytes ≡ front ++ b ∷ rest
-    → ShowsMore (shown text) (shown (text ++ front)) held held' → IsRefusedHere ((text ++ front) ++ b ∷ []) (shown (text ++ front)) fault → IsRefusedWith (text ++ bytes) (shown text) held held' fault
-stops-here text front rest bytes b held held' (stream.At line cause) is shows refused = λ more.
+-- where some of the bytes that follow are refused, whatever follows them, all are
+pub stops-here : (text bytes whole rest written : List ℕ) (held held' : Option (List ℕ)) (fault : StreamFault) → text ++ bytes ≡ whole ++ rest
+    → ShowsMore (shown text) written held held' → IsRefusedHere whole written fault → IsRefusedWith (text ++ bytes) (shown text) held held' fault
+stops-here text bytes whole rest written held held' (stream.At line cause) is shows refused = λ more.
     let at = refused (rest ++ more) in
-    let same = regrouped text front rest more bytes b is in
+    let same : (text ++ bytes) ++ more ≡ whole ++ (rest ++ more) = ap (λ t. t ++ more) is ∙ append_assoc whole rest more in
     (ap script_of same ∙ at.0, record { more = shows.more; shows = ap told same ∙ at.1 ∙ shows.shows; put = shows.put })
-stops-here text front rest bytes b held held' stream.SinkFailed is shows refused = tt
-stops-here text front rest bytes b held held' stream.NoMemory is shows refused = tt
-
-pub joined : (text front rest bytes : List ℕ) (b : ℕ) → bytes ≡ front ++ b ∷ rest → text ++ bytes ≡ (text ++ front) ++ b ∷ rest
-joined text front rest bytes b is = ap (λ p. text ++ p) is ∙ sym (append_assoc text front (b ∷ rest))
+stops-here text bytes whole rest written held held' stream.SinkFailed is shows refused = tt
+stops-here text bytes whole rest written held held' stream.NoMemory is shows refused = tt
 
 -- where only a sink that failed changes it, the sink of a refused line is as it was
 pub unchanged : {K : Type 0} (sink sink' : K) (fault : StreamFault) (held : K → Option (List ℕ)) (P : Option (List ℕ) → Type 0) → (fault ≢ stream.SinkFailed → sink' ≡ sink) → (fault ≡ stream.SinkFailed → P (held sink')) → P (held sink) → P (held sink')

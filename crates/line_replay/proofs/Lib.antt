@@ -1,1 +1,4 @@
+pub mod EitherMode
 pub mod Fed
+mod Next
+pub mod Runs

@@ -1,19 +1,19 @@
 -- A replay of a text that comes byte by byte: what it shows of the text so far.
-use Rattle.std.specs.Prelude.{◌≡◌, ◌≢◌, ℕ, List, [], ◌∷◌, ◌++◌, Option, None, Some, sum_by, Result, Ok, Err}
+use Rattle.std.specs.Prelude.{◌≡◌, ◌≢◌, ℕ, List, [], ◌∷◌, ◌++◌, Option, None, Some, Result, Ok, Err}
 use Rattle.std.specs.List.{flat_map}
 use Rattle.df1_base.specs.Outside.{Put}
 use Rattle.line_script.specs.declared.fault.Cause.{Cause}
 use Rattle.line_script.specs.declared.fault.ScriptFault.{ScriptFault}
 use Rattle.line_script.specs.declared.fault.ScriptFault.TheVariants as script
-use Rattle.line_script.specs.declared.script.Event.{Event}
-use Rattle.line_script.specs.declared.script.Script.{Script}
+use Rattle.script_parts.specs.declared.script.Event.{Event}
+use Rattle.script_parts.specs.declared.script.Script.{Script}
 use Rattle.line_script.specs.Fed.{EndsFor, Fed, StandsFor, accepted_script, ended}
 use Rattle.line_script.specs.Lines.{script_with}
-use Rattle.line_script.specs.Playable.{IsPlayable, count_of}
+use Rattle.script_parts.specs.HalfPlayable.{CanBePlayed}
 use Rattle.line_script.specs.ScriptText.{script_of}
 use Rattle.line_report.specs.Report.{line_text, report}
-use Rattle.duplex_line.specs.Plays.{Played, begun}
-use Rattle.duplex_line.specs.Run.{last_state, lines_after, lines_of, record_from, record_of, start}
+use Rattle.line_replay.specs.declared.world.World.{World}
+use Rattle.line_replay.specs.Runs.{all_lines, begun, last_world, lines_of, record_from, record_of}
 use Rattle.line_replay.specs.declared.replayer.StreamFault.{StreamFault}
 use Rattle.line_replay.specs.declared.replayer.StreamFault.TheVariants as stream
 
@@ -21,15 +21,15 @@ use Rattle.line_replay.specs.declared.replayer.StreamFault.TheVariants as stream
 
 -- the text of the report's lines of an event of a script, behind its other events
 abbrev pub event_text : Script → Event → List ℕ
-event_text script e = flat_map line_text (lines_of (last_state script) e)
+event_text script e = flat_map line_text (lines_of (last_world script) e)
 
 -- the text of the report's lines of all events of a script
 abbrev pub events_text : Script → List ℕ
-events_text script = flat_map line_text (lines_after (start script) script.events)
+events_text script = flat_map line_text (all_lines script)
 
 -- what is written behind them: the words that aren't 0, and how often an end was deceived
 abbrev pub rest_text : Script → List ℕ
-rest_text script = report (record_from (last_state script) [])
+rest_text script = report (record_from (last_world script) [])
 
 -- what is written of a text that may go on: the report's lines of those of its event lines that a line feed ends, up to the first
 -- line that is faulty
@@ -50,19 +50,15 @@ told text = told_by (script_of text) text
 -- a reader of the text, and the world that its events are played on, from the first one on
 pub record Replaying : Type 0 where
   pub text : Fed
-  pub world : Option Played
+  pub world : Option World
 
--- the world after the events of a script, whose lines are printed
-abbrev pub played_out : Script → Played
-played_out script = record { state = last_state script; lines = []; events = sum_by count_of script.events }
-
--- there was no event, or this is the world after them
-abbrev pub IsWorldOf : Script → Option Played → Type 0
+-- there was no event, or this is the world after them, whose lines are printed
+abbrev pub IsWorldOf : Script → Option World → Type 0
 IsWorldOf script None = script.events ≡ []
-IsWorldOf script (Some world) = (script.events ≢ []) × (world ≡ played_out script)
+IsWorldOf script (Some world) = (script.events ≢ []) × (world ≡ last_world script)
 
 -- the world that the next event is played on: the one that there is, or a new one
-abbrev pub world_for : Script → Option Played → Played
+abbrev pub world_for : Script → Option World → World
 world_for script None = begun script
 world_for script (Some world) = world
 
@@ -88,7 +84,7 @@ IsEndedReplay r = (text : List ℕ) × IsReplayAtEnd text r
 -- an event may be played: the script so far with it can
 pub record IsDue (r : Replaying) (e : Event) : Type 0 where
   pub events : List Event
-  pub playable : IsPlayable (script_with r.text.reader (events ++ e ∷ []))
+  pub playable : CanBePlayed (script_with r.text.reader (events ++ e ∷ []))
   pub plays : IsWorldOf (script_with r.text.reader events) r.world
 
 -- ---- what a sink has taken

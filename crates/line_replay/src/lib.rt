@@ -1,10 +1,10 @@
-//! Replaying a script: it is read, its run is played over the line, and the record of what happened is printed.
+//! Replaying a script of either mode: it is read, its run is played over the line, and the record of what happened is printed.
 #![tactic(auto)]
 
 mod play;
 mod replayer;
+mod world;
 
-pub use duplex_line::World;
 pub use line_report::{Line, Lines, Record, print};
 pub use line_script::{
     Bytes, Cause, EndPlan, Ends, Event, Events, Items, Lane, Script, ScriptFault, Specs, Who,
@@ -12,6 +12,7 @@ pub use line_script::{
 };
 pub use play::replay;
 pub use replayer::{Replayer, StreamFault};
+pub use world::World;
 
 #[cfg(test)]
 mod tests;

@@ -1,11 +1,11 @@
 //! Playing a script: its run, as a record.
 
-ghost use Rattle.std.specs.Prelude.{◌≡◌, IfOk};
-ghost use Rattle.line_script.specs.Playable.{IsPlayable};
-ghost use Rattle.duplex_line.specs.Run.{record_of};
-ghost use Rattle.duplex_line.specs.Once.{EachOnce};
+ghost use Rattle.std.specs.Prelude.{◌≡◌, IfOk, false};
+ghost use Rattle.script_parts.specs.HalfPlayable.{CanBePlayed};
 ghost use Rattle.duplex_line.specs.Prompt.{IsPrompt, EndsQuiet};
 ghost use Rattle.duplex_line.specs.Complete.{IsComplete};
+ghost use Rattle.line_replay.specs.Once.{EachCommandOnce};
+ghost use Rattle.line_replay.specs.Runs.{record_of};
 
 use crate::World;
 use df1_base::NoMemory;
@@ -13,15 +13,15 @@ use line_report::Record;
 use line_script::Script;
 use std::alloc::Global;
 
-/// Plays a script that can be read, and answers the record of its run. Where no end was deceived, each command of the
-/// script was executed once at most, in order, the words are those that the executed ones make, and each accepted reply
-/// was the one to that very command. Where nothing disturbed the line, all commands were executed and answered.
-#[tactic(auto, unfolding(duplex_line::specs::Run::record_of))]
+/// Plays a script that can be read, and answers the record of its run. Where no end was deceived, each command of the script was
+/// executed once at most, in order, by the station that it was issued to, the words are those that the executed ones make, and
+/// each accepted reply was the one to that very command. Where nothing disturbed a full-duplex line, all commands were executed
+/// and answered.
 pub fn replay(alloc: Global, script: &Script) -> Result<Record, NoMemory>
-    requires { IsPlayable script.now }
+    requires { CanBePlayed script.now }
     ensures record { IfOk result (λ r. r ≡ record_of script.now) }
-    ensures complete { IfOk result (λ r. IsPrompt script.now → EndsQuiet script.now → IsComplete script.now r) }
-    ensures once { IfOk result (λ r. r.deceived ≡ 0 → EachOnce script.now r) }
+    ensures complete { script.now.half ≡ false → IfOk result (λ r. IsPrompt script.now → EndsQuiet script.now → IsComplete script.now r) }
+    ensures once { IfOk result (λ r. r.deceived ≡ 0 → EachCommandOnce script.now r) }
 {
     let mut world = World::new(alloc, script)?;
     for event in script.events.as_slice() {

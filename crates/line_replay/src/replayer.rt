@@ -1,14 +1,13 @@
 //! Replaying while reading: a script comes byte by byte, and the report's lines of an event line are written where it ends.
-ghost use Rattle.std.specs.Prelude.{◌≡◌, ◌≢◌, ◌≤◌, ◌+◌, ◌∷◌, ◌++◌, ℕ, List, [], Some, OnOk, OnErr, IfErr, IsErrOf, length};
+ghost use Rattle.std.specs.Prelude.{◌≡◌, ◌≢◌, ◌≤◌, ◌+◌, ◌∷◌, ◌++◌, ℕ, List, [], Some, OnOk, OnErr, IfErr, IsErrOf, MatchOption, length, position, ◌==◌};
 ghost use Rattle.df1_base.specs.Outside.{Rose, Put, WrotePart};
-ghost use Rattle.line_script.specs.declared.script.Event.{Event as OneEvent};
+ghost use Rattle.script_parts.specs.declared.script.Event.{Event as OneEvent};
 ghost use Rattle.line_replay.specs.declared.replayer.StreamFault.{StreamFault as Stopped};
-ghost use Rattle.line_script.specs.Fed.{accepted_script};
+ghost use Rattle.line_script.specs.Fed.{HasNoFeed, accepted_script};
 ghost use Rattle.line_script.specs.Lines.{script_with};
-ghost use Rattle.line_script.specs.Playable.{IsPlayable};
+ghost use Rattle.script_parts.specs.HalfPlayable.{CanBePlayed};
 ghost use Rattle.line_script.specs.Unfinished.{unfinished};
-ghost use Rattle.duplex_line.specs.Plays.{IsNext, begun, played, printed};
-ghost use Rattle.duplex_line.specs.Run.{record_from};
+ghost use Rattle.line_replay.specs.Runs.{IsNext, begun, lines_in, played, printed, record_from};
 ghost use Rattle.line_report.specs.Report.{line_text, report};
 ghost use Rattle.std.specs.List.{flat_map};
 ghost use Rattle.line_replay.specs.Fed.{IsDue, IsEndedReplay, IsFromPlay, IsRefusedAs, IsRefusedHere, IsRefusedWith, IsReplay, IsReplayAtEnd, IsReplayOf, IsScript, IsWorldOf, ShowsFront, ShowsMore, event_text, events_text, rest_text, shown, told, world_for};
@@ -82,7 +81,7 @@ pub struct Replayer {
 
 impl Model for Replayer {
     ghost use Rattle.std.specs.Coded.{codes};
-    ghost use Rattle.duplex_line.specs.contracts.world.World as world_row;
+    ghost use Rattle.line_replay.specs.contracts.world.World as world_row;
     ghost use Rattle.line_replay.specs.Fed.{Replaying};
 
     ghost Value = { Replaying };
@@ -143,7 +142,7 @@ impl Replayer {
         }
     }
 
-    /// Takes the next bytes of the script, one by one, up to a fault.
+    /// Takes the next bytes of the script, line by line, up to a fault.
     pub fn feed_all<K: Sink>(&mut self, bytes: &[u8], sink: &mut K) -> Result<(), StreamFault>
         requires { IsReplay self.old }
         ensures replay { OnOk result (IsReplay self.new) }
@@ -154,11 +153,45 @@ impl Replayer {
         ensures later { K.faults sink.old ≤ K.faults sink.new }
         ensures cause { IsErrOf result StreamFault.SinkFailed → Rose (K.faults sink.old) (K.faults sink.new) }
     {
-        for b in bytes {
-            match self.feed(*b, sink) {
+        let mut rest = bytes;
+        while let Some((line, more)) = next_line(rest) {
+            match self.feed_line(line, sink) {
                 Ok(()) => {}
                 Err(fault) => return Err(fault),
             }
+            rest = more;
+        }
+        self.feed_run(rest)
+    }
+
+    /// Takes the next bytes of the script, among which no line feed is, and then a line feed, as `feed` takes them one by one.
+    fn feed_line<K: Sink>(&mut self, line: &[u8], sink: &mut K) -> Result<(), StreamFault>
+        requires replay { IsReplay self.old }
+        requires line { HasNoFeed line.now }
+        ensures ok { (text : List ℕ) → IsReplayOf text self.old → OnOk result (IsReplayOf ((text ++ line.now) ++ 10 ∷ []) self.new × ShowsMore (shown text) (shown ((text ++ line.now) ++ 10 ∷ [])) (K.held sink.old) (K.held sink.new)) }
+        ensures refused { (text : List ℕ) → IsReplayOf text self.old → IfErr result (IsRefusedHere ((text ++ line.now) ++ 10 ∷ []) (shown text)) }
+        ensures front { (text : List ℕ) → IsReplayOf text self.old → (more : List ℕ) → OnErr result (ShowsFront (shown text) (told ((text ++ line.now) ++ 10 ∷ more)) (K.held sink.old) (K.held sink.new)) }
+        ensures silent { IfErr result (λ fault. fault ≢ Stopped.SinkFailed → sink.new ≡ sink.old) }
+        ensures calm { OnOk result (K.faults sink.new ≡ K.faults sink.old) }
+        ensures later { K.faults sink.old ≤ K.faults sink.new }
+        ensures cause { IsErrOf result StreamFault.SinkFailed → Rose (K.faults sink.old) (K.faults sink.new) }
+    {
+        match self.text.feed_line(line) {
+            Ok(None) => Ok(()),
+            Ok(Some(event)) => self.play(&event, sink),
+            Err(fault) => Err(fault.into()),
+        }
+    }
+
+    /// Takes the next bytes of the script, among which no line feed is.
+    fn feed_run(&mut self, run: &[u8]) -> Result<(), StreamFault>
+        requires { HasNoFeed run.now }
+        ensures ok { (text : List ℕ) → IsReplayOf text self.old → OnOk result (IsReplayOf (text ++ run.now) self.new × (shown (text ++ run.now) ≡ shown text)) }
+        ensures refused { (text : List ℕ) → IsReplayOf text self.old → IfErr result (IsRefusedHere (text ++ run.now) (shown text)) }
+        ensures known { IfErr result (λ fault. fault ≢ Stopped.SinkFailed) }
+    {
+        if let Err(fault) = self.text.feed_run(run) {
+            return Err(fault.into());
         }
         Ok(())
     }
@@ -220,7 +253,7 @@ impl Replayer {
 
     /// Writes the words that aren't 0, and how often an end was deceived.
     fn write_rest<K: Sink>(&mut self, sink: &mut K) -> Result<(), StreamFault>
-        requires { IsPlayable (script_with self.old.text.reader []) }
+        requires { CanBePlayed (script_with self.old.text.reader []) }
         ensures ok { (events : List OneEvent) → IsWorldOf (script_with self.old.text.reader events) self.old.world → OnOk result
             (Put (K.held sink.old) (K.held sink.new) (rest_text (script_with self.old.text.reader events))) }
         ensures part { (events : List OneEvent) → IsWorldOf (script_with self.old.text.reader events) self.old.world →
@@ -261,7 +294,7 @@ impl Replayer {
 
     /// Makes the world that events happen on, where there is none.
     fn begin(&mut self) -> Result<(), NoMemory>
-        requires { IsPlayable (script_with self.old.text.reader []) }
+        requires { CanBePlayed (script_with self.old.text.reader []) }
         ensures text { self.new.text ≡ self.old.text }
         ensures world { OnOk result (self.new.world ≡ Some (world_for (script_with self.old.text.reader []) self.old.world)) }
     {
@@ -276,7 +309,7 @@ impl Replayer {
     #[cold]
     #[inline(never)]
     fn set_out(&mut self) -> Result<(), NoMemory>
-        requires { IsPlayable (script_with self.old.text.reader []) }
+        requires { CanBePlayed (script_with self.old.text.reader []) }
         ensures text { self.new.text ≡ self.old.text }
         ensures world { OnOk result (self.new.world ≡ Some (begun (script_with self.old.text.reader []))) }
     {
@@ -289,8 +322,8 @@ impl Replayer {
 /// Lets an event happen on a world, and writes the report's lines that stand then.
 fn play_on<K: Sink>(world: &mut World, event: &Event, sink: &mut K) -> Result<(), StreamFault>
     requires { IsNext world.old event.now }
-    ensures ok { OnOk result ((world.new ≡ printed (played world.old event.now)) × Put (K.held sink.old) (K.held sink.new) (flat_map line_text (played world.old event.now).lines)) }
-    ensures part { WrotePart (K.held sink.old) (K.held sink.new) (flat_map line_text (played world.old event.now).lines) }
+    ensures ok { OnOk result ((world.new ≡ printed (played world.old event.now)) × Put (K.held sink.old) (K.held sink.new) (flat_map line_text (lines_in (played world.old event.now)))) }
+    ensures part { WrotePart (K.held sink.old) (K.held sink.new) (flat_map line_text (lines_in (played world.old event.now))) }
     ensures silent { IfErr result (λ fault. fault ≢ Stopped.SinkFailed → sink.new ≡ sink.old) }
     ensures known { IfErr result IsFromPlay }
     ensures calm { OnOk result (K.faults sink.new ≡ K.faults sink.old) }
@@ -304,8 +337,8 @@ fn play_on<K: Sink>(world: &mut World, event: &Event, sink: &mut K) -> Result<()
 
 /// Writes the report of a world: the lines that stand, the words that aren't 0, and how often an end was deceived.
 fn print_rest<K: Sink>(world: World, sink: &mut K) -> Result<(), StreamFault>
-    ensures ok { OnOk result (Put (K.held sink.old) (K.held sink.new) (report (record_from world.state world.lines))) }
-    ensures part { WrotePart (K.held sink.old) (K.held sink.new) (report (record_from world.state world.lines)) }
+    ensures ok { OnOk result (Put (K.held sink.old) (K.held sink.new) (report (record_from world (lines_in world)))) }
+    ensures part { WrotePart (K.held sink.old) (K.held sink.new) (report (record_from world (lines_in world))) }
     ensures silent { IfErr result (λ fault. fault ≢ Stopped.SinkFailed → sink.new ≡ sink.old) }
     ensures known { IfErr result IsFromPlay }
     ensures calm { OnOk result (K.faults sink.new ≡ K.faults sink.old) }
@@ -315,4 +348,21 @@ fn print_rest<K: Sink>(world: World, sink: &mut K) -> Result<(), StreamFault>
     let record = world.finish()?;
     print(&record, sink)?;
     Ok(())
+}
+
+/// The line that some bytes begin with, if a line feed ends one, and what follows it.
+fn next_line(bytes: &[u8]) -> Option<(&[u8], &[u8])>
+    ensures { MatchOption result (HasNoFeed bytes.now) (λ cut. (bytes.now ≡ cut.0.now ++ 10 ∷ cut.1.now) × HasNoFeed cut.0.now) }
+{
+    match line_end(bytes) {
+        Some(end) => Some((&bytes[..end], &bytes[end + 1..])),
+        None => None,
+    }
+}
+
+/// Where the first line feed stands.
+fn line_end(bytes: &[u8]) -> Option<usize>
+    ensures { result ≡ position (λ b. b == 10) bytes.now }
+{
+    bytes.iter().position(|b| *b == b'\n')
 }

@@ -4,7 +4,7 @@ use Rattle.std.specs.List.{flat_map}
 use Rattle.hex.specs.Hex.{encode_upper}
 use Rattle.line_statement.specs.declared.who.Who.{Who}
 use Rattle.line_statement.specs.declared.who.Who.TheVariants.{A, B, M, S}
-use Rattle.line_script.specs.declared.script.WordOf.{WordOf}
+use Rattle.script_parts.specs.declared.script.WordOf.{WordOf}
 use Rattle.line_report.specs.declared.record.Line.{Line}
 use Rattle.line_report.specs.declared.record.Line.TheVariants.{Sent, Exec, Answered, Undelivered, Unanswered, Stray, Repeat, Full, Damaged, Enquiry, Dropped}
 use Rattle.line_report.specs.declared.record.Record.{Record}

@@ -1,9 +1,10 @@
 //! Bytes as pairs of hexadecimal digits, high digit first, letters in upper case.
-ghost use Rattle.std.specs.Prelude.{◌≡◌, ◌≤◌, [], ◌∷◌, OnOk, OnErr, length};
+ghost use Rattle.std.specs.Prelude.{◌≡◌, ◌≤◌, ◌+◌, ◌*◌, ◌++◌, [], ◌∷◌, OnOk, OnErr, length};
+ghost use Rattle.arrayvec.specs.ArrayVec.{array_vec_len};
 ghost use Rattle.df1_base.specs.Outside.{Rose, Put, WrotePart};
 ghost use Rattle.hex.specs.Hex.{encode_upper};
 
-use crate::short::Short;
+use crate::short::{ROOM, Short};
 use arrayvec::ArrayVec;
 use df1_base::{Failed, Sink, write_all};
 
@@ -36,12 +37,21 @@ fn pairs(bytes: &[u8]) -> Short
     ensures { result.items ≡ encode_upper bytes.now }
 {
     let mut digits = ArrayVec::new();
+    append_pairs(&mut digits, bytes);
+    digits
+}
+
+/// Adds the digits of bytes to a text that has room for them.
+pub(crate) fn append_pairs(line: &mut Short, bytes: &[u8])
+    requires { array_vec_len line.old + 2 * length bytes.now ≤ ROOM }
+    ensures text { line.new.items ≡ line.old.items ++ encode_upper bytes.now }
+    ensures size { array_vec_len line.new ≡ array_vec_len line.old + 2 * length bytes.now }
+{
     for byte in bytes {
         let [high, low] = pair(*byte);
-        digits.push(high);
-        digits.push(low);
+        line.push(high);
+        line.push(low);
     }
-    digits
 }
 
 /// The two hexadecimal digits of a byte, high digit first, letters in upper case.

@@ -15,17 +15,20 @@
 //! | `deceived N` | the last line |
 //!
 //! WHO is `a`, `b`, `m` or the station's decimal number. Hexadecimal digits are upper case.
-ghost use Rattle.std.specs.Prelude.{◌≡◌, ◌≤◌, ◌++◌, codes, OnOk, OnErr};
+ghost use Rattle.std.specs.Prelude.{◌≡◌, ◌≤◌, ◌+◌, ◌++◌, codes, decimal, length, OnOk, OnErr};
+ghost use Rattle.arrayvec.specs.ArrayVec.{array_vec_len};
 ghost use Rattle.std.specs.List.{flat_map};
 ghost use Rattle.df1_base.specs.Outside.{Rose, Put, WrotePart};
 ghost use Rattle.hex.specs.Hex.{encode_upper};
-ghost use Rattle.line_report.specs.Report.{report, line_text, word_text};
+ghost use Rattle.line_report.specs.Report.{report, line_text, who_text, word_text};
 
-use crate::digits::put_hex;
-use crate::short::{deceived_line, numbered, said, word_line};
+use crate::digits::{append_pairs, put_hex};
+use crate::short::{ROOM, Short, append, append_number, append_said, deceived_line, word_line};
 use crate::{Line, Record};
+use arrayvec::ArrayVec;
 use df1_base::{Failed, Sink, write_all};
-use line_script::WordOf;
+use line_statement::Who;
+use script_parts::WordOf;
 
 /// Writes the report of a record: its lines, its words and its count of deceptions. `Failed` comes where the sink
 /// failed; then it holds a first part of the text.
@@ -64,29 +67,104 @@ pub fn put_line<K: Sink>(sink: &mut K, line: &Line) -> Result<(), Failed>
     ensures cause { OnErr result (Rose (K.faults sink.old) (K.faults sink.new)) }
 {
     match line {
-        Line::Sent { who, bytes } => put_bytes(sink, &said(*who, b" sent "), bytes.as_slice()),
-        Line::Exec { who, body } => put_bytes(sink, &said(*who, b" exec "), body.as_slice()),
-        Line::Answered { who, n, body } => {
-            let head = numbered(*who, b" answered ", *n, b" ");
-            put_bytes(sink, &head, body.as_slice())
-        }
-        Line::Undelivered { who, n } => {
-            write_all(sink, &numbered(*who, b" undelivered ", *n, b"\n"))
-        }
-        Line::Unanswered { who, n } => {
-            write_all(sink, &numbered(*who, b" unanswered ", *n, b"\n"))
-        }
-        Line::Stray { who, body } => put_bytes(sink, &said(*who, b" stray "), body.as_slice()),
-        Line::Repeat { who } => write_all(sink, &said(*who, b" repeat\n")),
-        Line::Full { who } => write_all(sink, &said(*who, b" full\n")),
-        Line::Damaged { who } => write_all(sink, &said(*who, b" damaged\n")),
-        Line::Enquiry { who } => write_all(sink, &said(*who, b" enquiry\n")),
-        Line::Dropped { who } => write_all(sink, &said(*who, b" dropped\n")),
+        Line::Sent { who, bytes } => put_bytes(sink, *who, b" sent ", bytes.as_slice()),
+        Line::Exec { who, body } => put_bytes(sink, *who, b" exec ", body.as_slice()),
+        Line::Answered { who, n, body } => put_answer(sink, *who, *n, body.as_slice()),
+        Line::Undelivered { who, n } => put_number(sink, *who, b" undelivered ", *n),
+        Line::Unanswered { who, n } => put_number(sink, *who, b" unanswered ", *n),
+        Line::Stray { who, body } => put_bytes(sink, *who, b" stray ", body.as_slice()),
+        Line::Repeat { who } => put_said(sink, *who, b" repeat\n"),
+        Line::Full { who } => put_said(sink, *who, b" full\n"),
+        Line::Damaged { who } => put_said(sink, *who, b" damaged\n"),
+        Line::Enquiry { who } => put_said(sink, *who, b" enquiry\n"),
+        Line::Dropped { who } => put_said(sink, *who, b" dropped\n"),
     }
 }
 
-/// Writes a line that ends in bytes.
-fn put_bytes<K: Sink>(sink: &mut K, head: &[u8], bytes: &[u8]) -> Result<(), Failed>
+/// Writes a line that says something of an end, and ends in bytes. It isn't inlined, and nor are the others that have
+/// room for a line: a line of one kind would pay for the room of them all.
+#[inline(never)]
+fn put_bytes<K: Sink>(sink: &mut K, who: Who, what: &[u8], bytes: &[u8]) -> Result<(), Failed>
+    requires { length what.now ≤ 16 }
+    ensures ok { OnOk result (Put (K.held sink.old) (K.held sink.new) (who_text who ++ what.now ++ encode_upper bytes.now ++ codes "\n")) }
+    ensures part { WrotePart (K.held sink.old) (K.held sink.new) (who_text who ++ what.now ++ encode_upper bytes.now ++ codes "\n") }
+    ensures calm { OnOk result (K.faults sink.new ≡ K.faults sink.old) }
+    ensures later { K.faults sink.old ≤ K.faults sink.new }
+    ensures cause { OnErr result (Rose (K.faults sink.old) (K.faults sink.new)) }
+{
+    let mut line = ArrayVec::new();
+    append_said(&mut line, who, what);
+    put_behind(sink, &mut line, bytes)
+}
+
+/// Writes the line of an answer.
+#[inline(never)]
+fn put_answer<K: Sink>(sink: &mut K, who: Who, n: u32, body: &[u8]) -> Result<(), Failed>
+    ensures ok { OnOk result (Put (K.held sink.old) (K.held sink.new) (who_text who ++ codes " answered " ++ decimal n ++ codes " " ++ encode_upper body.now ++ codes "\n")) }
+    ensures part { WrotePart (K.held sink.old) (K.held sink.new) (who_text who ++ codes " answered " ++ decimal n ++ codes " " ++ encode_upper body.now ++ codes "\n") }
+    ensures calm { OnOk result (K.faults sink.new ≡ K.faults sink.old) }
+    ensures later { K.faults sink.old ≤ K.faults sink.new }
+    ensures cause { OnErr result (Rose (K.faults sink.old) (K.faults sink.new)) }
+{
+    let mut line = ArrayVec::new();
+    append_said(&mut line, who, b" answered ");
+    append_number(&mut line, n);
+    append(&mut line, b" ");
+    put_behind(sink, &mut line, body)
+}
+
+/// Writes a line that ends in the number of a command.
+#[inline(never)]
+fn put_number<K: Sink>(sink: &mut K, who: Who, what: &[u8], n: u32) -> Result<(), Failed>
+    requires { length what.now ≤ 16 }
+    ensures ok { OnOk result (Put (K.held sink.old) (K.held sink.new) (who_text who ++ what.now ++ decimal n ++ codes "\n")) }
+    ensures part { WrotePart (K.held sink.old) (K.held sink.new) (who_text who ++ what.now ++ decimal n ++ codes "\n") }
+    ensures calm { OnOk result (K.faults sink.new ≡ K.faults sink.old) }
+    ensures later { K.faults sink.old ≤ K.faults sink.new }
+    ensures cause { OnErr result (Rose (K.faults sink.old) (K.faults sink.new)) }
+{
+    let mut line = ArrayVec::new();
+    append_said(&mut line, who, what);
+    append_number(&mut line, n);
+    append(&mut line, b"\n");
+    write_all(sink, &line)
+}
+
+/// Writes a line that says no more of an end.
+#[inline(never)]
+fn put_said<K: Sink>(sink: &mut K, who: Who, what: &[u8]) -> Result<(), Failed>
+    requires { length what.now ≤ 16 }
+    ensures ok { OnOk result (Put (K.held sink.old) (K.held sink.new) (who_text who ++ what.now)) }
+    ensures part { WrotePart (K.held sink.old) (K.held sink.new) (who_text who ++ what.now) }
+    ensures calm { OnOk result (K.faults sink.new ≡ K.faults sink.old) }
+    ensures later { K.faults sink.old ≤ K.faults sink.new }
+    ensures cause { OnErr result (Rose (K.faults sink.old) (K.faults sink.new)) }
+{
+    let mut line = ArrayVec::new();
+    append_said(&mut line, who, what);
+    write_all(sink, &line)
+}
+
+/// Writes a line that begins so and ends in bytes: at once, where there is room for their digits.
+fn put_behind<K: Sink>(sink: &mut K, line: &mut Short, bytes: &[u8]) -> Result<(), Failed>
+    requires { array_vec_len line.old + 1 ≤ ROOM }
+    ensures ok { OnOk result (Put (K.held sink.old) (K.held sink.new) (line.old.items ++ encode_upper bytes.now ++ codes "\n")) }
+    ensures part { WrotePart (K.held sink.old) (K.held sink.new) (line.old.items ++ encode_upper bytes.now ++ codes "\n") }
+    ensures calm { OnOk result (K.faults sink.new ≡ K.faults sink.old) }
+    ensures later { K.faults sink.old ≤ K.faults sink.new }
+    ensures cause { OnErr result (Rose (K.faults sink.old) (K.faults sink.new)) }
+{
+    if bytes.len() > (ROOM - 1 - line.len()) / 2 {
+        return put_pieces(sink, line, bytes);
+    }
+    append_pairs(line, bytes);
+    append(line, b"\n");
+    write_all(sink, line)
+}
+
+/// Writes a line that begins so and ends in bytes, piece by piece.
+#[inline(never)]
+fn put_pieces<K: Sink>(sink: &mut K, head: &[u8], bytes: &[u8]) -> Result<(), Failed>
     ensures ok { OnOk result (Put (K.held sink.old) (K.held sink.new) (head.now ++ encode_upper bytes.now ++ codes "\n")) }
     ensures part { WrotePart (K.held sink.old) (K.held sink.new) (head.now ++ encode_upper bytes.now ++ codes "\n") }
     ensures calm { OnOk result (K.faults sink.new ≡ K.faults sink.old) }

@@ -1,6 +1,7 @@
 //! What a run was: the lines of its report, the words that it left, and how often an end was deceived.
 
-use line_script::{Bytes, Items, Who, Words};
+use line_statement::{Bytes, Items, Who};
+use script_parts::Words;
 
 /// The lines of a report, in the order of the events.
 pub type Lines = Items<Line>;

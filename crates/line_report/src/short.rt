@@ -5,44 +5,42 @@ ghost use Rattle.line_report.specs.Report.{who_text, word_text, word_digits, dec
 
 use crate::digits::pair;
 use arrayvec::ArrayVec;
-use line_script::{Who, WordOf};
+use line_statement::Who;
+use script_parts::WordOf;
 
 /// Room for a line whose length is bounded, in bytes.
-const ROOM: usize = 64;
+pub(crate) const ROOM: usize = 64;
 
 /// A text of at most `ROOM` bytes.
 pub(crate) type Short = ArrayVec<u8, ROOM>;
 
-/// An end, and what is said of it.
-pub(crate) fn said(who: Who, what: &[u8]) -> Short
-    requires { length what.now ≤ 16 }
-    ensures { result.items ≡ who_text who ++ what.now }
+/// Adds the name of an end and what is said of it to a text that has room for them.
+pub(crate) fn append_said(line: &mut Short, who: Who, what: &[u8])
+    requires { array_vec_len line.old + 3 + length what.now ≤ ROOM }
+    ensures text { line.new.items ≡ line.old.items ++ who_text who ++ what.now }
+    ensures size { array_vec_len line.new ≤ array_vec_len line.old + 3 + length what.now }
 {
-    let mut line = name(who);
-    append(&mut line, what);
-    line
+    append_name(line, who);
+    append(line, what);
 }
 
-/// An end, what is said of it, the number of a command and what ends the text.
-pub(crate) fn numbered(who: Who, what: &[u8], n: u32, end: &[u8]) -> Short
-    requires what_short { length what.now ≤ 16 }
-    requires end_short { length end.now ≤ 1 }
-    ensures { result.items ≡ who_text who ++ what.now ++ decimal n ++ end.now }
+/// Adds a decimal number to a text that has room for it.
+#[inline(never)]
+pub(crate) fn append_number(line: &mut Short, n: u32)
+    requires { array_vec_len line.old + 10 ≤ ROOM }
+    ensures text { line.new.items ≡ line.old.items ++ decimal n }
+    ensures size { array_vec_len line.new ≤ array_vec_len line.old + 10 }
 {
-    let mut line = name(who);
-    append(&mut line, what);
-    append(&mut line, itoa::Buffer::new().format(n).as_bytes());
-    append(&mut line, end);
-    line
+    append(line, itoa::Buffer::new().format(n).as_bytes());
 }
 
 /// The line of a word.
 pub(crate) fn word_line(word: WordOf) -> Short
     ensures { result.items ≡ word_text word }
 {
-    let mut line = name(word.who);
+    let mut line = ArrayVec::new();
     let mut digits = itoa::Buffer::new();
-    append(&mut line, b" word ");
+    append_said(&mut line, word.who, b" word ");
     append(&mut line, digits.format(word.file).as_bytes());
     append(&mut line, b" ");
     append(&mut line, digits.format(word.index).as_bytes());
@@ -63,19 +61,28 @@ pub(crate) fn deceived_line(count: u64) -> Short
     line
 }
 
-/// The name of an end.
-fn name(who: Who) -> Short
-    ensures text { result.items ≡ who_text who }
-    ensures size { array_vec_len result ≤ 3 }
+/// Adds the name of an end to a text that has room for it.
+fn append_name(line: &mut Short, who: Who)
+    requires { array_vec_len line.old + 3 ≤ ROOM }
+    ensures text { line.new.items ≡ line.old.items ++ who_text who }
+    ensures size { array_vec_len line.new ≤ array_vec_len line.old + 3 }
 {
-    let mut line = ArrayVec::new();
     match who {
-        Who::A => append(&mut line, b"a"),
-        Who::B => append(&mut line, b"b"),
-        Who::M => append(&mut line, b"m"),
-        Who::S(station) => append(&mut line, itoa::Buffer::new().format(station).as_bytes()),
+        Who::A => line.push(b'a'),
+        Who::B => line.push(b'b'),
+        Who::M => line.push(b'm'),
+        Who::S(station) => append_station(line, station),
     }
-    line
+}
+
+/// Adds the name of a station to a text that has room for it.
+#[inline(never)]
+fn append_station(line: &mut Short, station: u8)
+    requires { array_vec_len line.old + 3 ≤ ROOM }
+    ensures text { line.new.items ≡ line.old.items ++ decimal station }
+    ensures size { array_vec_len line.new ≤ array_vec_len line.old + 3 }
+{
+    append(line, itoa::Buffer::new().format(station).as_bytes());
 }
 
 /// Adds the four digits of a word to a text that has room for them.
@@ -89,7 +96,7 @@ fn append_digits(line: &mut Short, value: u16)
 }
 
 /// Adds bytes to a text that has room for them.
-fn append(line: &mut Short, bytes: &[u8])
+pub(crate) fn append(line: &mut Short, bytes: &[u8])
     requires { array_vec_len line.old + length bytes.now ≤ ROOM }
     ensures { line.new.items ≡ line.old.items ++ bytes.now }
 {

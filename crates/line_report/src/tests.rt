@@ -2,7 +2,8 @@
 
 use crate::{Line, Record, print, put_line};
 use df1_base::BytesOut;
-use line_script::{Bytes, Items, Who, WordOf};
+use line_statement::{Bytes, Items, Who};
+use script_parts::WordOf;
 use std::alloc::{AllocError, Global};
 use std::test::Fail;
 

@@ -1,17 +1,21 @@
 -- What is left after some lines is what their events leave of the limits.
-use Rattle.std.proofs.Common.{List, [], ◌∷◌, ◌++◌, Result, Ok, Err, arith}
+use Rattle.std.proofs.Common.{List, [], ◌∷◌, ◌++◌, Result, Ok, Err}
 use Rattle.std.specs.Prelude.{IfOk}
 use Rattle.std.specs.Option.{option_to_list}
 use Rattle.line_script.specs.declared.fault.Cause.{Cause}
-use Rattle.line_script.specs.declared.script.Event.{Event}
+use Rattle.script_parts.specs.declared.script.Event.{Event}
+use Rattle.duplex_script.proofs.Standing as duplex
+use Rattle.half_script.proofs.Standing as half
 use Rattle.line_script.specs.declared.reader.Reader.{Reader}
+use Rattle.line_script.specs.declared.reader.Reader.TheVariants.{Full, Half}
 use Rattle.line_script.specs.Lines.{TextLine, after_line}
 use Rattle.line_script.specs.Left.{and_then, after_lines, IsLeft}
 use Rattle.line_script.specs.ScriptText.{with_event}
 use Rattle.line_script.proofs.Standing.{Stands, IfNext, lined}
 
 left-of : (d : Reader) (events : List Event) → Stands d events → IsLeft d events
-left-of d events h = let a = h.commands_of_a in let b = h.commands_of_b in let sum = h.sum in record { commands_of_a = omega (arith, a); commands_of_b = omega (arith, b); events_are = omega (arith, sum) }
+left-of (Full d) events h = duplex.left_of d events h
+left-of (Half d) events h = half.left_of d events h
 
 abbrev IfLeft : Result (Reader × List Event) Cause → Type 0
 IfLeft read = IfOk read (λ r. IsLeft r.0 r.1)

@@ -8,9 +8,9 @@ use Rattle.std.proofs.lemmas.List.Folds.{list_any-append}
 use Rattle.line_script.specs.declared.fault.Cause.{Cause}
 use Rattle.line_script.specs.declared.fault.Cause.TheVariants as cause
 use Rattle.line_script.specs.declared.reader.Reader.{Reader}
-use Rattle.line_script.specs.declared.script.Event.{Event}
-use Rattle.line_script.specs.declared.script.Script.{Script}
-use Rattle.line_script.specs.Drafts.{fresh}
+use Rattle.script_parts.specs.declared.script.Event.{Event}
+use Rattle.script_parts.specs.declared.script.Script.{Script}
+use Rattle.line_script.specs.Readers.{fresh, stage_of}
 use Rattle.line_script.specs.declared.fault.LineFault.{LineFault}
 use Rattle.line_script.specs.declared.fault.LineFault.TheVariants.{Faulty, NoMemory}
 use Rattle.line_script.specs.declared.fault.ScriptFault.{ScriptFault}
@@ -173,7 +173,7 @@ open-at true script number k c is = cc
 open-at false script number k c is = let same = fault-number number k cause.NoEnd c is in omega (arith, same)
 
 numbers-rise : (lines : List TextLine) (d : Reader) (events : List Event) (number k : ℕ) (c : Cause) → script_from d events number lines ≡ Err (k, c) → number ≤ k
-numbers-rise [] d events number k c is = open-at (is_ended d.stage) (script_with d events) number k c is
+numbers-rise [] d events number k c is = open-at (is_ended (stage_of d)) (script_with d events) number k c is
 numbers-rise (line ∷ lines) d events number k c is =
     elim (with_event events (after_line d line)) as (λ r. at_line number r (λ step. script_from step.0 step.1 (number + 1) lines) ≡ Err (k, c) → number ≤ k) [
       | Err cause ↦ λ no. let same = fault-number number k cause c no in omega (arith, same)
@@ -197,7 +197,7 @@ accepted-on-from-text text events r more h =
     ∙ ap (accepted fresh []) (cut-lines h.whole (r.line ++ more) h.ends)
     ∙ rw (← h.start_is) (accepted-behind (lines_of h.whole) (lines_from r.start (parts (r.line ++ more))) fresh r.reader [] events h.read)
 
-refused-with : (text : List ℕ) (events : List Event) (r : Fed) (more : List ℕ) (c : Cause) → StandsFor text events r → script_of (text ++ more) ≡ Err (r.number, c) → (script_of (text ++ more) ≡ Err (r.number, c)) × (accepted_script (text ++ more) ≡ script_with r.reader events)
+pub refused-with : (text : List ℕ) (events : List Event) (r : Fed) (more : List ℕ) (c : Cause) → StandsFor text events r → script_of (text ++ more) ≡ Err (r.number, c) → (script_of (text ++ more) ≡ Err (r.number, c)) × (accepted_script (text ++ more) ≡ script_with r.reader events)
 unfolding accepted_script
 refused-with text events r more c h is =
     let here : script_from r.reader events r.number (lines_from r.start (parts (r.line ++ more))) ≡ Err (r.number, c) = sym (goes-on-from-text text events r more h) ∙ is in
@@ -230,7 +230,7 @@ refused-by-size text events r b more h within reached short =
     ] refl
     ∙ ap (λ (c : Cause). Err (r.number, c)) size
 
-no-size : (a b : Bool) → b ≡ false → cond (a && b) cause.Size cause.Long ≡ cause.Long
+pub no-size : (a b : Bool) → b ≡ false → cond (a && b) cause.Size cause.Long ≡ cause.Long
 no-size true b is = rw is refl
 no-size false b is = refl
 
@@ -355,10 +355,10 @@ says-at-end text events r h =
     ∙ script-behind (lines_of text) [] fresh r.reader [] events 1 h.read
     ∙ rw number refl
 
-pub closed : (text : List ℕ) (events : List Event) (r : Fed) → EndsFor text events r → is_ended r.reader.stage ≡ true → script_of text ≡ Ok (script_with r.reader events)
+pub closed : (text : List ℕ) (events : List Event) (r : Fed) → EndsFor text events r → is_ended (stage_of r.reader) ≡ true → script_of text ≡ Ok (script_with r.reader events)
 closed text events r h is = says-at-end text events r h ∙ rw is refl
 
-pub left-open : (text : List ℕ) (events : List Event) (r : Fed) → EndsFor text events r → is_ended r.reader.stage ≡ false → IsRefusedAtEnd text (script_with r.reader events) (fault.At r.number cause.NoEnd)
+pub left-open : (text : List ℕ) (events : List Event) (r : Fed) → EndsFor text events r → is_ended (stage_of r.reader) ≡ false → IsRefusedAtEnd text (script_with r.reader events) (fault.At r.number cause.NoEnd)
 unfolding accepted_script
 left-open text events r h is =
     (says-at-end text events r h ∙ rw is refl, ap (λ lines. script_at (accepted fresh [] lines)) (sym (append-nil (lines_of text))) ∙ ap script_at (accepted-behind (lines_of text) [] fresh r.reader [] events h.read))

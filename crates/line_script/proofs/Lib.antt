@@ -1,9 +1,5 @@
 pub mod Cuts
-pub mod EndStanding
-pub mod Numbered
-pub mod Ranges
 pub mod Reading
-pub mod Seen
 pub mod Standing
 pub mod LongTexts
 pub mod Counts
@@ -11,3 +7,4 @@ pub mod Unfinished
 pub mod Fed
 pub mod Setup
 pub mod Shown
+pub mod Runs

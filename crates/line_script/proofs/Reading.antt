@@ -7,7 +7,7 @@ use Rattle.line_script.specs.declared.fault.Cause.TheVariants as cause
 use Rattle.line_script.specs.declared.fault.LineFault.{LineFault}
 use Rattle.line_script.specs.declared.fault.LineFault.TheVariants.{Faulty, NoMemory}
 use Rattle.line_script.specs.declared.reader.Reader.{Reader}
-use Rattle.line_script.specs.declared.script.Event.{Event}
+use Rattle.script_parts.specs.declared.script.Event.{Event}
 use Rattle.line_script.specs.Lines.{text_line, lines_from, last_line, after_line, after_words, reaches_limit, is_long, content}
 use Rattle.line_script.specs.Refusal.{IsFaulty, IsRefused, fault_at}
 use Rattle.line_script.specs.ScriptText.{with_event, script_from, parts}
@@ -32,6 +32,13 @@ refused_at (Faulty cause) d events number start bytes more h =
 pub one_line : (start : ℕ) (rest : List ℕ) → eqb (length rest) 0 ≡ false → last_line start rest ≡ text_line start rest false ∷ []
 one_line start [] h = cc
 one_line start (byte ∷ more) h = refl
+
+-- a text whose last line is refused is refused
+pub refused_at_last : (fault : LineFault) (d : Reader) (events : List Event) (number start : ℕ) (rest : List ℕ) → eqb (length rest) 0 ≡ false → IsFaulty fault (with_event events (after_line d (text_line start rest false))) → IsRefused (fault_at number fault) (script_from d events number (last_line start rest))
+refused_at_last NoMemory d events number start rest some h = tt
+refused_at_last (Faulty cause) d events number start rest some h =
+    let err : with_event events (after_line d (text_line start rest false)) ≡ Err cause = h in
+    rw (one_line start rest some, err) refl
 
 -- a line with an answer is neither past the limit nor long
 short : (events : List Event) (x : Reader × List Event) (limit long : Bool) (r : Result (Reader × Option Event) Cause) → with_event events (cond limit (Err cause.Size) (cond long (Err cause.Long) r)) ≡ Ok x → (limit ≡ false) × (long ≡ false)

@@ -1,32 +1,37 @@
 -- From the first event on, the setup of the ends stays as it is.
-use Rattle.std.proofs.Common.{◌≡◌, ◌⊎◌, inl, inr, ℕ, ◌+◌, Bool, true, false, List, [], ◌∷◌, ◌++◌, Option, Some, None, Result, Ok, Err, refl, sym, ap, ◌∙◌, append_assoc, append-nil}
-use Rattle.std.specs.Prelude.{if◌then◌else◌}
+use Rattle.std.proofs.Common.{◌≡◌, ◌⊎◌, inl, inr, ℕ, ◌+◌, Bool, true, false, not, cond, List, [], ◌∷◌, ◌++◌, Option, Some, None, Result, Ok, Err, refl, sym, ap, ◌∙◌, append_assoc, append-nil}
+use Rattle.std.specs.Prelude.{◌&&◌, if◌then◌else◌}
 use Rattle.std.specs.Option.{option_to_list}
 use Rattle.line_script.specs.declared.fault.Cause.{Cause}
 use Rattle.line_script.specs.declared.fault.Cause.TheVariants as cause
-use Rattle.line_script.specs.declared.script.Event.{Event}
-use Rattle.line_script.specs.declared.script.Script.{Script}
+use Rattle.script_parts.specs.declared.script.Event.{Event}
+use Rattle.script_parts.specs.declared.script.Script.{Script}
 use Rattle.line_statement.specs.declared.statement.Side.TheVariants.{A, B}
 use Rattle.line_statement.specs.declared.statement.Statement.{Statement}
-use Rattle.line_statement.specs.declared.statement.Statement.TheVariants.{Mode, Check, Set, Compat, Block, File, Word, Issue, Times, Alter, Foreign, End}
-use Rattle.line_script.specs.declared.reader.Stage.{Stage}
-use Rattle.line_script.specs.declared.reader.Stage.TheVariants.{Fresh, Settings, Events, Ended}
+use Rattle.line_statement.specs.declared.statement.Statement.TheVariants as statement
+use Rattle.line_statement.specs.declared.statement.Statement.TheVariants.{Mode, Check, Station, Setup, Issue, Times, Alter, Foreign, End}
+use Rattle.line_statement.specs.declared.half_event.HalfEvent.{HalfEvent}
+use Rattle.line_statement.specs.declared.half_event.HalfEvent.TheVariants as event
+use Rattle.duplex_script.specs.declared.reader.DuplexReader.{DuplexReader}
+use Rattle.duplex_script.specs.Drafts as duplex
+use Rattle.half_script.specs.declared.reader.HalfReader.{HalfReader}
+use Rattle.half_script.specs.Drafts as half
+use Rattle.end_drafts.specs.declared.flaw.Flaw.{Flaw}
+use Rattle.end_drafts.specs.declared.flaw.Flaw.TheVariants as flaw
+use Rattle.end_drafts.specs.declared.stage.Stage.{Stage}
+use Rattle.end_drafts.specs.declared.stage.Stage.TheVariants.{Fresh, Settings, Events, Ended}
+use Rattle.end_drafts.specs.Flaws.{first_of, unless_wrong}
 use Rattle.line_script.specs.declared.reader.Reader.{Reader}
-use Rattle.line_script.specs.Drafts.{is_misplaced, is_missing, is_out_of_range, is_twice, is_spent, is_too_many, first_of, cause_of, with_statement, unless_wrong}
+use Rattle.line_script.specs.declared.reader.Reader.TheVariants.{Full, Half}
+use Rattle.end_drafts.specs.Stages.{is_fresh, is_set_up}
+use Rattle.line_script.specs.Readers.{begins_half, in_full, in_half, in_mode, stage_of}
 use Rattle.line_script.specs.Fed.{accepted, accepted_on, accepted_script, lines_of, script_at}
 use Rattle.line_script.specs.Left.{after_lines, and_then}
-use Rattle.line_script.specs.Lines.{TextLine, is_ended, is_passed_over, reaches_limit, is_long, content, after_form, after_words, after_line, script_with}
+use Rattle.line_script.specs.Lines.{TextLine, is_ended, is_passed_over, reaches_limit, is_long, content, with_cause, after_form, after_words, after_line, script_with}
 use Rattle.line_script.specs.ScriptText.{at_line, with_event, script_from, script_of}
 use Rattle.line_statement.specs.Statements.{statement_of}
 use Rattle.line_statement.specs.Words.{words}
 use Rattle.line_script.proofs.Fed.{same-read}
-
--- an event was there
-abbrev pub has_begun : Stage → Bool
-has_begun Fresh = false
-has_begun Settings = false
-has_begun Events = true
-has_begun Ended = true
 
 -- the ends are set up alike
 abbrev pub SameSetup : Reader → Reader → Type 0
@@ -34,40 +39,71 @@ SameSetup d e = (events : List Event) → script_with e events ≡ script_with d
 
 -- ---- a statement
 
-abbrev IsKeptBy : Reader → Reader → Option Event → Type 0
-IsKeptBy d e None = has_begun d.stage ≡ true → SameSetup d e × (has_begun e.stage ≡ true)
-IsKeptBy d e (Some x) = SameSetup d e × (has_begun e.stage ≡ true)
+abbrev pub IsKeptBy : Reader → Reader → Option Event → Type 0
+IsKeptBy d e None = is_set_up (stage_of d) ≡ true → SameSetup d e × (is_set_up (stage_of e) ≡ true)
+IsKeptBy d e (Some x) = SameSetup d e × (is_set_up (stage_of e) ≡ true)
 
-first-test : (a b c d e f : Bool) → first_of ((a, cause.Place) ∷ (b, cause.Missing) ∷ (c, cause.Value) ∷ (d, cause.Twice) ∷ (e, cause.Spent) ∷ (f, cause.Events) ∷ []) ≡ None → a ≡ false
+-- an event, or none
+either : (d e : Reader) (o : Option Event) → SameSetup d e → is_set_up (stage_of e) ≡ true → IsKeptBy d e o
+either d e None same begun = λ _. (same, begun)
+either d e (Some x) same begun = (same, begun)
+
+first-test : (a b c d e f : Bool) → first_of ((a, flaw.Place) ∷ (b, flaw.Missing) ∷ (c, flaw.Value) ∷ (d, flaw.Twice) ∷ (e, flaw.Spent) ∷ (f, flaw.Events) ∷ []) ≡ None → a ≡ false
 first-test true b c d e f none = cc
 first-test false b c d e f none = refl
 
--- a setting is misplaced then
-misplaced : (stage : Stage) (s : Statement) → is_ended stage ≡ false → has_begun stage ≡ true → is_misplaced Events s ≡ true → is_misplaced stage s ≡ false → ⊥
-misplaced Fresh s still begun is not = cc
-misplaced Settings s still begun is not = cc
-misplaced Events s still begun is not = cc
-misplaced Ended s still begun is not = cc
+not_first : (stage : Stage) → is_fresh stage ≡ true → is_set_up stage ≡ true → ⊥
+not_first Fresh is begun = cc
+not_first Settings is begun = cc
+not_first Events is begun = cc
+not_first Ended is begun = cc
 
-stated : (d : Reader) (s : Statement) → is_ended d.stage ≡ false → is_misplaced d.stage s ≡ false → IsKeptBy d (with_statement d s).0 (with_statement d s).1
-stated d Mode still placed = λ begun. absurd (misplaced d.stage Mode still begun refl placed)
-stated d (Check check) still placed = λ begun. absurd (misplaced d.stage (Check check) still begun refl placed)
-stated d (Set end setting) still placed = λ begun. absurd (misplaced d.stage (Set end setting) still begun refl placed)
-stated d (Compat end file) still placed = λ begun. absurd (misplaced d.stage (Compat end file) still begun refl placed)
-stated d (Block end bytes) still placed = λ begun. absurd (misplaced d.stage (Block end bytes) still begun refl placed)
-stated d (File end spec) still placed = λ begun. absurd (misplaced d.stage (File end spec) still begun refl placed)
-stated d (Word end file index value) still placed = λ begun. absurd (misplaced d.stage (Word end file index value) still begun refl placed)
-stated d (Issue A None) still placed = λ begun. (λ events. refl, refl)
-stated d (Issue B None) still placed = λ begun. (λ events. refl, refl)
-stated d (Issue A (Some payload)) still placed = (λ events. refl, refl)
-stated d (Issue B (Some payload)) still placed = (λ events. refl, refl)
-stated d (Times side verb None) still placed = λ begun. (λ events. refl, refl)
-stated d (Times side verb (Some n)) still placed = (λ events. refl, refl)
-stated d (Alter side None) still placed = λ begun. (λ events. refl, refl)
-stated d (Alter side (Some mask)) still placed = (λ events. refl, refl)
-stated d (Foreign side None) still placed = λ begun. (λ events. refl, refl)
-stated d (Foreign side (Some bytes)) still placed = (λ events. refl, refl)
-stated d End still placed = λ begun. (λ events. refl, refl)
+no_other : (b : Bool) → not b ≡ false → b ≡ true
+no_other true h = refl
+no_other false h = cc
+
+contradicts : (b : Bool) → b ≡ false → b ≡ true → ⊥
+contradicts b not_so so = let differ : false ≡ true = sym not_so ∙ so in cc
+
+full-stated : (d : DuplexReader) (s : Statement) → duplex.is_misplaced d.stage s ≡ false → IsKeptBy (Full d) (Full (duplex.with_statement d s).0) (duplex.with_statement d s).1
+full-stated d (Mode is_half) placed = λ begun. absurd (not_first d.stage (no_other (is_fresh d.stage) placed) begun)
+full-stated d (Check check) placed = λ begun. absurd (contradicts (is_set_up d.stage) placed begun)
+full-stated d (Station number) placed = λ begun. cc
+full-stated d (Setup end line) placed = λ begun. absurd (contradicts (is_set_up d.stage) placed begun)
+full-stated d (Issue A None) placed = λ begun. (λ events. refl, refl)
+full-stated d (Issue B None) placed = λ begun. (λ events. refl, refl)
+full-stated d (Issue A (Some payload)) placed = (λ events. refl, refl)
+full-stated d (Issue B (Some payload)) placed = (λ events. refl, refl)
+full-stated d (Times side verb None) placed = λ begun. (λ events. refl, refl)
+full-stated d (Times side verb (Some n)) placed = (λ events. refl, refl)
+full-stated d (Alter side None) placed = λ begun. (λ events. refl, refl)
+full-stated d (Alter side (Some mask)) placed = (λ events. refl, refl)
+full-stated d (Foreign side None) placed = λ begun. (λ events. refl, refl)
+full-stated d (Foreign side (Some bytes)) placed = (λ events. refl, refl)
+full-stated d (statement.Half event) placed = λ begun. (λ events. refl, refl)
+full-stated d End placed = λ begun. (λ events. refl, refl)
+
+half-happens : (d : HalfReader) (x : HalfEvent) → IsKeptBy (Half d) (Half (half.with_statement d (statement.Half x)).0) (half.with_statement d (statement.Half x)).1
+half-happens d (event.Issue station payload) = either (Half d) (Half (half.with_statement d (statement.Half (event.Issue station payload))).0) (half.with_statement d (statement.Half (event.Issue station payload))).1 (λ events. refl) refl
+half-happens d (event.MasterTake n) = either (Half d) (Half (half.with_statement d (statement.Half (event.MasterTake n))).0) (half.with_statement d (statement.Half (event.MasterTake n))).1 (λ events. refl) refl
+half-happens d (event.MasterTick n) = either (Half d) (Half (half.with_statement d (statement.Half (event.MasterTick n))).0) (half.with_statement d (statement.Half (event.MasterTick n))).1 (λ events. refl) refl
+half-happens d (event.StationTake station n) = either (Half d) (Half (half.with_statement d (statement.Half (event.StationTake station n))).0) (half.with_statement d (statement.Half (event.StationTake station n))).1 (λ events. refl) refl
+half-happens d (event.Deliver way n) = either (Half d) (Half (half.with_statement d (statement.Half (event.Deliver way n))).0) (half.with_statement d (statement.Half (event.Deliver way n))).1 (λ events. refl) refl
+half-happens d (event.Lose way n) = either (Half d) (Half (half.with_statement d (statement.Half (event.Lose way n))).0) (half.with_statement d (statement.Half (event.Lose way n))).1 (λ events. refl) refl
+half-happens d (event.Alter way mask) = either (Half d) (Half (half.with_statement d (statement.Half (event.Alter way mask))).0) (half.with_statement d (statement.Half (event.Alter way mask))).1 (λ events. refl) refl
+half-happens d (event.Foreign way bytes) = either (Half d) (Half (half.with_statement d (statement.Half (event.Foreign way bytes))).0) (half.with_statement d (statement.Half (event.Foreign way bytes))).1 (λ events. refl) refl
+
+half-stated : (d : HalfReader) (s : Statement) → half.is_misplaced d.stage s ≡ false → IsKeptBy (Half d) (Half (half.with_statement d s).0) (half.with_statement d s).1
+half-stated d (Mode is_half) placed = λ begun. absurd (not_first d.stage (no_other (is_fresh d.stage) placed) begun)
+half-stated d (Check check) placed = λ begun. absurd (contradicts (is_set_up d.stage) placed begun)
+half-stated d (Station number) placed = λ begun. absurd (contradicts (is_set_up d.stage) placed begun)
+half-stated d (Setup end line) placed = λ begun. absurd (contradicts (is_set_up d.stage) placed begun)
+half-stated d (Issue side payload) placed = λ begun. (λ events. refl, refl)
+half-stated d (Times side verb n) placed = λ begun. (λ events. refl, refl)
+half-stated d (Alter side mask) placed = λ begun. (λ events. refl, refl)
+half-stated d (Foreign side bytes) placed = λ begun. (λ events. refl, refl)
+half-stated d (statement.Half x) placed = half-happens d x
+half-stated d End placed = λ begun. (λ events. refl, refl)
 
 -- ---- a line
 
@@ -75,21 +111,44 @@ abbrev IfKept : Reader → Result (Reader × Option Event) Cause → Type 0
 IfKept d (Err c) = Unit {0}
 IfKept d (Ok step) = IsKeptBy d step.0 step.1
 
-unless : (d : Reader) (s : Statement) (o : Option Cause) → cause_of d s ≡ o → is_ended d.stage ≡ false → IfKept d (unless_wrong o (with_statement d s))
-unless d s (Some c) is still = tt
-unless d s None is still = stated d s still (first-test (is_misplaced d.stage s) (is_missing d s) (is_out_of_range d s) (is_twice d s) (is_spent d s) (is_too_many d s) is)
+in-full : (d : DuplexReader) (s : Statement) (o : Option Flaw) → duplex.flaw_of d s ≡ o → IfKept (Full d) (with_cause (in_full (unless_wrong o (duplex.with_statement d s))))
+in-full d s (Some c) is = tt
+in-full d s None is =
+    full-stated d s (first-test (duplex.is_misplaced d.stage s) (duplex.is_missing d s) (duplex.is_out_of_range d s) (duplex.is_twice d s) (duplex.is_spent d s) (duplex.is_too_many d s) is)
 
-formed : (d : Reader) (o : Option Statement) → is_ended d.stage ≡ false → IfKept d (after_form d o)
-formed d None still = tt
-formed d (Some s) still = unless d s (cause_of d s) refl still
+in-half : (d : HalfReader) (s : Statement) (o : Option Flaw) → half.flaw_of d s ≡ o → IfKept (Half d) (with_cause (in_half (unless_wrong o (half.with_statement d s))))
+in-half d s (Some c) is = tt
+in-half d s None is =
+    half-stated d s (first-test (half.is_misplaced d.stage s) (half.is_missing d s) (half.is_out_of_range d s) (half.is_twice d s) (half.is_spent d s) (half.is_too_many d s) is)
 
-worded : (passed over : Bool) (d : Reader) (line : List (List ℕ)) → is_ended d.stage ≡ over → IfKept d (
+in-its-mode : (d : Reader) (s : Statement) → IfKept d (with_cause (in_mode d s))
+in-its-mode (Full d) s = in-full d s (duplex.flaw_of d s) refl
+in-its-mode (Half d) s = in-half d s (half.flaw_of d s) refl
+
+second : (a b : Bool) → (a && b) ≡ true → b ≡ true
+second true b h = h
+second false b h = cc
+
+begins : (d : Reader) (s : Statement) → begins_half d s ≡ true → IsKeptBy d (Half half.fresh) None
+begins (Full d) (Mode is_half) is = λ begun. absurd (not_first d.stage (second is_half (is_fresh d.stage) is) begun)
+begins (Full d) s is = cc
+begins (Half d) s is = cc
+
+formed : (d : Reader) (o : Option Statement) → IfKept d (after_form d o)
+formed d None = tt
+formed d (Some s) =
+    elim (begins_half d s) as (λ b. begins_half d s ≡ b → IfKept d (with_cause (cond b (Ok (Half half.fresh, None)) (in_mode d s)))) [
+      | true ↦ λ is. begins d s is
+      | false ↦ λ is. in-its-mode d s
+    ] refl
+
+worded : (passed over : Bool) (d : Reader) (line : List (List ℕ)) → IfKept d (
     if passed then Ok (d, None)
     else if over then Err cause.After
     else after_form d (statement_of line))
-worded true over d line is = λ begun. (λ events. refl, begun)
-worded false true d line is = tt
-worded false false d line is = formed d (statement_of line) is
+worded true over d line = λ begun. (λ events. refl, begun)
+worded false true d line = tt
+worded false false d line = formed d (statement_of line)
 
 sized : (limit long : Bool) (d : Reader) (line : List (List ℕ)) → IfKept d (
     if limit then Err cause.Size
@@ -97,7 +156,7 @@ sized : (limit long : Bool) (d : Reader) (line : List (List ℕ)) → IfKept d (
     else after_words d line)
 sized true long d line = tt
 sized false true d line = tt
-sized false false d line = worded (is_passed_over line) (is_ended d.stage) d line refl
+sized false false d line = worded (is_passed_over line) (is_ended (stage_of d)) d line
 
 kept : (d : Reader) (line : TextLine) → IfKept d (after_line d line)
 kept d line = sized (reaches_limit line) (is_long line) d (words (content line))
@@ -109,7 +168,7 @@ kept-by d e line o is = rw is at (kept d line)
 
 -- no event was there, or the stage tells it
 abbrev pub TellsEvents : Reader → List Event → Type 0
-TellsEvents d events = (events ≡ []) ⊎ (has_begun d.stage ≡ true)
+TellsEvents d events = (events ≡ []) ⊎ (is_set_up (stage_of d) ≡ true)
 
 tells-more : (d e : Reader) (events : List Event) (o : Option Event) → TellsEvents d events → IsKeptBy d e o → TellsEvents e (events ++ option_to_list o)
 tells-more d e events None (inl none) keeps = inl (ap (λ x. x ++ []) none)
@@ -128,7 +187,7 @@ tells-after (line ∷ lines) d e events all tells is =
 pub record Extends (d : Reader) (events : List Event) (read : Reader × List Event) : Type 0 where
   pub more : List Event
   pub are : read.1 ≡ events ++ more
-  pub setup : has_begun d.stage ≡ true → SameSetup d read.0
+  pub setup : is_set_up (stage_of d) ≡ true → SameSetup d read.0
 
 extends-on : (d e : Reader) (events : List Event) (o : Option Event) (read : Reader × List Event) → IsKeptBy d e o → Extends e (events ++ option_to_list o) read → Extends d events read
 extends-on d e events None read kept on = record {
@@ -157,7 +216,7 @@ finishes true number s script is = cc
 finishes false number s script is = cc
 
 all-accepted : (lines : List TextLine) (d : Reader) (events : List Event) (number : ℕ) (script : Script) → script_from d events number lines ≡ Ok script → script_at (accepted d events lines) ≡ script
-all-accepted [] d events number script is = finishes (is_ended d.stage) number (script_with d events) script is
+all-accepted [] d events number script is = finishes (is_ended (stage_of d)) number (script_with d events) script is
 all-accepted (line ∷ lines) d events number script is =
     elim (with_event events (after_line d line)) as (λ r. at_line number r (λ step. script_from step.0 step.1 (number + 1) lines) ≡ Ok script → script_at (accepted_on (d, events) r (λ step. accepted step.0 step.1 lines)) ≡ script) [
       | Err c ↦ λ no. cc

@@ -2,12 +2,12 @@
 use Rattle.std.proofs.Common.{◌≡◌, inl, ℕ, ◌+◌, ◌-◌, true, false, eqb, List, [], ◌∷◌, ◌++◌, length, take, Ok, Err, refl, sym, ap, subst, ◌∙◌, arith, append_assoc, append-nil, length-append}
 use Rattle.std.proofs.Math.Seq.{take-append_seam, take-length}
 use Rattle.line_script.specs.declared.reader.Reader.{Reader}
-use Rattle.line_script.specs.declared.script.Event.{Event}
-use Rattle.line_script.specs.Drafts.{fresh}
+use Rattle.script_parts.specs.declared.script.Event.{Event}
+use Rattle.line_script.specs.Readers.{fresh}
 use Rattle.line_script.specs.Fed.{Fed, StandsFor, EndsFor, lines_of, accepted, accepted_script, ended, script_at}
 use Rattle.line_script.specs.Left.{after_lines, and_then}
 use Rattle.line_script.specs.Lines.{TextLine, after_line, lines_from, script_with}
-use Rattle.line_script.specs.Playable.{IsPlayable}
+use Rattle.script_parts.specs.HalfPlayable.{CanBePlayed}
 use Rattle.line_script.specs.ScriptText.{parts, with_event}
 use Rattle.line_script.specs.Unfinished.{unfinished, unfinished_after}
 use Rattle.line_script.proofs.Fed.{accepted-behind, accepted-on-from-text, same-read, unfinished-behind, unfinished-line}
@@ -96,8 +96,8 @@ stands-after (line ∷ lines) d e events all h is =
       | Ok step ↦ λ next on. stands-after lines step.0 e _ all next on
     ] (lined d events line h) is
 
-pub playable : (text : List ℕ) (events : List Event) (r : Fed) → StandsFor text events r → IsPlayable (script_with r.reader events)
+pub playable : (text : List ℕ) (events : List Event) (r : Fed) → StandsFor text events r → CanBePlayed (script_with r.reader events)
 playable text events r h = closes r.reader events (stands-after (lines_of h.whole) fresh r.reader [] events stands_at_first h.read)
 
-pub playable-at-end : (text : List ℕ) (events : List Event) (r : Fed) → EndsFor text events r → IsPlayable (script_with r.reader events)
+pub playable-at-end : (text : List ℕ) (events : List Event) (r : Fed) → EndsFor text events r → CanBePlayed (script_with r.reader events)
 playable-at-end text events r h = closes r.reader events (stands-after (lines_of text) fresh r.reader [] events stands_at_first h.read)

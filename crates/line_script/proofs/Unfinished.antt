@@ -6,12 +6,12 @@ use Rattle.std.proofs.lemmas.Bool.{lt-ltb}
 use Rattle.line_script.specs.declared.fault.Cause.{Cause}
 use Rattle.line_script.specs.declared.fault.Cause.TheVariants as cause
 use Rattle.line_script.specs.declared.reader.Reader.{Reader}
-use Rattle.line_script.specs.declared.script.Event.{Event}
-use Rattle.line_script.specs.declared.script.Script.{Script}
+use Rattle.script_parts.specs.declared.script.Event.{Event}
+use Rattle.script_parts.specs.declared.script.Script.{Script}
 use Rattle.line_script.specs.Lines.{TextLine, text_line, lines_from, after_line, after_words, content, is_ended, script_with}
 use Rattle.line_statement.specs.Words.{words}
 use Rattle.line_script.specs.ScriptText.{at_line, with_event, script_from, parts, script_of}
-use Rattle.line_script.specs.Drafts.{fresh}
+use Rattle.line_script.specs.Readers.{fresh, stage_of}
 use Rattle.line_script.specs.Unfinished.{unfinished_after, IsSettled}
 use Rattle.line_script.proofs.Cuts.{split-first}
 use Rattle.line_script.proofs.LongTexts.{onto_all, onto_all-first, onto_all-nil, Read, read_on}
@@ -54,7 +54,7 @@ open_at true script number k c is = sym (ap told is)
 open_at false script number k c is = sym (ap told is)
 
 only_open : (d : Reader) (events : List Event) (number k : ℕ) (c : Cause) → script_from d events number [] ≡ Err (k, c) → c ≡ cause.NoEnd
-only_open d events number k c is = open_at (is_ended d.stage) (script_with d events) number k c is
+only_open d events number k c is = open_at (is_ended (stage_of d)) (script_with d events) number k c is
 
 -- one line that both texts have, and then what they have behind it
 after_both : (number k : ℕ) (c : Cause) (r : Result (Reader × List Event) Cause) (f g : Reader × List Event → Read) → ((step : Reader × List Event) → f step ≡ Err (k, c) → g step ≡ Err (k, c))

@@ -4,10 +4,10 @@ use Rattle.std.specs.List.{list_any}
 use Rattle.line_script.specs.declared.fault.Cause.{Cause}
 use Rattle.line_script.specs.declared.fault.ScriptFault.{ScriptFault}
 use Rattle.line_script.specs.declared.fault.ScriptFault.TheVariants as fault
-use Rattle.line_script.specs.declared.script.Event.{Event}
-use Rattle.line_script.specs.declared.script.Script.{Script}
+use Rattle.script_parts.specs.declared.script.Event.{Event}
+use Rattle.script_parts.specs.declared.script.Script.{Script}
 use Rattle.line_script.specs.declared.reader.Reader.{Reader}
-use Rattle.line_script.specs.Drafts.{fresh}
+use Rattle.line_script.specs.Readers.{fresh}
 use Rattle.line_script.specs.Left.{after_lines}
 use Rattle.line_script.specs.Lines.{TextLine, after_line, lines_from, script_with}
 use Rattle.line_script.specs.ScriptText.{parts, script_of, with_event}
@@ -40,6 +40,10 @@ abbrev pub ended : List ℕ → List ℕ
 ended text = take (length text - unfinished text) text
 
 -- ---- a reader of bytes
+
+-- no line feed is among some bytes
+abbrev pub HasNoFeed : List ℕ → Type 0
+HasNoFeed bytes = list_any (λ byte. byte == 10) bytes ≡ false
 
 -- what the lines say that a line feed has ended, the line that is begun, its number, and how many bytes stand before it
 pub record Fed : Type 0 where

@@ -1,12 +1,13 @@
 -- What is left, after some lines, of the commands that an end may issue and of the events that a script may have: a function of
 -- the events of those lines alone.
-use Rattle.std.specs.Prelude.{◌≡◌, ◌-◌, List, [], ◌∷◌, count_by, sum_by, Result, Ok, Err}
-use Rattle.line_statement.specs.declared.who.Who.TheVariants.{A, B}
+use Rattle.std.specs.Prelude.{List, [], ◌∷◌, Result, Ok, Err}
+use Rattle.duplex_script.specs.Left as duplex
+use Rattle.half_script.specs.Read as half
 use Rattle.line_script.specs.declared.fault.Cause.{Cause}
-use Rattle.line_script.specs.declared.script.Event.{Event}
+use Rattle.script_parts.specs.declared.script.Event.{Event}
 use Rattle.line_script.specs.declared.reader.Reader.{Reader}
+use Rattle.line_script.specs.declared.reader.Reader.TheVariants.{Full, Half}
 use Rattle.line_script.specs.Lines.{TextLine, after_line}
-use Rattle.line_script.specs.Playable.{issues, count_of}
 use Rattle.line_script.specs.ScriptText.{with_event}
 
 -- an answer, where there is one, goes on
@@ -19,8 +20,7 @@ abbrev pub after_lines : Reader → List Event → List TextLine → Result (Rea
 after_lines d events [] = Ok (d, events)
 after_lines d events (line ∷ lines) = and_then (with_event events (after_line d line)) (λ step. after_lines step.0 step.1 lines)
 
--- 65,535 commands of each end and 4,000,000 events, less those of the lines so far
-pub record IsLeft (d : Reader) (events : List Event) : Type 0 where
-  pub commands_of_a : d.a.commands_left ≡ 65535 - count_by (issues A) events
-  pub commands_of_b : d.b.commands_left ≡ 65535 - count_by (issues B) events
-  pub events_are : d.events_left ≡ 4000000 - sum_by count_of events
+-- in full mode 65,535 commands of each end, in half mode 65,535 of the master, and 4,000,000 events, less those of the lines so far
+abbrev pub IsLeft : Reader → List Event → Type 0
+IsLeft (Full d) events = duplex.IsLeft d events
+IsLeft (Half d) events = half.IsLeft d events

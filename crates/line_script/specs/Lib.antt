@@ -1,8 +1,5 @@
-pub mod Drafts
+pub mod Readers
 pub mod Lines
-pub mod Places
-pub mod Playable
-pub mod Plans
 pub mod Refusal
 pub mod ScriptText
 pub mod Left

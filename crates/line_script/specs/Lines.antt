@@ -1,19 +1,23 @@
 -- The lines of a text, and what each says after those before it.
-use Rattle.std.specs.Prelude.{ℕ, ◌+◌, ◌-◌, Bool, true, false, List, [], ◌∷◌, length, take, min, slice_index, Option, None, Some, unwrap_or, Result, Ok, Err, nat_le, nat_lt, ◌==◌, ◌&&◌, if◌then◌else◌}
-use Rattle.df1_check.specs.declared.Check.TheVariants.{Bcc}
+use Rattle.std.specs.Prelude.{ℕ, ◌+◌, ◌-◌, Bool, true, false, List, [], ◌∷◌, length, take, min, slice_index, Option, None, Some, Result, Ok, Err, nat_le, nat_lt, ◌==◌, ◌&&◌, if◌then◌else◌}
 use Rattle.line_script.specs.declared.fault.Cause.{Cause}
 use Rattle.line_script.specs.declared.fault.Cause.TheVariants as cause
-use Rattle.line_statement.specs.declared.who.Who.TheVariants as who
-use Rattle.line_script.specs.declared.script.Event.{Event}
-use Rattle.line_script.specs.declared.script.EndPlan.{EndPlan}
-use Rattle.line_script.specs.declared.script.Script.{Script}
+use Rattle.script_parts.specs.declared.script.Event.{Event}
+use Rattle.script_parts.specs.declared.script.Script.{Script}
 use Rattle.line_statement.specs.declared.statement.Statement.{Statement}
-use Rattle.line_script.specs.declared.end_draft.EndDraft.{EndDraft}
-use Rattle.line_script.specs.declared.reader.Stage.{Stage}
-use Rattle.line_script.specs.declared.reader.Stage.TheVariants.{Ended}
+use Rattle.end_drafts.specs.declared.flaw.Flaw.{Flaw}
+use Rattle.end_drafts.specs.declared.flaw.Flaw.TheVariants as flaw
+use Rattle.end_drafts.specs.declared.flaw.StatementFault.{StatementFault}
+use Rattle.end_drafts.specs.declared.flaw.StatementFault.TheVariants as stated
+use Rattle.line_script.specs.declared.fault.LineFault.{LineFault}
+use Rattle.line_script.specs.declared.fault.LineFault.TheVariants as line
+use Rattle.end_drafts.specs.declared.stage.Stage.{Stage}
+use Rattle.end_drafts.specs.declared.stage.Stage.TheVariants.{Ended}
 use Rattle.line_script.specs.declared.reader.Reader.{Reader}
-use Rattle.line_script.specs.Drafts.{after_statement}
-use Rattle.line_script.specs.Plans.{plan_of}
+use Rattle.line_script.specs.declared.reader.Reader.TheVariants.{Full, Half}
+use Rattle.line_script.specs.Readers.{after_statement, stage_of}
+use Rattle.duplex_script.specs.Drafts as duplex
+use Rattle.half_script.specs.Drafts as half
 use Rattle.line_statement.specs.Statements.{statement_of}
 use Rattle.line_statement.specs.Words.{words}
 
@@ -63,15 +67,33 @@ abbrev pub is_ended : Stage → Bool
 is_ended Ended = true
 is_ended stage = false
 
+-- the cause of a line, by what is wrong with its statement
+abbrev pub cause_of : Flaw → Cause
+cause_of flaw.Place = cause.Place
+cause_of flaw.Missing = cause.Missing
+cause_of flaw.Value = cause.Value
+cause_of flaw.Twice = cause.Twice
+cause_of flaw.Spent = cause.Spent
+cause_of flaw.Events = cause.Events
+
+abbrev pub with_cause : {T : Type 0} → Result T Flaw → Result T Cause
+with_cause (Ok answer) = Ok answer
+with_cause (Err flaw) = Err (cause_of flaw)
+
+-- the fault of a line, by that of its statement
+abbrev pub line_fault : StatementFault → LineFault
+line_fault (stated.Flawed flaw) = line.Faulty (cause_of flaw)
+line_fault stated.NoMemory = line.NoMemory
+
 abbrev pub after_form : Reader → Option Statement → Result (Reader × Option Event) Cause
 after_form d None = Err cause.Form
-after_form d (Some statement) = after_statement d statement
+after_form d (Some statement) = with_cause (after_statement d statement)
 
 -- the words of a line after the lines before it: what is known then and its event, or the first cause that fits
 abbrev pub after_words : Reader → List (List ℕ) → Result (Reader × Option Event) Cause
 after_words d line =
     if is_passed_over line then Ok (d, None)
-    else if is_ended d.stage then Err cause.After
+    else if is_ended (stage_of d) then Err cause.After
     else after_form d (statement_of line)
 
 -- a line after the lines before it
@@ -81,13 +103,11 @@ after_line d line =
     else if is_long line then Err cause.Long
     else after_words d (words (content line))
 
--- the plans of the ends a and b, whose addresses are 0 and 1 where no line sets them
-abbrev pub ends : EndDraft → EndDraft → List EndPlan
-ends a b = plan_of who.A 0 a ∷ plan_of who.B 1 b ∷ []
-
+-- the script of the lines so far, with these events
 abbrev pub script_with : Reader → List Event → Script
-script_with d events = record { half = false; check = unwrap_or d.check Bcc; ends = ends d.a d.b; events = events }
+script_with (Full d) events = duplex.script_with d events
+script_with (Half d) events = half.script_with d events
 
 -- the script at the end of the text
 abbrev pub finished : Reader → List Event → Result Script Cause
-finished d events = if is_ended d.stage then Ok (script_with d events) else Err cause.NoEnd
+finished d events = if is_ended (stage_of d) then Ok (script_with d events) else Err cause.NoEnd

@@ -2,7 +2,7 @@
 use Rattle.std.specs.Prelude.{◌≡◌, ◌⊎◌, ℕ, ◌+◌, ◌-◌, ◌<◌, List, [], ◌∷◌, length, take, Result, Ok, Err, nat_lt, ◌==◌, if◌then◌else◌}
 use Rattle.line_script.specs.declared.fault.Cause.{Cause}
 use Rattle.line_script.specs.declared.fault.Cause.TheVariants as cause
-use Rattle.line_script.specs.declared.script.Script.{Script}
+use Rattle.script_parts.specs.declared.script.Script.{Script}
 use Rattle.line_script.specs.ScriptText.{script_of}
 
 -- how many bytes stand behind the last line feed, where so many stood before the text

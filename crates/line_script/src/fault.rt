@@ -22,13 +22,14 @@ pub enum Cause {
     /// The form may not stand here.
     #[error("place")]
     Place,
-    /// It names an end that full duplex hasn't, or a file that no earlier line declares.
+    /// It names an end that the mode hasn't, a station that no earlier line declares, a key that isn't for that end, or a file
+    /// that no earlier line declares.
     #[error("missing")]
     Missing,
     /// A number, a word or a length is out of its range, or a compatibility file is of another type than bit or integer.
     #[error("value")]
     Value,
-    /// An earlier line gave this key, file or word.
+    /// An earlier line gave this key, file, station or word.
     #[error("twice")]
     Twice,
     /// It is the 65,536th command of an end.

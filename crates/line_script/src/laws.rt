@@ -1,7 +1,7 @@
 //! What holds of every text. The functions do nothing.
 ghost use Rattle.std.specs.Prelude.{◌≡◌, ◌≢◌, ◌<◌, ◌++◌, ℕ, List, [], Err, IfOk, length};
 ghost use Rattle.line_script.specs.declared.fault.Cause.{Cause as Fault};
-ghost use Rattle.line_script.specs.Drafts.{fresh};
+ghost use Rattle.line_script.specs.Readers.{fresh};
 ghost use Rattle.line_script.specs.Left.{IsLeft, after_lines};
 ghost use Rattle.line_script.specs.Lines.{TextLine};
 ghost use Rattle.line_script.specs.ScriptText.{script_of};

@@ -1,16 +1,11 @@
-//! The script of a replay: a text of lines that sets up the two ends of a full-duplex link and then tells, event by
-//! event, what happens to each byte between them; and its exact reading, with the first faulty line and its cause.
+//! The script of a replay: a text of lines that sets up the two ends of a full-duplex link, or the master and the
+//! stations of a half-duplex line, and then tells, event by event, what happens to each byte between them; and its exact
+//! reading, with the first faulty line and its cause.
 #![tactic(auto)]
 
-mod apply;
-mod end_draft;
 mod fault;
-mod first_cause;
-mod given_files;
-mod given_words;
 mod laws;
 mod reader;
-mod script;
 mod text_reader;
 mod whole_text;
 
@@ -18,9 +13,10 @@ pub use fault::{Cause, LineFault, ScriptFault};
 pub use laws::{
     a_refused_line_stays_refused, refused_over_the_limit, what_is_left_is_what_the_lines_leave,
 };
-pub use line_statement::{Bytes, Items, Who};
 pub use reader::{LINE, Reader, SCRIPT};
-pub use script::{EndPlan, Ends, Event, Events, Lane, Script, Specs, WordOf, Words};
+pub use script_parts::{
+    Bytes, EndPlan, Ends, Event, Events, Items, Lane, Script, Specs, Who, WordOf, Words,
+};
 pub use text_reader::TextReader;
 pub use whole_text::read_script;
 

@@ -1,16 +1,18 @@
 //! Reads a script line by line: each by the limits of the text and of lines, by what its words say, and by what the
 //! lines before it said.
 ghost use Rattle.std.specs.Prelude.{◌≡◌, [], ◌∷◌, ◌+◌, MatchResult, IfOk, Ok, Err, List, map, min, length, if◌then◌else◌};
-ghost use Rattle.line_script.specs.Drafts.{fresh, after_statement, end_at as the_end};
-ghost use Rattle.line_script.specs.Lines.{after_line, after_words, finished, reaches_limit as the_limit_test, script_with, content as the_content, is_ended as the_end_test, is_passed_over as the_passed, ends as the_ends, text_line};
+ghost use Rattle.end_drafts.specs.Flaws.{IsFlawed};
+ghost use Rattle.line_script.specs.Readers.{after_statement, begins_half as the_half_test, fresh, in_mode, stage_of as the_stage};
+ghost use Rattle.line_script.specs.Lines.{after_line, cause_of as the_cause, with_cause, after_words, finished, reaches_limit as the_limit_test, script_with, content as the_content, is_ended as the_end_test, is_passed_over as the_passed, line_fault as the_line_fault, text_line};
 ghost use Rattle.line_script.specs.Refusal.{IsFaulty};
-ghost use Rattle.line_script.specs.declared.fault.Cause.{Cause as TheCause};
+ghost use Rattle.end_drafts.specs.declared.flaw.Flaw.{Flaw as TheFlaw};
 
-use crate::end_draft::EndDraft;
-use crate::{Cause, Ends, Event, Events, LineFault, Script};
+use crate::{Cause, Event, Events, LineFault, Script};
 use df1_base::NoMemory;
-use df1_check::Check;
-use line_statement::{EVENTS, Items, Side, Statement, Who, first_words, statement_of};
+use duplex_script::DuplexReader;
+use end_drafts::{Flaw, Stage, StatementFault};
+use half_script::HalfReader;
+use line_statement::{Statement, first_words, statement_of};
 use std::alloc::Global;
 
 /// The longest script, in bytes.
@@ -19,33 +21,13 @@ pub const SCRIPT: usize = 16_777_216;
 /// The longest line, in bytes before its line feed.
 pub const LINE: usize = 1024;
 
-/// The address of end a, where no line sets it.
-pub(crate) const NODE_OF_A: u8 = 0;
-
-/// The address of end b, where no line sets it.
-pub(crate) const NODE_OF_B: u8 = 1;
-
-/// What the lines so far allow.
-#[derive(Clone, Copy, Debug, PartialEq, Eq)]
-pub(crate) enum Stage {
-    /// No line of a form was there.
-    Fresh,
-    /// Settings, files and words were there, and no event.
-    Settings,
-    /// An event was there.
-    Events,
-    /// `end` was there.
-    Ended,
-}
-
 /// A reader of the lines of a script, which keeps what they say but for the events. After a fault it is only dropped.
 #[derive(Drop)]
-pub struct Reader {
-    pub(crate) stage: Stage,
-    pub(crate) check: Option<Check>,
-    pub(crate) a: EndDraft,
-    pub(crate) b: EndDraft,
-    pub(crate) events_left: usize,
+pub enum Reader {
+    /// Full duplex, as before any line.
+    Full(DuplexReader),
+    /// Half duplex, since `set mode half` was the first line of a form.
+    Half(HalfReader),
 }
 
 impl Reader {
@@ -53,13 +35,7 @@ impl Reader {
     pub fn new(alloc: Global) -> Self
         ensures { result ≡ fresh }
     {
-        Reader {
-            stage: Stage::Fresh,
-            check: None,
-            a: EndDraft::new(alloc),
-            b: EndDraft::new(alloc),
-            events_left: EVENTS as usize,
-        }
+        Reader::Full(DuplexReader::new(alloc))
     }
 
     /// Reads the next line, and answers its event, if it is one. `start` is how many bytes of the text stand before the
@@ -92,42 +68,72 @@ impl Reader {
         if is_passed_over(words) {
             return Ok(None);
         }
-        if self.stage == Stage::Ended {
+        if self.is_ended() {
             return Err(LineFault::Faulty(Cause::After));
         }
         match statement_of(alloc, words)? {
-            Some(statement) => self.take(statement),
+            Some(statement) => self.take(alloc, statement),
             None => Err(LineFault::Faulty(Cause::Form)),
         }
     }
 
     /// Takes a statement, if nothing is wrong with it. One that is refused takes no memory.
-    fn take(&mut self, statement: Statement) -> Result<Option<Event>, LineFault>
-        ensures refused { (cause : TheCause) → after_statement self.old statement ≡ Err cause → result ≡ Err (LineFault.Faulty cause) }
-        ensures value { MatchResult result (λ event. after_statement self.old statement ≡ Ok (self.new, event))
-            (λ fault. IsFaulty fault (after_statement self.old statement)) }
+    fn take(&mut self, alloc: Global, statement: Statement) -> Result<Option<Event>, LineFault>
+        ensures refused { (flaw : TheFlaw) → after_statement self.old statement ≡ Err flaw → result ≡ Err (LineFault.Faulty (the_cause flaw)) }
+        ensures value { MatchResult result (λ event. with_cause (after_statement self.old statement) ≡ Ok (self.new, event))
+            (λ fault. IsFaulty fault (with_cause (after_statement self.old statement))) }
     {
-        match self.cause_of(&statement) {
-            Some(cause) => Err(LineFault::Faulty(cause)),
-            None => Ok(self.apply(statement)?),
+        if self.begins_half(&statement) {
+            *self = Reader::Half(HalfReader::new(alloc));
+            return Ok(None);
+        }
+        match self.take_in_mode(alloc, statement) {
+            Ok(event) => Ok(event),
+            Err(fault) => Err(line_fault(fault)),
         }
     }
 
-    /// What is known of an end.
-    pub(crate) fn end(&self, side: Side) -> &EndDraft
-        ensures { result.now ≡ the_end self.now side }
+    /// Takes a statement in the mode of the lines so far.
+    fn take_in_mode(
+        &mut self,
+        alloc: Global,
+        statement: Statement,
+    ) -> Result<Option<Event>, StatementFault>
+        ensures refused { (flaw : TheFlaw) → in_mode self.old statement ≡ Err flaw → result ≡ Err (StatementFault.Flawed flaw) }
+        ensures value { MatchResult result (λ event. in_mode self.old statement ≡ Ok (self.new, event))
+            (λ fault. IsFlawed fault (in_mode self.old statement)) }
     {
-        match side {
-            Side::A => &self.a,
-            Side::B => &self.b,
+        match self {
+            Reader::Full(duplex) => duplex.take(statement),
+            Reader::Half(half) => half.take(alloc, statement),
+        }
+    }
+
+    /// Whether a statement chooses half duplex, as the first one.
+    fn begins_half(&self, statement: &Statement) -> bool
+        ensures { result ≡ the_half_test self.now statement.now }
+    {
+        match (self, statement) {
+            (Reader::Full(duplex), Statement::Mode { half }) => *half && duplex.stage.is_fresh(),
+            _ => false,
+        }
+    }
+
+    /// What the lines so far allow.
+    fn stage(&self) -> Stage
+        ensures { result ≡ the_stage self.now }
+    {
+        match self {
+            Reader::Full(duplex) => duplex.stage,
+            Reader::Half(half) => half.stage,
         }
     }
 
     /// Whether a line was `end`.
     pub(crate) fn is_ended(&self) -> bool
-        ensures { result ≡ the_end_test self.now.stage }
+        ensures { result ≡ the_end_test (the_stage self.now) }
     {
-        match self.stage {
+        match self.stage() {
             Stage::Ended => true,
             Stage::Fresh | Stage::Settings | Stage::Events => false,
         }
@@ -137,7 +143,7 @@ impl Reader {
     pub fn finish(self, alloc: Global, events: Events) -> Result<Script, LineFault>
         ensures { MatchResult result (λ script. finished self events ≡ Ok script) (λ fault. IsFaulty fault (finished self events)) }
     {
-        if self.stage != Stage::Ended {
+        if !self.is_ended() {
             return Err(LineFault::Faulty(Cause::NoEnd));
         }
         let mut script = self.setup(alloc)?;
@@ -149,23 +155,35 @@ impl Reader {
     pub fn setup(&self, alloc: Global) -> Result<Script, NoMemory>
         ensures { IfOk result (λ script. script ≡ script_with self.now []) }
     {
-        Ok(Script {
-            half: false,
-            check: self.check.unwrap_or(Check::Bcc),
-            ends: ends_of(alloc, &self.a, &self.b)?,
-            events: Events::new(alloc),
-        })
+        match self {
+            Reader::Full(duplex) => duplex.setup(alloc),
+            Reader::Half(half) => half.setup(alloc),
+        }
     }
 }
 
-/// The plans of the ends a and b.
-fn ends_of(alloc: Global, a: &EndDraft, b: &EndDraft) -> Result<Ends, NoMemory>
-    ensures { IfOk result (λ ends. ends ≡ the_ends a.now b.now) }
+/// The fault of a line, by that of its statement.
+fn line_fault(fault: StatementFault) -> LineFault
+    ensures { result ≡ the_line_fault fault }
 {
-    let mut ends: Ends = Items::new(alloc);
-    ends.push(a.plan(alloc, Who::A, NODE_OF_A)?)?;
-    ends.push(b.plan(alloc, Who::B, NODE_OF_B)?)?;
-    Ok(ends)
+    match fault {
+        StatementFault::Flawed(flaw) => LineFault::Faulty(cause_of(flaw)),
+        StatementFault::NoMemory => LineFault::NoMemory,
+    }
+}
+
+/// The cause of a line, by what is wrong with its statement.
+fn cause_of(flaw: Flaw) -> Cause
+    ensures { result ≡ the_cause flaw }
+{
+    match flaw {
+        Flaw::Place => Cause::Place,
+        Flaw::Missing => Cause::Missing,
+        Flaw::Value => Cause::Value,
+        Flaw::Twice => Cause::Twice,
+        Flaw::Spent => Cause::Spent,
+        Flaw::Events => Cause::Events,
+    }
 }
 
 /// Whether the byte past the longest script is among the first bytes of a line: as many as the longest line has, and

@@ -8,25 +8,42 @@ use std::alloc::{AllocError, Global};
 use std::test::Fail;
 
 /// Faulty texts, each with its line and its cause.
-const FAULTY: [(&str, u32, Cause); 99] = [
+const FAULTY: [(&str, u32, Cause); 120] = [
     ("", 1, Cause::NoEnd),
     ("ak\n# end\n", 3, Cause::NoEnd),
     ("ak", 2, Cause::NoEnd),
     ("end\n\n# c\nend\n", 4, Cause::After),
     ("end\nx", 2, Cause::After),
     ("end\r", 1, Cause::Form),
-    ("set mode half\n", 1, Cause::Form),
-    ("station 3\n", 1, Cause::Form),
+    ("set mode half\n", 2, Cause::NoEnd),
+    ("set mode halfx\n", 1, Cause::Form),
+    ("set mode half\nset mode half\nend", 2, Cause::Place),
+    ("set mode half\nset mode full\nend", 2, Cause::Place),
+    ("set check crc\nset mode half\nend", 2, Cause::Place),
+    ("# a\n\n\tset mode half\nak\nend", 4, Cause::Missing),
+    ("set mode half\nmi 3 0600\nend", 2, Cause::Missing),
+    ("set mode half\nstation 16\nend", 2, Cause::Value),
+    ("set mode half\nstation 3\nstation 03\nend", 3, Cause::Twice),
+    ("set mode half\nmt\nstation 3\nend", 3, Cause::Place),
+    (
+        "set mode half\nstation 1\nstation 2\nmk 2000001\nend",
+        4,
+        Cause::Events,
+    ),
+    ("set mode half\nstation 3\n3t\nend", 3, Cause::Form),
+    ("set mode half\nend\nstation 3", 3, Cause::After),
+    ("station 3\n", 1, Cause::Place),
+    ("station 16\n", 1, Cause::Place),
+    ("ak\nstation x\n", 2, Cause::Form),
     ("set a.compat\n", 1, Cause::Form),
     ("set x.block 01\n", 1, Cause::Form),
-    ("set b.max_resends 3\n", 1, Cause::Form),
+    ("set b.max_resend 3\n", 1, Cause::Form),
     ("set a.embed\n", 1, Cause::Form),
     ("set x.embed on\n", 1, Cause::Form),
     ("file x 7 89 16\n", 1, Cause::Form),
     ("word b 7 0 123\n", 1, Cause::Form),
-    ("mk\n", 1, Cause::Form),
-    ("md 3\n", 1, Cause::Form),
-    ("3k\n", 1, Cause::Form),
+    ("md\n", 1, Cause::Form),
+    ("3t\n", 1, Cause::Form),
     ("a k\n", 1, Cause::Form),
     ("ak 0000000001\n", 1, Cause::Form),
     ("ak x\n", 1, Cause::Form),
@@ -46,6 +63,14 @@ const FAULTY: [(&str, u32, Cause); 99] = [
     ("bd\nfile m 7 89 0\n", 2, Cause::Place),
     ("bx\nword b 7 0 1234\n", 2, Cause::Place),
     ("file m 7 89 16\n", 1, Cause::Missing),
+    ("mk\n", 1, Cause::Missing),
+    ("md 3 0\n", 1, Cause::Missing),
+    ("mi 3 4F00\n", 1, Cause::Missing),
+    ("3k\n", 1, Cause::Missing),
+    ("set b.max_resends 3\n", 1, Cause::Missing),
+    ("set a.max_resends 256\n", 1, Cause::Missing),
+    ("set a.poll_ticks 0\n", 1, Cause::Missing),
+    ("set b.max_sends x\n", 1, Cause::Missing),
     ("file 3 1000 8A 0\n", 1, Cause::Missing),
     ("set 012.embed on\n", 1, Cause::Missing),
     ("set m.node 256\n", 1, Cause::Missing),
@@ -345,6 +370,40 @@ fn events_are_those_of_the_lines_in_their_order(rt: HostRuntime) -> Result<(), F
     assert!(rt; matches!(&events[6], Event::Alter { lane, mask: 0x0F } if *lane == from_a));
     assert!(rt;
         matches!(&events[7], Event::Foreign { lane, bytes } if *lane == from_b && bytes.as_slice() == b"\x10\x15".as_slice())
+    );
+    Ok(())
+}
+
+#[test]
+fn a_half_duplex_script_has_a_master_and_its_stations(rt: HostRuntime) -> Result<(), Fail> {
+    let text =
+        "set mode half\nstation 254\nstation 3\nset m.node 7\nset 3.room 4\nmi 254 0fAA\n3k 2\nend";
+    let script = read_script(rt.alloc(), text.as_bytes())?;
+    assert!(rt; script.half);
+    let ends = script.ends.as_slice();
+    assert_eq!(rt; ends.len(), 3);
+    assert_eq!(rt; (ends[0].who, ends[0].node), (Who::M, 7));
+    assert_eq!(rt;
+        (ends[1].who, ends[1].node, ends[1].room),
+        (Who::S(254), 254, 2)
+    );
+    assert_eq!(rt;
+        (ends[2].who, ends[2].node, ends[2].room),
+        (Who::S(3), 3, 4)
+    );
+    let events = script.events.as_slice();
+    assert_eq!(rt; events.len(), 2);
+    assert!(rt;
+        matches!(&events[0], Event::Issue { who: Who::M, dst: 254, payload } if payload.as_slice() == b"\x0f\xaa".as_slice())
+    );
+    assert!(rt;
+        matches!(
+            &events[1],
+            Event::Take {
+                who: Who::S(3),
+                n: 2
+            }
+        )
     );
     Ok(())
 }

@@ -1,10 +1,10 @@
 //! Reading a script byte by byte: a line is read when its line feed comes, and the last one at the end of the text.
-ghost use Rattle.std.specs.Prelude.{◌≡◌, ◌<◌, ◌≤◌, ◌+◌, ◌^◌, ◌∷◌, ◌++◌, ℕ, List, [], IfOk, MatchResult, Ok, false, length, if◌then◌else◌};
+ghost use Rattle.std.specs.Prelude.{◌≡◌, ◌<◌, ◌≤◌, ◌+◌, ◌^◌, ◌∷◌, ◌++◌, ℕ, List, [], IfOk, MatchResult, OnOk, Ok, false, true, length, if◌then◌else◌};
 ghost use Rattle.std.specs.Option.{option_to_list};
 ghost use Rattle.line_script.specs.declared.fault.ScriptFault.{ScriptFault as TheFault};
 ghost use Rattle.line_script.specs.declared.fault.LineFault.{LineFault as Faulted};
-ghost use Rattle.line_script.specs.declared.script.Event.{Event as OneEvent};
-ghost use Rattle.line_script.specs.Fed.{EndsFor, IsRefusedAtEnd, IsRefusedFor, StandsFor};
+ghost use Rattle.script_parts.specs.declared.script.Event.{Event as OneEvent};
+ghost use Rattle.line_script.specs.Fed.{EndsFor, HasNoFeed, IsRefusedAtEnd, IsRefusedFor, StandsFor};
 ghost use Rattle.line_script.specs.Lines.{after_line, script_with, text_line};
 ghost use Rattle.line_script.specs.Refusal.{IsFaulty, fault_at};
 ghost use Rattle.line_script.specs.ScriptText.{script_of};
@@ -89,6 +89,57 @@ impl TextReader {
         }
         self.line.push(b);
         Ok(None)
+    }
+
+    /// Takes the next bytes of the text, among which no line feed is, and then a line feed, as `feed` takes them one by one.
+    pub fn feed_line(&mut self, run: &[u8]) -> Result<Option<Event>, ScriptFault>
+        requires { HasNoFeed run.now }
+        ensures { (text : List ℕ) (events : List OneEvent) → StandsFor text events self.old → MatchResult result
+            (λ event. StandsFor ((text ++ run.now) ++ 10 ∷ []) (events ++ option_to_list event) self.new) (IsRefusedFor ((text ++ run.now) ++ 10 ∷ []) (script_with self.old.reader events)) }
+    {
+        if self.line.is_empty() {
+            return self.read_line(run);
+        }
+        match self.feed_run(run) {
+            Ok(()) => self.feed(b'\n'),
+            Err(fault) => Err(fault),
+        }
+    }
+
+    /// Takes the next bytes of the text, among which no line feed is, as `feed` takes them one by one.
+    pub fn feed_run(&mut self, run: &[u8]) -> Result<(), ScriptFault>
+        requires { HasNoFeed run.now }
+        ensures lines { OnOk result (self.new.reader ≡ self.old.reader) }
+        ensures stands { (text : List ℕ) (events : List OneEvent) → StandsFor text events self.old → MatchResult result
+            (λ _. StandsFor (text ++ run.now) events self.new) (IsRefusedFor (text ++ run.now) (script_with self.old.reader events)) }
+    {
+        let held = self.line.len() + run.len();
+        if SCRIPT - self.start < held.min(LINE + 1) {
+            return Err(self.refusal(Cause::Size));
+        }
+        match self.line.try_extend_from_slice(run) {
+            Ok(()) => Ok(()),
+            Err(_) => Err(self.refusal(Cause::Long)),
+        }
+    }
+
+    /// Reads a line that a line feed ends, where none is begun.
+    #[inline(never)]
+    fn read_line(&mut self, line: &[u8]) -> Result<Option<Event>, ScriptFault>
+        requires { self.old.line ≡ [] }
+        ensures { MatchResult result
+            (λ event. (after_line self.old.reader (text_line self.old.start line.now true) ≡ Ok (self.new.reader, event))
+            × (self.new.line ≡ []) × (self.new.number ≡ self.old.number + 1) × (self.new.start ≡ self.old.start + (length line.now + 1)))
+            (λ fault. (cause : Faulted) × (fault ≡ fault_at self.old.number cause) × IsFaulty cause (after_line self.old.reader (text_line self.old.start line.now true))) }
+    {
+        match self.reader.read(self.alloc, self.start, line, true) {
+            Ok(event) => {
+                self.start += line.len() + 1;
+                self.number += 1;
+                Ok(event)
+            }
+            Err(fault) => Err(at(self.number, fault)),
+        }
     }
 
     /// Reads the line that is begun, which a line feed ends or, where `is_ended` is false, the end of the text.

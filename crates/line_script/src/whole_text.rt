@@ -1,6 +1,6 @@
 //! Reading a script from a whole text, line by line.
 ghost use Rattle.std.specs.Prelude.{◌≡◌, ◌==◌, ◌<◌, ◌-◌, ◌^◌, ◌∷◌, [], Ok, length, IfOk, MatchResult, MatchOption, position};
-ghost use Rattle.line_script.specs.Playable.{IsPlayable};
+ghost use Rattle.script_parts.specs.HalfPlayable.{CanBePlayed};
 ghost use Rattle.line_script.specs.Lines.{after_line, last_line, text_line};
 ghost use Rattle.line_script.specs.ScriptText.{script_from, script_of, parts, with_event};
 ghost use Rattle.line_script.specs.Refusal.{IsFaulty, IsRefused, fault_at};
@@ -10,11 +10,11 @@ use std::alloc::Global;
 
 /// Reads a script, all of the text: at most 16,777,216 bytes in lines of at most 1,024 bytes. `At` comes exactly where
 /// the text is none, with its first faulty line and the first cause that fits it. A script that was read has the ends a
-/// and b, set up as data tables and an end need, events that may all happen, at most 65,535 commands of each end, and a
-/// sum of events of at most 4,000,000.
+/// and b, or the master and at most 32 stations, set up as data tables and an end need, events that may all happen, at
+/// most 65,535 commands of each end that issues, and a sum of events of at most 4,000,000.
 pub fn read_script(alloc: Global, text: &[u8]) -> Result<Script, ScriptFault>
     ensures exact { MatchResult result (λ script. script_of text.now ≡ Ok script) (λ fault. IsRefused fault (script_of text.now)) }
-    ensures playable { IfOk result IsPlayable }
+    ensures playable { IfOk result CanBePlayed }
 {
     read_lines(alloc, text)
 }

@@ -1,9 +1,13 @@
-//! The lines that are events: an end and a verb in one word, and in most an operand.
-ghost use Rattle.std.specs.Prelude.{◌≡◌, IfOk, Some};
-ghost use Rattle.line_statement.specs.Statements.{side_of as the_side, verb_of as the_verb, times_line as the_times, bare_event as the_bare, operand_event as the_operand, event_of_side as the_event, issue_line as the_issue, alter_line as the_alter, foreign_line as the_foreign, is_payload as the_test};
+//! The lines that are events: an end and the letter of a verb in one word, and in most an operand. For the master a
+//! station may stand between the two.
+ghost use Rattle.std.specs.Prelude.{◌≡◌, IfOk};
+ghost use Rattle.line_statement.specs.Statements.{verb_of as the_verb, times_of as the_times_of, times_line as the_times, bare_event as the_bare, operand_event as the_operand, station_operand_event as the_station_operand, event_alone as the_alone, event_with as the_with, event_to as the_to, side_event as the_side_event, issue_line as the_issue, alter_line as the_alter, foreign_line as the_foreign, payload_of as the_payload, mask_of as the_mask, foreign_of as the_foreign_bytes, half_line as the_half, is_payload as the_test};
 
 use crate::Bytes;
-use crate::statement::{EVENTS, Side, Statement, Verb};
+use crate::half_event::{
+    HalfEvent, master_event, master_times, station_event, station_once, to_station,
+};
+use crate::statement::{EVENTS, EndName, Side, Statement, Verb, end_of};
 use crate::words::{byte_of, hex_of, is_within, number_of, within};
 use df1_base::{MAX_BODY, MAX_PAYLOAD, NoMemory, REPLY};
 use std::alloc::Global;
@@ -16,12 +20,12 @@ pub(crate) fn bare_event(word: &[u8]) -> Option<Statement>
     ensures { result ≡ the_bare word.now }
 {
     match word {
-        [end, verb] => times_line(side_of(*end), verb_of(*verb), Some(1)),
-        _ => None,
+        [end @ .., verb] => event_alone(end_of(end), *verb),
+        [] => None,
     }
 }
 
-/// The events of a verb and an operand.
+/// The events of a word and an operand.
 pub(crate) fn operand_event(
     alloc: Global,
     word: &[u8],
@@ -30,39 +34,93 @@ pub(crate) fn operand_event(
     ensures { IfOk result (λ s. s ≡ the_operand word.now operand.now) }
 {
     match word {
-        [end, verb] => event_of_side(alloc, side_of(*end), *verb, operand),
+        [end @ .., verb] => event_with(alloc, end_of(end), *verb, operand),
+        [] => Ok(None),
+    }
+}
+
+/// The events of a word, a station and an operand.
+pub(crate) fn station_operand_event(
+    alloc: Global,
+    word: &[u8],
+    station: &[u8],
+    operand: &[u8],
+) -> Result<Option<Statement>, NoMemory>
+    ensures { IfOk result (λ s. s ≡ the_station_operand word.now station.now operand.now) }
+{
+    match word {
+        [end @ .., verb] => event_to(alloc, end_of(end), *verb, number_of(station), operand),
+        [] => Ok(None),
+    }
+}
+
+/// An event of an end without an operand.
+fn event_alone(end: Option<EndName>, verb: u8) -> Option<Statement>
+    ensures { result ≡ the_alone end verb }
+{
+    match end? {
+        EndName::Known(side) => times_line(side, verb_of(verb), Some(1)),
+        EndName::Master => half_line(master_times(verb, Some(1))),
+        EndName::Station(station) => half_line(station_once(station, verb)),
+    }
+}
+
+/// An event of an end with an operand.
+fn event_with(
+    alloc: Global,
+    end: Option<EndName>,
+    verb: u8,
+    operand: &[u8],
+) -> Result<Option<Statement>, NoMemory>
+    ensures { IfOk result (λ s. s ≡ the_with end verb operand.now) }
+{
+    match end {
+        Some(EndName::Known(side)) => side_event(alloc, side, verb, operand),
+        Some(EndName::Master) => Ok(half_line(master_event(verb, operand))),
+        Some(EndName::Station(station)) => {
+            Ok(half_line(station_event(alloc, station, verb, operand)?))
+        }
+        None => Ok(None),
+    }
+}
+
+/// An event of the master with a station and an operand.
+fn event_to(
+    alloc: Global,
+    end: Option<EndName>,
+    verb: u8,
+    station: Option<u32>,
+    operand: &[u8],
+) -> Result<Option<Statement>, NoMemory>
+    ensures { IfOk result (λ s. s ≡ the_to end verb station operand.now) }
+{
+    match end {
+        Some(EndName::Master) => Ok(half_line(to_station(alloc, station, verb, operand)?)),
         _ => Ok(None),
     }
 }
 
-/// An event of an end, by its verb's letter.
-fn event_of_side(
+/// An event of a half-duplex line.
+fn half_line(event: Option<HalfEvent>) -> Option<Statement>
+    ensures { result ≡ the_half event }
+{
+    Some(Statement::Half(event?))
+}
+
+/// An event of an end of a full-duplex link, by its verb's letter.
+fn side_event(
     alloc: Global,
-    side: Option<Side>,
+    side: Side,
     verb: u8,
     operand: &[u8],
 ) -> Result<Option<Statement>, NoMemory>
-    ensures { IfOk result (λ s. s ≡ the_event side verb operand.now) }
+    ensures { IfOk result (λ s. s ≡ the_side_event side verb operand.now) }
 {
-    let Some(side) = side else {
-        return Ok(None);
-    };
     match verb {
         b'i' => Ok(issue_line(side, hex_of(alloc, operand)?)),
         b'c' => Ok(alter_line(side, byte_of(operand))),
         b'n' => Ok(foreign_line(side, hex_of(alloc, operand)?)),
-        _ => Ok(times_line(Some(side), verb_of(verb), number_of(operand))),
-    }
-}
-
-/// The end that a letter names.
-fn side_of(letter: u8) -> Option<Side>
-    ensures { result ≡ the_side letter }
-{
-    match letter {
-        b'a' => Some(Side::A),
-        b'b' => Some(Side::B),
-        _ => None,
+        _ => Ok(times_line(side, verb_of(verb), number_of(operand))),
     }
 }
 
@@ -80,27 +138,42 @@ fn verb_of(letter: u8) -> Option<Verb>
 }
 
 /// What happens a number of times at an end.
-fn times_line(side: Option<Side>, verb: Option<Verb>, n: Option<u32>) -> Option<Statement>
+fn times_line(side: Side, verb: Option<Verb>, n: Option<u32>) -> Option<Statement>
     ensures { result ≡ the_times side verb n }
 {
     Some(Statement::Times {
-        side: side?,
+        side,
         verb: verb?,
         n: within(1, EVENTS, Some(n?)),
     })
+}
+
+/// How many times something happens, where there is a number.
+pub(crate) fn times_of(n: Option<u32>) -> Option<Option<u32>>
+    ensures { result ≡ the_times_of n }
+{
+    Some(within(1, EVENTS, Some(n?)))
 }
 
 /// A command of an end.
 fn issue_line(side: Side, payload: Option<Bytes>) -> Option<Statement>
     ensures { result ≡ the_issue side payload }
 {
-    let payload = payload?;
-    let payload = if is_payload(payload.as_slice()) {
+    Some(Statement::Issue {
+        side,
+        payload: payload_of(payload?),
+    })
+}
+
+/// A payload, where it is one.
+pub(crate) fn payload_of(payload: Bytes) -> Option<Bytes>
+    ensures { result ≡ the_payload payload }
+{
+    if is_payload(payload.as_slice()) {
         Some(payload)
     } else {
         None
-    };
-    Some(Statement::Issue { side, payload })
+    }
 }
 
 /// Whether a payload has 1 to 245 bytes, and bit 6 of its CMD is clear.
@@ -117,20 +190,36 @@ fn is_payload(payload: &[u8]) -> bool
 fn alter_line(side: Side, mask: Option<u8>) -> Option<Statement>
     ensures { result ≡ the_alter side mask }
 {
-    let mask = mask?;
-    let mask = if mask == 0 { None } else { Some(mask) };
-    Some(Statement::Alter { side, mask })
+    Some(Statement::Alter {
+        side,
+        mask: mask_of(mask?),
+    })
+}
+
+/// A mask, where it alters anything.
+pub(crate) fn mask_of(mask: u8) -> Option<u8>
+    ensures { result ≡ the_mask mask }
+{
+    if mask == 0 { None } else { Some(mask) }
 }
 
 /// Foreign bytes, as if from an end.
 fn foreign_line(side: Side, bytes: Option<Bytes>) -> Option<Statement>
     ensures { result ≡ the_foreign side bytes }
 {
-    let bytes = bytes?;
-    let bytes = if is_within(1, FOREIGN, bytes.as_slice()) {
+    Some(Statement::Foreign {
+        side,
+        bytes: foreign_of(bytes?),
+    })
+}
+
+/// Foreign bytes, where they are as many as one event may have.
+pub(crate) fn foreign_of(bytes: Bytes) -> Option<Bytes>
+    ensures { result ≡ the_foreign_bytes bytes }
+{
+    if is_within(1, FOREIGN, bytes.as_slice()) {
         Some(bytes)
     } else {
         None
-    };
-    Some(Statement::Foreign { side, bytes })
+    }
 }

@@ -1,11 +1,12 @@
 //! The lines that begin with `set`: the mode, the check, and of an end the settings, the compatibility file and the block,
 //! each with the values that it may have.
-ghost use Rattle.std.specs.Prelude.{◌≡◌, ◌==◌, IfOk, IsTrue, OnErr, None, Some, codes, option_map, position, if◌then◌else◌};
+ghost use Rattle.std.specs.Prelude.{◌≡◌, ◌==◌, IfOk, IsTrue, OnErr, codes, position};
 ghost use Rattle.std.specs.Str.{bytes_eq};
-ghost use Rattle.line_statement.specs.Statements.{set_line as the_set, end_setting as the_end_setting, named_line as the_named, compat_line as the_compat, block_line as the_block_line, block_of as the_block, file_number as the_file, is_block_key, set_statement as the_set_statement, setting_of as the_setting, check_of as the_check, switch_of as the_switch};
+ghost use Rattle.line_statement.specs.Statements.{set_line as the_set, end_setting as the_end_setting, named_line as the_named, compat_line as the_compat, block_line as the_block_line, block_of as the_block, file_number as the_file, is_block_key, set_statement as the_set_statement, setting_of as the_setting, check_of as the_check, switch_of as the_switch, mode_of as the_mode};
 ghost use Rattle.line_statement.specs.Words.{number_of as the_number, within as the_bounded};
 
 use crate::Bytes;
+use crate::setup_line::{Setting, SetupLine};
 use crate::statement::{EndName, Statement, end_of, file_number};
 use crate::words::{hex_of, is, is_within, number_of, within};
 use df1_base::{MAX_DATA, NoMemory};
@@ -14,27 +15,6 @@ use std::alloc::Global;
 
 /// The highest count of ticks.
 const TICKS: u32 = 1_000_000;
-
-/// A setting of an end, with its value.
-#[derive(Clone, Copy, Debug, PartialEq, Eq)]
-pub enum Setting {
-    /// Whether responses may stand inside messages.
-    Embed(bool),
-    /// Its address, DST of what is sent to it.
-    Node(u8),
-    /// TNS of its first command.
-    Tns(u16),
-    /// Ticks until an ENQ asks for a missing response: 1 to 1,000,000.
-    AckTicks(u32),
-    /// NAKs at which a message is sent again, and the next gives it up: 0 to 255.
-    MaxNaks(u32),
-    /// ENQs after which a message is given up: 0 to 255.
-    MaxEnqs(u32),
-    /// Ticks until a command counts as unanswered: 33 to 1,000,000.
-    ReplyTicks(u32),
-    /// How many replies may wait: 2 to 64.
-    Room(usize),
-}
 
 /// What `set` with a key and a value says, if the key is one.
 #[inline(never)]
@@ -57,10 +37,12 @@ pub(crate) fn set_line(
 
 /// The mode that a word names.
 fn mode_of(value: &[u8]) -> Option<Statement>
-    ensures { result ≡ (if bytes_eq value.now (codes "full") then Some Statement.Mode else None) }
+    ensures { result ≡ the_mode value.now }
 {
     if is(value, "full") {
-        Some(Statement::Mode)
+        Some(Statement::Mode { half: false })
+    } else if is(value, "half") {
+        Some(Statement::Mode { half: true })
     } else {
         None
     }
@@ -123,16 +105,19 @@ fn file_of(value: &[u8]) -> Option<Option<u16>>
 fn compat_line(end: Option<EndName>, file: Option<Option<u16>>) -> Option<Statement>
     ensures { result ≡ the_compat end file }
 {
-    Some(Statement::Compat { end: end?, file })
+    Some(Statement::Setup {
+        end: end?,
+        line: SetupLine::Compat(file),
+    })
 }
 
 /// The block of an end.
 fn block_line(end: Option<EndName>, bytes: Option<Bytes>) -> Option<Statement>
     ensures { result ≡ the_block_line end bytes }
 {
-    Some(Statement::Block {
+    Some(Statement::Setup {
         end: end?,
-        bytes: block_of(bytes),
+        line: SetupLine::Block(block_of(bytes)),
     })
 }
 
@@ -156,36 +141,42 @@ fn stop_of(key: &[u8]) -> Option<usize>
 }
 
 /// The setting of an end, where there is such an end and such a setting.
-fn set_statement(end: Option<EndName>, setting: Option<Option<Setting>>) -> Option<Statement>
+fn set_statement(end: Option<EndName>, setting: Option<Setting>) -> Option<Statement>
     ensures { result ≡ the_set_statement end setting }
 {
-    Some(Statement::Set {
+    Some(Statement::Setup {
         end: end?,
-        setting: setting?,
+        line: SetupLine::Set(setting?),
     })
 }
 
 /// The setting that a name with its full stop and a value are: None for a name that is none of the table, and None
 /// inside for a value that the table hasn't.
-fn setting_of(name: &[u8], value: &[u8]) -> Option<Option<Setting>>
+fn setting_of(name: &[u8], value: &[u8]) -> Option<Setting>
     ensures { result ≡ the_setting name.now value.now }
 {
     if is(name, ".embed") {
-        Some(embed_of(value))
+        Some(Setting::Embed(switch_of(value)))
     } else if is(name, ".node") {
-        Some(node_of(value))
+        Some(Setting::Node(node_of(value)))
     } else if is(name, ".tns") {
-        Some(tns_of(value))
+        Some(Setting::Tns(tns_of(value)))
     } else if is(name, ".ack_ticks") {
-        Some(number_in(1, TICKS, value).map(Setting::AckTicks))
+        Some(Setting::AckTicks(number_in(1, TICKS, value)))
     } else if is(name, ".max_naks") {
-        Some(number_in(0, 255, value).map(Setting::MaxNaks))
+        Some(Setting::MaxNaks(number_in(0, 255, value)))
     } else if is(name, ".max_enqs") {
-        Some(number_in(0, 255, value).map(Setting::MaxEnqs))
+        Some(Setting::MaxEnqs(number_in(0, 255, value)))
     } else if is(name, ".reply_ticks") {
-        Some(number_in(33, TICKS, value).map(Setting::ReplyTicks))
+        Some(Setting::ReplyTicks(number_in(33, TICKS, value)))
+    } else if is(name, ".max_resends") {
+        Some(Setting::MaxResends(number_in(0, 255, value)))
+    } else if is(name, ".poll_ticks") {
+        Some(Setting::PollTicks(number_in(1, TICKS, value)))
+    } else if is(name, ".max_sends") {
+        Some(Setting::MaxSends(number_in(1, 255, value)))
     } else if is(name, ".room") {
-        Some(room_of(value))
+        Some(Setting::Room(room_of(value)))
     } else {
         None
     }
@@ -199,38 +190,38 @@ fn number_in(least: u32, most: u32, value: &[u8]) -> Option<u32>
 }
 
 /// `on` or `off`.
-fn embed_of(value: &[u8]) -> Option<Setting>
-    ensures { result ≡ option_map Setting.Embed (the_switch value.now) }
+fn switch_of(value: &[u8]) -> Option<bool>
+    ensures { result ≡ the_switch value.now }
 {
     if is(value, "on") {
-        Some(Setting::Embed(true))
+        Some(true)
     } else if is(value, "off") {
-        Some(Setting::Embed(false))
+        Some(false)
     } else {
         None
     }
 }
 
 /// An address of one byte.
-fn node_of(value: &[u8]) -> Option<Setting>
-    ensures { result ≡ option_map Setting.Node (the_bounded 0 255 (the_number value.now)) }
+fn node_of(value: &[u8]) -> Option<u8>
+    ensures { result ≡ the_bounded 0 255 (the_number value.now) }
 {
     let node = number_in(0, 255, value)?;
-    Some(Setting::Node(node as u8))
+    Some(node as u8)
 }
 
 /// A TNS.
-fn tns_of(value: &[u8]) -> Option<Setting>
-    ensures { result ≡ option_map Setting.Tns (the_bounded 0 65535 (the_number value.now)) }
+fn tns_of(value: &[u8]) -> Option<u16>
+    ensures { result ≡ the_bounded 0 65535 (the_number value.now) }
 {
     let tns = number_in(0, 65535, value)?;
-    Some(Setting::Tns(tns as u16))
+    Some(tns as u16)
 }
 
 /// How many replies may wait.
-fn room_of(value: &[u8]) -> Option<Setting>
-    ensures { result ≡ option_map Setting.Room (the_bounded 2 64 (the_number value.now)) }
+fn room_of(value: &[u8]) -> Option<usize>
+    ensures { result ≡ the_bounded 2 64 (the_number value.now) }
 {
     let room = number_in(2, 64, value)?;
-    Some(Setting::Room(room as usize))
+    Some(room as usize)
 }

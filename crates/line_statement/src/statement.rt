@@ -1,12 +1,14 @@
 //! What one line of a script says, by the table of the forms. A value, number or length that is out of its range
 //! leaves its field None: such a line still is one of the forms.
-ghost use Rattle.std.specs.Prelude.{◌≡◌, ◌&&◌, map, IfOk, IsTrue, OnErr, Some, codes};
+ghost use Rattle.std.specs.Prelude.{◌≡◌, ◌||◌, not, false, map, IfOk, IsTrue, OnErr, Some, codes};
 ghost use Rattle.std.specs.Str.{bytes_eq};
 ghost use Rattle.line_statement.specs.Words.{within as the_bounded};
-ghost use Rattle.line_statement.specs.Statements.{end_of as the_end, other_end, who_of, statement_of as the_statement, one_word as the_one, three_words as the_three, file_line as the_file, word_line as the_word, five_words as the_five, file_spec as the_spec, file_type as the_type, is_block_key, takes_memory};
+ghost use Rattle.line_statement.specs.Statements.{end_of as the_end, other_end, who_of, statement_of as the_statement, one_word as the_one, two_words as the_two, station_line as the_station, station_number as the_station_number, three_words as the_three, file_line as the_file, word_line as the_word, five_words as the_five, file_spec as the_spec, file_type as the_type, is_block_key, takes_memory};
 
-use crate::event_line::{bare_event, operand_event};
-use crate::set_line::{Setting, set_line};
+use crate::event_line::{bare_event, operand_event, station_operand_event};
+use crate::half_event::HalfEvent;
+use crate::set_line::set_line;
+use crate::setup_line::SetupLine;
 use crate::words::{is, number_of, register_of, within};
 use crate::{Bytes, Who};
 use data_files::FileSpec;
@@ -22,6 +24,12 @@ const FILE_NUMBER: u32 = 999;
 
 /// The most elements of a data file.
 const ELEMENTS: u32 = 1000;
+
+/// The number that no station has: as an address it would be sent as a DLE.
+const NO_STATION: u32 = 16;
+
+/// The highest number of a station.
+const HIGHEST_STATION: u32 = 254;
 
 /// An end of a full-duplex link.
 #[derive(Clone, Copy, Debug, PartialEq, Eq)]
@@ -57,11 +65,13 @@ impl Side {
 pub enum EndName {
     /// An end of a full-duplex link.
     Known(Side),
-    /// A master or a station, which a full-duplex link hasn't.
-    Absent,
+    /// The master of a half-duplex line.
+    Master,
+    /// The station of this number on a half-duplex line.
+    Station(u32),
 }
 
-/// What happens a number of times, at an end or at its queue.
+/// What happens a number of times, at an end of a full-duplex link or at its queue.
 #[derive(Clone, Copy, Debug, PartialEq, Eq)]
 pub enum Verb {
     /// The end gives a byte, which goes into its queue.
@@ -77,65 +87,48 @@ pub enum Verb {
 /// A line that is one of the forms. What is None of it was out of its range.
 #[derive(Drop)]
 pub enum Statement {
-    /// Full mode.
-    Mode,
+    /// Full duplex, or half duplex.
+    Mode {
+        half: bool,
+    },
     /// Which check the line has.
     Check(Option<Check>),
-    /// A setting of an end.
-    Set {
+    /// The next station of a half-duplex line: its number is at most 254, and not 16.
+    Station(Option<u8>),
+    /// How an end is set up.
+    Setup {
         end: EndName,
-        setting: Option<Setting>,
+        line: SetupLine,
     },
-    /// The compatibility file of an end, by its number: None for a word that is no number, and None inside for a number
-    /// over 999, which no file has.
-    Compat {
-        end: EndName,
-        file: Option<Option<u16>>,
-    },
-    /// The block of an end, the data of its status replies: 1 to 244 bytes.
-    Block {
-        end: EndName,
-        bytes: Option<Bytes>,
-    },
-    /// A data file of an end.
-    File {
-        end: EndName,
-        spec: Option<FileSpec>,
-    },
-    /// The first value of a word of an end. No file has a number that is None.
-    Word {
-        end: EndName,
-        file: Option<u16>,
-        index: u32,
-        value: u16,
-    },
-    /// A command of an end.
+    /// A command of an end of a full-duplex link.
     Issue {
         side: Side,
         payload: Option<Bytes>,
     },
-    /// What happens `n` times at an end, or at its queue.
+    /// What happens `n` times at an end of a full-duplex link, or at its queue.
     Times {
         side: Side,
         verb: Verb,
         n: Option<u32>,
     },
-    /// The head of an end's queue is altered.
+    /// The head of the queue of an end of a full-duplex link is altered.
     Alter {
         side: Side,
         mask: Option<u8>,
     },
-    /// Foreign bytes arrive, as if from an end.
+    /// Foreign bytes arrive, as if from an end of a full-duplex link.
     Foreign {
         side: Side,
         bytes: Option<Bytes>,
     },
+    /// An event of a half-duplex line.
+    Half(HalfEvent),
     /// The last line.
     End,
 }
 
-/// What the words of a line say, if they are one of the forms. Lines of two words, and those that give a block, alone take
-/// memory.
+/// What the words of a line say, if they are one of the forms. Events with an operand, and lines that give a block, alone
+/// take memory.
 #[tactic(auto, unfolding(crate::specs::Statements::statement_of))]
 pub fn statement_of(alloc: Global, words: &[&[u8]]) -> Result<Option<Statement>, NoMemory>
     ensures value { IfOk result (λ s. s ≡ the_statement (map (λ x. x.now) words.now)) }
@@ -143,7 +136,7 @@ pub fn statement_of(alloc: Global, words: &[&[u8]]) -> Result<Option<Statement>,
 {
     match words {
         [word] => Ok(one_word(word)),
-        [word, operand] => operand_event(alloc, word, operand),
+        [word, operand] => two_words(alloc, word, operand),
         [verb, key, value] => three_words(alloc, verb, key, value),
         [verb, end, first, second, third] => Ok(five_words(verb, end, first, second, third)),
         _ => Ok(None),
@@ -161,6 +154,36 @@ fn one_word(word: &[u8]) -> Option<Statement>
     }
 }
 
+/// The forms of two words.
+fn two_words(alloc: Global, word: &[u8], operand: &[u8]) -> Result<Option<Statement>, NoMemory>
+    ensures value { IfOk result (λ s. s ≡ the_two word.now operand.now) }
+    ensures memory { OnErr result (bytes_eq word.now (codes "station") ≡ false) }
+{
+    if is(word, "station") {
+        Ok(station_line(number_of(operand)))
+    } else {
+        operand_event(alloc, word, operand)
+    }
+}
+
+/// The line that declares a station.
+fn station_line(number: Option<u32>) -> Option<Statement>
+    ensures { result ≡ the_station number }
+{
+    Some(Statement::Station(station_number(number?)))
+}
+
+/// The number of a station, where a station may have it.
+fn station_number(number: u32) -> Option<u8>
+    ensures { result ≡ the_station_number number }
+{
+    if number == NO_STATION || number > HIGHEST_STATION {
+        None
+    } else {
+        Some(number as u8)
+    }
+}
+
 /// The forms of three words.
 fn three_words(
     alloc: Global,
@@ -169,12 +192,12 @@ fn three_words(
     value: &[u8],
 ) -> Result<Option<Statement>, NoMemory>
     ensures value { IfOk result (λ s. s ≡ the_three verb.now key.now value.now) }
-    ensures memory { OnErr result (IsTrue (bytes_eq verb.now (codes "set") && is_block_key key.now)) }
+    ensures memory { OnErr result (IsTrue (not (bytes_eq verb.now (codes "set")) || is_block_key key.now)) }
 {
     if is(verb, "set") {
         set_line(alloc, key, value)
     } else {
-        Ok(None)
+        station_operand_event(alloc, verb, key, value)
     }
 }
 
@@ -217,9 +240,9 @@ fn file_line(
 ) -> Option<Statement>
     ensures { result ≡ the_file end number kind count }
 {
-    Some(Statement::File {
+    Some(Statement::Setup {
         end: end?,
-        spec: file_spec(number?, kind, count?),
+        line: SetupLine::File(file_spec(number?, kind, count?)),
     })
 }
 
@@ -232,11 +255,13 @@ fn word_line(
 ) -> Option<Statement>
     ensures { result ≡ the_word end number index value }
 {
-    Some(Statement::Word {
+    Some(Statement::Setup {
         end: end?,
-        file: file_number(number?),
-        index: index?,
-        value: value?,
+        line: SetupLine::Word {
+            file: file_number(number?),
+            index: index?,
+            value: value?,
+        },
     })
 }
 
@@ -293,9 +318,9 @@ pub(crate) fn end_of(word: &[u8]) -> Option<EndName>
         Some(EndName::Known(Side::A))
     } else if is(word, "b") {
         Some(EndName::Known(Side::B))
-    } else if is(word, "m") || number_of(word).is_some() {
-        Some(EndName::Absent)
+    } else if is(word, "m") {
+        Some(EndName::Master)
     } else {
-        None
+        number_of(word).map(EndName::Station)
     }
 }

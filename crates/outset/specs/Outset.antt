@@ -7,8 +7,8 @@ use Rattle.df1_node.specs.Answer.{StationState}
 use Rattle.df1_node.specs.Node.{NodeState}
 use Rattle.duplex_sender.specs.declared.Limits.{Limits}
 use Rattle.duplex_end.specs.declared.Setup.{Setup}
-use Rattle.line_script.specs.declared.script.EndPlan.{EndPlan}
-use Rattle.line_script.specs.declared.script.WordOf.{WordOf}
+use Rattle.script_parts.specs.declared.script.EndPlan.{EndPlan}
+use Rattle.script_parts.specs.declared.script.WordOf.{WordOf}
 
 -- a word has its first value, where there is such a word
 abbrev pub with_first : DataTables → WordOf → DataTables

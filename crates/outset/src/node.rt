@@ -2,12 +2,12 @@
 
 ghost use Rattle.std.specs.Prelude.{◌≡◌, IfOk, None};
 ghost use Rattle.data_files.specs.Tables.{faults, fresh};
-ghost use Rattle.line_script.specs.Playable.{IsPlanOf};
+ghost use Rattle.script_parts.specs.Playable.{IsPlanOf};
 ghost use Rattle.outset.specs.Outset.{first_node, first_station, first_tables, with_all};
 
 use df1_base::NoMemory;
 use df1_node::{FileSpec, MakeFault, Node, NodeSetup, Station, Tables};
-use line_script::{EndPlan, WordOf};
+use script_parts::{EndPlan, WordOf};
 use std::alloc::Global;
 
 /// The node of the end of a plan: its data files with the first values of their words, and no command issued. An error

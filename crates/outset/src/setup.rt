@@ -6,7 +6,7 @@ ghost use Rattle.outset.specs.Outset.{limits_of, setup_of};
 use df1_check::Check;
 use duplex_end::Setup;
 use duplex_sender::Limits;
-use line_script::EndPlan;
+use script_parts::EndPlan;
 
 /// How the end of a plan is set up, on a line whose frames end with this check.
 pub fn setup_of(check: Check, plan: &EndPlan) -> Setup

@@ -1,14 +1,46 @@
-//! A node by the plan of a script's end.
+//! A node by the plan of an end.
 
 use crate::node_of;
-use line_script::read_script;
+use df1_base::FileType;
+use df1_node::FileSpec;
+use line_statement::{Items, Who};
+use script_parts::{EndPlan, WordOf};
 use std::test::Fail;
 
 #[test]
 fn a_node_has_the_first_words_of_its_plan(rt: HostRuntime) -> Result<(), Fail> {
-    let text = "file b 7 89 2\nword b 7 1 12AB\nset b.tns 9\nend\n";
-    let script = read_script(rt.alloc(), text.as_bytes())?;
-    let node = node_of(rt.alloc(), &script.ends.as_slice()[1])?;
+    let mut files = Items::new(rt.alloc());
+    files.push(FileSpec {
+        number: 7,
+        kind: FileType::Integer,
+        count: 2,
+    })?;
+    let mut words = Items::new(rt.alloc());
+    words.push(WordOf {
+        who: Who::B,
+        file: 7,
+        index: 1,
+        value: 0x12AB,
+    })?;
+    let plan = EndPlan {
+        who: Who::B,
+        embed: false,
+        node: 1,
+        tns: 9,
+        ack_ticks: 10,
+        max_naks: 3,
+        max_enqs: 3,
+        reply_ticks: 100,
+        max_resends: 3,
+        poll_ticks: 10,
+        max_sends: 3,
+        room: 2,
+        compat: None,
+        block: Items::new(rt.alloc()),
+        files,
+        words,
+    };
+    let node = node_of(rt.alloc(), &plan)?;
     assert_eq!(rt; node.tables().word(7, 0), Some(0));
     assert_eq!(rt; node.tables().word(7, 1), Some(0x12AB));
     assert_eq!(rt; node.tables().word(7, 2), None);

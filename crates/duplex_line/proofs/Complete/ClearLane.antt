@@ -7,13 +7,12 @@ use Rattle.df1_frame.specs.declared.heard.Heard.TheVariants as heard
 use Rattle.df1_frame.specs.Standing.{Decoding, lent_at}
 use Rattle.df1_frame.specs.Step.{next}
 use Rattle.embedded_response.specs.Giving.{Giving, take}
-use Rattle.duplex_line.specs.declared.cell.Cell.{Cell}
-use Rattle.duplex_line.specs.declared.cell.Ending.{Ending}
-use Rattle.duplex_line.specs.Acts.{cell_of, ending_of}
+use Rattle.line_cells.specs.Cells.{LaneCell, Ending}
+use Rattle.line_cells.specs.Cells.{cell_of, ending_of}
 use Rattle.duplex_line.proofs.Complete.DecoderPlace.{InSync, IsTrue, acks_heard, owed, sync-take}
 
 -- the body of the transmission that ends in a cell
-abbrev pub end_of : Cell → Option (List ℕ)
+abbrev pub end_of : LaneCell → Option (List ℕ)
 end_of cell = option_map (λ (e : Ending). e.body) cell.ends
 
 -- what is heard at a byte is what it was given as
@@ -24,12 +23,12 @@ IsTrueEnd (Some body) (Some heard.Good) lent = lent ≡ body
 IsTrueEnd end other lent = ⊥
 
 -- what a decoder hears in a lane is true, and after it the decoder stands where the giver's bytes lead it
-abbrev pub IsClear : Decoding → List Cell → Giving → List ℕ → Type 0
+abbrev pub IsClear : Decoding → List LaneCell → Giving → List ℕ → Type 0
 IsClear d [] g sending = InSync g sending d
 IsClear d (cell ∷ cells) g sending = IsTrueEnd (end_of cell) (next 250 d cell.byte).1 (lent_at (next 250 d cell.byte).0.standing) × IsClear (next 250 d cell.byte).0 cells g sending
 
 -- how many ACKs are heard in a lane
-abbrev pub acks : Decoding → List Cell → ℕ
+abbrev pub acks : Decoding → List LaneCell → ℕ
 acks d [] = 0
 acks d (cell ∷ cells) = acks_heard (next 250 d cell.byte).1 + acks (next 250 d cell.byte).0 cells
 
@@ -38,17 +37,17 @@ abbrev pub ends_one : Option (List ℕ) → ℕ
 ends_one None = 0
 ends_one (Some body) = 1
 
-abbrev pub goods : List Cell → ℕ
+abbrev pub goods : List LaneCell → ℕ
 goods [] = 0
 goods (cell ∷ cells) = ends_one (end_of cell) + goods cells
 
 -- what the giver has to give changes, and no byte is given
-pub clear-other : (d : Decoding) (cells : List Cell) (g h : Giving) (sending other : List ℕ) → ((d : Decoding) → InSync g sending d → InSync h other d) → IsClear d cells g sending → IsClear d cells h other
+pub clear-other : (d : Decoding) (cells : List LaneCell) (g h : Giving) (sending other : List ℕ) → ((d : Decoding) → InSync g sending d → InSync h other d) → IsClear d cells g sending → IsClear d cells h other
 clear-other d [] g h sending other goes c = goes d c
 clear-other d (cell ∷ cells) g h sending other goes c = (c.0, clear-other (next 250 d cell.byte).0 cells g h sending other goes c.1)
 
 -- what holds of the giver at the end of the lane
-pub clear-last : {P : Type 0} (d : Decoding) (cells : List Cell) (g : Giving) (sending : List ℕ) → ((d : Decoding) → InSync g sending d → P) → IsClear d cells g sending → P
+pub clear-last : {P : Type 0} (d : Decoding) (cells : List LaneCell) (g : Giving) (sending : List ℕ) → ((d : Decoding) → InSync g sending d → P) → IsClear d cells g sending → P
 clear-last d [] g sending goes c = goes d c
 clear-last d (cell ∷ cells) g sending goes c = clear-last (next 250 d cell.byte).0 cells g sending goes c.1
 
@@ -61,7 +60,7 @@ true-cell sending None (Some _) lent is = absurd is
 true-cell sending (Some number) (Some _) lent is = absurd is
 
 -- a byte is given
-pub clear-give : (d : Decoding) (cells : List Cell) (g : Giving) (sending : List ℕ) (out : Out) → (take g).1 ≡ Some out → IsClear d cells g sending
+pub clear-give : (d : Decoding) (cells : List LaneCell) (g : Giving) (sending : List ℕ) (out : Out) → (take g).1 ≡ Some out → IsClear d cells g sending
     → IsClear d (cells ++ cell_of sending out ∷ []) (take g).0 sending × (acks d cells + owed g ≡ acks d (cells ++ cell_of sending out ∷ []) + owed (take g).0)
 clear-give d [] g sending out is c =
     let s = sync-take g sending d out c is in
@@ -70,6 +69,6 @@ clear-give d (cell ∷ cells) g sending out is c =
     let more = clear-give (next 250 d cell.byte).0 cells g sending out is c.1 in
     ((c.0, more.0), omega (arith, more.1))
 
-pub goods-give : (cells : List Cell) (cell : Cell) → goods (cells ++ cell ∷ []) ≡ goods cells + ends_one (end_of cell)
+pub goods-give : (cells : List LaneCell) (cell : LaneCell) → goods (cells ++ cell ∷ []) ≡ goods cells + ends_one (end_of cell)
 goods-give [] cell = omega arith
 goods-give (first ∷ cells) cell = let more = goods-give cells cell in omega (arith, more)

@@ -18,9 +18,10 @@ use Rattle.duplex_end.proofs.Order.{end-is, out-is}
 use Rattle.line_statement.specs.declared.who.Who.{Who}
 use Rattle.line_statement.specs.Statements.{is_payload}
 use Rattle.line_report.specs.declared.record.Line.{Line}
-use Rattle.duplex_line.specs.declared.cell.Cell.{Cell}
+use Rattle.line_cells.specs.Cells.{LaneCell}
 use Rattle.each_once.specs.NodeHost.{node_host}
-use Rattle.duplex_line.specs.Acts.{LineState, SideState, Issue, Take, after_deed, after_take, cell_of}
+use Rattle.line_cells.specs.Cells.{cell_of}
+use Rattle.duplex_line.specs.Acts.{LineState, SideState, Issue, Take, after_deed, after_take}
 use Rattle.duplex_line.specs.Plays.{issued_by}
 use Rattle.duplex_line.proofs.Once.IssueLimits.{take-commands}
 use Rattle.duplex_line.proofs.Steps.NothingToGive.{take-none}
@@ -69,7 +70,7 @@ flows-issue near far first far_first s late lines dst payload may command few h 
 
 -- ---- a frame is begun
 
-flow-begun : (e b : EndState NodeState) (lane back : List Cell) (sent heard : List (List ℕ)) (late : ℕ) (p : Phase) (next : Option (List ℕ)) → phase_of e.sender ≡ p → chosen e.mouth ≡ None
+flow-begun : (e b : EndState NodeState) (lane back : List LaneCell) (sent heard : List (List ℕ)) (late : ℕ) (p : Phase) (next : Option (List ℕ)) → phase_of e.sender ≡ p → chosen e.mouth ≡ None
     → ((body : List ℕ) → next ≡ Some body → (6 ≤ length body) × (length body ≤ 250)) → (p ≡ phase.Sending → (6 ≤ length (body_of e.sender)) × (length (body_of e.sender) ≤ 250)) → Flow e b lane back sent heard late
     → Flow (begun_at node_host e p next) b lane back (sent ++ option_to_list (handed_in p next)) heard late
 flow-begun e b lane back sent heard late phase.Idle None is none next_fits fits f = rw (append-nil sent) f
@@ -82,19 +83,19 @@ flow-begun e b lane back sent heard late phase.Sending next is none next_fits fi
     rw (append-nil sent) (flow-transmits e b lane back sent heard late (body_of e.sender) none fit.0 fit.1 f)
 flow-begun e b lane back sent heard late phase.Waiting next is none next_fits fits f = rw (append-nil sent) f
 
-far-begun : (e b : EndState NodeState) (lane back : List Cell) (sent heard : List (List ℕ)) (late : ℕ) (p : Phase) (next : Option (List ℕ)) → Flow b e lane back sent heard late → Flow b (begun_at node_host e p next) lane back sent heard late
+far-begun : (e b : EndState NodeState) (lane back : List LaneCell) (sent heard : List (List ℕ)) (late : ℕ) (p : Phase) (next : Option (List ℕ)) → Flow b e lane back sent heard late → Flow b (begun_at node_host e p next) lane back sent heard late
 far-begun e b lane back sent heard late phase.Idle None f = f
 far-begun e b lane back sent heard late phase.Idle (Some body) f = record { clear = f.clear; responses = f.responses; bodies = f.bodies; flight = f.flight; kept = f.kept; patient = f.patient }
 far-begun e b lane back sent heard late phase.Sending next f = record { clear = f.clear; responses = f.responses; bodies = f.bodies; flight = f.flight; kept = f.kept; patient = f.patient }
 far-begun e b lane back sent heard late phase.Waiting next f = f
 
-flow-prepared : (e b : EndState NodeState) (lane back : List Cell) (sent heard : List (List ℕ)) (late : ℕ) (idle : Bool) → is_none (chosen e.mouth) ≡ idle
+flow-prepared : (e b : EndState NodeState) (lane back : List LaneCell) (sent heard : List (List ℕ)) (late : ℕ) (idle : Bool) → is_none (chosen e.mouth) ≡ idle
     → ((body : List ℕ) → next_body e.host ≡ Some body → (6 ≤ length body) × (length body ≤ 250)) → (phase_of e.sender ≡ phase.Sending → (6 ≤ length (body_of e.sender)) × (length (body_of e.sender) ≤ 250)) → Flow e b lane back sent heard late
     → Flow (if idle then begun_next node_host e else e) b lane back (sent ++ option_to_list (if idle then handed_in (phase_of e.sender) (next_body e.host) else None)) heard late
 flow-prepared e b lane back sent heard late true is next_fits fits f = flow-begun e b lane back sent heard late (phase_of e.sender) (next_body e.host) refl (none-is (chosen e.mouth) is) next_fits fits f
 flow-prepared e b lane back sent heard late false is next_fits fits f = rw (append-nil sent) f
 
-far-prepared : (e b : EndState NodeState) (lane back : List Cell) (sent heard : List (List ℕ)) (late : ℕ) (idle : Bool) → Flow b e lane back sent heard late → Flow b (if idle then begun_next node_host e else e) lane back sent heard late
+far-prepared : (e b : EndState NodeState) (lane back : List LaneCell) (sent heard : List (List ℕ)) (late : ℕ) (idle : Bool) → Flow b e lane back sent heard late → Flow b (if idle then begun_next node_host e else e) lane back sent heard late
 far-prepared e b lane back sent heard late true f = far-begun e b lane back sent heard late (phase_of e.sender) (next_body e.host) f
 far-prepared e b lane back sent heard late false f = f
 
@@ -144,7 +145,7 @@ gave-end first e sent heard late fits h =
     }
 
 -- both directions
-gave-flow : (e b : EndState NodeState) (lane back : List Cell) (sent heard far_sent far_heard : List (List ℕ)) (late far_late : ℕ) (out : Out) → out_at_take node_host e ≡ Some out → Sends e sent
+gave-flow : (e b : EndState NodeState) (lane back : List LaneCell) (sent heard far_sent far_heard : List (List ℕ)) (late far_late : ℕ) (out : Out) → out_at_take node_host e ≡ Some out → Sends e sent
     → ((body : List ℕ) → next_body e.host ≡ Some body → (6 ≤ length body) × (length body ≤ 250)) → AreBodies sent → Flow e b lane back sent far_heard late → Flow b e back lane far_sent heard far_late
     → Flow (end_after_take node_host e) b (lane ++ cell_of (end_after_take node_host e).sending out ∷ []) back (sent ++ option_to_list (handed_at node_host e)) far_heard late
     × Flow b (end_after_take node_host e) back (lane ++ cell_of (end_after_take node_host e).sending out ∷ []) far_sent heard far_late

@@ -22,8 +22,8 @@ use Rattle.duplex_sender.specs.Sender.{SenderState, Activity, Idle, Sending, Wai
 use Rattle.embedded_response.specs.Giving.{Giving, take, begin, chosen, offer, unask}
 use Rattle.duplex_receiver.specs.Receiver.{kept_at}
 use Rattle.duplex_end.specs.End.{EndState, after_out, ends_here, sender_after, fate_at, responded, is_waiting, dropped, host_after, host_told, act_of_byte, end_after_byte, end_after_tick, asked, fate_of_tick, with_host}
-use Rattle.duplex_line.specs.declared.cell.Cell.{Cell}
-use Rattle.duplex_line.specs.Acts.{cell_of}
+use Rattle.line_cells.specs.Cells.{LaneCell}
+use Rattle.line_cells.specs.Cells.{cell_of}
 use Rattle.each_once.proofs.Sublists.{get-seam}
 use Rattle.duplex_line.proofs.Complete.DecoderPlace.{InSync, acks_heard, owed, sync-begin, sync-offer, sync-unask}
 use Rattle.duplex_line.proofs.Complete.ClearLane.{end_of, IsTrueEnd, IsClear, acks, ends_one, goods, clear-other, clear-give, goods-give}
@@ -55,12 +55,12 @@ abbrev pub IsBodyOf : List ℕ → Option (List ℕ) → Type 0
 IsBodyOf body None = Unit {0}
 IsBodyOf body (Some other) = other ≡ body
 
-abbrev pub EndWith : List ℕ → List Cell → Type 0
+abbrev pub EndWith : List ℕ → List LaneCell → Type 0
 EndWith body [] = Unit {0}
 EndWith body (cell ∷ cells) = IsBodyOf body (end_of cell) × EndWith body cells
 
 -- what a giver handed out and a taker accepted, over a lane, with the lane back
-pub record Flow {H : Type 0} (giver taker : EndState H) (lane back : List Cell) (sent heard : List (List ℕ)) (late : ℕ) : Type 0 where
+pub record Flow {H : Type 0} (giver taker : EndState H) (lane back : List LaneCell) (sent heard : List (List ℕ)) (late : ℕ) : Type 0 where
   pub clear : IsClear taker.receiver.decoding lane giver.mouth giver.sending
   pub responses : awaits giver.sender.activity ≡ goods lane + (owed taker.mouth + acks giver.receiver.decoding back)
   pub bodies : EndWith (body_of giver.sender) lane
@@ -69,15 +69,15 @@ pub record Flow {H : Type 0} (giver taker : EndState H) (lane back : List Cell) 
   pub patient : IsPatient giver.sender.limits.ack_ticks late giver.sender.activity
 
 -- where no frame ends, those that end are of any body
-no-ends : (body : List ℕ) (cells : List Cell) → goods cells ≡ 0 → EndWith body cells
+no-ends : (body : List ℕ) (cells : List LaneCell) → goods cells ≡ 0 → EndWith body cells
 no-ends body [] none = tt
 no-ends body (cell ∷ cells) none = no-ends-at body (end_of cell) cells none (no-ends body cells (omega (arith, none)))
   where
-    no-ends-at : (body : List ℕ) (end : Option (List ℕ)) (cells : List Cell) → ends_one end + goods cells ≡ 0 → EndWith body cells → IsBodyOf body end × EndWith body cells
+    no-ends-at : (body : List ℕ) (end : Option (List ℕ)) (cells : List LaneCell) → ends_one end + goods cells ≡ 0 → EndWith body cells → IsBodyOf body end × EndWith body cells
     no-ends-at body None cells none h = (tt, h)
     no-ends-at body (Some other) cells none h = absurd (omega (arith, none))
 
-ends-give : (body : List ℕ) (cells : List Cell) (cell : Cell) → EndWith body cells → IsBodyOf body (end_of cell) → EndWith body (cells ++ cell ∷ [])
+ends-give : (body : List ℕ) (cells : List LaneCell) (cell : LaneCell) → EndWith body cells → IsBodyOf body (end_of cell) → EndWith body (cells ++ cell ∷ [])
 ends-give body [] cell h is = (is, tt)
 ends-give body (first ∷ cells) cell h is = (h.0, ends-give body cells cell h.1 is)
 
@@ -89,7 +89,7 @@ idle-activity (Sending body naks enqs) limits is = absurd cc
 idle-activity (Waiting body naks enqs left) limits is = absurd cc
 
 -- the frame of the sender's message is begun
-pub flow-transmits : {H : Type 0} (e taker : EndState H) (lane back : List Cell) (sent heard : List (List ℕ)) (late : ℕ) (body : List ℕ) → chosen e.mouth ≡ None → 6 ≤ length body → length body ≤ 250 → Flow e taker lane back sent heard late
+pub flow-transmits : {H : Type 0} (e taker : EndState H) (lane back : List LaneCell) (sent heard : List (List ℕ)) (late : ℕ) (body : List ℕ) → chosen e.mouth ≡ None → 6 ≤ length body → length body ≤ 250 → Flow e taker lane back sent heard late
     → Flow (record { receiver = e.receiver; sender = e.sender; mouth = begin e.mouth body; sending = body; host = e.host }) taker lane back sent heard late
 flow-transmits e taker lane back sent heard late body none low high f = record {
   clear = clear-other taker.receiver.decoding lane e.mouth (begin e.mouth body) e.sending body (λ d s. sync-begin none s body low high) f.clear;
@@ -101,7 +101,7 @@ flow-transmits e taker lane back sent heard late body none low high f = record {
 }
 
 -- an idle sender is given the next message
-pub flow-loads : {H : Type 0} (e taker : EndState H) (lane back : List Cell) (sent heard : List (List ℕ)) (late : ℕ) (body : List ℕ) (host : H) → phase_of e.sender ≡ phase.Idle → Flow e taker lane back sent heard late
+pub flow-loads : {H : Type 0} (e taker : EndState H) (lane back : List LaneCell) (sent heard : List (List ℕ)) (late : ℕ) (body : List ℕ) (host : H) → phase_of e.sender ≡ phase.Idle → Flow e taker lane back sent heard late
     → Flow (record { receiver = e.receiver; sender = load e.sender body; mouth = e.mouth; sending = e.sending; host = host }) taker lane back (sent ++ body ∷ []) heard late
 flow-loads e taker lane back sent heard late body host idle f =
     let is = idle-activity e.sender.activity e.sender.limits idle in
@@ -131,7 +131,7 @@ out-plain out s plain = rw plain refl
 abbrev pub gave : {H : Type 0} → EndState H → Out → EndState H
 gave p out = record { receiver = p.receiver; sender = after_out (Some out) p.sender; mouth = (take p.mouth).0; sending = p.sending; host = p.host }
 
-gave-plain : {H : Type 0} (p taker : EndState H) (lane back : List Cell) (sent heard : List (List ℕ)) (late : ℕ) (out : Out) → (take p.mouth).1 ≡ Some out → out.last_of ≡ None → Flow p taker lane back sent heard late
+gave-plain : {H : Type 0} (p taker : EndState H) (lane back : List LaneCell) (sent heard : List (List ℕ)) (late : ℕ) (out : Out) → (take p.mouth).1 ≡ Some out → out.last_of ≡ None → Flow p taker lane back sent heard late
     → Flow (gave p out) taker (lane ++ cell_of p.sending out ∷ []) back sent heard late
 gave-plain p taker lane back sent heard late out is plain f =
     let cell = cell_of p.sending out in
@@ -157,7 +157,7 @@ waits-now a limits body naks enqs is = rw is refl
 out-last : (out : Out) (s : SenderState) (number : ℕ) → out.last_of ≡ Some number → after_out (Some out) s ≡ sent_last s
 out-last out s number last = rw last refl
 
-gave-last : {H : Type 0} (p taker : EndState H) (lane back : List Cell) (sent heard : List (List ℕ)) (late : ℕ) (out : Out) (number : ℕ) → (take p.mouth).1 ≡ Some out → out.last_of ≡ Some number → phase_of p.sender ≡ phase.Sending → p.sending ≡ body_of p.sender → Flow p taker lane back sent heard late
+gave-last : {H : Type 0} (p taker : EndState H) (lane back : List LaneCell) (sent heard : List (List ℕ)) (late : ℕ) (out : Out) (number : ℕ) → (take p.mouth).1 ≡ Some out → out.last_of ≡ Some number → phase_of p.sender ≡ phase.Sending → p.sending ≡ body_of p.sender → Flow p taker lane back sent heard late
     → Flow (gave p out) taker (lane ++ cell_of p.sending out ∷ []) back sent heard late
 gave-last p taker lane back sent heard late out number is last sends same f =
     let a = sending-activity p.sender.activity p.sender.limits sends in
@@ -180,11 +180,11 @@ gave-last p taker lane back sent heard late out number is last sends same f =
       patient = rw waiting (omega arith);
     })
   where
-    no-ends-but : (body : List ℕ) (cells : List Cell) (cell : Cell) → goods cells ≡ 0 → IsBodyOf body (end_of cell) → EndWith body (cells ++ cell ∷ [])
+    no-ends-but : (body : List ℕ) (cells : List LaneCell) (cell : LaneCell) → goods cells ≡ 0 → IsBodyOf body (end_of cell) → EndWith body (cells ++ cell ∷ [])
     no-ends-but body cells cell none is = ends-give body cells cell (no-ends body cells none) is
 
 -- a byte is given by the end to which the other direction goes: a response that is owed is on its way now
-pub flow-back : {H : Type 0} (p other : EndState H) (lane back : List Cell) (sent heard : List (List ℕ)) (late : ℕ) (out : Out) → (take p.mouth).1 ≡ Some out → IsClear other.receiver.decoding back p.mouth p.sending → Flow other p lane back sent heard late
+pub flow-back : {H : Type 0} (p other : EndState H) (lane back : List LaneCell) (sent heard : List (List ℕ)) (late : ℕ) (out : Out) → (take p.mouth).1 ≡ Some out → IsClear other.receiver.decoding back p.mouth p.sending → Flow other p lane back sent heard late
     → Flow other (gave p out) lane (back ++ cell_of p.sending out ∷ []) sent heard late
 flow-back p other lane back sent heard late out is clear f =
     let given = clear-give other.receiver.decoding back p.mouth p.sending out is clear in
@@ -198,7 +198,7 @@ flow-back p other lane back sent heard late out is clear f =
     }
 
 -- a byte is given
-pub flow-gives : {H : Type 0} (p taker : EndState H) (lane back : List Cell) (sent heard : List (List ℕ)) (late : ℕ) (out : Out) → (take p.mouth).1 ≡ Some out → (IsTrue (ends_here (Some out)) → phase_of p.sender ≡ phase.Sending) → (IsTrue (ends_here (Some out)) → p.sending ≡ body_of p.sender)
+pub flow-gives : {H : Type 0} (p taker : EndState H) (lane back : List LaneCell) (sent heard : List (List ℕ)) (late : ℕ) (out : Out) → (take p.mouth).1 ≡ Some out → (IsTrue (ends_here (Some out)) → phase_of p.sender ≡ phase.Sending) → (IsTrue (ends_here (Some out)) → p.sending ≡ body_of p.sender)
     → Flow p taker lane back sent heard late → Flow (gave p out) taker (lane ++ cell_of p.sending out ∷ []) back sent heard late
 flow-gives p taker lane back sent heard late out is sends same f = by-end out.last_of refl
   where
@@ -235,7 +235,7 @@ silent-end (Some body) None lent is t = absurd t
 silent-end (Some body) (Some h) lent is t = absurd cc
 
 -- nothing is heard
-pub flow-silent : {H : Type 0} (m : Ghosts H) (a b : EndState H) (cell : Cell) (cells back : List Cell) (sent heard : List (List ℕ)) (late : ℕ) → (next 250 b.receiver.decoding cell.byte).1 ≡ None → Flow a b (cell ∷ cells) back sent heard late
+pub flow-silent : {H : Type 0} (m : Ghosts H) (a b : EndState H) (cell : LaneCell) (cells back : List LaneCell) (sent heard : List (List ℕ)) (late : ℕ) → (next 250 b.receiver.decoding cell.byte).1 ≡ None → Flow a b (cell ∷ cells) back sent heard late
     → Flow a (heard_by m b cell.byte act.Nothing) cells back sent heard late
 flow-silent m a b cell cells back sent heard late is f =
     let none = silent-end (end_of cell) (next 250 b.receiver.decoding cell.byte).1 _ is f.clear.0 in
@@ -249,7 +249,7 @@ flow-silent m a b cell cells back sent heard late is f =
       patient = f.patient;
     })
 
-pub far-silent : {H : Type 0} (m : Ghosts H) (a b : EndState H) (cell : Cell) (cells lane : List Cell) (sent heard : List (List ℕ)) (late : ℕ) → (next 250 b.receiver.decoding cell.byte).1 ≡ None → Flow b a lane (cell ∷ cells) sent heard late
+pub far-silent : {H : Type 0} (m : Ghosts H) (a b : EndState H) (cell : LaneCell) (cells lane : List LaneCell) (sent heard : List (List ℕ)) (late : ℕ) → (next 250 b.receiver.decoding cell.byte).1 ≡ None → Flow b a lane (cell ∷ cells) sent heard late
     → Flow (heard_by m b cell.byte act.Nothing) a lane cells sent heard late
 far-silent m a b cell cells lane sent heard late is f =
     let none : acks_heard (next 250 b.receiver.decoding cell.byte).1 ≡ 0 = rw is refl in
@@ -290,7 +290,7 @@ flight-none (Sending body naks enqs) one = absurd (omega (arith, one))
 flight-none (Waiting body naks enqs left) one = refl
 
 -- the far sender's message is delivered
-pub far-acked : {H : Type 0} (m : Ghosts H) (a b : EndState H) (cell : Cell) (cells lane : List Cell) (sent heard : List (List ℕ)) (late : ℕ) → (next 250 b.receiver.decoding cell.byte).1 ≡ Some hears.Ack → Flow b a lane (cell ∷ cells) sent heard late
+pub far-acked : {H : Type 0} (m : Ghosts H) (a b : EndState H) (cell : LaneCell) (cells lane : List LaneCell) (sent heard : List (List ℕ)) (late : ℕ) → (next 250 b.receiver.decoding cell.byte).1 ≡ Some hears.Ack → Flow b a lane (cell ∷ cells) sent heard late
     → Flow (heard_by m b cell.byte act.PeerAck) a lane cells sent heard late × (awaits b.sender.activity ≡ 1)
 far-acked m a b cell cells lane sent heard late is f =
     let one : acks_heard (next 250 b.receiver.decoding cell.byte).1 ≡ 1 = rw is refl in
@@ -310,11 +310,11 @@ far-acked m a b cell cells lane sent heard late is f =
       waits,
     )
   where
-    clear-dropped : (d : Decoding) (cells : List Cell) (before after : Phase) (g : Giving) (sending : List ℕ) → IsClear d cells g sending → IsClear d cells (dropped before after g) sending
+    clear-dropped : (d : Decoding) (cells : List LaneCell) (before after : Phase) (g : Giving) (sending : List ℕ) → IsClear d cells g sending → IsClear d cells (dropped before after g) sending
     clear-dropped d cells before after g sending c = clear-other d cells g (dropped before after g) sending sending (λ d s. sync-dropped (is_waiting before && not (is_waiting after)) g sending d s) c
 
 -- where the ACK is heard the near direction goes on
-pub flow-acked : {H : Type 0} (m : Ghosts H) (a b : EndState H) (cell : Cell) (cells back : List Cell) (sent heard : List (List ℕ)) (late : ℕ) → (next 250 b.receiver.decoding cell.byte).1 ≡ Some hears.Ack → Flow a b (cell ∷ cells) back sent heard late
+pub flow-acked : {H : Type 0} (m : Ghosts H) (a b : EndState H) (cell : LaneCell) (cells back : List LaneCell) (sent heard : List (List ℕ)) (late : ℕ) → (next 250 b.receiver.decoding cell.byte).1 ≡ Some hears.Ack → Flow a b (cell ∷ cells) back sent heard late
     → Flow a (heard_by m b cell.byte act.PeerAck) cells back sent heard late
 flow-acked m a b cell cells back sent heard late is f =
     let none = ack-end (end_of cell) (next 250 b.receiver.decoding cell.byte).1 _ is f.clear.0 in
@@ -351,7 +351,7 @@ last_key-push : (heard : List (List ℕ)) (body : List ℕ) → last_key (heard 
 last_key-push heard body = let at : length (heard ++ body ∷ []) - 1 ≡ length heard = omega (arith, length-append heard (body ∷ [])) in rw (at, get-seam heard body []) refl
 
 -- what is heard is the message under way
-pub good-arrives : {H : Type 0} (a b : EndState H) (cell : Cell) (cells back : List Cell) (sent heard : List (List ℕ)) (late : ℕ) → (next 250 b.receiver.decoding cell.byte).1 ≡ Some hears.Good → Flow a b (cell ∷ cells) back sent heard late
+pub good-arrives : {H : Type 0} (a b : EndState H) (cell : LaneCell) (cells back : List LaneCell) (sent heard : List (List ℕ)) (late : ℕ) → (next 250 b.receiver.decoding cell.byte).1 ≡ Some hears.Good → Flow a b (cell ∷ cells) back sent heard late
     → sent ≡ heard ++ lent_at (next 250 b.receiver.decoding cell.byte).0.standing ∷ []
 good-arrives a b cell cells back sent heard late is f =
     let lent = lent_at (next 250 b.receiver.decoding cell.byte).0.standing in
@@ -362,7 +362,7 @@ good-arrives a b cell cells back sent heard late is f =
     f.flight ∙ ap (λ (n : ℕ). heard ++ in_flight a.sender.activity n) count ∙ ap (λ (m : List (List ℕ)). heard ++ m) (waiting-flight a.sender.activity a.sender.limits (goods cells) waits) ∙ ap (λ (x : List ℕ). heard ++ x ∷ []) (sym same)
 
 -- the taker owes an ACK for it
-pub flow-accepted : {H : Type 0} (m : Ghosts H) (a b : EndState H) (cell : Cell) (cells back : List Cell) (sent heard : List (List ℕ)) (late : ℕ) → (next 250 b.receiver.decoding cell.byte).1 ≡ Some hears.Good → Flow a b (cell ∷ cells) back sent heard late
+pub flow-accepted : {H : Type 0} (m : Ghosts H) (a b : EndState H) (cell : LaneCell) (cells back : List LaneCell) (sent heard : List (List ℕ)) (late : ℕ) → (next 250 b.receiver.decoding cell.byte).1 ≡ Some hears.Good → Flow a b (cell ∷ cells) back sent heard late
     → Flow a (heard_by m b cell.byte act.Accept) cells back sent (heard ++ lent_at (next 250 b.receiver.decoding cell.byte).0.standing ∷ []) late
 flow-accepted m a b cell cells back sent heard late is f =
     let lent = lent_at (next 250 b.receiver.decoding cell.byte).0.standing in
@@ -387,7 +387,7 @@ flow-accepted m a b cell cells back sent heard late is f =
     offered : (g : Giving) → owed g ≡ 0 → owed (offer g resp.Ack) ≡ 1
     offered g free = omega (arith, free)
 
-pub far-accepted : {H : Type 0} (m : Ghosts H) (a b : EndState H) (cell : Cell) (cells lane : List Cell) (sent heard : List (List ℕ)) (late : ℕ) → (next 250 b.receiver.decoding cell.byte).1 ≡ Some hears.Good → Flow b a lane (cell ∷ cells) sent heard late
+pub far-accepted : {H : Type 0} (m : Ghosts H) (a b : EndState H) (cell : LaneCell) (cells lane : List LaneCell) (sent heard : List (List ℕ)) (late : ℕ) → (next 250 b.receiver.decoding cell.byte).1 ≡ Some hears.Good → Flow b a lane (cell ∷ cells) sent heard late
     → Flow (heard_by m b cell.byte act.Accept) a lane cells sent heard late
 far-accepted m a b cell cells lane sent heard late is f =
     let none : acks_heard (next 250 b.receiver.decoding cell.byte).1 ≡ 0 = rw is refl in
@@ -449,7 +449,7 @@ ticked-flight Idle n = refl
 ticked-flight (Sending body naks enqs) n = refl
 ticked-flight (Waiting body naks enqs left) n = refl
 
-pub flow-ticks : {H : Type 0} (m : Ghosts H) (a b : EndState H) (lane back : List Cell) (sent heard : List (List ℕ)) (late later : ℕ) → IsPatient a.sender.limits.ack_ticks later (ticked a.sender.activity) → Flow a b lane back sent heard late → Flow (steadied m a) b lane back sent heard later
+pub flow-ticks : {H : Type 0} (m : Ghosts H) (a b : EndState H) (lane back : List LaneCell) (sent heard : List (List ℕ)) (late later : ℕ) → IsPatient a.sender.limits.ack_ticks later (ticked a.sender.activity) → Flow a b lane back sent heard late → Flow (steadied m a) b lane back sent heard later
 flow-ticks m a b lane back sent heard late later patient f = record {
   clear = f.clear;
   responses = ticked-awaits a.sender.activity ∙ f.responses;
@@ -459,16 +459,16 @@ flow-ticks m a b lane back sent heard late later patient f = record {
   patient = patient;
 }
 
-pub far-ticks : {H : Type 0} (m : Ghosts H) (a b : EndState H) (lane back : List Cell) (sent heard : List (List ℕ)) (late : ℕ) → Flow b a lane back sent heard late → Flow b (steadied m a) lane back sent heard late
+pub far-ticks : {H : Type 0} (m : Ghosts H) (a b : EndState H) (lane back : List LaneCell) (sent heard : List (List ℕ)) (late : ℕ) → Flow b a lane back sent heard late → Flow b (steadied m a) lane back sent heard late
 far-ticks m a b lane back sent heard late f = record { clear = f.clear; responses = f.responses; bodies = f.bodies; flight = f.flight; kept = f.kept; patient = f.patient }
 
 -- the ticks are counted anew
-pub flow-late : {H : Type 0} (a b : EndState H) (lane back : List Cell) (sent heard : List (List ℕ)) (late later : ℕ) → IsPatient a.sender.limits.ack_ticks later a.sender.activity → Flow a b lane back sent heard late → Flow a b lane back sent heard later
+pub flow-late : {H : Type 0} (a b : EndState H) (lane back : List LaneCell) (sent heard : List (List ℕ)) (late later : ℕ) → IsPatient a.sender.limits.ack_ticks later a.sender.activity → Flow a b lane back sent heard late → Flow a b lane back sent heard later
 flow-late a b lane back sent heard late later patient f = record { clear = f.clear; responses = f.responses; bodies = f.bodies; flight = f.flight; kept = f.kept; patient = patient }
 
 -- another host changes nothing of it
-pub flow-host : {H : Type 0} (a b : EndState H) (host : H) (lane back : List Cell) (sent heard : List (List ℕ)) (late : ℕ) → Flow a b lane back sent heard late → Flow (with_host a host) b lane back sent heard late
+pub flow-host : {H : Type 0} (a b : EndState H) (host : H) (lane back : List LaneCell) (sent heard : List (List ℕ)) (late : ℕ) → Flow a b lane back sent heard late → Flow (with_host a host) b lane back sent heard late
 flow-host a b host lane back sent heard late f = record { clear = f.clear; responses = f.responses; bodies = f.bodies; flight = f.flight; kept = f.kept; patient = f.patient }
 
-pub far-host : {H : Type 0} (a b : EndState H) (host : H) (lane back : List Cell) (sent heard : List (List ℕ)) (late : ℕ) → Flow b a lane back sent heard late → Flow b (with_host a host) lane back sent heard late
+pub far-host : {H : Type 0} (a b : EndState H) (host : H) (lane back : List LaneCell) (sent heard : List (List ℕ)) (late : ℕ) → Flow b a lane back sent heard late → Flow b (with_host a host) lane back sent heard late
 far-host a b host lane back sent heard late f = record { clear = f.clear; responses = f.responses; bodies = f.bodies; flight = f.flight; kept = f.kept; patient = f.patient }

@@ -10,7 +10,7 @@ use Rattle.embedded_response.specs.Giving.{Giving, Choice, Second, Respond, Give
 use Rattle.duplex_end.specs.End.{EndState, begun_next, prepared, begun_at, out_at_take}
 use Rattle.duplex_end.proofs.Joining.{none-left}
 use Rattle.duplex_end.proofs.Order.{out-is}
-use Rattle.duplex_line.specs.declared.cell.Cell.{Cell}
+use Rattle.line_cells.specs.Cells.{LaneCell}
 use Rattle.duplex_line.proofs.Complete.DecoderPlace.{owed, sync-quiet}
 use Rattle.duplex_line.proofs.Complete.ClearLane.{goods}
 use Rattle.duplex_line.proofs.Complete.MessageUnderWay.{Flow, awaits, in_flight}
@@ -64,5 +64,5 @@ idle-flight limits (Sending body naks enqs) n is = absurd cc
 idle-flight limits (Waiting body naks enqs left) n is = absurd cc
 
 -- of an idle sender all messages were heard
-pub all-heard : {H : Type 0} (a b : EndState H) (lane back : List Cell) (sent heard : List (List ℕ)) (late : ℕ) → phase_of a.sender ≡ phase.Idle → Flow a b lane back sent heard late → sent ≡ heard
+pub all-heard : {H : Type 0} (a b : EndState H) (lane back : List LaneCell) (sent heard : List (List ℕ)) (late : ℕ) → phase_of a.sender ≡ phase.Idle → Flow a b lane back sent heard late → sent ≡ heard
 all-heard a b lane back sent heard late idle f = f.flight ∙ ap (λ (m : List (List ℕ)). heard ++ m) (idle-flight a.sender.limits a.sender.activity (goods lane) idle) ∙ append-nil heard

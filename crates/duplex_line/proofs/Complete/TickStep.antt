@@ -14,9 +14,9 @@ use Rattle.duplex_sender.specs.Sender.{Activity, Idle, Sending, Waiting as Await
 use Rattle.duplex_end.specs.End.{EndState, host_told, fate_of_tick, out_at_take, turn_at_tick, gone_at_tick}
 use Rattle.line_statement.specs.declared.who.Who.{Who}
 use Rattle.line_report.specs.declared.record.Line.{Line}
-use Rattle.duplex_line.specs.declared.cell.Cell.{Cell}
+use Rattle.line_cells.specs.Cells.{LaneCell}
 use Rattle.each_once.specs.NodeHost.{node_host}
-use Rattle.each_once.specs.NodeLines.{turn_lines, gone_lines}
+use Rattle.told_lines.specs.NodeLines.{turn_lines, gone_lines}
 use Rattle.duplex_line.specs.Acts.{LineState, Tick, after_deed, lines_at}
 use Rattle.duplex_line.proofs.Once.IssueLimits.{tick-commands}
 use Rattle.each_once.proofs.Sublists.{same-some, none-is}
@@ -41,7 +41,7 @@ both true true h = (refl, refl)
 both true false h = absurd cc
 both false b h = absurd cc
 
-nothing-on : (cells : List Cell) → slice_get cells 0 ≡ None → cells ≡ []
+nothing-on : (cells : List LaneCell) → slice_get cells 0 ≡ None → cells ≡ []
 nothing-on [] is = refl
 nothing-on (cell ∷ cells) is = absurd cc
 
@@ -129,8 +129,8 @@ pub record AreAtRest (near far : Who) (first far_first : StationState) (s : Line
   pub far_nothing_waits : (s.b.end.host.replies ≡ []) × (next_command s.b.end.host.initiator.issued ≡ None)
 
 -- two ends of which nothing is on its way and that choose nothing
-lanes-empty : (a b : EndState NodeState) (lane back : List Cell) (sent heard : List (List ℕ)) (late : ℕ) → lane ≡ [] → back ≡ [] → Flow a b lane back sent heard late → Flow a b [] [] sent heard late
-lanes-empty a b lane back sent heard late is is_back f = subst (λ (x : List Cell). Flow a b x [] sent heard late) is (subst (λ (x : List Cell). Flow a b lane x sent heard late) is_back f)
+lanes-empty : (a b : EndState NodeState) (lane back : List LaneCell) (sent heard : List (List ℕ)) (late : ℕ) → lane ≡ [] → back ≡ [] → Flow a b lane back sent heard late → Flow a b [] [] sent heard late
+lanes-empty a b lane back sent heard late is is_back f = subst (λ (x : List LaneCell). Flow a b x [] sent heard late) is (subst (λ (x : List LaneCell). Flow a b lane x sent heard late) is_back f)
 
 pub at-rest : (near far : Who) (first far_first : StationState) (s : LineState) (late : Late) (lines : List Line) (h : Flows near far first far_first s late lines) → IsStill s → AreAtRest near far first far_first s late lines h
 at-rest near far first far_first s late lines h still =

@@ -9,7 +9,7 @@ use Rattle.pccc_envelope.specs.Envelope.{is_reply}
 use Rattle.line_statement.specs.declared.who.Who.{Who}
 use Rattle.line_report.specs.declared.record.Line.{Line}
 use Rattle.line_report.specs.declared.record.Line.TheVariants as line
-use Rattle.each_once.specs.NodeLines.{did_lines}
+use Rattle.told_lines.specs.NodeLines.{did_lines}
 use Rattle.each_once.specs.Tells.{is_who, executed_at, executed_in, answer_at, answers_in}
 use Rattle.each_once.proofs.HandedOut.{is_command}
 use Rattle.each_once.proofs.Sublists.{filter-keeps, filter-drops}

@@ -10,16 +10,17 @@ use Rattle.df1_node.specs.Initiator.{next_command}
 use Rattle.df1_node.specs.Node.{NodeState}
 use Rattle.line_statement.specs.declared.who.Who.{Who}
 use Rattle.line_statement.specs.declared.who.Who.TheVariants.{A, B, M, S}
-use Rattle.line_script.specs.declared.script.Event.{Event}
-use Rattle.line_script.specs.declared.script.Event.TheVariants as event
-use Rattle.line_script.specs.declared.script.EndPlan.{EndPlan}
-use Rattle.line_script.specs.declared.script.Script.{Script}
-use Rattle.line_script.specs.Plans.{plan_of, fresh_end}
+use Rattle.script_parts.specs.declared.script.Event.{Event}
+use Rattle.script_parts.specs.declared.script.Event.TheVariants as event
+use Rattle.script_parts.specs.declared.script.EndPlan.{EndPlan}
+use Rattle.script_parts.specs.declared.script.Script.{Script}
+use Rattle.script_parts.specs.Plans.{first_plan}
 use Rattle.line_statement.specs.Statements.{is_payload}
-use Rattle.line_script.specs.Playable.{IsPossible, IsPlayable, AreEnds, issues, is_end}
+use Rattle.script_parts.specs.Playable.{IsPossible, IsPlayable, AreEnds, issues, is_end}
 use Rattle.line_report.specs.declared.record.Line.{Line}
-use Rattle.duplex_line.specs.declared.cell.Cell.{Cell}
-use Rattle.duplex_line.specs.Acts.{SideState, LineState, swapped, Deed, Issue, Take, Deliver, Lose, Alter, Foreign, Tick, altered, after_leaving, after_alter, after_deed, after_deeds, lines_at, lines_over, given_over}
+use Rattle.line_cells.specs.Cells.{LaneCell}
+use Rattle.line_cells.specs.Cells.{altered}
+use Rattle.duplex_line.specs.Acts.{SideState, LineState, swapped, Deed, Issue, Take, Deliver, Lose, Alter, Foreign, Tick, after_leaving, after_alter, after_deed, after_deeds, lines_at, lines_over, given_over}
 use Rattle.duplex_line.specs.Run.{first_station, first_side, first_node, setup_of, plan_of_a, plan_of_b, start, who_of, deeds_of, other, seen_from, after_event, sent_lines, deed_lines, lines_of, state_after, lines_after, last_state, record_from}
 use Rattle.duplex_line.specs.Plays.{issued_by, IsUnspent}
 use Rattle.each_once.specs.Exchanges.{exchanges}
@@ -65,13 +66,13 @@ stepped near far first far_first s late lines more deed none h =
     (subst (λ (l : Late). Flows near far first far_first (after_deed s deed) l (lines ++ more)) (sym (still-late late (is_quiet s) deed none)) h)
 
 -- the head of a lane arrives
-deliver-cells : (near far : Who) → AreTwo near far → (first far_first : StationState) (s : LineState) (cells : List Cell) (late : Late) (lines : List Line) → Flows near far first far_first (record { a = record { end = s.a.end; lane = cells }; b = s.b; deceived = s.deceived }) late lines
+deliver-cells : (near far : Who) → AreTwo near far → (first far_first : StationState) (s : LineState) (cells : List LaneCell) (late : Late) (lines : List Line) → Flows near far first far_first (record { a = record { end = s.a.end; lane = cells }; b = s.b; deceived = s.deceived }) late lines
     → Flows near far first far_first (after_deed (record { a = record { end = s.a.end; lane = cells }; b = s.b; deceived = s.deceived }) Deliver) late (lines ++ lines_at near far (record { a = record { end = s.a.end; lane = cells }; b = s.b; deceived = s.deceived }) Deliver)
 deliver-cells near far two first far_first s [] late lines h = rw (append-nil lines) h
 deliver-cells near far two first far_first s (cell ∷ cells) late lines h = flows-arrival near far two first far_first s.a.end cell cells s.b s.deceived late lines h
 
-altered-none : (s : SideState) (mask : ℕ) (lane : List Cell) → s.lane ≡ lane → slice_get lane 0 ≡ None → after_alter s mask ≡ s
-altered-none s mask [] is none = ap (λ (cells : List Cell). let t : SideState = record { end = s.end; lane = altered mask cells } in t) is ∙ ap (λ (cells : List Cell). let t : SideState = record { end = s.end; lane = cells } in t) (sym is)
+altered-none : (s : SideState) (mask : ℕ) (lane : List LaneCell) → s.lane ≡ lane → slice_get lane 0 ≡ None → after_alter s mask ≡ s
+altered-none s mask [] is none = ap (λ (cells : List LaneCell). let t : SideState = record { end = s.end; lane = altered mask cells } in t) is ∙ ap (λ (cells : List LaneCell). let t : SideState = record { end = s.end; lane = cells } in t) (sym is)
 altered-none s mask (cell ∷ cells) is none = absurd cc
 
 flows-plain : (deed : Deed) → IsPlain deed → (s : LineState) (late : Late) → IsGentle s.a deed → AreFew (late_after late s deed) (after_deed s deed) → (near far : Who) → AreTwo near far → (first far_first : StationState) (lines : List Line) → Flows near far first far_first s late lines
@@ -203,7 +204,7 @@ flows-start : (script : Script) → IsPlayable script → Flows A B (first_stati
 flows-start script playable =
     let a = plan_of_a script in
     let b = plan_of_b script in
-    let rooms = room-at-first script.ends playable.ends (plan_of A 0 fresh_end) (plan_of B 1 fresh_end) in
+    let rooms = room-at-first script.ends playable.ends (first_plan A 0) (first_plan B 1) in
     record {
       sent = [];
       heard = [];

@@ -8,8 +8,8 @@ use Rattle.df1_frame.specs.Spelling.{check_bytes}
 use Rattle.logical_address.specs.Reading.{three_front}
 use Rattle.slc_commands.specs.Order.{fields, spelled_order}
 use Rattle.line_statement.specs.declared.who.Who.TheVariants.{A, B}
-use Rattle.line_script.specs.declared.script.Event.{Event}
-use Rattle.line_script.specs.Playable.{IsPossible, IsPlayable}
+use Rattle.script_parts.specs.declared.script.Event.{Event}
+use Rattle.script_parts.specs.Playable.{IsPossible, IsPlayable}
 use Rattle.duplex_line.specs.Acts.{SideState, LineState, Deed, Issue, Take, Deliver, Lose, Alter, Foreign, Tick, after_deed}
 use Rattle.duplex_line.specs.Run.{start, who_of, deeds_of, seen_from, after_event, last_state, lines_after}
 use Rattle.duplex_line.specs.Prompt.{Late, none_late, late_seen, late_after, late_event, patience, AreFew, IsGentle, IsPromptOver, IsPromptAfter, IsPrompt, EndsQuiet}

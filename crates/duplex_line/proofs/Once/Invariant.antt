@@ -6,9 +6,9 @@ use Rattle.std.specs.List.{filter}
 use Rattle.df1_node.specs.Answer.{StationState}
 use Rattle.line_statement.specs.declared.who.Who.{Who}
 use Rattle.line_statement.specs.declared.who.Who.TheVariants.{A, B, M, S}
-use Rattle.line_script.specs.Playable.{is_end, joins}
+use Rattle.script_parts.specs.Playable.{is_end, joins}
 use Rattle.line_report.specs.declared.record.Line.{Line}
-use Rattle.duplex_line.specs.declared.cell.Cell.{Cell}
+use Rattle.line_cells.specs.Cells.{LaneCell}
 use Rattle.duplex_line.specs.Acts.{LineState, swapped}
 use Rattle.duplex_line.specs.Plays.{issued_by}
 use Rattle.each_once.specs.Tells.{is_who}
@@ -18,8 +18,8 @@ use Rattle.each_once.proofs.HandedOut.{is_command, Hosts}
 use Rattle.each_once.proofs.ToldLines.{IsTold}
 
 -- the lane of these cells: the bodies of the transmissions that end in them
-abbrev pub lane_of : List Cell → Lane
-lane_of cells = map (λ (c : Cell). option_map (λ e. e.body) c.ends) cells
+abbrev pub lane_of : List LaneCell → Lane
+lane_of cells = map (λ (c : LaneCell). option_map (λ e. e.body) c.ends) cells
 
 -- the names of two ends
 pub record AreTwo (near far : Who) : Type 0 where

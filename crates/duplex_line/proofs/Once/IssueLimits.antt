@@ -19,10 +19,10 @@ use Rattle.duplex_end.specs.End.{EndState, end_after_byte, end_after_tick, end_a
 use Rattle.duplex_end.proofs.Order.{end-is}
 use Rattle.line_statement.specs.declared.who.Who.{Who}
 use Rattle.line_statement.specs.declared.who.Who.TheVariants.{A, B, M, S}
-use Rattle.line_script.specs.declared.script.Event.{Event}
-use Rattle.line_script.specs.declared.script.Event.TheVariants as event
-use Rattle.line_script.specs.Playable.{IsPossible, issues}
-use Rattle.duplex_line.specs.declared.cell.Cell.{Cell}
+use Rattle.script_parts.specs.declared.script.Event.{Event}
+use Rattle.script_parts.specs.declared.script.Event.TheVariants as event
+use Rattle.script_parts.specs.Playable.{IsPossible, issues}
+use Rattle.line_cells.specs.Cells.{LaneCell}
 use Rattle.each_once.specs.NodeHost.{node_host}
 use Rattle.duplex_line.specs.Acts.{SideState, LineState, swapped, Deed, Issue, Take, Deliver, Lose, Alter, Foreign, Tick, near_after, arriving, after_arrival, after_deed, after_deeds}
 use Rattle.duplex_line.specs.Run.{seen_from, after_event}
@@ -134,7 +134,7 @@ near-commands s (Alter mask) = refl
 near-commands s (Foreign byte) = refl
 near-commands s Tick = tick-commands s.end
 
-far-commands : (s : SideState) (cell : Option Cell) → issued_by (after_arrival s cell) ≡ issued_by s
+far-commands : (s : SideState) (cell : Option LaneCell) → issued_by (after_arrival s cell) ≡ issued_by s
 far-commands s None = refl
 far-commands s (Some cell) = byte-commands s.end cell.byte
 

@@ -18,11 +18,11 @@ use Rattle.line_statement.specs.declared.who.Who.{Who}
 use Rattle.line_statement.specs.Statements.{is_payload}
 use Rattle.line_report.specs.declared.record.Line.{Line}
 use Rattle.line_report.specs.declared.record.Line.TheVariants as line
-use Rattle.duplex_line.specs.declared.cell.Cell.{Cell}
-use Rattle.duplex_line.specs.declared.cell.Ending.{Ending}
+use Rattle.line_cells.specs.Cells.{LaneCell, Ending}
 use Rattle.each_once.specs.NodeHost.{node_host}
-use Rattle.each_once.specs.NodeLines.{turn_lines, gone_lines}
-use Rattle.duplex_line.specs.Acts.{SideState, LineState, Issue, Take, Deliver, Lose, Alter, Foreign, Tick, after_deed, lines_at, cell_of, altered, bare, deceptions_at}
+use Rattle.told_lines.specs.NodeLines.{turn_lines, gone_lines}
+use Rattle.line_cells.specs.Cells.{cell_of, altered, bare}
+use Rattle.duplex_line.specs.Acts.{SideState, LineState, Issue, Take, Deliver, Lose, Alter, Foreign, Tick, after_deed, lines_at, deceptions_at}
 use Rattle.duplex_line.specs.Plays.{issued_by}
 use Rattle.duplex_line.proofs.Once.IssueLimits.{take-commands, tick-commands}
 use Rattle.each_once.proofs.OneDirection.{Lane, Way, way-more, way-put, way-end, way-leaves, way-bare}
@@ -82,11 +82,11 @@ way-out sent sending out (Some number) lane is last {kept = kept} {heard = heard
     let l = last number is in
     rw is (subst (λ (m : List (List ℕ)). Way m (lane ++ Some sending ∷ []) kept heard) (sym l.1) (way-end l.0 sending lane kept heard (subst (λ (m : List (List ℕ)). Way m lane kept heard) l.1 w)))
 
-way-given : (sent : List (List ℕ)) (sending : List ℕ) (cells : List Cell) (o : Option Out) → ((out : Out) (number : ℕ) → o ≡ Some out → out.last_of ≡ Some number → IsLast sent sending)
+way-given : (sent : List (List ℕ)) (sending : List ℕ) (cells : List LaneCell) (o : Option Out) → ((out : Out) (number : ℕ) → o ≡ Some out → out.last_of ≡ Some number → IsLast sent sending)
     → {kept : _} {heard : List (List ℕ)} → Way sent (lane_of cells) kept heard → Way sent (lane_of (cells ++ option_to_list (option_map (cell_of sending) o))) kept heard
 way-given sent sending cells None last w = rw (append-nil cells) w
 way-given sent sending cells (Some out) last {kept = kept} {heard = heard} w =
-    let same : lane_of (cells ++ cell_of sending out ∷ []) ≡ lane_of cells ++ option_map (λ (e : Ending). e.body) (cell_of sending out).ends ∷ [] = map-append (λ (c : Cell). option_map (λ (e : Ending). e.body) c.ends) cells (cell_of sending out ∷ []) in
+    let same : lane_of (cells ++ cell_of sending out ∷ []) ≡ lane_of cells ++ option_map (λ (e : Ending). e.body) (cell_of sending out).ends ∷ [] = map-append (λ (c : LaneCell). option_map (λ (e : Ending). e.body) c.ends) cells (cell_of sending out ∷ []) in
     subst (λ (lane : Lane). Way sent lane kept heard) (sym same) (way-out sent sending out out.last_of (lane_of cells) refl (λ number is. last out number refl is) w)
 
 pub holds-take : (near far : Who) (first far_first : StationState) (s : LineState) (lines : List Line) → Holds near far first far_first s lines → Holds near far first far_first (after_deed s Take) lines
@@ -117,7 +117,7 @@ holds-take near far first far_first s lines h =
 -- ---- the head of the lane is lost or altered
 
 -- another lane at the near end
-with-lane : (near far : Who) (first far_first : StationState) (s : LineState) (cells : List Cell) (lines : List Line) (h : Holds near far first far_first s lines) → Way h.sent (lane_of cells) s.b.end.receiver.kept h.far_heard
+with-lane : (near far : Who) (first far_first : StationState) (s : LineState) (cells : List LaneCell) (lines : List Line) (h : Holds near far first far_first s lines) → Way h.sent (lane_of cells) s.b.end.receiver.kept h.far_heard
     → Holds near far first far_first (nearer s (record { end = s.a.end; lane = cells })) lines
 with-lane near far first far_first s cells lines h way = record {
   sent = h.sent;
@@ -136,11 +136,11 @@ with-lane near far first far_first s cells lines h way = record {
   far_told = h.far_told;
 }
 
-way-lost : (sent : List (List ℕ)) (cells : List Cell) → {kept : _} {heard : List (List ℕ)} → Way sent (lane_of cells) kept heard → Way sent (lane_of (drop 1 cells)) kept heard
+way-lost : (sent : List (List ℕ)) (cells : List LaneCell) → {kept : _} {heard : List (List ℕ)} → Way sent (lane_of cells) kept heard → Way sent (lane_of (drop 1 cells)) kept heard
 way-lost sent [] w = w
 way-lost sent (cell ∷ cells) {kept = kept} {heard = heard} w = way-leaves sent (option_map (λ (e : Ending). e.body) cell.ends) (lane_of cells) kept heard w
 
-way-altered : (sent : List (List ℕ)) (mask : ℕ) (cells : List Cell) → {kept : _} {heard : List (List ℕ)} → Way sent (lane_of cells) kept heard → Way sent (lane_of (altered mask cells)) kept heard
+way-altered : (sent : List (List ℕ)) (mask : ℕ) (cells : List LaneCell) → {kept : _} {heard : List (List ℕ)} → Way sent (lane_of cells) kept heard → Way sent (lane_of (altered mask cells)) kept heard
 way-altered sent mask [] w = w
 way-altered sent mask (cell ∷ cells) {kept = kept} {heard = heard} w = way-bare sent (lane_of cells) kept heard (way-leaves sent (option_map (λ (e : Ending). e.body) cell.ends) (lane_of cells) kept heard w)
 
@@ -195,7 +195,7 @@ holds-tick near far first far_first s lines h =
 plus-none : (n m : ℕ) → n + m ≡ 0 → m ≡ 0
 plus-none n m is = omega (arith, is)
 
-deliver-cells : (near far : Who) → AreTwo near far → (first far_first : StationState) (s : LineState) (cells : List Cell) (lines : List Line) → s.a.lane ≡ cells → (after_deed s Deliver).deceived ≡ 0
+deliver-cells : (near far : Who) → AreTwo near far → (first far_first : StationState) (s : LineState) (cells : List LaneCell) (lines : List Line) → s.a.lane ≡ cells → (after_deed s Deliver).deceived ≡ 0
     → Holds near far first far_first (nearer s (record { end = s.a.end; lane = cells })) lines
     → Holds near far first far_first (after_deed (nearer s (record { end = s.a.end; lane = cells })) Deliver) (lines ++ lines_at near far (nearer s (record { end = s.a.end; lane = cells })) Deliver)
 deliver-cells near far two first far_first s [] lines is none h = rw (append-nil lines) h

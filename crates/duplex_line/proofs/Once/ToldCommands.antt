@@ -20,19 +20,19 @@ use Rattle.duplex_sender.specs.Sender.{tick_turn}
 use Rattle.duplex_end.specs.End.{act_of_byte, did_at, news_of, fate_at, host_after, host_told, host_at_byte, fate_of_tick, turn_told, turn_at_tick, host_at_tick, gone_at_tick}
 use Rattle.line_statement.specs.declared.who.Who.{Who}
 use Rattle.line_statement.specs.declared.who.Who.TheVariants.{A, B, M, S}
-use Rattle.line_script.specs.declared.script.Event.{Event}
-use Rattle.line_script.specs.declared.script.Event.TheVariants as event
-use Rattle.line_script.specs.declared.script.Script.{Script}
-use Rattle.line_script.specs.Playable.{IsPossible, IsPlayable, is_end}
+use Rattle.script_parts.specs.declared.script.Event.{Event}
+use Rattle.script_parts.specs.declared.script.Event.TheVariants as event
+use Rattle.script_parts.specs.declared.script.Script.{Script}
+use Rattle.script_parts.specs.Playable.{IsPossible, IsPlayable, is_end}
 use Rattle.line_report.specs.declared.record.Line.{Line}
 use Rattle.line_report.specs.declared.record.Line.TheVariants as line
 use Rattle.each_once.specs.Commands.{Request, AreOutcomesTold}
 use Rattle.each_once.specs.NodeHost.{node_host}
-use Rattle.each_once.specs.NodeLines.{did_lines, act_lines, news_lines, turn_lines, gone_lines}
+use Rattle.told_lines.specs.NodeLines.{did_lines, act_lines, news_lines, turn_lines, gone_lines}
 use Rattle.each_once.specs.Tells.{is_who}
 use Rattle.each_once.proofs.IssuedCommands.{SameCommands, same-itself, same-both, same-accept, same-told, same-tick, same-next, AreIssued, issued-same, issued-more}
 use Rattle.each_once.proofs.ToldOutcomes.{TellNone, none-both, outcomes-start, outcomes-silent, outcomes-issue, outcomes-accept, outcomes-told, outcomes-next, outcomes-tick}
-use Rattle.duplex_line.specs.declared.cell.Cell.{Cell}
+use Rattle.line_cells.specs.Cells.{LaneCell}
 use Rattle.duplex_line.specs.Acts.{SideState, LineState, swapped, Deed, Issue, Take, Deliver, Lose, Alter, Foreign, Tick, near_after, arriving, after_cell, after_arrival, step_of, body_heard, after_deed, after_deeds, near_lines, cell_lines, arrival_lines, lines_at, lines_over, given_over}
 use Rattle.duplex_line.specs.Issues.{request_at, requests_in}
 use Rattle.duplex_line.specs.Run.{plan_of_a, plan_of_b, start, seen_from, after_event, sent_lines, deed_lines, lines_of, state_after, lines_after, last_state}
@@ -72,13 +72,13 @@ other-gone : (who by : Who) → is_who who by ≡ false → (numbers : List ℕ)
 other-gone who by apart [] n = refl
 other-gone who by apart (number ∷ numbers) n = rw apart (other-gone who by apart numbers n)
 
-other-cell : (who by : Who) → is_who who by ≡ false → (side : SideState) (cell : Cell) → TellNone who (cell_lines by side cell)
+other-cell : (who by : Who) → is_who who by ≡ false → (side : SideState) (cell : LaneCell) → TellNone who (cell_lines by side cell)
 other-cell who by apart side cell =
     let step = step_of side cell in
     let body = body_heard side cell in
     none-both who (act_lines by step.act step.did body) (news_lines by step.news) (other-act who by apart step.act step.did body) (other-news who by apart step.news)
 
-other-arrival : (who by : Who) → is_who who by ≡ false → (side : SideState) (cell : Option Cell) → TellNone who (arrival_lines by side cell)
+other-arrival : (who by : Who) → is_who who by ≡ false → (side : SideState) (cell : Option LaneCell) → TellNone who (arrival_lines by side cell)
 other-arrival who by apart side None = λ n. refl
 other-arrival who by apart side (Some cell) = other-cell who by apart side cell
 
@@ -142,7 +142,7 @@ same-fate : (what : Option Fate) (host : NodeState) → SameCommands host.initia
 same-fate None host = same-itself host.initiator
 same-fate (Some what) host = same-told what host
 
-recounts-cell : (who : Who) → is_who who who ≡ true → (node tns : ℕ) (requests : List Request) (side : SideState) (cell : Cell) (lines : List Line) → Recounts who node tns requests side lines → Recounts who node tns requests (after_cell side cell) (lines ++ cell_lines who side cell)
+recounts-cell : (who : Who) → is_who who who ≡ true → (node tns : ℕ) (requests : List Request) (side : SideState) (cell : LaneCell) (lines : List Line) → Recounts who node tns requests side lines → Recounts who node tns requests (after_cell side cell) (lines ++ cell_lines who side cell)
 recounts-cell who itself node tns requests side cell lines r =
     let e = side.end in
     let what = act_of_byte node_host e cell.byte in
@@ -157,7 +157,7 @@ recounts-cell who itself node tns requests side cell lines r =
           (outcomes-fate who itself fate now (lines ++ first) (outcomes-act who itself what e.host body lines r.outcomes));
     }
 
-recounts-arrival : (who : Who) → is_who who who ≡ true → (node tns : ℕ) (requests : List Request) (side : SideState) (cell : Option Cell) (lines : List Line) → Recounts who node tns requests side lines → Recounts who node tns requests (after_arrival side cell) (lines ++ arrival_lines who side cell)
+recounts-arrival : (who : Who) → is_who who who ≡ true → (node tns : ℕ) (requests : List Request) (side : SideState) (cell : Option LaneCell) (lines : List Line) → Recounts who node tns requests side lines → Recounts who node tns requests (after_arrival side cell) (lines ++ arrival_lines who side cell)
 recounts-arrival who itself node tns requests side None lines r = recounts-silent who node tns requests side lines [] (λ n. refl) r
 recounts-arrival who itself node tns requests side (Some cell) lines r = recounts-cell who itself node tns requests side cell lines r
 

@@ -1,18 +1,8 @@
--- What is counted up one by one: words of a file, and unit steps of one kind.
-use Rattle.std.proofs.Common.{◌≡◌, ◌∙◌, ℕ, ◌+◌, ◌-◌, ◌<◌, suc, List, ◌∷◌, ◌++◌, length, drop, drop-cons, get_or, ap, refl, arith}
+-- What is counted up one by one: unit steps of one kind, and bytes.
+use Rattle.std.proofs.Common.{◌≡◌, ◌∙◌, ℕ, ◌+◌, ◌-◌, ◌<◌, suc, List, ◌∷◌, length, drop, drop-cons, get_or, ap, refl, arith}
 use Rattle.std.proofs.Math.Numerals.{suc-eq-add-one}
 use Rattle.std.specs.Prelude.{replicate}
-use Rattle.data_files.specs.Tables.{DataTables, word_at}
-use Rattle.line_statement.specs.declared.who.Who.{Who}
 use Rattle.duplex_line.specs.Acts.{Deed}
-use Rattle.duplex_line.specs.Run.{word_line, words_from}
-
--- the words from an index on are the word there and those from the next one on
-pub words_from-next : (who : Who) (tables : DataTables) (number index count : ℕ) → index < count →
-    words_from who tables number index (count - index) ≡ word_line who number index (word_at tables number index) ++ words_from who tables number (index + 1) (count - (index + 1))
-words_from-next who tables number index count lt =
-    let more : count - index ≡ suc (count - (index + 1)) = omega arith in
-    rw more refl
 
 -- the steps that are left are one and those that are left then
 pub repeat-next : (deed : Deed) (n i : ℕ) → i < n → replicate (n - i) deed ≡ deed ∷ replicate (n - (i + 1)) deed

@@ -3,8 +3,9 @@ use Rattle.std.proofs.Common.{◌≡◌, ◌∙◌, ℕ, List, [], ◌∷◌, �
 use Rattle.std.specs.Prelude.{replicate}
 use Rattle.line_statement.specs.declared.who.Who.{Who}
 use Rattle.line_report.specs.declared.record.Line.{Line}
-use Rattle.duplex_line.specs.declared.cell.Cell.{Cell}
-use Rattle.duplex_line.specs.Acts.{SideState, LineState, Deed, Take, Deliver, Lose, Foreign, Tick, bare, after_cell, deceptions_at, cell_lines, after_deed, after_deeds, lines_over, given_over}
+use Rattle.line_cells.specs.Cells.{LaneCell}
+use Rattle.line_cells.specs.Cells.{bare}
+use Rattle.duplex_line.specs.Acts.{SideState, LineState, Deed, Take, Deliver, Lose, Foreign, Tick, after_cell, deceptions_at, cell_lines, after_deed, after_deeds, lines_over, given_over}
 use Rattle.duplex_line.specs.Steps.{near_over, near_lines_over}
 use Rattle.duplex_line.specs.Run.{other, sent_lines, deed_lines}
 use Rattle.duplex_line.proofs.Steps.UnitSteps.{nearer, stays, stays-lines, silent, gives-none}
@@ -60,10 +61,10 @@ ticks-lines who n s old new e =
 -- ---- foreign bytes
 
 -- a foreign byte has arrived
-pub foreign-one : (near far after : SideState) (count more : ℕ) (cell : Cell) (byte : ℕ) → cell ≡ bare byte → after ≡ after_cell far cell → more ≡ count + deceptions_at far cell
+pub foreign-one : (near far after : SideState) (count more : ℕ) (cell : LaneCell) (byte : ℕ) → cell ≡ bare byte → after ≡ after_cell far cell → more ≡ count + deceptions_at far cell
     → nearer (record { a = near; b = after; deceived = more }) near ≡ after_deed (record { a = near; b = far; deceived = count }) (Foreign byte)
 foreign-one near far after count more cell byte is is-after is-more = rw (is-after, is-more, is) refl
 
-pub foreign-lines-one : (from to : Who) (near far after : SideState) (count more : ℕ) (cell : Cell) (byte : ℕ) (rest : List Deed) (old new : List Line) → cell ≡ bare byte → after ≡ after_cell far cell → more ≡ count + deceptions_at far cell → new ≡ old ++ cell_lines to far cell
+pub foreign-lines-one : (from to : Who) (near far after : SideState) (count more : ℕ) (cell : LaneCell) (byte : ℕ) (rest : List Deed) (old new : List Line) → cell ≡ bare byte → after ≡ after_cell far cell → more ≡ count + deceptions_at far cell → new ≡ old ++ cell_lines to far cell
     → new ++ lines_over from to (record { a = near; b = after; deceived = more }) rest ≡ old ++ lines_over from to (record { a = near; b = far; deceived = count }) (Foreign byte ∷ rest)
 foreign-lines-one from to near far after count more cell byte rest old new is is-after is-more is-new = rw (is-new, is-after, is-more, is) (append_assoc old (cell_lines to far (bare byte)) _)

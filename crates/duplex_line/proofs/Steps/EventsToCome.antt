@@ -4,9 +4,9 @@ use Rattle.std.specs.Prelude.{count_by, sum_by}
 use Rattle.std.proofs.Math.Numerals.{suc-eq-add-one}
 use Rattle.std.proofs.lemmas.List.Sums.{sum_by-cons}
 use Rattle.line_statement.specs.declared.who.Who.TheVariants.{A, B, M, S}
-use Rattle.line_script.specs.declared.script.Event.{Event}
-use Rattle.line_script.specs.declared.script.Event.TheVariants as event
-use Rattle.line_script.specs.Playable.{IsPossible, issues, count_of}
+use Rattle.script_parts.specs.declared.script.Event.{Event}
+use Rattle.script_parts.specs.declared.script.Event.TheVariants as event
+use Rattle.script_parts.specs.Playable.{IsPossible, issues, count_of}
 use Rattle.duplex_line.specs.Acts.{LineState}
 use Rattle.duplex_line.specs.Run.{after_event, seen_from, who_of}
 use Rattle.duplex_line.specs.Plays.{issued_by, most_events, IsUnspent}

@@ -6,9 +6,10 @@ use Rattle.df1_base.specs.declared.link.Out.{Out}
 use Rattle.df1_node.specs.Node.{NodeState}
 use Rattle.duplex_end.specs.End.{EndState, out_at_take}
 use Rattle.line_statement.specs.declared.who.Who.{Who}
-use Rattle.duplex_line.specs.declared.cell.Cell.{Cell}
+use Rattle.line_cells.specs.Cells.{LaneCell}
 use Rattle.each_once.specs.NodeHost.{node_host}
-use Rattle.duplex_line.specs.Acts.{SideState, LineState, Deed, Take, Deliver, Lose, byte_taken, after_take, after_leaving, after_cell, after_arrival, cell_lines, arrival_lines, deceptions_at, deceived_after, cell_of, after_deed, after_deeds, lines_over, given_over}
+use Rattle.line_cells.specs.Cells.{cell_of}
+use Rattle.duplex_line.specs.Acts.{SideState, LineState, Deed, Take, Deliver, Lose, byte_taken, after_take, after_leaving, after_cell, after_arrival, cell_lines, arrival_lines, deceptions_at, deceived_after, after_deed, after_deeds, lines_over, given_over}
 use Rattle.duplex_line.specs.Steps.{near_over}
 use Rattle.duplex_line.proofs.Steps.IdleTake.{take-nothing}
 use Rattle.duplex_line.proofs.Steps.UnitSteps.{still}
@@ -24,7 +25,7 @@ take-none s e =
     let side : EndState NodeState → Option Out → SideState = λ end out. record { end = end; lane = s.lane ++ option_to_list (option_map (cell_of end.sending) out) } in
     ap (λ (end : EndState NodeState). side end (out_at_take node_host s.end)) same
     ∙ ap (side s.end) nothing
-    ∙ ap (λ (lane : List Cell). let after : SideState = record { end = s.end; lane = lane } in after) (append-nil s.lane)
+    ∙ ap (λ (lane : List LaneCell). let after : SideState = record { end = s.end; lane = lane } in after) (append-nil s.lane)
 
 -- an end that has nothing to give stays as it is
 pub takes-none : (s : SideState) → byte_taken s ≡ None → (n : ℕ) → near_over s (replicate n Take) ≡ s
@@ -38,8 +39,8 @@ gives-nothing s e (suc n) =
     ∙ gives-nothing s e n
 
 -- nothing is lost of an empty lane
-leaving-none : (s : SideState) (lane : List Cell) → s.lane ≡ lane → slice_get lane 0 ≡ None → after_leaving s ≡ s
-leaving-none s [] e none = ap (λ (cells : List Cell). let after : SideState = record { end = s.end; lane = cells } in after) (ap (λ (cells : List Cell). drop 1 cells) e ∙ sym e)
+leaving-none : (s : SideState) (lane : List LaneCell) → s.lane ≡ lane → slice_get lane 0 ≡ None → after_leaving s ≡ s
+leaving-none s [] e none = ap (λ (cells : List LaneCell). let after : SideState = record { end = s.end; lane = cells } in after) (ap (λ (cells : List LaneCell). drop 1 cells) e ∙ sym e)
 leaving-none s (cell ∷ cells) e none = absurd cc
 
 pub leave-none : (s : SideState) → slice_get s.lane 0 ≡ None → after_leaving s ≡ s
@@ -51,7 +52,7 @@ loses-none s e n = still Lose s (leave-none s e) n
 -- nothing arrives of an empty lane
 deliver-none : (s : LineState) → slice_get s.a.lane 0 ≡ None → after_deed s Deliver ≡ s
 deliver-none s e =
-    ap (λ (cell : Option Cell). let after : LineState = record { a = after_leaving s.a; b = after_arrival s.b cell; deceived = deceived_after s.deceived s.b cell } in after) e
+    ap (λ (cell : Option LaneCell). let after : LineState = record { a = after_leaving s.a; b = after_arrival s.b cell; deceived = deceived_after s.deceived s.b cell } in after) e
     ∙ ap (λ (a : SideState). let after : LineState = record { a = a; b = s.b; deceived = s.deceived } in after) (leave-none s.a e)
 
 pub delivers-none : (s : LineState) → slice_get s.a.lane 0 ≡ None → (n : ℕ) → after_deeds s (replicate n Deliver) ≡ s
@@ -61,27 +62,27 @@ delivers-none s e (suc n) = ap (λ (t : LineState). after_deeds t (replicate n D
 pub delivers-no-lines : (near far : Who) (s : LineState) → slice_get s.a.lane 0 ≡ None → (n : ℕ) → lines_over near far s (replicate n Deliver) ≡ []
 delivers-no-lines near far s e zero = refl
 delivers-no-lines near far s e (suc n) =
-    ap (λ (cell : Option Cell). arrival_lines far s.b cell ++ lines_over near far (after_deed s Deliver) (replicate n Deliver)) e
+    ap (λ (cell : Option LaneCell). arrival_lines far s.b cell ++ lines_over near far (after_deed s Deliver) (replicate n Deliver)) e
     ∙ ap (λ (t : LineState). lines_over near far t (replicate n Deliver)) (deliver-none s e)
     ∙ delivers-no-lines near far s e n
 
 -- ---- the head of a lane arrives
 
-pub is-none : (cell : Option Cell) → is_some cell ≡ false → cell ≡ None
+pub is-none : (cell : Option LaneCell) → is_some cell ≡ false → cell ≡ None
 is-none None e = refl
 is-none (Some cell) e = absurd cc
 
 -- the line after a cell has arrived
-abbrev pub delivered : LineState → Cell → LineState
+abbrev pub delivered : LineState → LaneCell → LineState
 delivered s cell = record { a = after_leaving s.a; b = after_cell s.b cell; deceived = s.deceived + deceptions_at s.b cell }
 
-pub deliver-one : (s : LineState) (cell : Cell) → slice_get s.a.lane 0 ≡ Some cell → after_deed s Deliver ≡ delivered s cell
-deliver-one s cell e = ap (λ (head : Option Cell). let after : LineState = record { a = after_leaving s.a; b = after_arrival s.b head; deceived = deceived_after s.deceived s.b head } in after) e
+pub deliver-one : (s : LineState) (cell : LaneCell) → slice_get s.a.lane 0 ≡ Some cell → after_deed s Deliver ≡ delivered s cell
+deliver-one s cell e = ap (λ (head : Option LaneCell). let after : LineState = record { a = after_leaving s.a; b = after_arrival s.b head; deceived = deceived_after s.deceived s.b head } in after) e
 
-pub deliver-lines : (from to : Who) (s : LineState) (cell : Cell) (more : List Deed) → slice_get s.a.lane 0 ≡ Some cell →
+pub deliver-lines : (from to : Who) (s : LineState) (cell : LaneCell) (more : List Deed) → slice_get s.a.lane 0 ≡ Some cell →
     lines_over from to s (Deliver ∷ more) ≡ cell_lines to s.b cell ++ lines_over from to (delivered s cell) more
 deliver-lines from to s cell more e =
-    ap (λ (head : Option Cell). arrival_lines to s.b head ++ lines_over from to (after_deed s Deliver) more) e
+    ap (λ (head : Option LaneCell). arrival_lines to s.b head ++ lines_over from to (after_deed s Deliver) more) e
     ∙ ap (λ (t : LineState). cell_lines to s.b cell ++ lines_over from to t more) (deliver-one s cell e)
 
 -- ---- a byte is given

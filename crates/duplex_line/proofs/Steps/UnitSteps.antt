@@ -3,7 +3,7 @@ use Rattle.std.proofs.Common.{◌≡◌, ◌∙◌, ℕ, zero, suc, List, [], �
 use Rattle.std.specs.Prelude.{replicate}
 use Rattle.line_statement.specs.declared.who.Who.{Who}
 use Rattle.line_report.specs.declared.record.Line.{Line}
-use Rattle.duplex_line.specs.declared.cell.Cell.{Cell}
+use Rattle.line_cells.specs.Cells.{LaneCell}
 use Rattle.duplex_line.specs.Acts.{SideState, LineState, Deed, near_after, near_lines, arriving, after_arrival, arrival_lines, deceived_after, given_at, given_over, after_deed, after_deeds, lines_at, lines_over}
 use Rattle.duplex_line.specs.Steps.{near_over, near_lines_over}
 
@@ -16,13 +16,13 @@ pub stays : (deed : Deed) → ((s : SideState) → arriving s deed ≡ None) →
 stays deed none zero s = refl
 stays deed none (suc n) s =
     stays deed none n (after_deed s deed)
-    ∙ ap (λ (cell : Option Cell). let after : LineState = record { a = near_over (near_after s.a deed) (replicate n deed); b = after_arrival s.b cell; deceived = deceived_after s.deceived s.b cell } in after) (none s.a)
+    ∙ ap (λ (cell : Option LaneCell). let after : LineState = record { a = near_over (near_after s.a deed) (replicate n deed); b = after_arrival s.b cell; deceived = deceived_after s.deceived s.b cell } in after) (none s.a)
 
 pub stays-lines : (near far : Who) (deed : Deed) → ((s : SideState) → arriving s deed ≡ None) → (n : ℕ) (s : LineState) → lines_over near far s (replicate n deed) ≡ near_lines_over near s.a (replicate n deed)
 stays-lines near far deed none zero s = refl
 stays-lines near far deed none (suc n) s =
     ap (λ (lines : List Line). lines_at near far s deed ++ lines) (stays-lines near far deed none n (after_deed s deed))
-    ∙ ap (λ (cell : Option Cell). near_lines near s.a deed ++ arrival_lines far s.b cell ++ near_lines_over near (near_after s.a deed) (replicate n deed)) (none s.a)
+    ∙ ap (λ (cell : Option LaneCell). near_lines near s.a deed ++ arrival_lines far s.b cell ++ near_lines_over near (near_after s.a deed) (replicate n deed)) (none s.a)
     ∙ ap (λ (lines : List Line). lines ++ near_lines_over near (near_after s.a deed) (replicate n deed)) (append-nil (near_lines near s.a deed))
 
 -- steps that make no line

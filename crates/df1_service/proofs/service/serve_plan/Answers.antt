@@ -1,6 +1,6 @@
 use Rattle.std.proofs.lemmas.Result.{IfOk-weaker}
 use Rattle.df1_base.specs.declared.signal.Signal.TheVariants.{Long}
-use Rattle.df1_service.specs.Wire.{BrokenOff, CutOff, HasNoForm, IsCut, IsServed, Reached}
+use Rattle.df1_service.specs.Wire.{StoppedByInput, StoppedByOutput, HasNoForm, IsCut, IsServed, Reached}
 use Rattle.df1_service.proofs.Wires.{of-plan, err-tells-so}
 use Rattle.df1_service.proofs.service.serve_plan.Goals as goal
 
@@ -21,9 +21,9 @@ returns-in-Ok-clause-long g c = λ is. of-plan (λ before. Reached c.args.servic
 pub returns-in-Ok-clause-broken : goal.returns-in-Ok-clause-broken
 returns-in-Ok-clause-broken g c = λ is.
     let told = c.serve_end.ensures.broken is in
-    (told.0, of-plan (λ before. BrokenOff c.args.service.timed before (g.S.Source.left c.args.input) (g.S.Source.left c.serve_end.result.input) (g.K.Sink.held c.args.out) (g.K.Sink.held c.serve_end.result.out)) _ _ c.in-Ok.end c.in-Ok.ensures.of_plan told.1)
+    (told.0, of-plan (λ before. StoppedByInput c.args.service.timed before (g.S.Source.left c.args.input) (g.S.Source.left c.serve_end.result.input) (g.K.Sink.held c.args.out) (g.K.Sink.held c.serve_end.result.out)) _ _ c.in-Ok.end c.in-Ok.ensures.of_plan told.1)
 
 pub returns-in-Ok-clause-cut : goal.returns-in-Ok-clause-cut
 returns-in-Ok-clause-cut g c = λ is.
     let told = c.serve_end.ensures.cut is in
-    (told.0, of-plan (λ before. CutOff c.args.service.timed before (g.S.Source.left c.args.input) (g.S.Source.left c.serve_end.result.input) (g.K.Sink.held c.args.out) (g.K.Sink.held c.serve_end.result.out)) _ _ c.in-Ok.end c.in-Ok.ensures.of_plan told.1)
+    (told.0, of-plan (λ before. StoppedByOutput c.args.service.timed before (g.S.Source.left c.args.input) (g.S.Source.left c.serve_end.result.input) (g.K.Sink.held c.args.out) (g.K.Sink.held c.serve_end.result.out)) _ _ c.in-Ok.end c.in-Ok.ensures.of_plan told.1)

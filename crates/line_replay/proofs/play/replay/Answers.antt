@@ -1,59 +1,54 @@
-use Rattle.std.proofs.Common.{◌≡◌, ◌+◌, ◌∙◌, append_assoc, drop, arith}
-use Rattle.std.proofs.lemmas.List.Elements.{All-get_or}
-use Rattle.line_script.specs.Playable.{IsPossible}
-use Rattle.duplex_line.specs.Run.{lines_of, lines_after, after_event}
-use Rattle.duplex_line.proofs.Steps.EventsToCome.{events-next, room-of-a, room-of-b, unspent, sum-of-next}
+use Rattle.std.proofs.Common.{◌≡◌, ◌∙◌, ◌+◌, ◌∷◌, ◌++◌, take, drop, ap, refl, sym, subst, take-append-drop}
 use Rattle.line_report.specs.declared.record.Record.{Record}
-use Rattle.duplex_line.specs.Once.{EachOnce}
 use Rattle.duplex_line.specs.Prompt.{IsPrompt, EndsQuiet}
 use Rattle.duplex_line.specs.Complete.{IsComplete}
-use Rattle.duplex_line.proofs.Complete.WholeRun.{is-complete}
-use Rattle.duplex_line.proofs.Once.WholeRun.{each-once, record-played}
+use Rattle.line_replay.specs.declared.world.World.{World}
+use Rattle.line_replay.specs.Once.{EachCommandOnce}
+use Rattle.line_replay.specs.Runs.{IsNext, lines_in, printed, record_of}
+use Rattle.line_replay.proofs.Next.{next-at}
+use Rattle.line_replay.proofs.EitherMode.{duplex-complete, each-command-once, events-next, lines-more, printed-next, record-at-end, world-more}
 use Rattle.line_replay.proofs.play.replay.Goals as goal
 
 pub step-requires : goal.step-requires
 step-requires c =
-    let events = c.args.script.now.events in
+    let script = c.args.script.now in
+    let events = script.events in
     let i = c.loop-event.event-index in
     let e = c.event-item.result in
     let lt = rw c.as_slice-event-items.ensures at c.loop-event-test.true in
     let is = rw c.as_slice-event-items.ensures at c.event-item.is in
-    let next = events-next events i e lt is in
-    let rest = drop (i + 1) events in
-    let possible : IsPossible e = rw is (All-get_or IsPossible events i e lt c.requires.events) in
-    record {
-      possible = possible;
-      unspent = unspent c.loop-event.world.state e rest possible (rw next at c.loop-event.invariant.commands_of_a) (rw next at c.loop-event.invariant.commands_of_b);
-      sum = omega (arith, sum-of-next c.loop-event.world.events e rest (rw next at c.loop-event.invariant.sum));
-    }
+    let next = next-at script (take i events) e (drop (i + 1) events) c.requires (sym (take-append-drop i events) ∙ ap (λ t. take i events ++ t) (events-next events i e lt is)) in
+    printed-next c.loop-event.world e (subst (λ (w : World). IsNext w e) (sym c.loop-event.invariant.world) next)
 
 pub loop-event-preserved : goal.loop-event-preserved
 loop-event-preserved c =
-    let events = c.args.script.now.events in
+    let script = c.args.script.now in
     let i = c.loop-event.event-index in
     let e = c.event-item.result in
     let w = c.loop-event.world in
     let lt = rw c.as_slice-event-items.ensures at c.loop-event-test.true in
     let is = rw c.as_slice-event-items.ensures at c.event-item.is in
-    let next = events-next events i e lt is in
-    let rest = drop (i + 1) events in
-    let possible : IsPossible e = rw is (All-get_or IsPossible events i e lt c.requires.events) in
     rw c.in_ok-step.ensures.ok (record {
-      state = rw next at c.loop-event.invariant.state;
-      lines = append_assoc w.lines (lines_of w.state e) (lines_after (after_event w.state e) rest) ∙ (rw next at c.loop-event.invariant.lines);
-      commands_of_a = room-of-a w.state e rest possible (rw next at c.loop-event.invariant.commands_of_a);
-      commands_of_b = room-of-b w.state e rest possible (rw next at c.loop-event.invariant.commands_of_b);
-      sum = sum-of-next w.events e rest (rw next at c.loop-event.invariant.sum);
+      world = world-more script w i e lt is c.loop-event.invariant.world;
+      lines = lines-more script w i e lt is c.loop-event.invariant.lines;
     })
+
+pub returns-clause-record : goal.returns-clause-record
+returns-clause-record c =
+    let script = c.args.script.now in
+    let over = rw c.as_slice-event-items.ensures at c.loop-event-test.false in
+    record-at-end (λ (r : Record). r ≡ record_of script) script c.loop-event.event-index c.loop-event.world over c.loop-event.invariant.world c.loop-event.invariant.lines c.finish.result c.finish.ensures refl
 
 pub returns-clause-once : goal.returns-clause-once
 returns-clause-once c =
+    let script = c.args.script.now in
     let over = rw c.as_slice-event-items.ensures at c.loop-event-test.false in
-    record-played (λ (r : Record). r.deceived ≡ 0 → EachOnce c.args.script.now r) c.args.script.now c.loop-event.event-index c.loop-event.world over c.loop-event.invariant.state c.loop-event.invariant.lines c.finish.result c.finish.ensures
-    (each-once c.args.script.now c.requires)
+    record-at-end (λ (r : Record). r.deceived ≡ 0 → EachCommandOnce script r) script c.loop-event.event-index c.loop-event.world over c.loop-event.invariant.world c.loop-event.invariant.lines c.finish.result c.finish.ensures
+    (each-command-once script c.requires)
 
 pub returns-clause-complete : goal.returns-clause-complete
-returns-clause-complete c =
+returns-clause-complete c mode =
+    let script = c.args.script.now in
     let over = rw c.as_slice-event-items.ensures at c.loop-event-test.false in
-    record-played (λ (r : Record). IsPrompt c.args.script.now → EndsQuiet c.args.script.now → IsComplete c.args.script.now r) c.args.script.now c.loop-event.event-index c.loop-event.world over c.loop-event.invariant.state c.loop-event.invariant.lines c.finish.result c.finish.ensures
-    (is-complete c.args.script.now c.requires)
+    record-at-end (λ (r : Record). IsPrompt script → EndsQuiet script → IsComplete script r) script c.loop-event.event-index c.loop-event.world over c.loop-event.invariant.world c.loop-event.invariant.lines c.finish.result c.finish.ensures
+    (duplex-complete script (c.requires.full mode))

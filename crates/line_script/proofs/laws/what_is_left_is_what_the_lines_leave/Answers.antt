@@ -1,4 +1,4 @@
-use Rattle.line_script.specs.Drafts.{fresh}
+use Rattle.line_script.specs.Readers.{fresh}
 use Rattle.std.proofs.Common.{[]}
 use Rattle.line_script.proofs.Counts.{left-after}
 use Rattle.line_script.proofs.Standing.{stands_at_first}

@@ -1,5 +1,5 @@
 use Rattle.std.proofs.Common.{◌≡◌, ◌+◌, ◌≤◌, length, []}
-use Rattle.line_script.specs.Drafts.{fresh}
+use Rattle.line_script.specs.Readers.{fresh}
 use Rattle.line_script.specs.Lines.{lines_from}
 use Rattle.line_script.specs.ScriptText.{script_from, parts}
 use Rattle.line_script.proofs.whole_text.read_lines.Given as goal

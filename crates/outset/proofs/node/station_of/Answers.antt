@@ -1,6 +1,6 @@
 use Rattle.std.proofs.Common.{◌≡◌, Bool, true, false, cond, List, [], ◌∷◌, refl, ◌∙◌}
 use Rattle.data_files.specs.Tables.{DataTables, fresh, has_word, with_word}
-use Rattle.line_script.specs.declared.script.WordOf.{WordOf}
+use Rattle.script_parts.specs.declared.script.WordOf.{WordOf}
 use Rattle.outset.specs.Outset.{with_all, with_first}
 use Rattle.outset.proofs.node.station_of.Goals as goal
 

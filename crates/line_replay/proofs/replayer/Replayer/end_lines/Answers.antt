@@ -1,7 +1,7 @@
 use Rattle.std.proofs.Common.{◌≡◌, ◌++◌, ◌∷◌, [], List, ap, sym, subst}
 use Rattle.std.specs.Option.{option_to_list}
 use Rattle.std.proofs.lemmas.Result.{on_ok_weaker}
-use Rattle.line_script.specs.declared.script.Event.{Event}
+use Rattle.script_parts.specs.declared.script.Event.{Event}
 use Rattle.line_script.specs.Fed.{EndsFor}
 use Rattle.line_replay.specs.Fed.{IsReplayOf, IsRefusedAs, shown, told}
 use Rattle.line_replay.proofs.Fed.{at_err, due-at-end, ended-with, ended-without, front-as-shown, front-with-event, plays-at-end, refused-line, shows-with, shows-without}

@@ -1,7 +1,7 @@
 use Rattle.std.proofs.Common.{◌≡◌, ◌++◌, ◌∷◌, [], List, ap, sym, subst}
 use Rattle.std.specs.Option.{option_to_list}
 use Rattle.std.proofs.lemmas.Result.{on_ok_weaker}
-use Rattle.line_script.specs.declared.script.Event.{Event}
+use Rattle.script_parts.specs.declared.script.Event.{Event}
 use Rattle.line_script.specs.Fed.{StandsFor}
 use Rattle.line_replay.specs.Fed.{IsReplayOf, IsRefusedHere, shown}
 use Rattle.line_replay.proofs.Fed.{at_err, due-by, plays-by, replay-without, replay-with, front-with, front-without, refused-here}
@@ -43,7 +43,7 @@ returns-in-Ok-Some-clause-front g c text h' more =
 pub returns-in-Err-clause-refused : goal.returns-in-Err-clause-refused
 returns-in-Err-clause-refused g c text h' =
     let h = subst (IsReplayOf text) (sym c.self.view_is) h' in
-    subst (IsRefusedHere (text ++ c.args.b ∷ []) (shown text)) (sym c.into.ensures) (refused-here text _ c.args.b c.in-Err.fault h (c.in-Err.ensures text h.events h.reads))
+    subst (IsRefusedHere (text ++ c.args.b ∷ []) (shown text)) (sym c.into.ensures) (refused-here text (text ++ c.args.b ∷ []) _ c.in-Err.fault h (c.in-Err.ensures text h.events h.reads))
 
 pub returns-in-Err-clause-front : goal.returns-in-Err-clause-front
 returns-in-Err-clause-front g c text h more = front-without text c.args.self.now (c.args.b ∷ more) (g.K.Sink.held c.args.sink.now) h

@@ -1,12 +1,17 @@
-use Rattle.std.proofs.Common.{◌≡◌, ℕ, List, ◌++◌, take}
+-- The lines before the rest are replayed, and what they show is written.
+use Rattle.std.proofs.Common.{◌≡◌, ℕ, List, ◌++◌, length}
 use Rattle.line_replay.specs.Fed.{IsReplay, IsReplayOf, ShowsMore, shown}
 use Rattle.line_replay.proofs.replayer.Replayer.feed_all.Given as goal
 
--- the bytes so far are replayed, and what they show is written
-abbrev pub invariant-loop-b : goal.invariant-loop-b
-invariant-loop-b g l = record {
+abbrev pub invariant-loop-line : goal.invariant-loop-line
+invariant-loop-line g l = record {
   replay : IsReplay l.self;
-  shows : (text : List ℕ) → IsReplayOf text l.fn.self → IsReplayOf (text ++ take l.b-index l.bytes) l.self
-      × ShowsMore (shown text) (shown (text ++ take l.b-index l.bytes)) (g.K.Sink.held l.fn.sink) (g.K.Sink.held l.sink);
+  front : List ℕ;
+  bytes_are : l.fn.bytes ≡ front ++ l.rest;
+  shows : (text : List ℕ) → IsReplayOf text l.fn.self → IsReplayOf (text ++ front) l.self
+      × ShowsMore (shown text) (shown (text ++ front)) (g.K.Sink.held l.fn.sink) (g.K.Sink.held l.sink);
   calm : g.K.Sink.faults l.sink ≡ g.K.Sink.faults l.fn.sink;
 }
+
+abbrev pub decreases-loop-line : goal.decreases-loop-line
+decreases-loop-line g l = length l.rest

@@ -5,6 +5,7 @@ use Rattle.line_statement.specs.declared.statement.Statement.{Statement}
 use Rattle.line_statement.proofs.Forms.{first_six}
 use Rattle.line_script.specs.declared.fault.Cause.TheVariants as cause
 use Rattle.line_script.specs.declared.reader.Reader.{Reader}
+use Rattle.line_script.specs.Readers.{stage_of}
 use Rattle.line_script.specs.Lines.{after_form, after_line, after_words, content, is_ended, is_long, is_passed_over, reaches_limit, text_line}
 use Rattle.line_script.proofs.reader.Reader.read.Goals as goal
 
@@ -12,7 +13,7 @@ use Rattle.line_script.proofs.reader.Reader.read.Goals as goal
 read_by_six : (d : Reader) (line : List (List ℕ)) → after_words d (take 6 line) ≡ after_words d line
 read_by_six d [] = refl
 read_by_six d (word ∷ line) =
-    ap (λ (s : Option Statement). cond (is_passed_over (word ∷ line)) (Ok (d, None)) (cond (is_ended d.stage) (Err cause.After) (after_form d s))) (first_six (word ∷ line))
+    ap (λ (s : Option Statement). cond (is_passed_over (word ∷ line)) (Ok (d, None)) (cond (is_ended (stage_of d)) (Err cause.After) (after_form d s))) (first_six (word ∷ line))
 
 pub returns : goal.returns
 returns c =

@@ -1,12 +1,8 @@
-use Rattle.std.proofs.Common.{◌≡◌, ◌∙◌, List, ℕ, [], ◌∷◌, length, true, false, eqb, ap, arith, sym, subst, refl}
-use Rattle.std.proofs.lemmas.Bool.{eqb-true}
+use Rattle.std.proofs.Common.{◌≡◌, ◌∙◌, List, ℕ, [], ◌∷◌, length, false, eqb, ap, arith, sym, subst}
 use Rattle.line_script.specs.Fed.{Fed}
 use Rattle.line_script.proofs.Fed.{ends-without-line, last-line-read}
+use Rattle.line_script.proofs.Runs.{is-empty}
 use Rattle.line_script.proofs.text_reader.TextReader.end.Goals as goal
-
-empty : (line : List ℕ) → eqb (length line) 0 ≡ true → line ≡ []
-empty [] is = refl
-empty (x ∷ line) is = let none : length (x ∷ line) ≡ 0 = eqb-true (length (x ∷ line)) 0 is in absurd (omega (arith, none))
 
 not-empty : (line : List ℕ) → eqb (length line) 0 ≡ false → line ≡ [] → ⊥
 not-empty [] is none = cc
@@ -14,7 +10,7 @@ not-empty (x ∷ line) is none = let no : length (x ∷ line) ≡ 0 = ap length 
 
 pub returns-then-is_empty : goal.returns-then-is_empty
 returns-then-is_empty c text events h =
-    ends-without-line text events c.args.self.now h (subst (λ (r : Fed). r.line ≡ []) c.self.view_is (empty c.self.inside.line.items (sym c.is_empty.ensures ∙ c.if-is_empty.true)))
+    ends-without-line text events c.args.self.now h (subst (λ (r : Fed). r.line ≡ []) c.self.view_is (is-empty c.self.inside.line.items (sym c.is_empty.ensures ∙ c.if-is_empty.true)))
 
 pub returns : goal.returns
 returns c text events h =

@@ -1,0 +1,8 @@
+-- A word, and then the two digits.
+use Rattle.std.proofs.Common.{append_assoc}
+use Rattle.hex.specs.Hex.{encode_with}
+use Rattle.df1_dissect.proofs.line.append_code.Goals as goal
+
+pub returns-clause-text : goal.returns-clause-text
+unfolding encode_with
+returns-clause-text c = rw (c.push-2.ensures.items, c.push.ensures.items, c.append.ensures, c.from.ensures, c.from-2.ensures) (simp append_assoc)

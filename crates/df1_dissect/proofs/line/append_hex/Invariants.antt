@@ -1,0 +1,11 @@
+-- The digits of the bytes so far.
+use Rattle.std.proofs.Common.{◌≡◌, ◌+◌, ◌*◌, ◌++◌, take}
+use Rattle.arrayvec.specs.ArrayVec.{array_vec_len}
+use Rattle.hex.specs.Hex.{encode_upper}
+use Rattle.df1_dissect.proofs.line.append_hex.Given as goal
+
+abbrev pub invariant-loop-byte : goal.invariant-loop-byte
+invariant-loop-byte l = record {
+  text : l.line.items ≡ l.initial.line.items ++ encode_upper (take l.byte-index l.bytes);
+  size : array_vec_len l.line ≡ array_vec_len l.initial.line + 2 * l.byte-index;
+}

@@ -1,0 +1,11 @@
+pub mod Kinds
+pub mod Hearing
+pub mod Telling
+pub mod FullItems
+pub mod MasterItems
+pub mod SlaveItems
+pub mod Reading
+pub mod Step
+pub mod Commands
+pub mod Lines
+pub mod Dissection

@@ -1,0 +1,90 @@
+//! What hears one side of a line: a byte goes in, and what comes of it comes out.
+ghost use Rattle.std.specs.Prelude.{◌≡◌, ◌≤◌, length};
+ghost use Rattle.df1_dissect.specs.Hearing.{ear_next, ear_of_none, lent_by, turn_of};
+
+use crate::kind::{Kind, full_kind, master_kind, slave_kind};
+use df1_base::MAX_BODY;
+use df1_check::Check;
+use df1_frame::Decoder;
+use half_frame::{MasterEar, SlaveEar};
+
+/// Whose bytes are captured.
+#[derive(Clone, Copy, Debug, PartialEq, Eq)]
+pub enum Side {
+    /// One direction of a full-duplex line.
+    Full,
+    /// The master's bytes of a half-duplex line.
+    Master,
+    /// The slaves' bytes of a half-duplex line.
+    Slave,
+}
+
+/// What hears a side.
+#[derive(Drop)]
+pub(crate) enum Ear {
+    Full(Decoder<MAX_BODY>),
+    Master(SlaveEar<MAX_BODY>),
+    Slave(MasterEar<MAX_BODY>),
+}
+
+/// What comes of a byte.
+#[derive(Clone, Copy, Debug, PartialEq, Eq)]
+pub(crate) enum Turn {
+    /// Nothing that has a line: the item goes on.
+    Goes,
+    /// An item ends at this byte.
+    Ends(Kind),
+    /// An item is cut off by a pair that ends at this byte and begins the next item.
+    CutsOff(Kind),
+    /// A response of two bytes, inside an item that goes on.
+    Within(Kind),
+}
+
+impl Ear {
+    /// An ear that has taken no byte.
+    pub(crate) fn new(side: Side, check: Check) -> Ear
+        ensures { result ≡ ear_of_none side check }
+    {
+        match side {
+            Side::Full => Ear::Full(Decoder::new(check)),
+            Side::Master => Ear::Master(SlaveEar::new(check)),
+            Side::Slave => Ear::Slave(MasterEar::new(check)),
+        }
+    }
+
+    /// Takes a byte.
+    pub(crate) fn hear(&mut self, b: u8) -> Turn
+        ensures value { self.new ≡ (ear_next self.old b).0 }
+        ensures turn { result ≡ (ear_next self.old b).1 }
+    {
+        match self {
+            Ear::Full(decoder) => turn_of(full_kind(decoder.feed(b)), decoder.inside()),
+            Ear::Master(ear) => turn_of(master_kind(ear.feed(b)), ear.inside()),
+            Ear::Slave(ear) => turn_of(slave_kind(ear.feed(b)), ear.inside()),
+        }
+    }
+
+    /// The body of what ended at the last byte, where that is a message whose body is told; else none.
+    pub(crate) fn body(&self) -> &[u8]
+        ensures value { result.now ≡ lent_by self.now }
+        ensures fits { length result.now ≤ MAX_BODY }
+    {
+        match self {
+            Ear::Full(decoder) => decoder.body(),
+            Ear::Master(ear) => ear.body(),
+            Ear::Slave(ear) => ear.body(),
+        }
+    }
+}
+
+/// What comes of a byte at which this is heard, where afterwards an item is under way or none is.
+fn turn_of(heard: Option<Kind>, inside: bool) -> Turn
+    ensures { result ≡ turn_of heard inside }
+{
+    match heard {
+        None => Turn::Goes,
+        Some(kind) if !inside => Turn::Ends(kind),
+        Some(kind) if kind.is_response() => Turn::Within(kind),
+        Some(kind) => Turn::CutsOff(kind),
+    }
+}

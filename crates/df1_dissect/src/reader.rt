@@ -1,0 +1,178 @@
+//! The reader of a capture: bytes go in one by one, and it says what ends at each, and counts.
+ghost use Rattle.std.specs.Prelude.{◌≡◌, ◌≤◌, ◌<◌, ◌-◌, ℕ, List, [], ◌++◌, ◌∷◌, length};
+ghost use Rattle.df1_check.specs.declared.Check.{Check as CheckKind};
+ghost use Rattle.df1_frame.specs.Line.{ReadOff};
+ghost use Rattle.df1_dissect.specs.declared.ear.Side.{Side as Captured};
+ghost use Rattle.df1_dissect.specs.Hearing.{lent_by};
+ghost use Rattle.df1_dissect.specs.Telling.{Told};
+ghost use Rattle.df1_dissect.specs.Reading.{StandsFor, Tells, bad_among, grammar_of, unfinished};
+ghost use Rattle.df1_dissect.specs.Step.{bad_with, heard_with, next, start_after, telling_at, thing_of};
+
+use crate::ear::{Ear, Side, Turn};
+use crate::kind::Kind;
+use df1_base::MAX_BODY;
+use df1_check::Check;
+use std::marker::Model;
+
+/// A thing that has a line. Offsets count the bytes of the capture from 0.
+#[derive(Clone, Copy, Debug, PartialEq, Eq)]
+pub struct Thing {
+    /// The offset of its first byte.
+    pub first: u64,
+    /// The offset of its last byte; that of a message which is cut off is the second byte of the pair that begins the next.
+    pub last: u64,
+    /// What it is.
+    pub kind: Kind,
+}
+
+/// Takes the bytes of a capture one by one, at most 268,435,456, and tells what ends at each. Each call takes constant
+/// time, but that a message's begin blanks what was held of the body before.
+#[derive(Drop)]
+pub struct Reader {
+    ear: Ear,
+    start: u64,
+    fed: u64,
+    heard: u64,
+    bad: u64,
+}
+
+impl Model for Reader {
+    ghost use Rattle.std.specs.Prelude.{◌≤◌};
+    ghost use Rattle.df1_dissect.specs.Reading.{Reading};
+
+    ghost Value = { Reading };
+
+    ghost view = { λ r. record { ear = r.ear; start = r.start; fed = r.fed; heard = r.heard; bad = r.bad } };
+
+    ghost invariant = { λ r. (r.start ≤ r.fed) × (r.heard ≤ r.fed) × (r.bad ≤ r.fed) };
+}
+
+impl Reader {
+    /// A reader of this side, of a line with this check, that has taken no byte.
+    pub fn new(side: Side, check: Check) -> Reader
+        ensures stands { StandsFor side check [] result }
+        ensures fed { result.fed ≡ 0 }
+    {
+        Reader {
+            ear: Ear::new(side, check),
+            start: 0,
+            fed: 0,
+            heard: 0,
+            bad: 0,
+        }
+    }
+
+    /// Takes a byte, after fewer than 268,435,456, and says what has a line and ends at it: None exactly where nothing
+    /// does.
+    pub fn hear(&mut self, b: u8) -> Option<Thing>
+        requires { self.old.fed < 268435456 }
+        ensures stands { (side : Captured) (check : CheckKind) (bytes : List ℕ) → StandsFor side check bytes self.old
+            → StandsFor side check (bytes ++ b ∷ []) self.new }
+        ensures told { (side : Captured) (check : CheckKind) (bytes : List ℕ) (so_far : List Told) → StandsFor side check bytes self.old
+            → Tells side check bytes so_far → Tells side check (bytes ++ b ∷ []) (so_far ++ telling_at result (lent_by self.new.ear)) }
+        ensures value { self.new ≡ (next self.old b).0 }
+        ensures answer { result ≡ (next self.old b).1 }
+    {
+        let at = self.fed;
+        let turn = self.ear.hear(b);
+        let thing = thing_of(turn, self.start, at);
+        self.start = start_after(turn, self.start, at);
+        self.fed = at + 1;
+        self.heard = heard_with(self.heard, thing);
+        self.bad = bad_with(self.bad, thing);
+        thing
+    }
+
+    /// The body of the message whose thing was told at the last byte, where its body is told; empty after every other byte.
+    pub fn body(&self) -> &[u8]
+        ensures value { result.now ≡ lent_by self.now.ear }
+        ensures fits { length result.now ≤ MAX_BODY }
+    {
+        self.ear.body()
+    }
+
+    /// How many things have a line.
+    pub fn heard(&self) -> u64
+        ensures value { result ≡ self.now.heard }
+        ensures heard { (side : Captured) (check : CheckKind) (bytes : List ℕ) (things : List Told) → StandsFor side check bytes self.now
+            → Tells side check bytes things → result ≡ length things }
+    {
+        self.heard
+    }
+
+    /// How many of these are faults of the line.
+    pub fn bad(&self) -> u64
+        ensures value { result ≡ self.now.bad }
+        ensures bad { (side : Captured) (check : CheckKind) (bytes : List ℕ) (things : List Told) → StandsFor side check bytes self.now
+            → Tells side check bytes things → result ≡ bad_among things }
+    {
+        self.bad
+    }
+
+    /// How many bytes the unfinished item has.
+    pub fn left(&self) -> u64
+        ensures value { result ≡ self.now.fed - self.now.start }
+        ensures left { (side : Captured) (check : CheckKind) (bytes : List ℕ) → StandsFor side check bytes self.now
+            → ReadOff (grammar_of side check) bytes (unfinished side check) result }
+    {
+        self.fed - self.start
+    }
+
+    /// How many bytes were fed.
+    pub fn fed(&self) -> u64
+        ensures value { result ≡ self.now.fed }
+        ensures fed { (side : Captured) (check : CheckKind) (bytes : List ℕ) → StandsFor side check bytes self.now → result ≡ length bytes }
+    {
+        self.fed
+    }
+}
+
+/// What has a line, where the item under way began at `start` and the byte is at `at`.
+fn thing_of(turn: Turn, start: u64, at: u64) -> Option<Thing>
+    ensures { result ≡ thing_of turn start at }
+{
+    let (first, kind) = match turn {
+        Turn::Goes => return None,
+        Turn::Ends(kind) | Turn::CutsOff(kind) => (start, kind),
+        Turn::Within(kind) => (at.saturating_sub(1), kind),
+    };
+    Some(Thing {
+        first,
+        last: at,
+        kind,
+    })
+}
+
+/// Where the item that is under way after a byte begins.
+fn start_after(turn: Turn, start: u64, at: u64) -> u64
+    requires { at < 268435456 }
+    ensures { result ≡ start_after turn start at }
+{
+    match turn {
+        Turn::Goes | Turn::Within(_) => start,
+        Turn::Ends(_) => at + 1,
+        Turn::CutsOff(_) => at.saturating_sub(1),
+    }
+}
+
+/// The count of things, with one more or none.
+fn heard_with(count: u64, thing: Option<Thing>) -> u64
+    requires { count < 268435456 }
+    ensures { result ≡ heard_with count thing }
+{
+    match thing {
+        None => count,
+        Some(_) => count + 1,
+    }
+}
+
+/// The count of faults, with one thing more or none.
+fn bad_with(count: u64, thing: Option<Thing>) -> u64
+    requires { count < 268435456 }
+    ensures { result ≡ bad_with count thing }
+{
+    match thing {
+        Some(thing) if thing.kind.is_bad() => count + 1,
+        _ => count,
+    }
+}

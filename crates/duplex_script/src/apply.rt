@@ -1,0 +1,154 @@
+//! What a statement with nothing wrong changes, and the event that it is.
+ghost use Rattle.std.specs.Prelude.{◌≡◌, IfOk, OnOk, None, true, false};
+ghost use Rattle.duplex_script.specs.Drafts.{with_statement as the_draft, settled, sets_up as the_setup_test, event_of as the_event, address_of as the_address, lane_from, times_event as the_times};
+
+use crate::DuplexReader;
+use crate::first_flaw::steps_of;
+use crate::reader::{NODE_OF_A, NODE_OF_B};
+use df1_base::NoMemory;
+use end_drafts::Stage;
+use line_statement::{EndName, SetupLine, Side, Statement, Verb};
+use script_parts::{Event, Lane};
+
+impl DuplexReader {
+    /// Takes a statement, and answers its event, if it is one.
+    pub(crate) fn apply(&mut self, statement: Statement) -> Result<Option<Event>, NoMemory>
+        ensures { IfOk result (λ event. the_draft self.old statement ≡ (self.new, event)) }
+    {
+        self.stage = Stage::after(&statement);
+        self.events_left = self.events_left.saturating_sub(steps_of(&statement));
+        if sets_up(&statement) {
+            self.take_line(statement)?;
+            Ok(None)
+        } else {
+            self.settle(&statement);
+            Ok(self.event_of(statement))
+        }
+    }
+
+    /// Takes a statement that is a line of an end.
+    fn take_line(&mut self, statement: Statement) -> Result<(), NoMemory>
+        requires { the_setup_test statement ≡ true }
+        ensures { OnOk result (self.new ≡ settled self.old statement) }
+    {
+        if let Statement::Setup { end, line } = statement {
+            self.set_up(end, line)?;
+        }
+        Ok(())
+    }
+
+    /// Takes a line of an end. A file and a word alone take memory.
+    #[inline(never)]
+    fn set_up(&mut self, end: EndName, line: SetupLine) -> Result<(), NoMemory>
+        ensures { OnOk result (self.new ≡ settled self.old (Statement.Setup end line)) }
+    {
+        match end {
+            EndName::Known(Side::A) => self.a.take(Side::A.who(), line),
+            EndName::Known(Side::B) => self.b.take(Side::B.who(), line),
+            EndName::Master | EndName::Station(_) => Ok(()),
+        }
+    }
+
+    /// What a statement that is no line of an end changes beside the stage and the sum of events.
+    fn settle(&mut self, statement: &Statement)
+        requires { the_setup_test statement.now ≡ false }
+        ensures { self.new ≡ settled self.old statement.now }
+    {
+        match statement {
+            Statement::Check(Some(check)) => self.check = Some(*check),
+            Statement::Issue { side, .. } => self.count_command(*side),
+            _ => {}
+        }
+    }
+
+    /// Counts a command of an end.
+    fn count_command(&mut self, side: Side)
+        ensures { self.new ≡ settled self.old (Statement.Issue side None) }
+    {
+        match side {
+            Side::A => self.a.count_command(),
+            Side::B => self.b.count_command(),
+        }
+    }
+
+    /// The event that a statement is.
+    fn event_of(&self, statement: Statement) -> Option<Event>
+        ensures { result ≡ the_event self.now statement }
+    {
+        match statement {
+            Statement::Issue {
+                side,
+                payload: Some(payload),
+            } => Some(Event::Issue {
+                who: side.who(),
+                dst: self.address_of(side.other()),
+                payload,
+            }),
+            Statement::Times {
+                side,
+                verb,
+                n: Some(n),
+            } => Some(times_event(side, verb, n)),
+            Statement::Alter {
+                side,
+                mask: Some(mask),
+            } => Some(Event::Alter {
+                lane: lane_of(side),
+                mask,
+            }),
+            Statement::Foreign {
+                side,
+                bytes: Some(bytes),
+            } => Some(Event::Foreign {
+                lane: lane_of(side),
+                bytes,
+            }),
+            _ => None,
+        }
+    }
+
+    /// The address of an end.
+    fn address_of(&self, side: Side) -> u8
+        ensures { result ≡ the_address self.now side }
+    {
+        match side {
+            Side::A => self.a.node(NODE_OF_A),
+            Side::B => self.b.node(NODE_OF_B),
+        }
+    }
+}
+
+/// Whether a statement is a line of an end.
+fn sets_up(statement: &Statement) -> bool
+    ensures { result ≡ the_setup_test statement.now }
+{
+    matches!(statement, Statement::Setup { .. })
+}
+
+/// What happens `n` times at an end, or at its queue.
+fn times_event(side: Side, verb: Verb, n: u32) -> Event
+    ensures { result ≡ the_times side verb n }
+{
+    match verb {
+        Verb::Take => Event::Take { who: side.who(), n },
+        Verb::Tick => Event::Tick { who: side.who(), n },
+        Verb::Deliver => Event::Deliver {
+            lane: lane_of(side),
+            n,
+        },
+        Verb::Lose => Event::Lose {
+            lane: lane_of(side),
+            n,
+        },
+    }
+}
+
+/// The queue of an end.
+fn lane_of(side: Side) -> Lane
+    ensures { result ≡ lane_from side }
+{
+    Lane {
+        from: side.who(),
+        to: side.other().who(),
+    }
+}

@@ -1,0 +1,4 @@
+pub mod EndStanding
+pub mod Numbered
+pub mod Ranges
+pub mod Seen

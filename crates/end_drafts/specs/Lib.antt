@@ -1,0 +1,4 @@
+pub mod Drafts
+pub mod Flaws
+pub mod Places
+pub mod Stages

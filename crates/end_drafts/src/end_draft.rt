@@ -1,0 +1,194 @@
+//! What the lines so far say of one end, and what may be wrong with a further line of it.
+ghost use Rattle.std.specs.Prelude.{◌≡◌, ◌-◌, [], IfOk, OnOk, unwrap_or};
+ghost use Rattle.end_drafts.specs.Drafts.{fresh_end, node_of as the_node, plan_of as the_plan, declared as the_declared, lacks as the_lacks, exceeds as the_exceeds, repeats as the_repeats, with_line};
+
+use crate::given_files::GivenFiles;
+use crate::given_words::GivenWords;
+use crate::role::Role;
+use crate::settings::{Settings, is_outside};
+use data_files::{FileSpec, MAX_FILES};
+use df1_base::NoMemory;
+use line_statement::{Bytes, Items, SetupLine, Who};
+use script_parts::{EndPlan, WordOf};
+use std::alloc::Global;
+
+/// The most commands of an end.
+const COMMANDS: u32 = 65_535;
+
+/// Ticks until a missing response is asked for or counts as missing, where no line sets them.
+const ACK_TICKS: u32 = 10;
+
+/// Ticks until a command counts as unanswered, where no line sets them.
+const REPLY_TICKS: u32 = 100;
+
+/// Ticks until a poll counts as not answered, where no line sets them.
+const POLL_TICKS: u32 = 10;
+
+/// NAKs, ENQs and sendings after which a message is given up, where no line sets them.
+const TRIES: u32 = 3;
+
+/// Replies that may wait, where no line sets them.
+const ROOM: usize = 2;
+
+/// What is known of an end.
+#[derive(Drop)]
+pub struct EndDraft {
+    pub settings: Settings,
+    pub compat: Option<u16>,
+    pub block: Option<Bytes>,
+    pub files: GivenFiles,
+    pub words: GivenWords,
+    /// How many commands it may still issue.
+    pub commands_left: u32,
+}
+
+impl EndDraft {
+    /// An end of which no line told anything.
+    pub fn new(alloc: Global) -> Self
+        ensures { result ≡ fresh_end }
+    {
+        EndDraft {
+            settings: Settings::new(),
+            compat: None,
+            block: None,
+            files: GivenFiles::new(alloc),
+            words: GivenWords::new(alloc),
+            commands_left: COMMANDS,
+        }
+    }
+
+    /// Whether a line names a key that an end of this kind hasn't, or a file that isn't declared.
+    pub fn lacks(&self, role: Role, line: &SetupLine) -> bool
+        ensures { result ≡ the_lacks role self.now line.now }
+    {
+        match line {
+            SetupLine::Set(setting) => !role.has_key(*setting),
+            SetupLine::Compat(Some(file)) | SetupLine::Word { file, .. } => {
+                self.declared(*file).is_none()
+            }
+            SetupLine::Compat(None) | SetupLine::Block(_) | SetupLine::File(_) => false,
+        }
+    }
+
+    /// Whether a number, a word or a length of a line is out of its range, or a compatibility file is of another type than
+    /// bit or integer.
+    pub fn exceeds(&self, line: &SetupLine) -> bool
+        ensures { result ≡ the_exceeds self.now line.now }
+    {
+        match line {
+            SetupLine::Set(setting) => is_outside(*setting),
+            SetupLine::Compat(None) => true,
+            SetupLine::Compat(Some(file)) => match self.declared(*file) {
+                Some(spec) => !spec.holds_words(),
+                None => false,
+            },
+            SetupLine::Block(bytes) => bytes.is_none(),
+            SetupLine::File(spec) => spec.is_none() || self.files.len() >= MAX_FILES,
+            SetupLine::Word { file, index, .. } => match self.declared(*file) {
+                Some(spec) => spec.words() <= *index,
+                None => false,
+            },
+        }
+    }
+
+    /// Whether an earlier line gave the key, the file or the word.
+    pub fn repeats(&self, line: &SetupLine) -> bool
+        ensures { result ≡ the_repeats self.now line.now }
+    {
+        match line {
+            SetupLine::Set(setting) => self.settings.is_given(*setting),
+            SetupLine::Compat(_) => self.compat.is_some(),
+            SetupLine::Block(_) => self.block.is_some(),
+            SetupLine::File(Some(spec)) => self.files.has(spec.number),
+            SetupLine::Word {
+                file: Some(file),
+                index,
+                ..
+            } => self.words.has(*file, *index),
+            SetupLine::File(None) | SetupLine::Word { file: None, .. } => false,
+        }
+    }
+
+    /// Takes a line of the end `who`. Where there is no memory for it, the draft is only dropped.
+    pub fn take(&mut self, who: Who, line: SetupLine) -> Result<(), NoMemory>
+        ensures { OnOk result (self.new ≡ with_line who self.old line) }
+    {
+        match line {
+            SetupLine::Set(setting) => self.settings.set(setting),
+            SetupLine::Compat(Some(Some(file))) => self.compat = Some(file),
+            SetupLine::Block(Some(bytes)) => self.block = Some(bytes),
+            SetupLine::File(Some(spec)) => self.files.push(spec)?,
+            SetupLine::Word {
+                file: Some(file),
+                index,
+                value,
+            } => self.words.push(WordOf {
+                who,
+                file,
+                index,
+                value,
+            })?,
+            _ => {}
+        }
+        Ok(())
+    }
+
+    /// Counts a command of the end.
+    pub fn count_command(&mut self)
+        ensures { self.new ≡ record self.old { commands_left = self.old.commands_left - 1 } }
+    {
+        self.commands_left = self.commands_left.saturating_sub(1);
+    }
+
+    /// The address of the end, which is `standard` where no line sets it.
+    pub fn node(&self, standard: u8) -> u8
+        ensures { result ≡ the_node self.now standard }
+    {
+        self.settings.node.unwrap_or(standard)
+    }
+
+    /// The declared file that a line names.
+    fn declared(&self, file: Option<u16>) -> Option<FileSpec>
+        ensures { result ≡ the_declared self.now file }
+    {
+        self.files.file(file?)
+    }
+
+    /// The plan of the end, whose address is `standard` where no line sets it.
+    pub fn plan(&self, alloc: Global, who: Who, standard: u8) -> Result<EndPlan, NoMemory>
+        ensures { IfOk result (λ plan. plan ≡ the_plan who standard self.now) }
+    {
+        let settings = self.settings;
+        let block = block_of(alloc, &self.block)?;
+        let files = self.files.copied(alloc)?;
+        let words = self.words.copied(alloc)?;
+        Ok(EndPlan {
+            who,
+            embed: settings.embed.unwrap_or(false),
+            node: settings.node.unwrap_or(standard),
+            tns: settings.tns.unwrap_or(1),
+            ack_ticks: settings.ack_ticks.unwrap_or(ACK_TICKS),
+            max_naks: settings.max_naks.unwrap_or(TRIES),
+            max_enqs: settings.max_enqs.unwrap_or(TRIES),
+            reply_ticks: settings.reply_ticks.unwrap_or(REPLY_TICKS),
+            max_resends: settings.max_resends.unwrap_or(TRIES),
+            poll_ticks: settings.poll_ticks.unwrap_or(POLL_TICKS),
+            max_sends: settings.max_sends.unwrap_or(TRIES),
+            room: settings.room.unwrap_or(ROOM),
+            compat: self.compat,
+            block,
+            files,
+            words,
+        })
+    }
+}
+
+/// A copy of a block, which is empty where no line gives one.
+fn block_of(alloc: Global, block: &Option<Bytes>) -> Result<Bytes, NoMemory>
+    ensures { IfOk result (λ bytes. bytes ≡ unwrap_or block.now []) }
+{
+    match block {
+        Some(bytes) => Items::copy_of(alloc, bytes.as_slice()),
+        None => Ok(Items::new(alloc)),
+    }
+}

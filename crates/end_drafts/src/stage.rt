@@ -1,0 +1,52 @@
+//! What the lines so far allow.
+ghost use Rattle.std.specs.Prelude.{◌≡◌};
+ghost use Rattle.end_drafts.specs.Stages.{is_fresh as the_fresh_test, is_set_up as the_set_up_test, stage_after};
+
+use line_statement::Statement;
+
+/// What kinds of lines were there.
+#[derive(Clone, Copy, Debug, PartialEq, Eq)]
+pub enum Stage {
+    /// No line of a form was there.
+    Fresh,
+    /// Settings, stations, files and words were there, and no event.
+    Settings,
+    /// An event was there.
+    Events,
+    /// `end` was there.
+    Ended,
+}
+
+impl Stage {
+    /// The stage after a statement.
+    pub fn after(statement: &Statement) -> Stage
+        ensures { result ≡ stage_after statement.now }
+    {
+        match statement {
+            Statement::Mode { .. }
+            | Statement::Check(_)
+            | Statement::Station(_)
+            | Statement::Setup { .. } => Stage::Settings,
+            Statement::Issue { .. }
+            | Statement::Times { .. }
+            | Statement::Alter { .. }
+            | Statement::Foreign { .. }
+            | Statement::Half(_) => Stage::Events,
+            Statement::End => Stage::Ended,
+        }
+    }
+
+    /// Whether no line of a form was there.
+    pub fn is_fresh(self) -> bool
+        ensures { result ≡ the_fresh_test self }
+    {
+        matches!(self, Stage::Fresh)
+    }
+
+    /// Whether an event was there, or `end`, so that no setting, station, file or word may follow.
+    pub fn is_set_up(self) -> bool
+        ensures { result ≡ the_set_up_test self }
+    {
+        matches!(self, Stage::Events | Stage::Ended)
+    }
+}

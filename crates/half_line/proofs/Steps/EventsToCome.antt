@@ -1,0 +1,103 @@
+-- Playing one event after another: the stations keep their numbers, and there is room for the events that are still to come.
+use Rattle.std.proofs.Common.{◌≡◌, ◌∙◌, ℕ, ◌+◌, ◌≤◌, zero, suc, List, [], ◌∷◌, map, length, Option, Some, None, refl, ap, sym, cond, arith}
+use Rattle.std.specs.Prelude.{count_by, sum_by, slice_get, slice_set}
+use Rattle.std.proofs.lemmas.List.Sums.{sum_by-cons}
+use Rattle.half_master.proofs.Draining.{some-same}
+use Rattle.script_parts.specs.declared.script.EndPlan.{EndPlan}
+use Rattle.script_parts.specs.declared.script.Event.{Event}
+use Rattle.script_parts.specs.declared.script.Event.TheVariants as event
+use Rattle.script_parts.specs.declared.script.Script.{Script}
+use Rattle.script_parts.specs.HalfPlayable.{is_issue, half_count_of, numbers_of, station_plans}
+use Rattle.df1_check.specs.declared.Check.{Check}
+use Rattle.line_cells.specs.Cells.{LaneCell}
+use Rattle.half_line.specs.declared.way.Way.{Way}
+use Rattle.half_line.specs.declared.way.Way.TheVariants.{ToStation, ToMaster}
+use Rattle.half_line.specs.Acts.{StationSide, HalfState, LinkState, Issue, Give, Tick, LinkDeed, StationGives, OnLane, LaneDeed, joined, cells_given, moved, after_arrival, after_link_deed}
+use Rattle.half_line.specs.Steps.{UnitStep, AtMaster, AtStation, link_of, after_with, after_step, after_steps}
+use Rattle.half_line.specs.Run.{first_side, start, steps_of, after_event}
+use Rattle.half_line.specs.Issues.{requests_in}
+use Rattle.half_line.specs.Plays.{numbers_at, issued_by, most_events, IsUnspent}
+use Rattle.half_line.proofs.Once.MasterCommands.{commands-of-m}
+
+-- ---- the numbers of the stations
+
+arrival-number : (way : Way) (s : LinkState) (cell : Option LaneCell) → (after_arrival way s cell).side.number ≡ s.side.number
+arrival-number way s None = refl
+arrival-number ToStation s (Some cell) = refl
+arrival-number ToMaster s (Some cell) = refl
+
+moved-number : (way : Way) (s : LinkState) (deed : LaneDeed) → (moved way s deed).side.number ≡ s.side.number
+moved-number ToStation s deed = refl
+moved-number ToMaster s deed = refl
+
+link-number : (s : LinkState) (deed : LinkDeed) → (after_link_deed s deed).side.number ≡ s.side.number
+link-number s StationGives = refl
+link-number s (OnLane way deed) = arrival-number way (moved way s deed) _ ∙ moved-number way s deed
+
+joined-numbers : (cells : List LaneCell) (stations : List StationSide) → numbers_at (map (joined cells) stations) ≡ numbers_at stations
+joined-numbers cells [] = refl
+joined-numbers cells (side ∷ stations) = ap (λ (numbers : List ℕ). side.number ∷ numbers) (joined-numbers cells stations)
+
+set-numbers : (stations : List StationSide) (place : ℕ) (old new : StationSide) → slice_get stations place ≡ Some old → new.number ≡ old.number → numbers_at (slice_set stations place new) ≡ numbers_at stations
+set-numbers [] place old new found same = refl
+set-numbers (side ∷ stations) zero old new found same = ap (λ (number : ℕ). number ∷ numbers_at stations) (same ∙ ap (λ (s : StationSide). s.number) (sym (some-same found)))
+set-numbers (side ∷ stations) (suc place) old new found same = ap (λ (numbers : List ℕ). side.number ∷ numbers) (set-numbers stations place old new found same)
+
+with-numbers : (s : HalfState) (place : ℕ) (deed : LinkDeed) (o : Option StationSide) → slice_get s.stations place ≡ o → numbers_at (after_with s place deed o).stations ≡ numbers_at s.stations
+with-numbers s place deed None found = refl
+with-numbers s place deed (Some side) found = set-numbers s.stations place side (after_link_deed (link_of s side) deed).side found (link-number (link_of s side) deed)
+
+step-numbers : (s : HalfState) (step : UnitStep) → numbers_at (after_step s step).stations ≡ numbers_at s.stations
+step-numbers s (AtMaster (Issue dst payload)) = refl
+step-numbers s (AtMaster Give) = joined-numbers (cells_given s.master) s.stations
+step-numbers s (AtMaster Tick) = refl
+step-numbers s (AtStation place deed) = with-numbers s place deed (slice_get s.stations place) refl
+
+steps-numbers : (steps : List UnitStep) (s : HalfState) → numbers_at (after_steps s steps).stations ≡ numbers_at s.stations
+steps-numbers [] s = refl
+steps-numbers (step ∷ steps) s = steps-numbers steps (after_step s step) ∙ step-numbers s step
+
+-- the stations keep their numbers
+pub event-numbers : (s : HalfState) (e : Event) → numbers_at (after_event s e).stations ≡ numbers_at s.stations
+event-numbers s e = steps-numbers (steps_of s e) s
+
+first-numbers : (check : Check) (plans : List EndPlan) → numbers_at (map (first_side check) plans) ≡ map (λ (plan : EndPlan). plan.node) plans
+first-numbers check [] = refl
+first-numbers check (plan ∷ plans) = ap (λ (numbers : List ℕ). plan.node ∷ numbers) (first-numbers check plans)
+
+-- at first they are those of the script
+pub start-numbers : (script : Script) → numbers_at (start script).stations ≡ numbers_of script.ends
+start-numbers script = first-numbers script.check (station_plans script.ends)
+
+-- ---- room for what is to come
+
+issue-counts : (e : Event) → length (requests_in (e ∷ [])) ≡ cond (is_issue e) 1 0
+issue-counts (event.Issue by dst payload) = refl
+issue-counts (event.Take who n) = refl
+issue-counts (event.Deliver lane n) = refl
+issue-counts (event.Lose lane n) = refl
+issue-counts (event.Alter lane mask) = refl
+issue-counts (event.Foreign lane bytes) = refl
+issue-counts (event.Tick who n) = refl
+
+-- there is room for the commands that are still to come
+pub room-of-m : (s : HalfState) (e : Event) (rest : List Event) → issued_by s.master + count_by is_issue (e ∷ rest) ≤ 65535 → issued_by (after_event s e).master + count_by is_issue rest ≤ 65535
+room-of-m s e rest few =
+    let more = sum_by-cons (λ (x : Event). cond (is_issue x) 1 0) e rest in
+    let new = commands-of-m e s in
+    let one = issue-counts e in
+    omega (arith, more, new, one, few)
+
+-- the next command is not the master's 65,536th
+pub unspent : (s : HalfState) (e : Event) (rest : List Event) → issued_by s.master + count_by is_issue (e ∷ rest) ≤ 65535 → IsUnspent s.master e
+unspent s (event.Issue by dst payload) rest few = let more = sum_by-cons (λ (x : Event). cond (is_issue x) 1 0) (event.Issue by dst payload) rest in omega (arith, more, few)
+unspent s (event.Take who n) rest few = tt
+unspent s (event.Deliver lane n) rest few = tt
+unspent s (event.Lose lane n) rest few = tt
+unspent s (event.Alter lane mask) rest few = tt
+unspent s (event.Foreign lane bytes) rest few = tt
+unspent s (event.Tick who n) rest few = tt
+
+-- an event more is within the sum
+pub sum-of-next : (numbers : List ℕ) (sum : ℕ) (e : Event) (rest : List Event) → sum + sum_by (half_count_of numbers) (e ∷ rest) ≤ most_events → sum + half_count_of numbers e + sum_by (half_count_of numbers) rest ≤ most_events
+sum-of-next numbers sum e rest few = let more = sum_by-cons (half_count_of numbers) e rest in omega (arith, more, few)

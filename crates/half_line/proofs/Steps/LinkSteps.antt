@@ -1,0 +1,171 @@
+-- Unit steps of one kind at a station, or with the bytes between it and the master.
+use Rattle.std.proofs.Common.{◌≡◌, ◌∙◌, ℕ, ◌+◌, zero, suc, List, [], ◌∷◌, ◌++◌, map, drop, Option, Some, None, Result, Ok, Err, OnOk, refl, sym, ap, append-nil, append_assoc}
+use Rattle.std.specs.Prelude.{replicate, slice_get, is_some, false}
+use Rattle.std.specs.Option.{option_map, option_to_list}
+use Rattle.df1_base.specs.declared.link.Out.{Out}
+use Rattle.df1_node.specs.Node.{NodeState}
+use Rattle.half_slave.specs.Slave.{SlaveState, out_at_take}
+use Rattle.half_slave.proofs.Draining.{quiet-same}
+use Rattle.line_report.specs.declared.record.Line.{Line}
+use Rattle.line_cells.specs.Cells.{LaneCell, cell_of, bare}
+use Rattle.line_statement.specs.declared.who.Who.TheVariants.{S}
+use Rattle.half_line.specs.Run.{sent_lines}
+use Rattle.half_line.specs.declared.way.Way.{Way}
+use Rattle.half_line.specs.declared.way.Way.TheVariants.{ToStation, ToMaster}
+use Rattle.half_line.specs.Acts.{StationSide, LinkState, link_state, LinkDeed, StationGives, OnLane, Deliver, Lose, Foreign, LaneDeed, lane_of, with_lane, side_moved, moved, after_cell, cell_lines, deceptions_at, byte_taken, after_take, after_arrival, arrival_lines, after_link_deed}
+use Rattle.half_line.specs.Steps.{after_link_deeds, link_bytes_over, link_lines_over}
+
+-- ---- a station that has nothing to give
+
+none-out : (out : Option Out) → option_map (λ (o : Out). o.byte) out ≡ None → out ≡ None
+none-out None e = refl
+none-out (Some out) e = cc
+
+pub take-none : (side : StationSide) → byte_taken side ≡ None → after_take side ≡ side
+take-none side e =
+    let nothing = none-out (out_at_take side.slave) e in
+    let same = quiet-same side.slave (rw nothing refl) in
+    let after : SlaveState NodeState → Option Out → StationSide = λ s out. record { number = side.number; slave = s; to_it = side.to_it; from_it = side.from_it ++ option_to_list (option_map (cell_of s.sending) out) } in
+    ap (λ (s : SlaveState NodeState). after s (out_at_take side.slave)) same
+    ∙ ap (after side.slave) nothing
+    ∙ ap (λ (lane : List LaneCell). let t : StationSide = record side { from_it = lane } in t) (append-nil side.from_it)
+
+take-none-link : (s : LinkState) → byte_taken s.side ≡ None → after_link_deed s StationGives ≡ s
+take-none-link s e = ap (λ (side : StationSide). link_state s.master side s.deceived) (take-none s.side e)
+
+pub takes-none : (n : ℕ) (s : LinkState) → byte_taken s.side ≡ None → after_link_deeds s (replicate n StationGives) ≡ s
+takes-none zero s e = refl
+takes-none (suc n) s e = ap (λ (t : LinkState). after_link_deeds t (replicate n StationGives)) (take-none-link s e) ∙ takes-none n s e
+
+pub gives-nothing : (n : ℕ) (s : LinkState) → byte_taken s.side ≡ None → link_bytes_over s (replicate n StationGives) ≡ []
+gives-nothing zero s e = refl
+gives-nothing (suc n) s e =
+    ap (λ (byte : Option ℕ). option_to_list byte ++ link_bytes_over (after_link_deed s StationGives) (replicate n StationGives)) e
+    ∙ ap (λ (t : LinkState). link_bytes_over t (replicate n StationGives)) (take-none-link s e)
+    ∙ gives-nothing n s e
+
+pub gives-byte : (s : LinkState) (byte : ℕ) (more : List LinkDeed) → byte_taken s.side ≡ Some byte → link_bytes_over s (StationGives ∷ more) ≡ byte ∷ link_bytes_over (after_link_deed s StationGives) more
+gives-byte s byte more e = ap (λ (given : Option ℕ). option_to_list given ++ link_bytes_over (after_link_deed s StationGives) more) e
+
+pub takes-no-lines : (n : ℕ) (s : LinkState) → link_lines_over s (replicate n StationGives) ≡ []
+takes-no-lines zero s = refl
+takes-no-lines (suc n) s = takes-no-lines n (after_link_deed s StationGives)
+
+-- ---- steps with the bytes of a lane give no byte
+
+pub lane-no-bytes : (way : Way) (deed : LaneDeed) (n : ℕ) (s : LinkState) → link_bytes_over s (replicate n (OnLane way deed)) ≡ []
+lane-no-bytes way deed zero s = refl
+lane-no-bytes way deed (suc n) s = lane-no-bytes way deed n (after_link_deed s (OnLane way deed))
+
+pub foreign-no-bytes : (way : Way) (bytes : List ℕ) (s : LinkState) → link_bytes_over s (map (λ byte. OnLane way (Foreign byte)) bytes) ≡ []
+foreign-no-bytes way [] s = refl
+foreign-no-bytes way (byte ∷ bytes) s = foreign-no-bytes way bytes (after_link_deed s (OnLane way (Foreign byte)))
+
+-- ---- an empty lane
+
+leaving-none : (lane cells : List LaneCell) → lane ≡ cells → slice_get cells 0 ≡ None → drop 1 lane ≡ lane
+leaving-none lane [] e none = ap (λ (l : List LaneCell). drop 1 l) e ∙ sym e
+leaving-none lane (cell ∷ cells) e none = absurd cc
+
+same-lane : (way : Way) (side : StationSide) → with_lane way side (lane_of way side) ≡ side
+same-lane ToStation side = refl
+same-lane ToMaster side = refl
+
+-- nothing leaves it
+pub leave-none : (way : Way) (side : StationSide) → slice_get (lane_of way side) 0 ≡ None → side_moved way side Lose ≡ side
+leave-none way side none = ap (with_lane way side) (leaving-none (lane_of way side) (lane_of way side) refl none) ∙ same-lane way side
+
+lose-none : (way : Way) (s : LinkState) → slice_get (lane_of way s.side) 0 ≡ None → after_link_deed s (OnLane way Lose) ≡ s
+lose-none way s none = ap (λ (side : StationSide). link_state s.master side s.deceived) (leave-none way s.side none)
+
+pub loses-none : (way : Way) (n : ℕ) (s : LinkState) → slice_get (lane_of way s.side) 0 ≡ None → after_link_deeds s (replicate n (OnLane way Lose)) ≡ s
+loses-none way zero s none = refl
+loses-none way (suc n) s none = ap (λ (t : LinkState). after_link_deeds t (replicate n (OnLane way Lose))) (lose-none way s none) ∙ loses-none way n s none
+
+pub loses-no-lines : (way : Way) (n : ℕ) (s : LinkState) → link_lines_over s (replicate n (OnLane way Lose)) ≡ []
+loses-no-lines way zero s = refl
+loses-no-lines way (suc n) s = loses-no-lines way n (after_link_deed s (OnLane way Lose))
+
+-- nothing arrives of it
+deliver-none : (way : Way) (s : LinkState) → slice_get (lane_of way s.side) 0 ≡ None → after_link_deed s (OnLane way Deliver) ≡ s
+deliver-none way s none = ap (after_arrival way (moved way s Deliver)) none ∙ lose-none way s none
+
+pub delivers-none : (way : Way) (n : ℕ) (s : LinkState) → slice_get (lane_of way s.side) 0 ≡ None → after_link_deeds s (replicate n (OnLane way Deliver)) ≡ s
+delivers-none way zero s none = refl
+delivers-none way (suc n) s none = ap (λ (t : LinkState). after_link_deeds t (replicate n (OnLane way Deliver))) (deliver-none way s none) ∙ delivers-none way n s none
+
+pub delivers-no-lines : (way : Way) (n : ℕ) (s : LinkState) → slice_get (lane_of way s.side) 0 ≡ None → link_lines_over s (replicate n (OnLane way Deliver)) ≡ []
+delivers-no-lines way zero s none = refl
+delivers-no-lines way (suc n) s none =
+    ap (λ (cell : Option LaneCell). arrival_lines way s cell ++ link_lines_over (after_link_deed s (OnLane way Deliver)) (replicate n (OnLane way Deliver))) none
+    ∙ ap (λ (t : LinkState). link_lines_over t (replicate n (OnLane way Deliver))) (deliver-none way s none)
+    ∙ delivers-no-lines way n s none
+
+-- ---- the head of a lane arrives
+
+-- the end hears the same whether the head has left its lane or not
+cell-moved : (way : Way) (s : LinkState) (cell : LaneCell) → after_cell way (moved way s Deliver) cell ≡ record (moved way (after_cell way s cell) Deliver) { deceived = s.deceived + deceptions_at way s cell }
+cell-moved ToStation s cell = refl
+cell-moved ToMaster s cell = refl
+
+pub lines-moved : (way : Way) (s : LinkState) (cell : LaneCell) → cell_lines way (moved way s Deliver) cell ≡ cell_lines way s cell
+lines-moved ToStation s cell = refl
+lines-moved ToMaster s cell = refl
+
+pub deliver-one : (way : Way) (s : LinkState) (cell : LaneCell) → slice_get (lane_of way s.side) 0 ≡ Some cell → after_link_deed s (OnLane way Deliver) ≡ after_cell way (moved way s Deliver) cell
+deliver-one way s cell head = ap (after_arrival way (moved way s Deliver)) head
+
+pub deliver-lines : (way : Way) (s : LinkState) (cell : LaneCell) (more : List LinkDeed) → slice_get (lane_of way s.side) 0 ≡ Some cell →
+    link_lines_over s (OnLane way Deliver ∷ more) ≡ cell_lines way (moved way s Deliver) cell ++ link_lines_over (after_cell way (moved way s Deliver) cell) more
+deliver-lines way s cell more head =
+    ap (λ (c : Option LaneCell). arrival_lines way s c ++ link_lines_over (after_link_deed s (OnLane way Deliver)) more) head
+    ∙ ap (λ (t : LinkState). cell_lines way s cell ++ link_lines_over t more) (deliver-one way s cell head)
+    ∙ ap (λ (lines : List Line). lines ++ link_lines_over (after_cell way (moved way s Deliver) cell) more) (sym (lines-moved way s cell))
+
+-- ---- foreign bytes
+
+foreign-moved : (way : Way) (s : LinkState) (byte : ℕ) → moved way s (Foreign byte) ≡ s
+foreign-moved ToStation s byte = refl
+foreign-moved ToMaster s byte = refl
+
+pub foreign-one : (way : Way) (s : LinkState) (byte : ℕ) → after_link_deed s (OnLane way (Foreign byte)) ≡ after_cell way s (bare byte)
+foreign-one way s byte = ap (λ (t : LinkState). after_cell way t (bare byte)) (foreign-moved way s byte)
+
+-- ---- the lines of an event
+
+-- what follows of a success
+pub on_ok : {T E P Q : Type 0} (r : Result T E) → (P → Q) → OnOk r P → OnOk r Q
+on_ok (Ok t) f p = f p
+on_ok (Err e) f p = tt
+
+-- where no byte is given, they are those of its steps
+pub without-bytes : (number : ℕ) (s : LinkState) (deeds : List LinkDeed) → link_bytes_over s deeds ≡ [] → (old new : List Line) → new ≡ old ++ link_lines_over s deeds
+    → new ≡ old ++ (link_lines_over s deeds ++ sent_lines (S number) (link_bytes_over s deeds))
+without-bytes number s deeds none old new e =
+    e ∙ ap (λ (lines : List Line). old ++ lines) (sym (append-nil (link_lines_over s deeds)) ∙ ap (λ (bytes : List ℕ). link_lines_over s deeds ++ sent_lines (S number) bytes) (sym none))
+
+pub takes-lines : (number n : ℕ) (s : LinkState) (old new : List Line) → new ≡ old ++ sent_lines (S number) (link_bytes_over s (replicate n StationGives))
+    → new ≡ old ++ (link_lines_over s (replicate n StationGives) ++ sent_lines (S number) (link_bytes_over s (replicate n StationGives)))
+takes-lines number n s old new e = e ∙ ap (λ (lines : List Line). old ++ (lines ++ sent_lines (S number) (link_bytes_over s (replicate n StationGives)))) (sym (takes-no-lines n s))
+
+pub loses-lines : (number : ℕ) (way : Way) (n : ℕ) (s : LinkState) (old : List Line) → old ≡ old ++ (link_lines_over s (replicate n (OnLane way Lose)) ++ sent_lines (S number) (link_bytes_over s (replicate n (OnLane way Lose))))
+loses-lines number way n s old =
+    without-bytes number s (replicate n (OnLane way Lose)) (lane-no-bytes way Lose n s) old old (sym (append-nil old) ∙ ap (λ (lines : List Line). old ++ lines) (sym (loses-no-lines way n s)))
+
+-- ---- one cell, or none
+
+pub is-none : (cell : Option LaneCell) → is_some cell ≡ false → cell ≡ None
+is-none None e = refl
+is-none (Some cell) e = absurd cc
+
+-- a foreign byte has arrived
+pub foreign-arrived : (way : Way) (s after : LinkState) (cell : LaneCell) (byte : ℕ) → cell ≡ bare byte → after ≡ after_cell way s cell → after ≡ after_link_deed s (OnLane way (Foreign byte))
+foreign-arrived way s after cell byte is e = e ∙ ap (after_cell way s) is ∙ sym (foreign-one way s byte)
+
+pub foreign-lines : (way : Way) (s after : LinkState) (cell : LaneCell) (byte : ℕ) (rest : List LinkDeed) (old new : List Line) → cell ≡ bare byte → after ≡ after_cell way s cell → new ≡ old ++ cell_lines way s cell
+    → new ++ link_lines_over after rest ≡ old ++ link_lines_over s (OnLane way (Foreign byte) ∷ rest)
+foreign-lines way s after cell byte rest old new is e told =
+    ap (λ (lines : List Line). lines ++ link_lines_over after rest) told
+    ∙ append_assoc old (cell_lines way s cell) (link_lines_over after rest)
+    ∙ ap (λ (t : LinkState). old ++ (cell_lines way s cell ++ link_lines_over t rest)) (foreign-arrived way s after cell byte is e)
+    ∙ ap (λ (c : LaneCell). old ++ (cell_lines way s c ++ link_lines_over (after_link_deed s (OnLane way (Foreign byte))) rest)) is

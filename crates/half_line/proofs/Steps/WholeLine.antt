@@ -1,0 +1,78 @@
+-- Unit steps of one event on the whole line, by what they do at the master, or with one station alone.
+use Rattle.std.proofs.Common.{◌≡◌, ◌∙◌, ℕ, zero, suc, ◌<◌, List, [], ◌∷◌, ◌++◌, map, take, drop, length, get_or, Option, Some, None, refl, sym, ap, arith}
+use Rattle.std.specs.Prelude.{slice_get, slice_set}
+use Rattle.half_master.proofs.Draining.{some-same}
+use Rattle.line_report.specs.declared.record.Line.{Line}
+use Rattle.half_line.specs.Acts.{StationSide, HalfState, MasterDeed, LinkDeed, after_master_deed, master_lines, master_bytes, after_link_deed, link_lines, link_bytes}
+use Rattle.half_line.specs.Steps.{AtMaster, AtStation, link_of, rejoined, after_with, lines_with, bytes_with, after_steps, lines_over, bytes_over, after_master_deeds, master_lines_over, master_bytes_over, after_link_deeds, link_lines_over, link_bytes_over}
+
+-- ---- lists
+
+pub set-same : {X : Type 0} (xs : List X) (i : ℕ) (x : X) → slice_get xs i ≡ Some x → slice_set xs i x ≡ xs
+set-same [] i x is = refl
+set-same {X} (y ∷ ys) zero x is = ap (λ (z : X). z ∷ ys) (sym (some-same is))
+set-same {X} (y ∷ ys) (suc i) x is = ap (λ (zs : List X). y ∷ zs) (set-same ys i x is)
+
+pub set-twice : {X : Type 0} (xs : List X) (i : ℕ) (a b : X) → slice_set (slice_set xs i a) i b ≡ slice_set xs i b
+set-twice [] i a b = refl
+set-twice (y ∷ ys) zero a b = refl
+set-twice {X} (y ∷ ys) (suc i) a b = ap (λ (zs : List X). y ∷ zs) (set-twice ys i a b)
+
+pub get-set : {X : Type 0} (xs : List X) (i : ℕ) (x y : X) → slice_get xs i ≡ Some x → slice_get (slice_set xs i y) i ≡ Some y
+get-set [] i x y is = absurd cc
+get-set (z ∷ zs) zero x y is = refl
+get-set (z ∷ zs) (suc i) x y is = get-set zs i x y is
+
+-- one element more is changed
+pub set-next : {X : Type 0} (f : X → X) (xs : List X) (i : ℕ) (d : X) → i < length xs → slice_set (map f (take i xs) ++ drop i xs) i (f (get_or (map f (take i xs) ++ drop i xs) i d)) ≡ map f (take (suc i) xs) ++ drop (suc i) xs
+set-next f [] i d lt = absurd (omega (arith, lt))
+set-next f (x ∷ xs) zero d lt = refl
+set-next {X} f (x ∷ xs) (suc i) d lt = let below : i < length xs = omega (arith, lt) in ap (λ (ys : List X). f x ∷ ys) (set-next f xs i d below)
+
+-- ---- at the master
+
+pub master-steps : (deeds : List MasterDeed) (s : HalfState) → after_steps s (map AtMaster deeds) ≡ after_master_deeds s deeds
+master-steps [] s = refl
+master-steps (deed ∷ deeds) s = master-steps deeds (after_master_deed s deed)
+
+pub master-lines : (deeds : List MasterDeed) (s : HalfState) → lines_over s (map AtMaster deeds) ≡ master_lines_over s.master deeds
+master-lines [] s = refl
+master-lines (deed ∷ deeds) s = ap (λ (lines : List Line). master_lines s.master deed ++ lines) (master-lines deeds (after_master_deed s deed))
+
+pub master-bytes : (deeds : List MasterDeed) (s : HalfState) → bytes_over s (map AtMaster deeds) ≡ master_bytes_over s.master deeds
+master-bytes [] s = refl
+master-bytes (deed ∷ deeds) s = ap (λ (bytes : List ℕ). master_bytes s.master deed ++ bytes) (master-bytes deeds (after_master_deed s deed))
+
+-- ---- with one station
+
+-- the line after one deed there
+abbrev after_one : HalfState → ℕ → StationSide → LinkDeed → HalfState
+after_one s place side deed = rejoined s place (after_link_deed (link_of s side) deed)
+
+pub station-steps : (place : ℕ) (deeds : List LinkDeed) (s : HalfState) (side : StationSide) → slice_get s.stations place ≡ Some side → after_steps s (map (AtStation place) deeds) ≡ rejoined s place (after_link_deeds (link_of s side) deeds)
+station-steps place [] s side at = ap (λ (stations : List StationSide). let t : HalfState = record { master = s.master; stations = stations; deceived = s.deceived } in t) (sym (set-same s.stations place side at))
+station-steps place (deed ∷ deeds) s side at =
+    let next = after_link_deed (link_of s side) deed in
+    let last = after_link_deeds next deeds in
+    ap (λ (o : Option StationSide). after_steps (after_with s place deed o) (map (AtStation place) deeds)) at
+    ∙ station-steps place deeds (after_one s place side deed) next.side (get-set s.stations place side next.side at)
+    ∙ ap (λ (stations : List StationSide). let t : HalfState = record { master = last.master; stations = stations; deceived = last.deceived } in t) (set-twice s.stations place next.side last.side)
+
+pub station-lines : (place : ℕ) (deeds : List LinkDeed) (s : HalfState) (side : StationSide) → slice_get s.stations place ≡ Some side → lines_over s (map (AtStation place) deeds) ≡ link_lines_over (link_of s side) deeds
+station-lines place [] s side at = refl
+station-lines place (deed ∷ deeds) s side at =
+    let next = after_link_deed (link_of s side) deed in
+    ap (λ (o : Option StationSide). lines_with s deed o ++ lines_over (after_with s place deed o) (map (AtStation place) deeds)) at
+    ∙ ap (λ (lines : List Line). link_lines (link_of s side) deed ++ lines) (station-lines place deeds (after_one s place side deed) next.side (get-set s.stations place side next.side at))
+
+pub station-bytes : (place : ℕ) (deeds : List LinkDeed) (s : HalfState) (side : StationSide) → slice_get s.stations place ≡ Some side → bytes_over s (map (AtStation place) deeds) ≡ link_bytes_over (link_of s side) deeds
+station-bytes place [] s side at = refl
+station-bytes place (deed ∷ deeds) s side at =
+    let next = after_link_deed (link_of s side) deed in
+    ap (λ (o : Option StationSide). bytes_with deed o ++ bytes_over (after_with s place deed o) (map (AtStation place) deeds)) at
+    ∙ ap (λ (bytes : List ℕ). link_bytes side deed ++ bytes) (station-bytes place deeds (after_one s place side deed) next.side (get-set s.stations place side next.side at))
+
+-- nothing happens where no station is
+pub nowhere-steps : (place : ℕ) (deeds : List LinkDeed) (s : HalfState) → slice_get s.stations place ≡ None → after_steps s (map (AtStation place) deeds) ≡ s
+nowhere-steps place [] s none = refl
+nowhere-steps place (deed ∷ deeds) s none = ap (λ (o : Option StationSide). after_steps (after_with s place deed o) (map (AtStation place) deeds)) none ∙ nowhere-steps place deeds s none

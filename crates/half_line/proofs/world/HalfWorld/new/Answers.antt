@@ -1,0 +1,20 @@
+-- The first state of a script.
+use Rattle.std.proofs.Common.{◌∙◌}
+use Rattle.half_line.proofs.Steps.FirstState.{rest-is, half-stations, half-numbers, begins}
+use Rattle.half_line.proofs.world.HalfWorld.new.Goals as goal
+
+pub sides_of-requires-clause-plans : goal.sides_of-requires-clause-plans
+sides_of-requires-clause-plans c = rw (c.as_slice.ensures, rest-is c.args.script.now.ends) (half-stations c.args.script.now.ends c.requires.ends)
+
+pub sides_of-requires-clause-numbers : goal.sides_of-requires-clause-numbers
+sides_of-requires-clause-numbers c = rw (c.as_slice.ensures, rest-is c.args.script.now.ends) (half-numbers c.args.script.now.ends c.requires.ends)
+
+pub returns : goal.returns
+returns c =
+    let script = c.args.script.now in
+    let plan = c.plan-item.result in
+    let first = rw c.as_slice.ensures at c.plan-item.is in
+    let numbers = c.deref.ensures.0 ∙ (rw (c.as_slice.ensures, rest-is script.ends) at c.numbers_of.ensures) in
+    let sides = rw (c.as_slice.ensures, rest-is script.ends) at c.in_ok-sides_of.ensures in
+    begins script plan plan c.new.result c.master_setup.result c.in_ok-node_of.field-0 c.deref.result.now c.in_ok-sides_of.field-0.items c.new-2.result c.requires.ends
+    first c.new.ensures.value c.master_setup.ensures c.in_ok-node_of.ensures numbers sides c.new-2.ensures

@@ -1,0 +1,71 @@
+-- The world of a half-duplex script: what it holds while the script is played, and which event may come next.
+use Rattle.std.specs.Prelude.{ℕ, ◌+◌, ◌<◌, ◌≤◌, Bool, true, false, List, [], ◌++◌, length, map}
+use Rattle.df1_node.specs.Node.{NodeState}
+use Rattle.half_master.specs.Master.{MasterState}
+use Rattle.script_parts.specs.declared.script.Event.{Event}
+use Rattle.script_parts.specs.declared.script.Event.TheVariants as event
+use Rattle.script_parts.specs.declared.script.Script.{Script}
+use Rattle.script_parts.specs.HalfPlayable.{IsHalfPossible, half_count_of}
+use Rattle.line_report.specs.declared.record.Line.{Line}
+use Rattle.half_line.specs.Acts.{StationSide, HalfState}
+use Rattle.half_line.specs.Run.{start, after_event, lines_of}
+
+-- the state, the lines of the report so far, and the sum of the events so far
+pub record Played : Type 0 where
+  pub state : HalfState
+  pub lines : List Line
+  pub events : ℕ
+
+-- the numbers of the stations
+abbrev pub numbers_at : List StationSide → List ℕ
+numbers_at stations = map (λ (side : StationSide). side.number) stations
+
+-- before the first event of a script
+abbrev pub begun : Script → Played
+begun script = record { state = start script; lines = []; events = 0 }
+
+-- how many events an event counts
+abbrev pub weight : Played → Event → ℕ
+weight p e = half_count_of (numbers_at p.state.stations) e
+
+-- after an event more
+abbrev pub played : Played → Event → Played
+played p e = record { state = after_event p.state e; lines = p.lines ++ lines_of p.state e; events = p.events + weight p e }
+
+-- after the lines so far are printed
+abbrev pub printed : Played → Played
+printed p = record p { lines = [] }
+
+-- what the events of a world may sum to; those of a script sum to 4,000,000 at most, so all of them may come
+abbrev pub most_events : ℕ
+most_events = 5000000
+
+-- how many commands the master has issued
+abbrev pub issued_by : MasterState NodeState → ℕ
+issued_by m = length m.host.initiator.issued
+
+-- a command is not the master's 65,536th
+abbrev pub IsUnspent : MasterState NodeState → Event → Type 0
+IsUnspent m (event.Issue who dst payload) = issued_by m < 65535
+IsUnspent m (event.Take who n) = Unit {0}
+IsUnspent m (event.Deliver lane n) = Unit {0}
+IsUnspent m (event.Lose lane n) = Unit {0}
+IsUnspent m (event.Alter lane mask) = Unit {0}
+IsUnspent m (event.Foreign lane bytes) = Unit {0}
+IsUnspent m (event.Tick who n) = Unit {0}
+
+-- an event that may happen next
+pub record IsNext (p : Played) (e : Event) : Type 0 where
+  pub possible : IsHalfPossible (numbers_at p.state.stations) e
+  pub unspent : IsUnspent p.state.master e
+  pub sum : p.events + weight p e ≤ most_events
+
+-- an event that takes bytes away or changes one: it takes no memory
+abbrev pub takes_no_memory : Event → Bool
+takes_no_memory (event.Issue who dst payload) = false
+takes_no_memory (event.Take who n) = false
+takes_no_memory (event.Deliver lane n) = false
+takes_no_memory (event.Lose lane n) = true
+takes_no_memory (event.Alter lane mask) = true
+takes_no_memory (event.Foreign lane bytes) = false
+takes_no_memory (event.Tick who n) = false

@@ -1,0 +1,91 @@
+//! Events at the master, and events at a station or with the bytes between it and the master.
+
+ghost use Rattle.std.specs.Prelude.{◌≡◌, ◌+◌, ◌≤◌, ◌++◌, ℕ, List, OnOk, IsOk, IsTrue};
+ghost use Rattle.half_line.specs.Acts.{half_state, link_state};
+ghost use Rattle.half_line.specs.Steps.{after_link_deeds, after_master_deeds, link_bytes_over, link_lines_over, master_bytes_over, master_lines_over};
+ghost use Rattle.half_line.specs.Run.{link_deeds, master_deeds, sent_lines};
+ghost use Rattle.half_line.specs.Plays.{IsUnspent, most_events, takes_no_memory};
+ghost use Rattle.script_parts.specs.HalfPlayable.{IsHalfPossible, half_count_of};
+
+use crate::link::{self, deliver, intrude, lose};
+use crate::master::{self, issue, pass};
+use crate::reported::Reported;
+use crate::side::Side;
+use crate::way::way_from;
+use df1_base::NoMemory;
+use df1_node::Node;
+use half_master::Master;
+use line_report::Lines;
+use line_statement::Who;
+use script_parts::Event;
+use std::alloc::Global;
+
+/// Does an event at the master.
+pub(crate) fn deal_at_master(
+    alloc: Global,
+    event: &Event,
+    master: &mut Master<Node>,
+    stations: &mut Vec<Side>,
+    lines: &mut Lines,
+) -> Result<(), NoMemory>
+    requires possible { (numbers : List ℕ) × IsHalfPossible numbers event.now }
+    requires unspent { IsUnspent master.old event.now }
+    ensures state { (deceived : ℕ) → OnOk result (half_state master.new stations.new.items deceived
+        ≡ after_master_deeds (half_state master.old stations.old.items deceived) (master_deeds event.now)) }
+    ensures lines { OnOk result (lines.new
+        ≡ lines.old ++ (master_lines_over master.old (master_deeds event.now) ++ sent_lines Who.M (master_bytes_over master.old (master_deeds event.now)))) }
+    ensures calm { IsTrue (takes_no_memory event.now) → IsOk result }
+{
+    match event {
+        Event::Issue { dst, payload, .. } => issue(master, *dst, payload.as_slice()),
+        Event::Take { n, .. } => master::give(alloc, master, stations, *n, lines),
+        Event::Tick { n, .. } => pass(master, *n, lines),
+        Event::Deliver { .. } | Event::Lose { .. } | Event::Alter { .. } | Event::Foreign { .. } =>
+            Ok(()),
+    }
+}
+
+/// Does an event at the station of this number, or with the bytes between it and the master.
+pub(crate) fn deal_at_station(
+    alloc: Global,
+    event: &Event,
+    number: u8,
+    master: &mut Master<Node>,
+    side: &mut Side,
+    reported: &mut Reported,
+) -> Result<(), NoMemory>
+    requires few { (numbers : List ℕ) × (reported.old.deceived + half_count_of numbers event.now ≤ most_events) }
+    ensures state { OnOk result (link_state master.new side.new reported.new.deceived
+        ≡ after_link_deeds (link_state master.old side.old reported.old.deceived) (link_deeds event.now)) }
+    ensures lines { OnOk result (reported.new.lines
+        ≡ reported.old.lines ++ (link_lines_over (link_state master.old side.old reported.old.deceived) (link_deeds event.now)
+        ++ sent_lines (Who.S number) (link_bytes_over (link_state master.old side.old reported.old.deceived) (link_deeds event.now)))) }
+    ensures few { (numbers : List ℕ) → reported.new.deceived ≤ reported.old.deceived + half_count_of numbers event.now }
+    ensures calm { IsTrue (takes_no_memory event.now) → IsOk result }
+{
+    match event {
+        Event::Take { n, .. } => link::give(alloc, number, side, *n, &mut reported.lines),
+        Event::Deliver { lane, n } => {
+            deliver(alloc, way_from(lane.from), master, side, *n, reported)
+        }
+        Event::Lose { lane, n } => {
+            lose(way_from(lane.from), side, *n);
+            Ok(())
+        }
+        Event::Alter { lane, mask } => {
+            side.alter(way_from(lane.from), *mask);
+            Ok(())
+        }
+        Event::Foreign { lane, bytes } => {
+            intrude(
+                alloc,
+                way_from(lane.from),
+                master,
+                side,
+                bytes.as_slice(),
+                reported,
+            )
+        }
+        Event::Issue { .. } | Event::Tick { .. } => Ok(()),
+    }
+}

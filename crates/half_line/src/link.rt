@@ -1,0 +1,205 @@
+//! Events at a station, or with the bytes between it and the master.
+
+ghost use Rattle.std.specs.Prelude.{◌≡◌, ◌+◌, ◌≤◌, ◌<◌, ◌^◌, ◌++◌, ℕ, IfOk, OnOk, length, map, replicate};
+ghost use Rattle.half_master.specs.Master.{MasterState};
+ghost use Rattle.df1_node.specs.Node.{NodeState};
+ghost use Rattle.half_line.specs.Acts.{StationSide, StationGives, OnLane, Deliver, Lose, Foreign, link_state, after_cell, cell_lines, deceptions_at};
+ghost use Rattle.half_line.specs.Steps.{after_link_deeds, link_lines_over, link_bytes_over};
+ghost use Rattle.half_line.specs.Run.{sent_lines};
+ghost use Rattle.half_line.specs.Plays.{most_events};
+
+use crate::reported::Reported;
+use crate::side::Side;
+use crate::way::Way;
+use df1_base::NoMemory;
+use df1_node::Node;
+use half_master::Master;
+use line_cells::{Cell, is_deceived, is_station_deceived};
+use line_report::{Line, Lines};
+use line_statement::{Bytes, Who};
+use std::alloc::Global;
+use told_lines::{tell_act, tell_news};
+
+/// For how many bytes of one event memory is asked for at once.
+const ROOM: usize = 32;
+
+/// The station of this number gives up to `n` bytes, and they are told where there is one.
+pub(crate) fn give(
+    alloc: Global,
+    number: u8,
+    side: &mut Side,
+    n: u32,
+    lines: &mut Lines,
+) -> Result<(), NoMemory>
+    ensures state { (master : MasterState NodeState) (deceived : ℕ) → OnOk result (link_state master side.new deceived
+        ≡ after_link_deeds (link_state master side.old deceived) (replicate n StationGives)) }
+    ensures lines { (master : MasterState NodeState) (deceived : ℕ) → OnOk result (lines.new
+        ≡ lines.old ++ sent_lines (Who.S number) (link_bytes_over (link_state master side.old deceived) (replicate n StationGives))) }
+{
+    let bytes = take_all(alloc, side, n)?;
+    if bytes.as_slice().is_empty() {
+        return Ok(());
+    }
+    lines.push(Line::Sent {
+        who: Who::S(number),
+        bytes,
+    })
+}
+
+/// Takes up to `n` bytes, and answers them.
+fn take_all(alloc: Global, side: &mut Side, n: u32) -> Result<Bytes, NoMemory>
+    ensures state { (master : MasterState NodeState) (deceived : ℕ) → OnOk result (link_state master side.new deceived
+        ≡ after_link_deeds (link_state master side.old deceived) (replicate n StationGives)) }
+    ensures bytes { (master : MasterState NodeState) (deceived : ℕ) → IfOk result (λ bytes. bytes
+        ≡ link_bytes_over (link_state master side.old deceived) (replicate n StationGives)) }
+{
+    let mut bytes = Bytes::with_room(alloc, ROOM.min(n as usize))?;
+    for _ in 0..n {
+        let Some(byte) = side.take(alloc)? else {
+            return Ok(bytes);
+        };
+        bytes.push(byte)?;
+    }
+    Ok(bytes)
+}
+
+/// Up to `n` bytes of the queue that goes this way arrive.
+pub(crate) fn deliver(
+    alloc: Global,
+    way: Way,
+    master: &mut Master<Node>,
+    side: &mut Side,
+    n: u32,
+    reported: &mut Reported,
+) -> Result<(), NoMemory>
+    requires { reported.old.deceived + n ≤ most_events }
+    ensures state { OnOk result (link_state master.new side.new reported.new.deceived
+        ≡ after_link_deeds (link_state master.old side.old reported.old.deceived) (replicate n (OnLane way Deliver))) }
+    ensures lines { OnOk result (reported.new.lines
+        ≡ reported.old.lines ++ link_lines_over (link_state master.old side.old reported.old.deceived) (replicate n (OnLane way Deliver))) }
+    ensures few { reported.new.deceived ≤ reported.old.deceived + n }
+{
+    for _ in 0..n {
+        let Some(cell) = side.leave(way) else {
+            return Ok(());
+        };
+        arrive(alloc, way, master, side, &cell, reported)?;
+    }
+    Ok(())
+}
+
+/// Up to `n` bytes of the queue that goes this way are lost.
+pub(crate) fn lose(way: Way, side: &mut Side, n: u32)
+    ensures { (master : MasterState NodeState) (deceived : ℕ) → link_state master side.new deceived
+        ≡ after_link_deeds (link_state master side.old deceived) (replicate n (OnLane way Lose)) }
+{
+    for _ in 0..n {
+        if side.leave(way).is_none() {
+            return;
+        }
+    }
+}
+
+/// Foreign bytes arrive where the bytes arrive that go this way.
+pub(crate) fn intrude(
+    alloc: Global,
+    way: Way,
+    master: &mut Master<Node>,
+    side: &mut Side,
+    bytes: &[u8],
+    reported: &mut Reported,
+) -> Result<(), NoMemory>
+    requires { reported.old.deceived + length bytes.now ≤ most_events }
+    ensures state { OnOk result (link_state master.new side.new reported.new.deceived
+        ≡ after_link_deeds (link_state master.old side.old reported.old.deceived) (map (λ byte. OnLane way (Foreign byte)) bytes.now)) }
+    ensures lines { OnOk result (reported.new.lines
+        ≡ reported.old.lines ++ link_lines_over (link_state master.old side.old reported.old.deceived) (map (λ byte. OnLane way (Foreign byte)) bytes.now)) }
+    ensures few { reported.new.deceived ≤ reported.old.deceived + length bytes.now }
+{
+    for byte in bytes {
+        let cell = Cell::bare(*byte);
+        arrive(alloc, way, master, side, &cell, reported)?;
+    }
+    Ok(())
+}
+
+/// A byte arrives at the end to which this way goes.
+fn arrive(
+    alloc: Global,
+    way: Way,
+    master: &mut Master<Node>,
+    side: &mut Side,
+    cell: &Cell,
+    reported: &mut Reported,
+) -> Result<(), NoMemory>
+    requires { reported.old.deceived + 1 < 2 ^ 64 }
+    ensures state { OnOk result (link_state master.new side.new reported.new.deceived
+        ≡ after_cell way (link_state master.old side.old reported.old.deceived) cell.now) }
+    ensures lines { OnOk result (reported.new.lines
+        ≡ reported.old.lines ++ cell_lines way (link_state master.old side.old reported.old.deceived) cell.now) }
+    ensures few { reported.new.deceived ≤ reported.old.deceived + 1 }
+{
+    match way {
+        Way::ToStation => arrive_at_station(alloc, side, cell, reported),
+        Way::ToMaster => arrive_at_master(alloc, master, cell, reported),
+    }
+}
+
+/// A byte arrives at a station: first the line of the act is told, then the news.
+fn arrive_at_station(
+    alloc: Global,
+    side: &mut Side,
+    cell: &Cell,
+    reported: &mut Reported,
+) -> Result<(), NoMemory>
+    requires { reported.old.deceived + 1 < 2 ^ 64 }
+    ensures state { (master : MasterState NodeState) → OnOk result (link_state master side.new reported.new.deceived
+        ≡ after_cell Way.ToStation (link_state master side.old reported.old.deceived) cell.now) }
+    ensures lines { (master : MasterState NodeState) → OnOk result (reported.new.lines
+        ≡ reported.old.lines ++ cell_lines Way.ToStation (link_state master side.old reported.old.deceived) cell.now) }
+    ensures few { reported.new.deceived ≤ reported.old.deceived + 1 }
+{
+    let who = Who::S(side.number());
+    let step = side.hear(cell.byte);
+    if is_station_deceived(step.whole, step.station, cell, side.body()) {
+        reported.deceived += 1;
+    }
+    tell_act(
+        alloc,
+        who,
+        step.act,
+        step.did,
+        side.body(),
+        &mut reported.lines,
+    )?;
+    tell_news(who, step.news, &mut reported.lines)
+}
+
+/// A byte arrives at the master: first the line of the act is told, then the news.
+fn arrive_at_master(
+    alloc: Global,
+    master: &mut Master<Node>,
+    cell: &Cell,
+    reported: &mut Reported,
+) -> Result<(), NoMemory>
+    requires { reported.old.deceived + 1 < 2 ^ 64 }
+    ensures state { (side : StationSide) → OnOk result (link_state master.new side reported.new.deceived
+        ≡ after_cell Way.ToMaster (link_state master.old side reported.old.deceived) cell.now) }
+    ensures lines { (side : StationSide) → OnOk result (reported.new.lines
+        ≡ reported.old.lines ++ cell_lines Way.ToMaster (link_state master.old side reported.old.deceived) cell.now) }
+    ensures few { reported.new.deceived ≤ reported.old.deceived + 1 }
+{
+    let step = master.on_byte(cell.byte);
+    if is_deceived(step.whole, cell, master.body()) {
+        reported.deceived += 1;
+    }
+    tell_act(
+        alloc,
+        Who::M,
+        step.act,
+        step.did,
+        master.body(),
+        &mut reported.lines,
+    )?;
+    tell_news(Who::M, step.news, &mut reported.lines)
+}

@@ -1,0 +1,133 @@
+//! The master of the line: what it issues, gives and is told of time.
+
+ghost use Rattle.std.specs.Prelude.{◌≡◌, ◌∷◌, ◌++◌, ℕ, List, [], IfOk, OnOk, None, map, replicate, option_map, option_to_list};
+ghost use Rattle.df1_node.specs.Initiator.{issue_fault};
+ghost use Rattle.half_master.specs.Master.{master_after_take, master_after_tick, out_at_take};
+ghost use Rattle.line_cells.specs.Cells.{cell_of};
+ghost use Rattle.each_once.specs.NodeHost.{node_host};
+ghost use Rattle.half_line.specs.Acts.{StationSide, Give, Tick, half_state, after_issue, master_lines, byte_given, cells_given, joined};
+ghost use Rattle.half_line.specs.Steps.{after_master_deeds, master_bytes_over, master_lines_over};
+ghost use Rattle.half_line.specs.Run.{sent_lines};
+
+use crate::side::Side;
+use arrayvec::ArrayVec;
+use df1_base::{NoMemory, Out};
+use df1_node::{IssueFault, Node};
+use half_master::Master;
+use line_report::{Line, Lines};
+use line_statement::{Bytes, Who};
+use std::alloc::Global;
+use told_lines::{tell_gone, tell_turn};
+
+/// For how many bytes of one event memory is asked for at once.
+const ROOM: usize = 32;
+
+/// The master issues a command. The payload has 1 to 245 bytes, bit 6 of its CMD is clear, and the master has issued fewer
+/// than 65,535 commands.
+pub(crate) fn issue(master: &mut Master<Node>, dst: u8, payload: &[u8]) -> Result<(), NoMemory>
+    requires { issue_fault master.old.host.initiator payload.now ≡ None }
+    ensures { OnOk result (master.new ≡ after_issue master.old dst payload.now) }
+{
+    match master.host_mut().issue(dst, payload) {
+        Ok(_) => Ok(()),
+        Err(IssueFault::NoMemory) => Err(NoMemory),
+        Err(_) => unreachable!(),
+    }
+}
+
+/// The master gives up to `n` bytes, and they are told where there is one.
+pub(crate) fn give(
+    alloc: Global,
+    master: &mut Master<Node>,
+    stations: &mut Vec<Side>,
+    n: u32,
+    lines: &mut Lines,
+) -> Result<(), NoMemory>
+    ensures state { (deceived : ℕ) → OnOk result (half_state master.new stations.new.items deceived
+        ≡ after_master_deeds (half_state master.old stations.old.items deceived) (replicate n Give)) }
+    ensures lines { OnOk result (lines.new ≡ lines.old ++ sent_lines Who.M (master_bytes_over master.old (replicate n Give))) }
+{
+    let bytes = take_all(alloc, master, stations, n)?;
+    if bytes.as_slice().is_empty() {
+        return Ok(());
+    }
+    lines.push(Line::Sent { who: Who::M, bytes })
+}
+
+/// Takes up to `n` bytes, and answers them.
+fn take_all(
+    alloc: Global,
+    master: &mut Master<Node>,
+    stations: &mut Vec<Side>,
+    n: u32,
+) -> Result<Bytes, NoMemory>
+    ensures state { (deceived : ℕ) → OnOk result (half_state master.new stations.new.items deceived
+        ≡ after_master_deeds (half_state master.old stations.old.items deceived) (replicate n Give)) }
+    ensures bytes { IfOk result (λ bytes. bytes ≡ master_bytes_over master.old (replicate n Give)) }
+{
+    let mut bytes = Bytes::with_room(alloc, ROOM.min(n as usize))?;
+    for _ in 0..n {
+        if master.quiet() {
+            return Ok(bytes);
+        }
+        if let Some(byte) = take(alloc, master, stations)? {
+            bytes.push(byte)?;
+        }
+    }
+    Ok(bytes)
+}
+
+/// Gives the next byte, which joins the queue to each station, and answers it: None exactly where there is none.
+fn take(
+    alloc: Global,
+    master: &mut Master<Node>,
+    stations: &mut Vec<Side>,
+) -> Result<Option<u8>, NoMemory>
+    ensures master { OnOk result (master.new ≡ master_after_take node_host master.old) }
+    ensures stations { OnOk result (stations.new.items ≡ map (joined (cells_given master.old)) stations.old.items) }
+    ensures byte { IfOk result (λ byte. byte ≡ byte_given master.old) }
+{
+    let Some(out) = master.take() else {
+        return Ok(None);
+    };
+    join_all(alloc, &out, master.sending(), stations)?;
+    Ok(Some(out.byte))
+}
+
+/// A byte of the master, given while it sent this body, joins the queue to each station.
+fn join_all(
+    alloc: Global,
+    out: &Out,
+    sending: &[u8],
+    stations: &mut Vec<Side>,
+) -> Result<(), NoMemory>
+    ensures { OnOk result (stations.new.items ≡ map (joined (cell_of sending.now out.now ∷ [])) stations.old.items) }
+{
+    for side in stations.iter_mut() {
+        side.join(alloc, out, sending)?;
+    }
+    Ok(())
+}
+
+/// `n` units of time pass at the master.
+pub(crate) fn pass(master: &mut Master<Node>, n: u32, lines: &mut Lines) -> Result<(), NoMemory>
+    ensures state { (stations : List StationSide) (deceived : ℕ) → OnOk result (half_state master.new stations deceived
+        ≡ after_master_deeds (half_state master.old stations deceived) (replicate n Tick)) }
+    ensures lines { OnOk result (lines.new ≡ lines.old ++ master_lines_over master.old (replicate n Tick)) }
+{
+    for _ in 0..n {
+        tick(master, lines)?;
+    }
+    Ok(())
+}
+
+/// A unit of time passes: first the message that was given up is told, then the unanswered commands.
+fn tick(master: &mut Master<Node>, lines: &mut Lines) -> Result<(), NoMemory>
+    ensures master { OnOk result (master.new ≡ master_after_tick node_host master.old) }
+    ensures lines { OnOk result (lines.new ≡ lines.old ++ master_lines master.old Tick) }
+{
+    let mut gone = ArrayVec::new();
+    let turn = master.on_tick(&mut gone);
+    tell_turn(Who::M, turn, lines)?;
+    tell_gone(Who::M, &gone, lines)
+}

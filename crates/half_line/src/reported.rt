@@ -1,0 +1,10 @@
+//! What is told of a run: the lines of its report, and how often an end was deceived.
+
+use line_report::Lines;
+
+/// The lines so far, and how often an end was deceived.
+#[derive(Drop)]
+pub(crate) struct Reported {
+    pub lines: Lines,
+    pub deceived: u64,
+}

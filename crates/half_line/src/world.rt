@@ -1,0 +1,237 @@
+//! The world of a script: the master, its stations, what is on its way between them, and what is told so far.
+
+ghost use Rattle.std.specs.Prelude.{◌≡◌, ◌≤◌, ◌+◌, ◌++◌, ℕ, List, [], length, map, IfOk, OnOk, OnErr, IsOk, IsTrue};
+ghost use Rattle.std.specs.List.{flat_map, All};
+ghost use Rattle.df1_base.specs.Outside.{Rose, Put, WrotePart};
+ghost use Rattle.df1_check.specs.declared.Check.{Check as CheckKind};
+ghost use Rattle.half_master.specs.Stations.{AreStations};
+ghost use Rattle.line_report.specs.Report.{line_text};
+ghost use Rattle.script_parts.specs.declared.script.EndPlan.{EndPlan as Plan};
+ghost use Rattle.script_parts.specs.HalfPlayable.{IsHalfPlayable, IsHalfPossible, IsStationPlan, IsStationNumber, half_count_of};
+ghost use Rattle.half_line.specs.Run.{record_from, all_words, first_side, number_of as the_number_of, place_of as place_in, station_at as the_station_at, station_words};
+ghost use Rattle.half_line.specs.Plays.{IsNext, begun, most_events, played, printed, takes_no_memory};
+
+use crate::deal::{deal_at_master, deal_at_station};
+use crate::reported::Reported;
+use crate::setup::master_setup;
+use crate::side::{Side, side_of};
+use crate::way::station_between;
+use arrayvec::ArrayVec;
+use df1_base::{Failed, NoMemory, Sink};
+use df1_check::Check;
+use df1_node::Node;
+use half_master::Master;
+use line_report::{Lines, Record, print_lines};
+use line_statement::Who;
+use outset::node_of;
+use script_parts::{EndPlan, Event, Script, Words};
+use std::alloc::Global;
+use std::marker::Model;
+use told_lines::push_all;
+
+/// A master and its stations with their nodes, and the bytes on their way between them. After want of memory it is only
+/// dropped.
+#[derive(Drop)]
+pub struct HalfWorld {
+    alloc: Global,
+    master: Master<Node>,
+    stations: Vec<Side>,
+    reported: Reported,
+    events: u32,
+}
+
+impl Model for HalfWorld {
+    ghost use Rattle.std.specs.Prelude.{◌≤◌, length};
+    ghost use Rattle.std.specs.Coded.{codes};
+    ghost use Rattle.df1_node.specs.contracts.node.Node as node_row;
+    ghost use Rattle.half_line.specs.Acts.{half_state};
+    ghost use Rattle.half_line.specs.Plays.{Played};
+
+    ghost Value = { Played };
+
+    ghost coded = { Prim.hlevel (codes, node_row.the_row.coded) };
+
+    ghost view = { λ w. record { state = half_state w.master w.stations.items w.reported.deceived; lines = w.reported.lines; events = w.events } };
+
+    ghost invariant = { λ w. w.reported.deceived ≤ w.events };
+}
+
+impl HalfWorld {
+    /// The world before the first event of a script.
+    pub fn new(alloc: Global, script: &Script) -> Result<HalfWorld, NoMemory>
+        requires { IsHalfPlayable script.now }
+        ensures { IfOk result (λ world. world ≡ begun script.now) }
+    {
+        let [plan, plans @ ..] = script.ends.as_slice() else {
+            unreachable!();
+        };
+        Ok(HalfWorld {
+            alloc,
+            master: Master::new(
+                master_setup(script.check, plan),
+                &numbers_of(plans),
+                node_of(alloc, plan)?,
+            ),
+            stations: sides_of(alloc, script.check, plans)?,
+            reported: Reported {
+                lines: Lines::new(alloc),
+                deceived: 0,
+            },
+            events: 0,
+        })
+    }
+
+    /// Does an event: one that may happen at the master, at a station or between them; the master issues at most 65,535
+    /// commands, and the sum of the events, with this one, is at most 5,000,000. Takes, deliveries and losses end at the
+    /// first that has nothing to do. Losing and altering take no memory.
+    pub fn step(&mut self, event: &Event) -> Result<(), NoMemory>
+        requires { IsNext self.old event.now }
+        ensures ok { OnOk result (self.new ≡ played self.old event.now) }
+        ensures calm { IsTrue (takes_no_memory event.now) → IsOk result }
+    {
+        let alloc = self.alloc;
+        self.events += count(event, self.stations.len());
+        let Some(number) = station_at(event) else {
+            return deal_at_master(
+                alloc,
+                event,
+                &mut self.master,
+                &mut self.stations,
+                &mut self.reported.lines,
+            );
+        };
+        match place_of(&self.stations, number) {
+            Some(place) => deal_at_station(
+                alloc,
+                event,
+                number,
+                &mut self.master,
+                &mut self.stations[place],
+                &mut self.reported,
+            ),
+            None => Ok(()),
+        }
+    }
+
+    /// Writes the lines of the report that stand since the last such call, and drops them. `Failed` comes where the sink
+    /// failed; then it holds a first part of their text, and the world is only dropped.
+    pub fn print_lines<K: Sink>(&mut self, sink: &mut K) -> Result<(), Failed>
+        ensures state { OnOk result (self.new ≡ printed self.old) }
+        ensures ok { OnOk result (Put (K.held sink.old) (K.held sink.new) (flat_map line_text self.old.lines)) }
+        ensures part { WrotePart (K.held sink.old) (K.held sink.new) (flat_map line_text self.old.lines) }
+        ensures calm { OnOk result (K.faults sink.new ≡ K.faults sink.old) }
+        ensures later { K.faults sink.old ≤ K.faults sink.new }
+        ensures cause { OnErr result (Rose (K.faults sink.old) (K.faults sink.new)) }
+    {
+        print_lines(self.reported.lines.as_slice(), sink)?;
+        self.reported.lines.clear();
+        Ok(())
+    }
+
+    /// The record of what happened: the lines, the words that aren't 0, and how often an end was deceived.
+    pub fn finish(self) -> Result<Record, NoMemory>
+        ensures { IfOk result (λ r. r ≡ record_from self.state self.lines) }
+    {
+        let words = self.words()?;
+        let HalfWorld { reported, .. } = self;
+        Ok(Record {
+            lines: reported.lines,
+            words,
+            deceived: reported.deceived,
+        })
+    }
+
+    /// The words of the master and of the stations, in their order, that aren't 0.
+    fn words(&self) -> Result<Words, NoMemory>
+        ensures { IfOk result (λ words. words ≡ all_words self.now.state) }
+    {
+        let mut words = Words::new(self.alloc);
+        push_all(Who::M, self.master.host().tables(), &mut words)?;
+        push_stations(&self.stations, &mut words)?;
+        Ok(words)
+    }
+}
+
+/// Adds the words of the stations that aren't 0.
+fn push_stations(stations: &[Side], words: &mut Words) -> Result<(), NoMemory>
+    ensures { OnOk result (words.new ≡ words.old ++ station_words stations.now) }
+{
+    for side in stations {
+        push_all(Who::S(side.number()), side.tables(), words)?;
+    }
+    Ok(())
+}
+
+/// The numbers of the stations of these plans, at most 32.
+fn numbers_of(plans: &[EndPlan]) -> ArrayVec<u8, 32>
+    requires { length plans.now ≤ 32 }
+    ensures { result.items ≡ map (λ (plan : Plan). plan.node) plans.now }
+{
+    let mut numbers = ArrayVec::new();
+    for plan in plans {
+        numbers.push(plan.node);
+    }
+    numbers
+}
+
+/// The stations of these plans, with nothing heard or given.
+fn sides_of(alloc: Global, check: Check, plans: &[EndPlan]) -> Result<Vec<Side>, NoMemory>
+    requires plans { All IsStationPlan plans.now }
+    requires numbers { All (λ (plan : Plan). IsStationNumber plan.node) plans.now }
+    ensures { IfOk result (λ sides. sides.items ≡ map (first_side check) plans.now) }
+{
+    let mut sides = Vec::new(alloc);
+    for plan in plans {
+        sides.push(side_of(alloc, check, plan)?)?;
+    }
+    Ok(sides)
+}
+
+/// The place of the station with this number, among at most 32.
+fn place_of(stations: &[Side], number: u8) -> Option<usize>
+    ensures { result ≡ place_in stations.now number }
+{
+    stations.iter().position(|side| side.number() == number)
+}
+
+/// The number of the station at which an event happens, or between which and the master its bytes are; None where it
+/// happens at the master.
+fn station_at(event: &Event) -> Option<u8>
+    ensures { result ≡ the_station_at event.now }
+{
+    match event {
+        Event::Issue { .. } | Event::Tick { .. } => None,
+        Event::Take { who, .. } => number_of(*who),
+        Event::Deliver { lane, .. }
+        | Event::Lose { lane, .. }
+        | Event::Alter { lane, .. }
+        | Event::Foreign { lane, .. } => Some(station_between(lane.from, lane.to)),
+    }
+}
+
+/// The number of a station.
+fn number_of(who: Who) -> Option<u8>
+    ensures { result ≡ the_number_of who }
+{
+    match who {
+        Who::S(number) => Some(number),
+        Who::A | Who::B | Who::M => None,
+    }
+}
+
+/// How many events an event counts, with so many stations: a byte of the master counts one for each, and one where there is
+/// none.
+fn count(event: &Event, stations: usize) -> u32
+    requires { (numbers : List ℕ) × (length numbers ≡ stations) × IsHalfPossible numbers event.now × (half_count_of numbers event.now ≤ most_events) }
+    ensures { (numbers : List ℕ) → length numbers ≡ stations → result ≡ half_count_of numbers event.now }
+{
+    match event {
+        Event::Issue { .. } | Event::Alter { .. } => 1,
+        Event::Take { who: Who::M, n } => *n * stations.max(1) as u32,
+        Event::Take { n, .. }
+        | Event::Deliver { n, .. }
+        | Event::Lose { n, .. }
+        | Event::Tick { n, .. } => *n,
+        Event::Foreign { bytes, .. } => bytes.as_slice().len() as u32,
+    }
+}

@@ -1,0 +1,187 @@
+//! What a statement with nothing wrong changes, and the event that it is.
+ghost use Rattle.std.specs.Prelude.{◌≡◌, IfOk, OnOk, Some, true, false};
+ghost use Rattle.half_script.specs.Drafts.{altered, delivered, event_of as the_event, happening as the_happening, heard, issued, lane_at as the_lane, lost, numbers, sets_up as the_setup_test, settled, taken, ticked, who_at as the_who, with_statement as the_draft};
+
+use crate::HalfReader;
+use df1_base::NoMemory;
+use end_drafts::Stage;
+use line_statement::{Bytes, EndName, HalfEvent, SetupLine, Statement, Way, Who};
+use script_parts::{Event, Lane};
+use std::alloc::Global;
+
+impl HalfReader {
+    /// Takes a statement, and answers its event, if it is one.
+    pub(crate) fn apply(
+        &mut self,
+        alloc: Global,
+        statement: Statement,
+    ) -> Result<Option<Event>, NoMemory>
+        ensures { IfOk result (λ event. the_draft self.old statement ≡ (self.new, event)) }
+    {
+        let steps = self.steps_of(&statement);
+        self.stage = Stage::after(&statement);
+        self.events_left = self.events_left.saturating_sub(steps);
+        if sets_up(&statement) {
+            self.take_line(statement)?;
+            Ok(None)
+        } else {
+            self.settle(alloc, &statement)?;
+            Ok(self.event_of(statement))
+        }
+    }
+
+    /// Takes a statement that is a line of an end.
+    fn take_line(&mut self, statement: Statement) -> Result<(), NoMemory>
+        requires { the_setup_test statement ≡ true }
+        ensures { OnOk result (self.new ≡ settled self.old statement) }
+    {
+        if let Statement::Setup { end, line } = statement {
+            self.set_up(end, line)?;
+        }
+        Ok(())
+    }
+
+    /// Takes a line of an end. A file and a word alone take memory.
+    #[inline(never)]
+    fn set_up(&mut self, end: EndName, line: SetupLine) -> Result<(), NoMemory>
+        ensures { OnOk result (self.new ≡ settled self.old (Statement.Setup end line)) }
+    {
+        match end {
+            EndName::Known(_) => Ok(()),
+            EndName::Master => self.master.take(Who::M, line),
+            EndName::Station(number) => self.stations.take(number, line),
+        }
+    }
+
+    /// What a statement that is no line of an end changes beside the stage and the sum of events. A station alone takes
+    /// memory.
+    fn settle(&mut self, alloc: Global, statement: &Statement) -> Result<(), NoMemory>
+        requires { the_setup_test statement.now ≡ false }
+        ensures { OnOk result (self.new ≡ settled self.old statement.now) }
+    {
+        match statement {
+            Statement::Check(Some(check)) => self.check = Some(*check),
+            Statement::Station(Some(number)) => self.stations.push(alloc, *number)?,
+            Statement::Half(HalfEvent::Issue { .. }) => self.master.count_command(),
+            _ => {}
+        }
+        Ok(())
+    }
+
+    /// The event that a statement is.
+    fn event_of(&self, statement: Statement) -> Option<Event>
+        ensures { result ≡ the_event (numbers self.now) statement }
+    {
+        match statement {
+            Statement::Half(event) => self.happening(event),
+            _ => None,
+        }
+    }
+
+    /// An event, where its station is declared and its values are there.
+    fn happening(&self, event: HalfEvent) -> Option<Event>
+        ensures { result ≡ the_happening (numbers self.now) event }
+    {
+        match event {
+            HalfEvent::Issue { station, payload } => {
+                issue(self.stations.declared(station), payload)
+            }
+            HalfEvent::MasterTake { n } => take(Some(Who::M), n),
+            HalfEvent::MasterTick { n } => tick(n),
+            HalfEvent::StationTake { station, n } => take(self.who(station), n),
+            HalfEvent::Deliver { way, n } => deliver(self.lane(way), n),
+            HalfEvent::Lose { way, n } => lose(self.lane(way), n),
+            HalfEvent::Alter { way, mask } => alter(self.lane(way), mask),
+            HalfEvent::Foreign { way, bytes } => foreign(self.lane(way), bytes),
+        }
+    }
+
+    /// A station, where it is declared.
+    fn who(&self, station: u32) -> Option<Who>
+        ensures { result ≡ the_who (numbers self.now) station }
+    {
+        self.stations.declared(station).map(Who::S)
+    }
+
+    /// The queue of a way, where its station is declared.
+    fn lane(&self, way: Way) -> Option<Lane>
+        ensures { result ≡ the_lane (numbers self.now) way }
+    {
+        match way {
+            Way::ToStation(station) => Some(Lane {
+                from: Who::M,
+                to: self.who(station)?,
+            }),
+            Way::ToMaster(station) => Some(Lane {
+                from: self.who(station)?,
+                to: Who::M,
+            }),
+        }
+    }
+}
+
+/// Whether a statement is a line of an end.
+fn sets_up(statement: &Statement) -> bool
+    ensures { result ≡ the_setup_test statement.now }
+{
+    matches!(statement, Statement::Setup { .. })
+}
+
+/// A command of the master.
+fn issue(dst: Option<u8>, payload: Option<Bytes>) -> Option<Event>
+    ensures { result ≡ issued dst payload }
+{
+    Some(Event::Issue {
+        who: Who::M,
+        dst: dst?,
+        payload: payload?,
+    })
+}
+
+/// An end gives bytes.
+fn take(who: Option<Who>, n: Option<u32>) -> Option<Event>
+    ensures { result ≡ taken who n }
+{
+    Some(Event::Take { who: who?, n: n? })
+}
+
+/// Ticks pass at the master.
+fn tick(n: Option<u32>) -> Option<Event>
+    ensures { result ≡ ticked n }
+{
+    Some(Event::Tick { who: Who::M, n: n? })
+}
+
+/// Bytes of a queue arrive.
+fn deliver(lane: Option<Lane>, n: Option<u32>) -> Option<Event>
+    ensures { result ≡ delivered lane n }
+{
+    Some(Event::Deliver { lane: lane?, n: n? })
+}
+
+/// Bytes of a queue are lost.
+fn lose(lane: Option<Lane>, n: Option<u32>) -> Option<Event>
+    ensures { result ≡ lost lane n }
+{
+    Some(Event::Lose { lane: lane?, n: n? })
+}
+
+/// The head of a queue is altered.
+fn alter(lane: Option<Lane>, mask: Option<u8>) -> Option<Event>
+    ensures { result ≡ altered lane mask }
+{
+    Some(Event::Alter {
+        lane: lane?,
+        mask: mask?,
+    })
+}
+
+/// Foreign bytes arrive.
+fn foreign(lane: Option<Lane>, bytes: Option<Bytes>) -> Option<Event>
+    ensures { result ≡ heard lane bytes }
+{
+    Some(Event::Foreign {
+        lane: lane?,
+        bytes: bytes?,
+    })
+}

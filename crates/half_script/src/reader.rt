@@ -1,0 +1,95 @@
+//! Reads a half-duplex script statement by statement.
+ghost use Rattle.std.specs.Prelude.{◌≡◌, MatchResult, IfOk, Ok, Err, [], option_map, List};
+ghost use Rattle.end_drafts.specs.declared.flaw.Flaw.{Flaw as TheFlaw};
+ghost use Rattle.end_drafts.specs.Flaws.{IsFlawed};
+ghost use Rattle.half_script.specs.Drafts.{fresh, after_statement, draft_at, ends_of as the_ends, script_with};
+
+use crate::Stations;
+use df1_base::NoMemory;
+use df1_check::Check;
+use end_drafts::{EndDraft, Stage, StatementFault};
+use line_statement::{EVENTS, EndName, Items, Statement, Who};
+use script_parts::{Ends, Event, Events, Script};
+use std::alloc::Global;
+
+/// The address of the master, where no line sets it.
+const NODE: u8 = 0;
+
+/// A reader of the statements behind `set mode half`, which keeps what they say but for the events. After a fault it is
+/// only dropped.
+#[derive(Drop)]
+pub struct HalfReader {
+    pub stage: Stage,
+    pub(crate) check: Option<Check>,
+    pub(crate) master: EndDraft,
+    pub(crate) stations: Stations,
+    pub(crate) events_left: usize,
+}
+
+impl HalfReader {
+    /// A reader of which no statement was fed but `set mode half`.
+    pub fn new(alloc: Global) -> Self
+        ensures { result ≡ fresh }
+    {
+        HalfReader {
+            stage: Stage::Settings,
+            check: None,
+            master: EndDraft::new(alloc),
+            stations: Stations::new(alloc),
+            events_left: EVENTS as usize,
+        }
+    }
+
+    /// Takes the next statement, and answers its event, if it is one. Where something is wrong with it, the first flaw is
+    /// told. One that is refused takes no memory.
+    pub fn take(
+        &mut self,
+        alloc: Global,
+        statement: Statement,
+    ) -> Result<Option<Event>, StatementFault>
+        ensures refused { (flaw : TheFlaw) → after_statement self.old statement ≡ Err flaw → result ≡ Err (StatementFault.Flawed flaw) }
+        ensures value { MatchResult result (λ event. after_statement self.old statement ≡ Ok (self.new, event))
+            (λ fault. IsFlawed fault (after_statement self.old statement)) }
+    {
+        match self.flaw_of(&statement) {
+            Some(flaw) => Err(StatementFault::Flawed(flaw)),
+            None => Ok(self.apply(alloc, statement)?),
+        }
+    }
+
+    /// What is known of an end, where there is such an end.
+    pub(crate) fn end(&self, end: EndName) -> Option<&EndDraft>
+        ensures { option_map (λ draft. draft.now) result ≡ draft_at self.now end }
+    {
+        match end {
+            EndName::Known(_) => None,
+            EndName::Master => Some(&self.master),
+            EndName::Station(number) => match self.stations.find(number) {
+                Some(station) => Some(&station.end),
+                None => None,
+            },
+        }
+    }
+
+    /// The script of the statements so far, but for its events.
+    pub fn setup(&self, alloc: Global) -> Result<Script, NoMemory>
+        ensures { IfOk result (λ script. script ≡ script_with self.now []) }
+    {
+        Ok(Script {
+            half: true,
+            check: self.check.unwrap_or(Check::Bcc),
+            ends: self.ends(alloc)?,
+            events: Events::new(alloc),
+        })
+    }
+
+    /// The plans of the master and of the stations.
+    fn ends(&self, alloc: Global) -> Result<Ends, NoMemory>
+        ensures { IfOk result (λ ends. ends ≡ the_ends self.now) }
+    {
+        let mut ends: Ends = Items::new(alloc);
+        ends.push(self.master.plan(alloc, Who::M, NODE)?)?;
+        self.stations.add_plans(alloc, &mut ends)?;
+        Ok(ends)
+    }
+}

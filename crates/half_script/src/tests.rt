@@ -1,0 +1,218 @@
+//! Lines with the first that has a flaw, and one script field by field.
+
+use crate::HalfReader;
+use df1_check::Check;
+use end_drafts::{Flaw, StatementFault};
+use line_statement::{Items, Who, first_words, statement_of};
+use script_parts::{Event, Events, Lane, Script};
+use std::alloc::Global;
+use std::test::Fail;
+
+/// Flawed lines behind `set mode half`, with the number of the first and its first flaw.
+const FLAWED: [(&str, u32, Flaw); 58] = [
+    ("set mode half", 1, Flaw::Place),
+    ("set mode full", 1, Flaw::Place),
+    ("mk\nset check crc", 2, Flaw::Place),
+    ("mk\nset check x", 2, Flaw::Place),
+    ("mt\nstation 3", 2, Flaw::Place),
+    ("mt\nstation 16", 2, Flaw::Place),
+    ("mt\nset m.node 7", 2, Flaw::Place),
+    ("mt\nset a.node 7", 2, Flaw::Place),
+    ("mt\nfile m 7 89 1", 2, Flaw::Place),
+    ("mt\nword m 7 0 1234", 2, Flaw::Place),
+    ("ak", 1, Flaw::Missing),
+    ("bt 0", 1, Flaw::Missing),
+    ("ai 4F00", 1, Flaw::Missing),
+    ("ac 00", 1, Flaw::Missing),
+    ("bn 10", 1, Flaw::Missing),
+    ("mi 3 0600", 1, Flaw::Missing),
+    ("station 3\nmi 4 4F00", 2, Flaw::Missing),
+    ("3k 0", 1, Flaw::Missing),
+    ("259k", 1, Flaw::Missing),
+    ("station 3\n259k", 2, Flaw::Missing),
+    ("md 3 0", 1, Flaw::Missing),
+    ("mx 3", 1, Flaw::Missing),
+    ("mc 3 00", 1, Flaw::Missing),
+    ("station 3\nmn 4 10", 2, Flaw::Missing),
+    ("set a.node 0", 1, Flaw::Missing),
+    ("file b 7 89 1", 1, Flaw::Missing),
+    ("set m.embed on", 1, Flaw::Missing),
+    ("set m.max_naks 300", 1, Flaw::Missing),
+    ("set m.max_enqs 3", 1, Flaw::Missing),
+    ("set m.max_sends 3", 1, Flaw::Missing),
+    ("set 3.room 2", 1, Flaw::Missing),
+    ("station 3\nset 3.node 3", 2, Flaw::Missing),
+    ("station 3\nset 3.tns 3", 2, Flaw::Missing),
+    ("station 3\nset 3.ack_ticks 3", 2, Flaw::Missing),
+    ("station 3\nset 3.poll_ticks 0", 2, Flaw::Missing),
+    ("station 3\nset 3.compat 7", 2, Flaw::Missing),
+    ("word m 7 0 1234", 1, Flaw::Missing),
+    ("set check BCC", 1, Flaw::Value),
+    ("station 16", 1, Flaw::Value),
+    ("station 255", 1, Flaw::Value),
+    ("set m.node 256", 1, Flaw::Value),
+    ("set m.poll_ticks 0", 1, Flaw::Value),
+    ("set m.max_resends 256", 1, Flaw::Value),
+    ("station 3\nset 3.max_sends 0", 2, Flaw::Value),
+    ("file m 7 86 2\nset m.compat 7", 2, Flaw::Value),
+    ("station 3\nfile 3 7 89 2\nword 3 7 2 1234", 3, Flaw::Value),
+    ("station 3\nmi 3 4F00", 2, Flaw::Value),
+    ("station 3\n03k 0", 2, Flaw::Value),
+    ("station 3\nmc 3 00", 2, Flaw::Value),
+    ("set check bcc\nset check crc", 2, Flaw::Twice),
+    ("station 3\nstation 4\nstation 03", 3, Flaw::Twice),
+    ("set m.node 0\nset m.node 1", 2, Flaw::Twice),
+    (
+        "station 3\nset 3.max_sends 255\nset 03.max_sends 1",
+        3,
+        Flaw::Twice,
+    ),
+    (
+        "station 3\nstation 4\nfile 3 7 89 2\nfile 4 7 89 2\nword 4 7 1 1234\nword 3 7 1 1234\nword 3 7 1 0000",
+        7,
+        Flaw::Twice,
+    ),
+    ("mk 4000000\nmt", 2, Flaw::Events),
+    ("station 1\nstation 2\nmk 2000001", 3, Flaw::Events),
+    ("station 1\nstation 2\nmk 2000000\nmt", 4, Flaw::Events),
+    ("station 1\nstation 2\n1k 3999999\n2n 1015", 4, Flaw::Events),
+];
+
+/// What is read of some lines: the script, or the number of the first line that is none of the forms or refused, with its
+/// fault.
+fn read(alloc: Global, text: &str) -> Result<Script, (u32, Option<StatementFault>)> {
+    let mut reader = HalfReader::new(alloc);
+    let mut events: Events = Items::new(alloc);
+    let mut number = 1u32;
+    for line in text.lines() {
+        let Ok(Some(statement)) = statement_of(alloc, &first_words(line.as_bytes())) else {
+            return Err((number, None));
+        };
+        match reader.take(alloc, statement) {
+            Ok(Some(event)) => {
+                if events.push(event).is_err() {
+                    return Err((number, None));
+                }
+            }
+            Ok(None) => {}
+            Err(fault) => return Err((number, Some(fault))),
+        }
+        number = number.wrapping_add(1);
+    }
+    match reader.setup(alloc) {
+        Ok(mut script) => {
+            script.events = events;
+            Ok(script)
+        }
+        Err(_) => Err((number, None)),
+    }
+}
+
+#[test]
+fn the_first_flawed_line_is_told_with_its_first_flaw(rt: HostRuntime) {
+    for (text, line, flaw) in FLAWED {
+        assert_eq!(rt;
+            read(rt.alloc(), text).err(),
+            Some((line, Some(StatementFault::Flawed(flaw)))),
+            "in {text:?}"
+        );
+    }
+}
+
+#[test]
+fn a_line_has_32_stations_and_a_master_65535_commands(rt: HostRuntime) -> Result<(), Fail> {
+    let alloc = rt.alloc();
+    let mut text = String::new(alloc);
+    for number in 17..49 {
+        let line = format!(in alloc; "station {number}\n")?;
+        text.push_str(line.as_str())?;
+    }
+    assert!(rt; read(alloc, text.as_str()).is_ok());
+    text.push_str("station 17")?;
+    assert_eq!(rt;
+        read(alloc, text.as_str()).err(),
+        Some((33, Some(StatementFault::Flawed(Flaw::Value))))
+    );
+    let mut text = String::new(alloc);
+    text.push_str("station 3\n")?;
+    for _ in 0..65_535 {
+        text.push_str("mi 3 0600\n")?;
+    }
+    assert!(rt; read(alloc, text.as_str()).is_ok());
+    text.push_str("mi 3 0600\n")?;
+    assert_eq!(rt;
+        read(alloc, text.as_str()).err(),
+        Some((65_537, Some(StatementFault::Flawed(Flaw::Spent))))
+    );
+    Ok(())
+}
+
+/// A script with a master and two stations.
+const TEXT: &str =
+    "set check crc\nstation 254\nset m.tns 9\nstation 3\nset m.room 64\nset 3.max_sends 255\nset 254.block 01fE\nfile 3 7 89 2\nword 3 7 1 12aB\nset 3.compat 7\nmi 254 0fAA\nmk\nmt 3\n3k 2\nmd 3 4\n254x\nmc 254 0f\n3n 1015";
+
+#[test]
+fn a_script_says_what_its_lines_say(rt: HostRuntime) -> Result<(), Fail> {
+    let script = read(rt.alloc(), TEXT).ok().ok_or("refused")?;
+    assert!(rt; script.half);
+    assert_eq!(rt; script.check, Check::Crc);
+    let ends = script.ends.as_slice();
+    assert_eq!(rt; ends.len(), 3);
+    let (m, first, second) = (&ends[0], &ends[1], &ends[2]);
+    assert_eq!(rt;
+        (m.who, m.node, m.tns, m.room, m.max_sends),
+        (Who::M, 0, 9, 64, 3)
+    );
+    assert_eq!(rt;
+        (first.who, first.node, first.room, first.compat),
+        (Who::S(254), 254, 2, None)
+    );
+    assert_eq!(rt; first.block.as_slice(), b"\x01\xfe".as_slice());
+    assert_eq!(rt;
+        (second.who, second.node, second.max_sends, second.compat),
+        (Who::S(3), 3, 255, Some(7))
+    );
+    let words = second.words.as_slice();
+    assert_eq!(rt; words.len(), 1);
+    assert_eq!(rt;
+        (words[0].who, words[0].file, words[0].index, words[0].value),
+        (Who::S(3), 7, 1, 0x12AB)
+    );
+    Ok(())
+}
+
+#[test]
+fn events_are_those_of_the_lines_in_their_order(rt: HostRuntime) -> Result<(), Fail> {
+    let script = read(rt.alloc(), TEXT).ok().ok_or("refused")?;
+    let events = script.events.as_slice();
+    assert_eq!(rt; events.len(), 8);
+    let to = |number| Lane {
+        from: Who::M,
+        to: Who::S(number),
+    };
+    let from = |number| Lane {
+        from: Who::S(number),
+        to: Who::M,
+    };
+    assert!(rt;
+        matches!(&events[0], Event::Issue { who: Who::M, dst: 254, payload } if payload.as_slice() == b"\x0f\xaa".as_slice())
+    );
+    assert!(rt; matches!(&events[1], Event::Take { who: Who::M, n: 1 }));
+    assert!(rt; matches!(&events[2], Event::Tick { who: Who::M, n: 3 }));
+    assert!(rt;
+        matches!(
+            &events[3],
+            Event::Take {
+                who: Who::S(3),
+                n: 2
+            }
+        )
+    );
+    assert!(rt; matches!(&events[4], Event::Deliver { lane, n: 4 } if *lane == to(3)));
+    assert!(rt; matches!(&events[5], Event::Lose { lane, n: 1 } if *lane == from(254)));
+    assert!(rt; matches!(&events[6], Event::Alter { lane, mask: 0x0F } if *lane == to(254)));
+    assert!(rt;
+        matches!(&events[7], Event::Foreign { lane, bytes } if *lane == from(3) && bytes.as_slice() == b"\x10\x15".as_slice())
+    );
+    Ok(())
+}

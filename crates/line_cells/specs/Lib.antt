@@ -1,0 +1,3 @@
+pub mod Cells
+pub mod Deception
+pub mod Marks

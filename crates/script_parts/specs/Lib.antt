@@ -1,0 +1,3 @@
+pub mod HalfPlayable
+pub mod Playable
+pub mod Plans

@@ -1,0 +1,8 @@
+//! What a script says, once it is read: how each end of the line is set up, and the events of the line between them; and
+//! which scripts can be played.
+#![tactic(auto)]
+
+mod script;
+
+pub use line_statement::{Bytes, Items, Who};
+pub use script::{EndPlan, Ends, Event, Events, Lane, Script, Specs, WordOf, Words};

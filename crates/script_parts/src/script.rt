@@ -1,0 +1,97 @@
+//! What a script says: the plan of each end, and the events of the line between them.
+
+use data_files::FileSpec;
+use df1_check::Check;
+use line_statement::{Bytes, Items, Who};
+
+/// The data files of an end, in the order in which they were declared.
+pub type Specs = Items<FileSpec>;
+
+/// The first values of words, in the order in which they were given.
+pub type Words = Items<WordOf>;
+
+/// The plans of the ends: a, then b; or the master, then the stations in the order in which they were declared.
+pub type Ends = Items<EndPlan>;
+
+/// The events of a script, in its order.
+pub type Events = Items<Event>;
+
+/// A direction of the line: the queue of the bytes that one end gave and that go to another.
+#[derive(Clone, Copy, Debug, PartialEq, Eq)]
+pub struct Lane {
+    pub from: Who,
+    pub to: Who,
+}
+
+/// Something that happens on the line.
+#[derive(Drop)]
+pub enum Event {
+    /// An end issues a command to the station `dst`; the payload begins with CMD and has 1 to 245 bytes.
+    Issue { who: Who, dst: u8, payload: Bytes },
+    /// An end gives up to `n` bytes, which go into its queue.
+    Take { who: Who, n: u32 },
+    /// Up to `n` bytes at the head of a queue arrive.
+    Deliver { lane: Lane, n: u32 },
+    /// Up to `n` bytes at the head of a queue are lost.
+    Lose { lane: Lane, n: u32 },
+    /// The byte at the head of a queue is altered by exclusive or with `mask`, which isn't 0.
+    Alter { lane: Lane, mask: u8 },
+    /// Foreign bytes, at most 250, arrive at once, as if through this queue.
+    Foreign { lane: Lane, bytes: Bytes },
+    /// `n` ticks pass at an end.
+    Tick { who: Who, n: u32 },
+}
+
+/// The first value of a word: word `index`, from 0, of data file `file` of an end.
+#[derive(Clone, Copy, Debug, PartialEq, Eq)]
+pub struct WordOf {
+    pub who: Who,
+    pub file: u16,
+    pub index: u32,
+    pub value: u16,
+}
+
+/// How an end is set up.
+#[derive(Drop)]
+pub struct EndPlan {
+    pub who: Who,
+    /// Whether responses may stand inside messages.
+    pub embed: bool,
+    /// Its address, DST of what is sent to it.
+    pub node: u8,
+    /// TNS of its first command.
+    pub tns: u16,
+    /// Ticks until an ENQ asks for a missing response: 1 to 1,000,000.
+    pub ack_ticks: u32,
+    /// NAKs at which a message is sent again, and the next gives it up: 0 to 255.
+    pub max_naks: u32,
+    /// ENQs after which a message is given up: 0 to 255.
+    pub max_enqs: u32,
+    /// Ticks until a command counts as unanswered: 33 to 1,000,000.
+    pub reply_ticks: u32,
+    /// Sendings again of a master's message: 0 to 255.
+    pub max_resends: u32,
+    /// Ticks until a poll counts as not answered: 1 to 1,000,000.
+    pub poll_ticks: u32,
+    /// Sendings of a slave's message: 1 to 255.
+    pub max_sends: u32,
+    /// How many replies may wait: 2 to 64.
+    pub room: usize,
+    /// The number of the compatibility file, a bit or integer file of the end.
+    pub compat: Option<u16>,
+    /// The status block, at most 244 bytes.
+    pub block: Bytes,
+    pub files: Specs,
+    pub words: Words,
+}
+
+/// A script, read.
+#[derive(Drop)]
+pub struct Script {
+    /// Half duplex.
+    pub half: bool,
+    /// Which check ends a message.
+    pub check: Check,
+    pub ends: Ends,
+    pub events: Events,
+}

@@ -1,0 +1,2 @@
+pub mod NodeLines
+pub mod Words
