@@ -23,6 +23,11 @@ pub record Taker : Type 0 where
   pub fail : List ℕ
   pub faults : ℕ
 
+-- a source that gives one byte so many times more
+pub record Repeated : Type 0 where
+  pub byte : ℕ
+  pub left : ℕ
+
 -- one more, of a count that stops at the last value of u64
 abbrev pub counted : ℕ → ℕ
 counted n = min (n + 1) (2 ^ 64 - 1)

@@ -3,6 +3,7 @@
 #![tactic(auto)]
 
 mod ahead;
+mod byte_run;
 mod bytes_in;
 mod bytes_out;
 mod code;
@@ -12,6 +13,7 @@ mod file_type;
 mod host;
 mod link;
 mod message;
+mod nowhere;
 mod outside;
 mod port;
 mod port_mem;
@@ -24,6 +26,7 @@ mod tests;
 mod whole;
 mod whole_input;
 
+pub use byte_run::ByteRun;
 pub use bytes_in::BytesIn;
 pub use bytes_out::BytesOut;
 pub use code::Code;
@@ -33,6 +36,7 @@ pub use file_type::FileType;
 pub use host::{Did, Fate, Host, News};
 pub use link::{Act, Out, Resp, Step, Turn};
 pub use message::{MAX_BODY, MAX_DATA, MAX_PAYLOAD, MIN_BODY, REPLY};
+pub use nowhere::Nowhere;
 pub use outside::{Failed, NoMemory, Sink, Source};
 pub use port::Port;
 pub use port_mem::PortMem;

@@ -1,7 +1,7 @@
 //! The calls of each source and sink, one by one.
 ghost use Rattle.std.specs.Prelude.{◌≤◌, IfOk};
 
-use crate::{BytesIn, BytesOut, Failed, Sink, Source, StdIn, StdOut, write_all};
+use crate::{ByteRun, BytesIn, BytesOut, Failed, Nowhere, Sink, Source, StdIn, StdOut, write_all};
 use std::alloc::Global;
 use std::io::{self, ErrorKind, Read, Write};
 use std::test::Fail;
@@ -31,6 +31,20 @@ fn a_sink_in_memory_fails_where_it_is_full_and_as_told(rt: HostRuntime) -> Resul
     assert_eq!(rt; sink.write(b"d"), Err(Failed));
     assert_eq!(rt; sink.write(b""), Ok(0));
     assert_eq!(rt; sink.held(), b"abc".as_slice());
+    Ok(())
+}
+
+#[test]
+fn a_run_of_a_byte_ends_and_nowhere_takes_all(rt: HostRuntime) -> Result<(), Fail> {
+    let mut source = ByteRun::new(85, 6);
+    let mut into = [0; 4];
+    assert_eq!(rt; source.read(&mut into), Ok(4));
+    assert_eq!(rt; into, [85; 4]);
+    assert_eq!(rt; source.read(&mut into[1..]), Ok(2));
+    assert_eq!(rt; source.read(&mut into), Ok(0));
+    let mut sink = Nowhere::new();
+    assert_eq!(rt; sink.write(&into), Ok(4));
+    assert_eq!(rt; sink.write(b""), Ok(0));
     Ok(())
 }
 
