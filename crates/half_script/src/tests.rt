@@ -4,8 +4,9 @@ use crate::HalfReader;
 use df1_check::Check;
 use end_drafts::{Flaw, StatementFault};
 use line_statement::{Items, Who, first_words, statement_of};
-use script_parts::{Event, Events, Lane, Script};
-use std::alloc::Global;
+use script_parts::{EndPlan, Event, Events, Lane, Script, WordOf};
+use std::alloc::{AllocError, Global};
+use std::process::Abort;
 use std::test::Fail;
 
 /// Flawed lines behind `set mode half`, with the number of the first and its first flaw.
@@ -119,31 +120,34 @@ fn the_first_flawed_line_is_told_with_its_first_flaw(rt: HostRuntime) {
     }
 }
 
-#[test]
-fn a_line_has_32_stations_and_a_master_65535_commands(rt: HostRuntime) -> Result<(), Fail> {
-    let alloc = rt.alloc();
-    let mut text = String::new(alloc);
-    for number in 17..49 {
-        let line = format!(in alloc; "station {number}\n")?;
-        text.push_str(line.as_str())?;
+/// Lines with so many stations or commands of one master, and the line with a flaw, if there is one.
+const MANY: [(&str, u32, u32, Option<(u32, Flaw)>); 4] = [
+    ("", 32, 0, None),
+    ("", 33, 0, Some((33, Flaw::Value))),
+    ("station 3\n", 0, 65_535, None),
+    ("station 3\n", 0, 65_536, Some((65_537, Flaw::Spent))),
+];
+
+/// Lines for so many stations, from 17 on, and so many commands.
+fn many(alloc: Global, front: &str, stations: u32, commands: u32) -> Result<String, AllocError> {
+    let mut text = String::from_str(alloc, front)?;
+    for number in 0..stations {
+        let line = format!(in alloc; "station {}\n", number + 17)?;
+        text.push_str(&line)?;
     }
-    assert!(rt; read(alloc, text.as_str()).is_ok());
-    text.push_str("station 17")?;
-    assert_eq!(rt;
-        read(alloc, text.as_str()).err(),
-        Some((33, Some(StatementFault::Flawed(Flaw::Value))))
-    );
-    let mut text = String::new(alloc);
-    text.push_str("station 3\n")?;
-    for _ in 0..65_535 {
+    for _ in 0..commands {
         text.push_str("mi 3 0600\n")?;
     }
-    assert!(rt; read(alloc, text.as_str()).is_ok());
-    text.push_str("mi 3 0600\n")?;
-    assert_eq!(rt;
-        read(alloc, text.as_str()).err(),
-        Some((65_537, Some(StatementFault::Flawed(Flaw::Spent))))
-    );
+    Ok(text)
+}
+
+#[test]
+fn a_line_has_32_stations_and_a_master_65535_commands(rt: HostRuntime) -> Result<(), Fail> {
+    for (front, stations, commands, flaw) in MANY {
+        let text = many(rt.alloc(), front, stations, commands)?;
+        let expected = flaw.map(|(line, flaw)| (line, Some(StatementFault::Flawed(flaw))));
+        assert_eq!(rt; read(rt.alloc(), &text).err(), expected);
+    }
     Ok(())
 }
 
@@ -151,14 +155,11 @@ fn a_line_has_32_stations_and_a_master_65535_commands(rt: HostRuntime) -> Result
 const TEXT: &str =
     "set check crc\nstation 254\nset m.tns 9\nstation 3\nset m.room 64\nset 3.max_sends 255\nset 254.block 01fE\nfile 3 7 89 2\nword 3 7 1 12aB\nset 3.compat 7\nmi 254 0fAA\nmk\nmt 3\n3k 2\nmd 3 4\n254x\nmc 254 0f\n3n 1015";
 
-#[test]
-fn a_script_says_what_its_lines_say(rt: HostRuntime) -> Result<(), Fail> {
-    let script = read(rt.alloc(), TEXT).ok().ok_or("refused")?;
-    assert!(rt; script.half);
-    assert_eq!(rt; script.check, Check::Crc);
-    let ends = script.ends.as_slice();
-    assert_eq!(rt; ends.len(), 3);
-    let (m, first, second) = (&ends[0], &ends[1], &ends[2]);
+/// Compares the plans of the script.
+fn check_ends<R: Abort>(rt: &R, ends: &[EndPlan]) -> Result<(), Fail> {
+    let [m, first, second] = ends else {
+        return Err(Fail::new("there are not three ends"));
+    };
     assert_eq!(rt;
         (m.who, m.node, m.tns, m.room, m.max_sends),
         (Who::M, 0, 9, 64, 3)
@@ -172,20 +173,18 @@ fn a_script_says_what_its_lines_say(rt: HostRuntime) -> Result<(), Fail> {
         (second.who, second.node, second.max_sends, second.compat),
         (Who::S(3), 3, 255, Some(7))
     );
-    let words = second.words.as_slice();
-    assert_eq!(rt; words.len(), 1);
-    assert_eq!(rt;
-        (words[0].who, words[0].file, words[0].index, words[0].value),
-        (Who::S(3), 7, 1, 0x12AB)
-    );
+    let word = WordOf {
+        who: Who::S(3),
+        file: 7,
+        index: 1,
+        value: 0x12AB,
+    };
+    assert_eq!(rt; second.words.as_slice(), [word].as_slice());
     Ok(())
 }
 
-#[test]
-fn events_are_those_of_the_lines_in_their_order(rt: HostRuntime) -> Result<(), Fail> {
-    let script = read(rt.alloc(), TEXT).ok().ok_or("refused")?;
-    let events = script.events.as_slice();
-    assert_eq!(rt; events.len(), 8);
+/// Compares the events of the script.
+fn check_events<R: Abort>(rt: &R, events: &[Event]) -> Result<(), Fail> {
     let to = |number| Lane {
         from: Who::M,
         to: Who::S(number),
@@ -195,24 +194,31 @@ fn events_are_those_of_the_lines_in_their_order(rt: HostRuntime) -> Result<(), F
         to: Who::M,
     };
     assert!(rt;
-        matches!(&events[0], Event::Issue { who: Who::M, dst: 254, payload } if payload.as_slice() == b"\x0f\xaa".as_slice())
-    );
-    assert!(rt; matches!(&events[1], Event::Take { who: Who::M, n: 1 }));
-    assert!(rt; matches!(&events[2], Event::Tick { who: Who::M, n: 3 }));
-    assert!(rt;
-        matches!(
-            &events[3],
-            Event::Take {
-                who: Who::S(3),
-                n: 2
-            }
-        )
-    );
-    assert!(rt; matches!(&events[4], Event::Deliver { lane, n: 4 } if *lane == to(3)));
-    assert!(rt; matches!(&events[5], Event::Lose { lane, n: 1 } if *lane == from(254)));
-    assert!(rt; matches!(&events[6], Event::Alter { lane, mask: 0x0F } if *lane == to(254)));
-    assert!(rt;
-        matches!(&events[7], Event::Foreign { lane, bytes } if *lane == from(3) && bytes.as_slice() == b"\x10\x15".as_slice())
+        matches!(events, [
+        Event::Issue { who: Who::M, dst: 254, payload },
+        Event::Take { who: Who::M, n: 1 },
+        Event::Tick { who: Who::M, n: 3 },
+        Event::Take { who: Who::S(3), n: 2 },
+        Event::Deliver { lane: delivered, n: 4 },
+        Event::Lose { lane: lost, n: 1 },
+        Event::Alter { lane: altered, mask: 0x0F },
+        Event::Foreign { lane: foreign, bytes },
+    ] if payload.as_slice() == b"\x0f\xaa".as_slice()
+        && [*delivered, *lost, *altered, *foreign] == [to(3), from(254), to(254), from(3)]
+        && bytes.as_slice() == b"\x10\x15".as_slice())
     );
     Ok(())
+}
+
+/// Compares the script.
+fn check_script<R: Abort>(rt: &R, script: &Script) -> Result<(), Fail> {
+    assert_eq!(rt; (script.half, script.check), (true, Check::Crc));
+    check_ends(rt, script.ends.as_slice())?;
+    check_events(rt, script.events.as_slice())
+}
+
+#[test]
+fn a_script_says_what_its_lines_say(rt: HostRuntime) -> Result<(), Fail> {
+    let script = read(rt.alloc(), TEXT).ok().ok_or("refused")?;
+    check_script(&rt, &script)
 }

@@ -1,14 +1,17 @@
 //! Texts with their first faulty line and its cause, and one script field by field.
 
-use crate::{Cause, Event, Lane, LineFault, Reader, ScriptFault, Who, WordOf, read_script};
+use crate::{
+    Cause, EndPlan, Event, Lane, LineFault, Reader, Script, ScriptFault, Who, WordOf, read_script,
+};
 use data_files::FileSpec;
 use df1_base::FileType;
 use df1_check::Check;
 use std::alloc::{AllocError, Global};
+use std::process::Abort;
 use std::test::Fail;
 
 /// Faulty texts, each with its line and its cause.
-const FAULTY: [(&str, u32, Cause); 120] = [
+const FAULTY: [(&str, u32, Cause); 116] = [
     ("", 1, Cause::NoEnd),
     ("ak\n# end\n", 3, Cause::NoEnd),
     ("ak", 2, Cause::NoEnd),
@@ -17,14 +20,10 @@ const FAULTY: [(&str, u32, Cause); 120] = [
     ("end\r", 1, Cause::Form),
     ("set mode half\n", 2, Cause::NoEnd),
     ("set mode halfx\n", 1, Cause::Form),
-    ("set mode half\nset mode half\nend", 2, Cause::Place),
     ("set mode half\nset mode full\nend", 2, Cause::Place),
     ("set check crc\nset mode half\nend", 2, Cause::Place),
     ("# a\n\n\tset mode half\nak\nend", 4, Cause::Missing),
-    ("set mode half\nmi 3 0600\nend", 2, Cause::Missing),
-    ("set mode half\nstation 16\nend", 2, Cause::Value),
     ("set mode half\nstation 3\nstation 03\nend", 3, Cause::Twice),
-    ("set mode half\nmt\nstation 3\nend", 3, Cause::Place),
     (
         "set mode half\nstation 1\nstation 2\nmk 2000001\nend",
         4,
@@ -184,16 +183,6 @@ fn told(alloc: Global, text: &[u8]) -> Option<ScriptFault> {
     read_script(alloc, text).err()
 }
 
-/// A text with a part again and again before its end.
-fn repeated(alloc: Global, part: &[u8], times: usize, last: &[u8]) -> Result<Vec<u8>, AllocError> {
-    let mut text = Vec::new(alloc);
-    for _ in 0..times {
-        text.extend_from_slice(part)?;
-    }
-    text.extend_from_slice(last)?;
-    Ok(text)
-}
-
 #[test]
 fn the_first_faulty_line_is_told_with_its_first_cause(rt: HostRuntime) -> Result<(), Fail> {
     for (text, line, cause) in FAULTY {
@@ -217,100 +206,99 @@ fn a_fault_is_printed_with_its_line_and_cause(rt: HostRuntime) -> Result<(), Fai
     Ok(())
 }
 
+/// Texts at a limit and past it: what stands in front, a part and how often it follows, what stands behind, and the line and
+/// the cause where the text is refused.
+const LIMITS: [(&str, &str, u32, &str, Option<(u32, Cause)>); 10] = [
+    ("", "ai 0600\n", 65_535, "end", None),
+    ("", "ai 0600\n", 65_536, "end", Some((65_536, Cause::Spent))),
+    ("", "#", 1024, "\nend", None),
+    ("", "#", 1024, "\r\nend", Some((1, Cause::Long))),
+    ("ai ", "06", 245, "\nend", None),
+    ("ai ", "06", 246, "\nend", Some((1, Cause::Value))),
+    ("set a.block ", "fF", 244, "\nend", None),
+    ("set a.block ", "fF", 245, "\nend", Some((1, Cause::Value))),
+    ("an ", "fF", 250, "\nend", None),
+    ("an ", "fF", 251, "\nend", Some((1, Cause::Value))),
+];
+
+/// A text with a part again and again between two others.
+fn repeated(
+    alloc: Global,
+    front: &str,
+    part: &str,
+    times: u32,
+    back: &str,
+) -> Result<Vec<u8>, AllocError> {
+    let mut text = Vec::new(alloc);
+    text.extend_from_slice(front.as_bytes())?;
+    for _ in 0..times {
+        text.extend_from_slice(part.as_bytes())?;
+    }
+    text.extend_from_slice(back.as_bytes())?;
+    Ok(text)
+}
+
 #[test]
-fn limits_hold_to_the_last_byte_command_and_event(rt: HostRuntime) -> Result<(), Fail> {
-    let alloc = rt.alloc();
-    let at = |line, cause| Some(ScriptFault::At { line, cause });
-    // Commands.
-    let text = repeated(alloc, b"ai 0600\n", 65_535, b"end")?;
-    assert_eq!(rt; told(alloc, &text), None);
-    let text = repeated(alloc, b"ai 0600\n", 65_536, b"end")?;
-    assert_eq!(rt; told(alloc, &text), at(65_536, Cause::Spent));
-    // The length of a line, a carriage return counted.
-    let text = repeated(alloc, b"#", 1024, b"\nend")?;
-    assert_eq!(rt; told(alloc, &text), None);
-    let text = repeated(alloc, b"#", 1024, b"\r\nend")?;
-    assert_eq!(rt; told(alloc, &text), at(1, Cause::Long));
-    // The length of a payload, of a block, and of foreign bytes.
-    let text = repeated(alloc, b"ai ", 1, &repeated(alloc, b"06", 245, b"\nend")?)?;
-    assert_eq!(rt; told(alloc, &text), None);
-    let text = repeated(alloc, b"ai ", 1, &repeated(alloc, b"06", 246, b"\nend")?)?;
-    assert_eq!(rt; told(alloc, &text), at(1, Cause::Value));
-    let text = repeated(
-        alloc,
-        b"set a.block ",
-        1,
-        &repeated(alloc, b"fF", 244, b"\nend")?,
-    )?;
-    assert_eq!(rt; told(alloc, &text), None);
-    let text = repeated(
-        alloc,
-        b"set a.block ",
-        1,
-        &repeated(alloc, b"fF", 245, b"\nend")?,
-    )?;
-    assert_eq!(rt; told(alloc, &text), at(1, Cause::Value));
-    let text = repeated(alloc, b"an ", 1, &repeated(alloc, b"fF", 250, b"\nend")?)?;
-    assert_eq!(rt; told(alloc, &text), None);
-    let text = repeated(alloc, b"an ", 1, &repeated(alloc, b"fF", 251, b"\nend")?)?;
-    assert_eq!(rt; told(alloc, &text), at(1, Cause::Value));
+fn limits_hold_to_the_last_byte_and_command(rt: HostRuntime) -> Result<(), Fail> {
+    for (front, part, times, back, fault) in LIMITS {
+        let text = repeated(rt.alloc(), front, part, times, back)?;
+        let expected = fault.map(|(line, cause)| ScriptFault::At { line, cause });
+        assert_eq!(rt; told(rt.alloc(), &text), expected, "{times} times {part:?}");
+    }
     Ok(())
+}
+
+/// Lines with the place of their first byte, whether a line feed follows, and their cause where they are refused. Of a long line
+/// the first 1,025 bytes count.
+const AT_THE_END: [(usize, &[u8], bool, Option<Cause>); 7] = [
+    (16_777_212, b"#12", true, None),
+    (16_777_212, b"#123", false, None),
+    (16_777_212, b"#123", true, Some(Cause::Size)),
+    (16_777_216, b"", true, Some(Cause::Size)),
+    (16_777_216, b"", false, None),
+    (16_776_192, &[b'#'; 1030], true, Some(Cause::Size)),
+    (16_776_191, &[b'#'; 1030], true, Some(Cause::Long)),
+];
+
+/// What is told of a line where it begins at this byte.
+fn told_at(alloc: Global, start: usize, line: &[u8], ended: bool) -> Option<LineFault> {
+    Reader::new(alloc).read(alloc, start, line, ended).err()
 }
 
 #[test]
 fn byte_16777217_ends_the_text(rt: HostRuntime) -> Result<(), Fail> {
-    let alloc = rt.alloc();
-    let mut reader = Reader::new(alloc);
-    let size = Some(LineFault::Faulty(Cause::Size));
-    assert_eq!(rt; reader.read(alloc, 16_777_212, b"#12", true).err(), None);
-    assert_eq!(rt; reader.read(alloc, 16_777_212, b"#123", false).err(), None);
-    assert_eq!(rt; reader.read(alloc, 16_777_212, b"#123", true).err(), size);
-    assert_eq!(rt; reader.read(alloc, 16_777_216, b"", true).err(), size);
-    assert_eq!(rt; reader.read(alloc, 16_777_216, b"", false).err(), None);
-    // Of a long line the first 1,025 bytes count.
-    let long = [b'#'; 1030];
-    assert_eq!(rt; reader.read(alloc, 16_776_192, &long, true).err(), size);
-    assert_eq!(rt;
-        reader.read(alloc, 16_776_191, &long, true).err(),
-        Some(LineFault::Faulty(Cause::Long))
-    );
+    for (start, line, ended, cause) in AT_THE_END {
+        assert_eq!(rt;
+            told_at(rt.alloc(), start, line, ended),
+            cause.map(LineFault::Faulty)
+        );
+    }
     Ok(())
 }
 
-#[test]
-fn a_script_says_what_its_lines_say(rt: HostRuntime) -> Result<(), Fail> {
-    let text =
-        "# a script\r\nset mode full\r\n\tset check\tcrc \nset a.embed on\nset b.node 7\n set b.room 64\n\
-        file b 7 89 16\nfile b 010 85 1\nword b 7 15 12aB\nword b 10 0 fFfF\n\
-        set b.compat 0010\nset b.block 01fE\n\n\
-        ai 0fAA\nbi 06\nak\nbt 03\nbd 4000\nax 2\nac 0f\nbn 1015\nend\n# more\n";
-    let script = read_script(rt.alloc(), text.as_bytes())?;
-    assert!(rt; !script.half);
-    assert_eq!(rt; script.check, Check::Crc);
-    let ends = script.ends.as_slice();
-    assert_eq!(rt; ends.len(), 2);
-    let (a, b) = (&ends[0], &ends[1]);
+/// The numbers of a plan that both modes have.
+fn numbers(plan: &EndPlan) -> [u32; 9] {
+    [
+        u32::from(plan.node),
+        u32::from(plan.tns),
+        plan.ack_ticks,
+        plan.max_naks,
+        plan.max_enqs,
+        plan.reply_ticks,
+        plan.max_resends,
+        plan.poll_ticks,
+        plan.max_sends,
+    ]
+}
+
+/// Compares end b of the script below.
+fn check_end_b<R: Abort>(rt: &R, end: &EndPlan) -> Result<(), Fail> {
+    assert_eq!(rt; (end.who, end.embed, end.room), (Who::B, false, 64));
+    assert_eq!(rt; numbers(end), [7, 1, 10, 3, 3, 100, 3, 10, 3]);
     assert_eq!(rt;
-        (a.who, a.embed, a.node, a.tns, a.room),
-        (Who::A, true, 0, 1, 2)
+        (end.compat, end.block.as_slice()),
+        (Some(10), b"\x01\xfe".as_slice())
     );
-    assert_eq!(rt;
-        (b.who, b.embed, b.node, b.tns, b.room),
-        (Who::B, false, 7, 1, 64)
-    );
-    assert_eq!(rt;
-        (a.ack_ticks, a.max_naks, a.max_enqs, a.reply_ticks),
-        (10, 3, 3, 100)
-    );
-    assert_eq!(rt;
-        (a.max_resends, a.poll_ticks, a.max_sends, a.compat),
-        (3, 10, 3, None)
-    );
-    assert!(rt; a.block.as_slice().is_empty());
-    assert_eq!(rt; b.compat, Some(10));
-    assert_eq!(rt; b.block.as_slice(), b"\x01\xfe".as_slice());
-    assert!(rt; a.files.as_slice().is_empty());
-    assert!(rt; a.words.as_slice().is_empty());
     let files = [
         FileSpec {
             number: 7,
@@ -323,7 +311,7 @@ fn a_script_says_what_its_lines_say(rt: HostRuntime) -> Result<(), Fail> {
             count: 1,
         },
     ];
-    assert_eq!(rt; b.files.as_slice(), files.as_slice());
+    assert_eq!(rt; end.files.as_slice(), files.as_slice());
     let who = Who::B;
     let words = [
         WordOf {
@@ -339,16 +327,12 @@ fn a_script_says_what_its_lines_say(rt: HostRuntime) -> Result<(), Fail> {
             value: 0xFFFF,
         },
     ];
-    assert_eq!(rt; b.words.as_slice(), words.as_slice());
+    assert_eq!(rt; end.words.as_slice(), words.as_slice());
     Ok(())
 }
 
-#[test]
-fn events_are_those_of_the_lines_in_their_order(rt: HostRuntime) -> Result<(), Fail> {
-    let text = "set b.node 7\nai 0fAA\nbi 06\nak\nbt 03\nbd 4000\nax 2\nac 0f\nbn 1015\nend";
-    let script = read_script(rt.alloc(), text.as_bytes())?;
-    let events = script.events.as_slice();
-    assert_eq!(rt; events.len(), 8);
+/// Compares the events of the script below.
+fn check_events<R: Abort>(rt: &R, events: &[Event]) -> Result<(), Fail> {
     let from_a = Lane {
         from: Who::A,
         to: Who::B,
@@ -358,52 +342,63 @@ fn events_are_those_of_the_lines_in_their_order(rt: HostRuntime) -> Result<(), F
         to: Who::A,
     };
     assert!(rt;
-        matches!(&events[0], Event::Issue { who: Who::A, dst: 7, payload } if payload.as_slice() == b"\x0f\xaa".as_slice())
-    );
-    assert!(rt;
-        matches!(&events[1], Event::Issue { who: Who::B, dst: 0, payload } if payload.as_slice() == b"\x06".as_slice())
-    );
-    assert!(rt; matches!(&events[2], Event::Take { who: Who::A, n: 1 }));
-    assert!(rt; matches!(&events[3], Event::Tick { who: Who::B, n: 3 }));
-    assert!(rt; matches!(&events[4], Event::Deliver { lane, n: 4000 } if *lane == from_b));
-    assert!(rt; matches!(&events[5], Event::Lose { lane, n: 2 } if *lane == from_a));
-    assert!(rt; matches!(&events[6], Event::Alter { lane, mask: 0x0F } if *lane == from_a));
-    assert!(rt;
-        matches!(&events[7], Event::Foreign { lane, bytes } if *lane == from_b && bytes.as_slice() == b"\x10\x15".as_slice())
+        matches!(events, [
+        Event::Issue { who: Who::A, dst: 7, payload },
+        Event::Issue { who: Who::B, dst: 0, payload: shorter },
+        Event::Take { who: Who::A, n: 1 },
+        Event::Tick { who: Who::B, n: 3 },
+        Event::Deliver { lane: delivered, n: 4000 },
+        Event::Lose { lane: lost, n: 2 },
+        Event::Alter { lane: altered, mask: 0x0F },
+        Event::Foreign { lane: foreign, bytes },
+    ] if payload.as_slice() == b"\x0f\xaa".as_slice()
+        && shorter.as_slice() == b"\x06".as_slice()
+        && [*delivered, *lost, *altered, *foreign] == [from_b, from_a, from_a, from_b]
+        && bytes.as_slice() == b"\x10\x15".as_slice())
     );
     Ok(())
 }
 
+/// Compares the script below.
+fn check_script<R: Abort>(rt: &R, script: &Script) -> Result<(), Fail> {
+    assert_eq!(rt; (script.half, script.check), (false, Check::Crc));
+    let [a, b] = script.ends.as_slice() else {
+        return Err(Fail::new("there are not two ends"));
+    };
+    assert_eq!(rt; (a.who, a.embed, a.room, a.compat), (Who::A, true, 2, None));
+    assert_eq!(rt; numbers(a), [0, 1, 10, 3, 3, 100, 3, 10, 3]);
+    assert_eq!(rt;
+        (
+            a.block.as_slice().len(),
+            a.files.as_slice().len(),
+            a.words.as_slice().len()
+        ),
+        (0, 0, 0)
+    );
+    check_end_b(rt, b)?;
+    check_events(rt, script.events.as_slice())
+}
+
 #[test]
-fn a_half_duplex_script_has_a_master_and_its_stations(rt: HostRuntime) -> Result<(), Fail> {
+fn a_script_says_what_its_lines_say(rt: HostRuntime) -> Result<(), Fail> {
     let text =
-        "set mode half\nstation 254\nstation 3\nset m.node 7\nset 3.room 4\nmi 254 0fAA\n3k 2\nend";
+        "# a script\r\nset mode full\r\n\tset check\tcrc \nset a.embed on\nset b.node 7\n set b.room 64\n\
+        file b 7 89 16\nfile b 010 85 1\nword b 7 15 12aB\nword b 10 0 fFfF\n\
+        set b.compat 0010\nset b.block 01fE\n\n\
+        ai 0fAA\nbi 06\nak\nbt 03\nbd 4000\nax 2\nac 0f\nbn 1015\nend\n# more\n";
     let script = read_script(rt.alloc(), text.as_bytes())?;
-    assert!(rt; script.half);
-    let ends = script.ends.as_slice();
-    assert_eq!(rt; ends.len(), 3);
-    assert_eq!(rt; (ends[0].who, ends[0].node), (Who::M, 7));
-    assert_eq!(rt;
-        (ends[1].who, ends[1].node, ends[1].room),
-        (Who::S(254), 254, 2)
+    check_script(&rt, &script)
+}
+
+#[test]
+fn the_first_line_may_choose_half_duplex(rt: HostRuntime) -> Result<(), Fail> {
+    let text = "set mode half\nstation 254\nstation 3\nmi 254 0fAA\n3k 2\nend";
+    let script = read_script(rt.alloc(), text.as_bytes())?;
+    let counts = (
+        script.half,
+        script.ends.as_slice().len(),
+        script.events.as_slice().len(),
     );
-    assert_eq!(rt;
-        (ends[2].who, ends[2].node, ends[2].room),
-        (Who::S(3), 3, 4)
-    );
-    let events = script.events.as_slice();
-    assert_eq!(rt; events.len(), 2);
-    assert!(rt;
-        matches!(&events[0], Event::Issue { who: Who::M, dst: 254, payload } if payload.as_slice() == b"\x0f\xaa".as_slice())
-    );
-    assert!(rt;
-        matches!(
-            &events[1],
-            Event::Take {
-                who: Who::S(3),
-                n: 2
-            }
-        )
-    );
+    assert_eq!(rt; counts, (true, 3, 2));
     Ok(())
 }
