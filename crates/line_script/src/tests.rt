@@ -10,8 +10,8 @@ use std::alloc::{AllocError, Global};
 use std::process::Abort;
 use std::test::Fail;
 
-/// Faulty texts, each with its line and its cause.
-const FAULTY: [(&str, u32, Cause); 116] = [
+/// Texts that have no end, or a line that follows the end or has none of the forms, each with its line and its cause.
+const FORMLESS: [(&str, u32, Cause); 30] = [
     ("", 1, Cause::NoEnd),
     ("ak\n# end\n", 3, Cause::NoEnd),
     ("ak", 2, Cause::NoEnd),
@@ -20,19 +20,8 @@ const FAULTY: [(&str, u32, Cause); 116] = [
     ("end\r", 1, Cause::Form),
     ("set mode half\n", 2, Cause::NoEnd),
     ("set mode halfx\n", 1, Cause::Form),
-    ("set mode half\nset mode full\nend", 2, Cause::Place),
-    ("set check crc\nset mode half\nend", 2, Cause::Place),
-    ("# a\n\n\tset mode half\nak\nend", 4, Cause::Missing),
-    ("set mode half\nstation 3\nstation 03\nend", 3, Cause::Twice),
-    (
-        "set mode half\nstation 1\nstation 2\nmk 2000001\nend",
-        4,
-        Cause::Events,
-    ),
     ("set mode half\nstation 3\n3t\nend", 3, Cause::Form),
     ("set mode half\nend\nstation 3", 3, Cause::After),
-    ("station 3\n", 1, Cause::Place),
-    ("station 16\n", 1, Cause::Place),
     ("ak\nstation x\n", 2, Cause::Form),
     ("set a.compat\n", 1, Cause::Form),
     ("set x.block 01\n", 1, Cause::Form),
@@ -52,6 +41,16 @@ const FAULTY: [(&str, u32, Cause); 116] = [
     ("ac 1\n", 1, Cause::Form),
     ("ac 0101\n", 1, Cause::Form),
     ("end end\n", 1, Cause::Form),
+    ("x\nak\nset mode full\n", 1, Cause::Form),
+];
+
+/// Texts with a line that may not stand there, or that names what isn't there, each with its line and its cause.
+const MISPLACED: [(&str, u32, Cause); 37] = [
+    ("set mode half\nset mode full\nend", 2, Cause::Place),
+    ("set check crc\nset mode half\nend", 2, Cause::Place),
+    ("# a\n\n\tset mode half\nak\nend", 4, Cause::Missing),
+    ("station 3\n", 1, Cause::Place),
+    ("station 16\n", 1, Cause::Place),
     ("ak\nset mode full\n", 2, Cause::Place),
     ("set mode full\nset mode full\n", 2, Cause::Place),
     ("at\nset check crc\n", 2, Cause::Place),
@@ -87,6 +86,18 @@ const FAULTY: [(&str, u32, Cause); 116] = [
     ("word b 7 0 1234\n", 1, Cause::Missing),
     ("word b 1000 0 1234\n", 1, Cause::Missing),
     ("file b 7 89 16\nword a 7 99 1234\n", 2, Cause::Missing),
+    ("ak\nset mode full\nx\n", 2, Cause::Place),
+];
+
+/// Texts with a number out of its range, a line that is given twice, or too many commands or events, each with its line and its
+/// cause.
+const EXCESSIVE: [(&str, u32, Cause); 49] = [
+    ("set mode half\nstation 3\nstation 03\nend", 3, Cause::Twice),
+    (
+        "set mode half\nstation 1\nstation 2\nmk 2000001\nend",
+        4,
+        Cause::Events,
+    ),
     ("set check BCC\n", 1, Cause::Value),
     ("set a.embed yes\n", 1, Cause::Value),
     ("set a.node 256\n", 1, Cause::Value),
@@ -174,8 +185,6 @@ const FAULTY: [(&str, u32, Cause); 116] = [
     ),
     ("ak 4000000\nat\n", 2, Cause::Events),
     ("ak 3999999\nbn 1015\n", 2, Cause::Events),
-    ("ak\nset mode full\nx\n", 2, Cause::Place),
-    ("x\nak\nset mode full\n", 1, Cause::Form),
 ];
 
 /// What is told of a text: None where it is a script.
@@ -183,14 +192,36 @@ fn told(alloc: Global, text: &[u8]) -> Option<ScriptFault> {
     read_script(alloc, text).err()
 }
 
+/// Compares what is told of a text with its first faulty line and the first cause that fits it.
+fn check<R: Abort + AllocGlobal>(rt: &R, text: &str, line: u32, cause: Cause) -> Result<(), Fail> {
+    assert_eq!(rt;
+        told(rt.alloc(), text.as_bytes()),
+        Some(ScriptFault::At { line, cause }),
+        "in {text:?}"
+    );
+    Ok(())
+}
+
 #[test]
-fn the_first_faulty_line_is_told_with_its_first_cause(rt: HostRuntime) -> Result<(), Fail> {
-    for (text, line, cause) in FAULTY {
-        assert_eq!(rt;
-            told(rt.alloc(), text.as_bytes()),
-            Some(ScriptFault::At { line, cause }),
-            "in {text:?}"
-        );
+fn a_line_of_no_form_and_a_text_without_an_end_are_told(rt: HostRuntime) -> Result<(), Fail> {
+    for (text, line, cause) in FORMLESS {
+        check(&rt, text, line, cause)?;
+    }
+    Ok(())
+}
+
+#[test]
+fn a_line_that_may_not_stand_there_is_told(rt: HostRuntime) -> Result<(), Fail> {
+    for (text, line, cause) in MISPLACED {
+        check(&rt, text, line, cause)?;
+    }
+    Ok(())
+}
+
+#[test]
+fn a_line_that_says_too_much_is_told(rt: HostRuntime) -> Result<(), Fail> {
+    for (text, line, cause) in EXCESSIVE {
+        check(&rt, text, line, cause)?;
     }
     Ok(())
 }
