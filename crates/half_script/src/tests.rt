@@ -4,7 +4,7 @@ use crate::HalfReader;
 use df1_check::Check;
 use end_drafts::{Flaw, StatementFault};
 use line_statement::{Items, Who, first_words, statement_of};
-use script_parts::{EndPlan, Event, Events, Lane, Script, WordOf};
+use script_parts::{EndPlan, Event, Events, Script, WordOf};
 use std::alloc::{AllocError, Global};
 use std::process::Abort;
 use std::test::Fail;
@@ -183,30 +183,62 @@ fn check_ends<R: Abort>(rt: &R, ends: &[EndPlan]) -> Result<(), Fail> {
     Ok(())
 }
 
+/// An event's letter, its end or the two of its lane, its number, and its bytes.
+type Shown = (char, Who, Option<Who>, u32, &'static [u8]);
+
+/// The events of the script.
+const EVENTS: [Shown; 8] = [
+    ('i', Who::M, None, 254, b"\x0f\xaa"),
+    ('k', Who::M, None, 1, b""),
+    ('t', Who::M, None, 3, b""),
+    ('k', Who::S(3), None, 2, b""),
+    ('d', Who::M, Some(Who::S(3)), 4, b""),
+    ('x', Who::S(254), Some(Who::M), 1, b""),
+    ('c', Who::M, Some(Who::S(254)), 0x0F, b""),
+    ('n', Who::S(3), Some(Who::M), 0, b"\x10\x15"),
+];
+
+/// The letter of an event, and its end or the two of its lane.
+fn place_of(event: &Event) -> (char, Who, Option<Who>) {
+    match event {
+        Event::Issue { who, .. } => ('i', *who, None),
+        Event::Take { who, .. } => ('k', *who, None),
+        Event::Deliver { lane, .. } => ('d', lane.from, Some(lane.to)),
+        Event::Lose { lane, .. } => ('x', lane.from, Some(lane.to)),
+        Event::Alter { lane, .. } => ('c', lane.from, Some(lane.to)),
+        Event::Foreign { lane, .. } => ('n', lane.from, Some(lane.to)),
+        Event::Tick { who, .. } => ('t', *who, None),
+    }
+}
+
+/// The number of an event: DST of a command, a mask, or how often it happens.
+fn number_of(event: &Event) -> u32 {
+    match event {
+        Event::Issue { dst, .. } => u32::from(*dst),
+        Event::Take { n, .. } | Event::Deliver { n, .. } => *n,
+        Event::Lose { n, .. } | Event::Tick { n, .. } => *n,
+        Event::Alter { mask, .. } => u32::from(*mask),
+        Event::Foreign { .. } => 0,
+    }
+}
+
+/// The bytes of an event.
+fn bytes_of(event: &Event) -> &[u8] {
+    match event {
+        Event::Issue { payload, .. } => payload.as_slice(),
+        Event::Foreign { bytes, .. } => bytes.as_slice(),
+        _ => &[],
+    }
+}
+
 /// Compares the events of the script.
 fn check_events<R: Abort>(rt: &R, events: &[Event]) -> Result<(), Fail> {
-    let to = |number| Lane {
-        from: Who::M,
-        to: Who::S(number),
-    };
-    let from = |number| Lane {
-        from: Who::S(number),
-        to: Who::M,
-    };
-    assert!(rt;
-        matches!(events, [
-        Event::Issue { who: Who::M, dst: 254, payload },
-        Event::Take { who: Who::M, n: 1 },
-        Event::Tick { who: Who::M, n: 3 },
-        Event::Take { who: Who::S(3), n: 2 },
-        Event::Deliver { lane: delivered, n: 4 },
-        Event::Lose { lane: lost, n: 1 },
-        Event::Alter { lane: altered, mask: 0x0F },
-        Event::Foreign { lane: foreign, bytes },
-    ] if payload.as_slice() == b"\x0f\xaa".as_slice()
-        && [*delivered, *lost, *altered, *foreign] == [to(3), from(254), to(254), from(3)]
-        && bytes.as_slice() == b"\x10\x15".as_slice())
-    );
+    assert_eq!(rt; events.len(), EVENTS.len());
+    for (event, (letter, who, to, number, bytes)) in events.iter().zip(EVENTS) {
+        assert_eq!(rt; place_of(event), (letter, who, to));
+        assert_eq!(rt; number_of(event), number);
+        assert_eq!(rt; bytes_of(event), bytes);
+    }
     Ok(())
 }
 

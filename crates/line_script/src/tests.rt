@@ -1,7 +1,7 @@
 //! Texts with their first faulty line and its cause, and one script field by field.
 
 use crate::{
-    Cause, EndPlan, Event, Lane, LineFault, Reader, Script, ScriptFault, Who, WordOf, read_script,
+    Cause, EndPlan, Event, LineFault, Reader, Script, ScriptFault, Who, WordOf, read_script,
 };
 use data_files::FileSpec;
 use df1_base::FileType;
@@ -362,31 +362,62 @@ fn check_end_b<R: Abort>(rt: &R, end: &EndPlan) -> Result<(), Fail> {
     Ok(())
 }
 
+/// An event's letter, its end or the two of its lane, its number, and its bytes.
+type Shown = (char, Who, Option<Who>, u32, &'static [u8]);
+
+/// The events of the script below.
+const EVENTS: [Shown; 8] = [
+    ('i', Who::A, None, 7, b"\x0f\xaa"),
+    ('i', Who::B, None, 0, b"\x06"),
+    ('k', Who::A, None, 1, b""),
+    ('t', Who::B, None, 3, b""),
+    ('d', Who::B, Some(Who::A), 4000, b""),
+    ('x', Who::A, Some(Who::B), 2, b""),
+    ('c', Who::A, Some(Who::B), 0x0F, b""),
+    ('n', Who::B, Some(Who::A), 0, b"\x10\x15"),
+];
+
+/// The letter of an event, and its end or the two of its lane.
+fn place_of(event: &Event) -> (char, Who, Option<Who>) {
+    match event {
+        Event::Issue { who, .. } => ('i', *who, None),
+        Event::Take { who, .. } => ('k', *who, None),
+        Event::Deliver { lane, .. } => ('d', lane.from, Some(lane.to)),
+        Event::Lose { lane, .. } => ('x', lane.from, Some(lane.to)),
+        Event::Alter { lane, .. } => ('c', lane.from, Some(lane.to)),
+        Event::Foreign { lane, .. } => ('n', lane.from, Some(lane.to)),
+        Event::Tick { who, .. } => ('t', *who, None),
+    }
+}
+
+/// The number of an event: DST of a command, a mask, or how often it happens.
+fn number_of(event: &Event) -> u32 {
+    match event {
+        Event::Issue { dst, .. } => u32::from(*dst),
+        Event::Take { n, .. } | Event::Deliver { n, .. } => *n,
+        Event::Lose { n, .. } | Event::Tick { n, .. } => *n,
+        Event::Alter { mask, .. } => u32::from(*mask),
+        Event::Foreign { .. } => 0,
+    }
+}
+
+/// The bytes of an event.
+fn bytes_of(event: &Event) -> &[u8] {
+    match event {
+        Event::Issue { payload, .. } => payload.as_slice(),
+        Event::Foreign { bytes, .. } => bytes.as_slice(),
+        _ => &[],
+    }
+}
+
 /// Compares the events of the script below.
 fn check_events<R: Abort>(rt: &R, events: &[Event]) -> Result<(), Fail> {
-    let from_a = Lane {
-        from: Who::A,
-        to: Who::B,
-    };
-    let from_b = Lane {
-        from: Who::B,
-        to: Who::A,
-    };
-    assert!(rt;
-        matches!(events, [
-        Event::Issue { who: Who::A, dst: 7, payload },
-        Event::Issue { who: Who::B, dst: 0, payload: shorter },
-        Event::Take { who: Who::A, n: 1 },
-        Event::Tick { who: Who::B, n: 3 },
-        Event::Deliver { lane: delivered, n: 4000 },
-        Event::Lose { lane: lost, n: 2 },
-        Event::Alter { lane: altered, mask: 0x0F },
-        Event::Foreign { lane: foreign, bytes },
-    ] if payload.as_slice() == b"\x0f\xaa".as_slice()
-        && shorter.as_slice() == b"\x06".as_slice()
-        && [*delivered, *lost, *altered, *foreign] == [from_b, from_a, from_a, from_b]
-        && bytes.as_slice() == b"\x10\x15".as_slice())
-    );
+    assert_eq!(rt; events.len(), EVENTS.len());
+    for (event, (letter, who, to, number, bytes)) in events.iter().zip(EVENTS) {
+        assert_eq!(rt; place_of(event), (letter, who, to));
+        assert_eq!(rt; number_of(event), number);
+        assert_eq!(rt; bytes_of(event), bytes);
+    }
     Ok(())
 }
 
