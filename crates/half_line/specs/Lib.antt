@@ -1,7 +1,10 @@
 pub mod Acts
 pub mod Arrivals
+pub mod Complete
+pub mod Example
 pub mod Issues
 pub mod Once
 pub mod Plays
+pub mod Prompt
 pub mod Run
 pub mod Steps

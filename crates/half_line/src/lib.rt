@@ -17,6 +17,7 @@
 //! topic: half-duplex protocol).
 #![tactic(auto)]
 
+pub mod complete_law;
 mod deal;
 pub mod laws;
 mod link;

@@ -14,3 +14,4 @@ pub mod SendingLemmas
 pub mod HostSteps
 pub mod LastMessage
 pub mod Seen
+pub mod Changes

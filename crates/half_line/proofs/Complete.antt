@@ -1,0 +1,42 @@
+-- A station hears its call: a message, or a poll, where it has a reply and where it has none.
+pub mod CallHeard
+-- The cells that an end is still to give of what it has begun.
+pub mod ComingCells
+-- How far the master's commands are: none is out for too many ticks.
+pub mod CommandsInTime
+-- What an ear hears of the cells on their way to it, and that none of them deceives its end.
+pub mod EarHears
+-- The master begins a thing, where it has given all else: what each station will hear then.
+pub mod MasterBegins
+-- What the master hears of what a station gives: DLE ACK, DLE EOT, and a message.
+pub mod MasterHears
+-- The next command for a station has another key than the one that it executed last.
+pub mod NewKeys
+-- Where nothing is under way nothing is awaited.
+pub mod QuietLine
+-- The master hears the reply of the station of which it is awaited.
+pub mod ReplyHeard
+-- The master begins a message or a poll, where nothing is awaited of any station.
+pub mod StageBegins
+-- A stage with one station as it is now, and after a byte of the master.
+pub mod StagePlaces
+-- What doesn't change a stage: bytes that are given, and cells of which nothing comes.
+pub mod StageSteps
+-- A unit of time passes while something is awaited.
+pub mod StageTicks
+-- What a master waits for, and how its stations stand then; such a line is quiet only where the master waits for nothing.
+pub mod Stages
+-- A station that has heard its call answers it, until the master has heard that.
+pub mod StationAnswers
+-- What a station has executed of the master's commands, and which reply waits at its node.
+pub mod StationBook
+-- What a station hears of what the master gives: DLE ACK, a poll, and a message.
+pub mod StationHears
+-- A station of which nothing is awaited, and one that is called: what each hears leaves it so, until the call is heard.
+pub mod StationRests
+-- What a station does where it hears what the master gives.
+pub mod StationTurns
+-- A text that is given as it should be is read as one.
+pub mod WholeText
+-- The run of an undisturbed write, whose reply a poll fetches.
+pub mod Witness

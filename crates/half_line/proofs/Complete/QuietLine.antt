@@ -1,0 +1,58 @@
+-- Where nothing is under way nothing is awaited: the master is idle and has no message to give, and no station holds one.
+use Rattle.std.proofs.Common.{◌≡◌, ◌∙◌, ℕ, Bool, true, false, List, [], ◌∷◌, length, Some, None, is_none, refl, ap, sym}
+use Rattle.std.specs.Prelude.{◌==◌, slice_get, slice_index}
+use Rattle.std.specs.List.{list_all}
+use Rattle.df1_node.specs.Node.{NodeState, next_body}
+use Rattle.half_frame.specs.declared.framer.Sent.{Sent}
+use Rattle.half_mouth.specs.Giving.{take, is_done}
+use Rattle.half_master.specs.declared.table.Phase.TheVariants as phase
+use Rattle.half_master.specs.Stations.{is_listed}
+use Rattle.half_master.specs.Master as master
+use Rattle.half_master.specs.Master.{MasterState, transmitted, begun, with_host}
+use Rattle.half_master.proofs.Changes.{take-giving, take-begins}
+use Rattle.half_slave.proofs.Sizes.{some-left}
+use Rattle.each_once.specs.NodeHost.{node_host}
+use Rattle.half_line.specs.Acts.{StationSide, HalfState}
+use Rattle.half_line.specs.Prompt.{is_idle, is_quiet}
+use Rattle.half_line.proofs.Complete.StageBegins.{AllRest}
+use Rattle.half_line.proofs.Complete.StagePlaces.{none-given, awaits-busy}
+use Rattle.half_line.proofs.Complete.Stages.{Receipt, Answer, Stage, idles, waits, polls, idle-is, all-at, rests-free, both}
+
+pub record NothingAwaited (s : HalfState) : Type 0 where
+  pub idle : s.master.phase ≡ phase.Idle
+  pub given : s.master.mouth.left ≡ []
+  pub none_ready : (body : List ℕ) → next_body s.master.host ≡ Some body → is_listed s.master.stations (slice_index body 0) ≡ true → ⊥
+  pub rest : AllRest s.master s.stations
+  pub free : (p : ℕ) (side : StationSide) → slice_get s.stations p ≡ Some side → side.slave.held ≡ None
+
+-- a master whose take gives nothing has given all
+done-left : (left : List Sent) → (length left == 0) ≡ true → left ≡ []
+done-left [] done = refl
+done-left (x ∷ more) done = absurd (let no : true ≡ false = sym done ∙ some-left x more in cc)
+
+given-by : (m : MasterState NodeState) (done : Bool) → is_done m.mouth ≡ done → is_none (master.out_at_take node_host m) ≡ true → m.mouth.left ≡ []
+given-by m true done none = done-left m.mouth.left done
+given-by m false gives none =
+    none-given m.mouth.left m.mouth.number m.mouth.begun (ap (λ (e : MasterState NodeState). is_none (take e.mouth).1) (sym (take-giving node_host m gives)) ∙ none)
+
+-- and, where it is idle, no message for a station of its list
+none-ready : (m : MasterState NodeState) (body : List ℕ) → is_done m.mouth ≡ true → m.phase ≡ phase.Idle → is_none (master.out_at_take node_host m) ≡ true → next_body m.host ≡ Some body → is_listed m.stations (slice_index body 0) ≡ true → ⊥
+none-ready m body done idle none next listed =
+    let is = take-begins node_host m body done idle next listed in
+    let no = ap (λ (e : MasterState NodeState). is_none (take e.mouth).1) (sym is) ∙ none in
+    cc
+
+pub nothing-awaited : (late : ℕ) (s : HalfState) → Stage late s.master s.stations → is_quiet s ≡ true → NothingAwaited s
+nothing-awaited late s (idles idle outside all) quiet =
+    let parts = both (is_none (master.out_at_take node_host s.master)) (list_all is_idle s.stations) quiet in
+    let given = given-by s.master (is_done s.master.mouth) refl parts.0 in
+    let done = ap (λ (left : List Sent). length left == 0) given in
+    record {
+      idle = idle;
+      given = given;
+      none_ready = λ body next listed. none-ready s.master body done idle parts.0 next listed;
+      rest = all;
+      free = λ p side at. rests-free s.master side given (idle-is side (all-at s.stations p side parts.1 at)) (all p side at);
+    }
+nothing-awaited late s (waits left resent place at patient e) quiet = absurd (awaits-busy s place (Receipt s.master.sending) (ap master.is_idle at) e quiet)
+nothing-awaited late s (polls left place at patient e) quiet = absurd (awaits-busy s place Answer (ap master.is_idle at) e quiet)

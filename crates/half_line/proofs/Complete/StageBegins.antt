@@ -1,0 +1,89 @@
+-- The master begins a message or a poll, where nothing is awaited of any station: then its receipt, or an answer, is awaited of one.
+use Rattle.std.proofs.Common.{◌≡◌, ◌≢◌, ◌∙◌, ℕ, ◌≤◌, List, [], ◌++◌, length, Some, None, ap, sym, subst}
+use Rattle.std.specs.Prelude.{slice_get, slice_index}
+use Rattle.df1_node.specs.Node.{NodeState}
+use Rattle.half_frame.specs.Spelling.{poll_bytes, message_sent, unmarked}
+use Rattle.half_mouth.specs.Giving.{Giving, give, transmit, one_more}
+use Rattle.half_master.specs.Master.{MasterState}
+use Rattle.line_cells.specs.Cells.{LaneCell}
+use Rattle.half_line.specs.Acts.{StationSide}
+use Rattle.half_line.proofs.Complete.ComingCells.{cells_of, coming}
+use Rattle.half_line.proofs.Complete.MasterHears.{IsOutside}
+use Rattle.half_line.proofs.Complete.MasterBegins.{rests-poll, called-poll, rests-message, called-message, tape-grows}
+use Rattle.half_line.proofs.Complete.StationRests.{Rests, Called}
+use Rattle.half_line.proofs.Complete.Stages.{tape, SideRests, Awaited, Receipt, Answer, call_of, comes, SideCalled, Expects}
+
+-- a master that had given all begins these cells, and is as it was but for that
+pub record Begins (m after : MasterState NodeState) (new : List LaneCell) : Type 0 where
+  pub given : m.mouth.left ≡ []
+  pub ear : after.ear ≡ m.ear
+  pub begun : coming after.mouth after.sending ≡ new
+
+-- a station hears them behind the others
+grows : (m after : MasterState NodeState) (new : List LaneCell) (side : StationSide) → Begins m after new → tape m side ++ new ≡ tape after side
+grows m after new side b = tape-grows side.to_it new m.mouth m.sending b.given ∙ ap (λ (cells : List LaneCell). side.to_it ++ cells) (sym b.begun)
+
+rests-begins : (m after : MasterState NodeState) (new : List LaneCell) (side : StationSide) → Begins m after new → SideRests m side → Rests side.slave (tape m side ++ new) → SideRests after side
+rests-begins m after new side b r rests = record {
+  own = r.own;
+  check = r.check ∙ ap (λ ear. ear.check) (sym b.ear);
+  line = r.line ∙ ap (λ ear. ear.check) (sym b.ear);
+  rests = subst (Rests side.slave) (grows m after new side b) rests;
+  none_back = r.none_back;
+}
+
+called-begins : (m after : MasterState NodeState) (new : List LaneCell) (side : StationSide) (awaited : Awaited) → Begins m after new → SideRests m side → IsOutside m.ear.standing → Called side.slave (tape m side ++ new) (call_of side.number awaited) → SideCalled after side awaited
+called-begins m after new side awaited b r outside called = record {
+  own = r.own;
+  check = r.check ∙ ap (λ ear. ear.check) (sym b.ear);
+  line = r.line ∙ ap (λ ear. ear.check) (sym b.ear);
+  progress = comes (subst (λ (cells : List LaneCell). Called side.slave cells (call_of side.number awaited)) (grows m after new side b) called) r.none_back (subst (λ ear. IsOutside ear.standing) (sym b.ear) outside);
+}
+
+-- ---- all stations
+
+-- nothing is awaited of any
+abbrev pub AllRest : MasterState NodeState → List StationSide → Type 0
+AllRest m stations = (p : ℕ) (side : StationSide) → slice_get stations p ≡ Some side → SideRests m side
+
+-- the others have other numbers than the station at this place
+abbrev pub IsAlone : List StationSide → ℕ → ℕ → Type 0
+IsAlone stations place number = (p : ℕ) (other : StationSide) → slice_get stations p ≡ Some other → (p ≡ place → ⊥) → number ≢ other.number
+
+-- a station that has its own number isn't called by another
+other-station : (side : StationSide) (number : ℕ) → side.slave.setup.station ≡ side.number → number ≢ side.number → number ≢ side.slave.setup.station
+other-station side number own differ same = differ (same ∙ own)
+
+-- a poll
+pub poll-begins : (m after : MasterState NodeState) (stations : List StationSide) (place : ℕ) (side : StationSide) → m.mouth.left ≡ [] → IsOutside m.ear.standing → AllRest m stations → slice_get stations place ≡ Some side → IsAlone stations place side.number
+    → after.ear ≡ m.ear → after.mouth ≡ give m.mouth (unmarked (poll_bytes side.number)) → Expects after stations place Answer
+poll-begins m after stations place side given outside all at alone ear mouth =
+    let new = cells_of None after.sending (unmarked (poll_bytes side.number)) in
+    let b : Begins m after new = record { given = given; ear = ear; begun = ap (λ (g : Giving). coming g after.sending) mouth } in
+    record {
+      side = side;
+      is_at = at;
+      called = called-begins m after new side Answer b (all place side at) outside (called-poll side.slave (tape m side) after.sending side.number (all place side at).rests);
+      others = λ p other found differ.
+          let r = all p other found in
+          rests-begins m after new other b r (rests-poll other.slave (tape m other) after.sending side.number (other-station other side.number r.own (alone p other found differ)) r.rests);
+    }
+
+-- a message to the station that its first byte names
+pub message-begins : (m after : MasterState NodeState) (stations : List StationSide) (place : ℕ) (side : StationSide) (body : List ℕ) → m.mouth.left ≡ [] → IsOutside m.ear.standing → AllRest m stations → slice_get stations place ≡ Some side → IsAlone stations place side.number
+    → m.setup.check ≡ m.ear.check → 6 ≤ length body → length body ≤ 250 → slice_index body 0 ≡ side.number → after.ear ≡ m.ear → after.sending ≡ body → after.mouth ≡ transmit m.mouth (message_sent m.setup.check (slice_index body 0) body)
+    → Expects after stations place (Receipt body)
+message-begins m after stations place side body given outside all at alone kind least most first ear sending mouth =
+    let number = one_more m.mouth.begun in
+    let new = cells_of (Some number) body (message_sent m.ear.check side.number body) in
+    let spelled : message_sent m.setup.check (slice_index body 0) body ≡ message_sent m.ear.check side.number body = ap (λ check. message_sent check (slice_index body 0) body) kind ∙ ap (λ (stn : ℕ). message_sent m.ear.check stn body) first in
+    let begun : coming after.mouth after.sending ≡ new = ap (λ (g : Giving). coming g after.sending) mouth ∙ ap (λ (s : List ℕ). coming (transmit m.mouth (message_sent m.setup.check (slice_index body 0) body)) s) sending ∙ ap (cells_of (Some number) body) spelled in
+    let b : Begins m after new = record { given = given; ear = ear; begun = begun } in
+    record {
+      side = side;
+      is_at = at;
+      called = let r = all place side at in called-begins m after new side (Receipt body) b r outside (called-message side.slave (tape m side) m.ear.check number body side.number r.check least most first r.rests);
+      others = λ p other found differ.
+          let r = all p other found in
+          rests-begins m after new other b r (rests-message other.slave (tape m other) m.ear.check number body side.number r.check least most first (other-station other side.number r.own (alone p other found differ)) r.rests);
+    }

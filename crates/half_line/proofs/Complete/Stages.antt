@@ -1,0 +1,155 @@
+-- What a master waits for, and how its stations stand then, on a line that nothing disturbs; and that such a line is quiet only where the master waits for nothing.
+use Rattle.std.proofs.Common.{◌≡◌, ◌∙◌, ℕ, ◌+◌, ◌≤◌, zero, suc, Bool, true, false, is_none, List, [], ◌∷◌, ◌++◌, Option, Some, None, refl, ap, sym, subst}
+use Rattle.std.specs.Prelude.{◌⊎◌, ◌&&◌, slice_get}
+use Rattle.std.specs.List.{list_all}
+use Rattle.half_frame.specs.declared.framer.Sent.{Sent}
+use Rattle.half_frame.specs.declared.heard.SlaveHeard.TheVariants as station_hears
+use Rattle.half_frame.specs.declared.heard.MasterHeard.TheVariants as master_hears
+use Rattle.half_mouth.specs.Giving.{Giving, take}
+use Rattle.half_master.specs.declared.table.Phase.TheVariants as phase
+use Rattle.half_master.specs.Master.{MasterState}
+use Rattle.half_slave.specs.Slave as slave
+use Rattle.half_slave.specs.Slave.{SlaveState}
+use Rattle.df1_node.specs.Node.{NodeState}
+use Rattle.line_cells.specs.Cells.{LaneCell}
+use Rattle.each_once.proofs.Sublists.{same-some}
+use Rattle.half_line.specs.Acts.{StationSide}
+use Rattle.half_line.specs.Prompt.{is_idle}
+use Rattle.half_line.proofs.Complete.ComingCells.{cells_of, coming}
+use Rattle.half_line.proofs.Complete.EarHears.{Telling, told, tells_of, Hears}
+use Rattle.half_line.proofs.Complete.StationHears.{station_ear}
+use Rattle.half_line.proofs.Complete.MasterHears.{IsOutside, master_ear}
+use Rattle.half_line.proofs.Complete.StationRests.{Rest, free, holds, Rests, Called}
+use Rattle.half_line.proofs.Complete.StationAnswers.{giving_of, back, Answers}
+
+-- ---- one station
+
+-- the cells that a station will hear: those on their way to it, and those that the master is still to give
+abbrev pub tape : MasterState NodeState → StationSide → List LaneCell
+tape m side = side.to_it ++ coming m.mouth m.sending
+
+-- nothing of it is awaited, and nothing of it is on its way
+pub record SideRests (m : MasterState NodeState) (side : StationSide) : Type 0 where
+  pub own : side.slave.setup.station ≡ side.number
+  pub check : side.slave.ear.check ≡ m.ear.check
+  pub line : side.slave.setup.check ≡ m.ear.check
+  pub rests : Rests side.slave (tape m side)
+  pub none_back : side.from_it ≡ []
+
+-- what is awaited of a station: that it hears this message and acknowledges it, or that it hears a poll and answers it
+pub data Awaited : Type 0 where
+  Receipt : (body : List ℕ) → Awaited
+  Answer : Awaited
+
+-- the thing by which it is called
+abbrev pub call_of : ℕ → Awaited → Telling station_ear
+call_of number (Receipt body) = told station_ear (station_hears.Addressed number) body
+call_of number Answer = told station_ear (station_hears.Poll number) []
+
+-- the reply that fits
+abbrev pub Fits : SlaveState NodeState → Awaited → Telling master_ear → Type 0
+Fits s (Receipt body) reply = reply ≡ told master_ear master_hears.Ack []
+Fits s Answer reply = (reply ≡ told master_ear master_hears.Eot []) ⊎ (reply ≡ told master_ear master_hears.Good s.sending)
+
+-- it hasn't heard the call yet; or it has, there is nothing more for it to hear, and the master hasn't heard its reply
+pub data Progress (m : MasterState NodeState) (side : StationSide) (awaited : Awaited) : Type 0 where
+  comes : Called side.slave (tape m side) (call_of side.number awaited) → side.from_it ≡ [] → IsOutside m.ear.standing → Progress m side awaited
+  answers : (reply : Telling master_ear) → Hears station_ear side.slave.ear (tape m side) [] → Answers side.slave side.from_it m.ear reply → Fits side.slave awaited reply → Progress m side awaited
+
+pub record SideCalled (m : MasterState NodeState) (side : StationSide) (awaited : Awaited) : Type 0 where
+  pub own : side.slave.setup.station ≡ side.number
+  pub check : side.slave.ear.check ≡ m.ear.check
+  pub line : side.slave.setup.check ≡ m.ear.check
+  pub progress : Progress m side awaited
+
+-- ---- all of them
+
+-- this is awaited of the station at one place, and nothing of the others
+pub record Expects (m : MasterState NodeState) (stations : List StationSide) (place : ℕ) (awaited : Awaited) : Type 0 where
+  pub side : StationSide
+  pub is_at : slice_get stations place ≡ Some side
+  pub called : SideCalled m side awaited
+  pub others : (p : ℕ) (other : StationSide) → slice_get stations p ≡ Some other → (p ≡ place → ⊥) → SideRests m other
+
+-- by the master's phase; of a wait those ticks are left that weren't late
+pub data Stage (late : ℕ) (m : MasterState NodeState) (stations : List StationSide) : Type 0 where
+  idles : m.phase ≡ phase.Idle → IsOutside m.ear.standing → ((p : ℕ) (side : StationSide) → slice_get stations p ≡ Some side → SideRests m side) → Stage late m stations
+  waits : (left resent place : ℕ) → m.phase ≡ phase.WaitsForAck left resent → m.setup.ack_ticks ≤ left + late → Expects m stations place (Receipt m.sending) → Stage late m stations
+  polls : (left place : ℕ) → m.phase ≡ phase.WaitsAfterPoll left place → m.setup.poll_ticks ≤ left + late → Expects m stations place Answer → Stage late m stations
+
+-- ---- a station of which something is awaited isn't idle, once the master has given all
+
+pub no-lane : (lane : List LaneCell) → is_none (slice_get lane 0) ≡ true → lane ≡ []
+no-lane [] none = refl
+no-lane (cell ∷ lane) none = absurd cc
+
+pub both : (a b : Bool) → (a && b) ≡ true → (a ≡ true) × (b ≡ true)
+both true b is = (refl, is)
+both false b is = absurd cc
+
+-- what an idle station has: empty lanes, and nothing to give
+pub record IsIdle (side : StationSide) : Type 0 where
+  pub none_to_it : side.to_it ≡ []
+  pub none_from_it : side.from_it ≡ []
+  pub gives_none : is_none (slave.out_at_take side.slave) ≡ true
+
+pub idle-is : (side : StationSide) → is_idle side ≡ true → IsIdle side
+idle-is side is =
+    let first = both (is_none (slice_get side.to_it 0)) (is_none (slice_get side.from_it 0) && is_none (slave.out_at_take side.slave)) is in
+    let second = both (is_none (slice_get side.from_it 0)) (is_none (slave.out_at_take side.slave)) first.1 in
+    record { none_to_it = no-lane side.to_it first.0; none_from_it = no-lane side.from_it second.0; gives_none = second.1 }
+
+-- where a take gives nothing, nothing is to come
+none-coming : (left : List Sent) (number : Option ℕ) (begun : ℕ) (sending : List ℕ) → let g : Giving = record { left = left; number = number; begun = begun } in is_none (take g).1 ≡ true → coming g sending ≡ []
+none-coming [] number begun sending none = refl
+none-coming (x ∷ left) number begun sending none = absurd cc
+
+pub nothing-comes : (g : Giving) (sending : List ℕ) → is_none (take g).1 ≡ true → coming g sending ≡ []
+nothing-comes g sending none = none-coming g.left g.number g.begun sending none
+
+-- of no cells nothing is heard
+pub no-tape : (m : MasterState NodeState) (side : StationSide) → m.mouth.left ≡ [] → side.to_it ≡ [] → tape m side ≡ []
+no-tape m side given none = ap (λ (lane : List LaneCell). lane ++ coming m.mouth m.sending) none ∙ ap (cells_of m.mouth.number m.sending) given
+
+some-end : (before : List (Telling station_ear)) (call : Telling station_ear) → before ++ call ∷ [] ≡ [] → ⊥
+some-end [] call none = cc
+some-end (t ∷ before) call none = cc
+
+no-call : (s : SlaveState NodeState) (cells : List LaneCell) (call : Telling station_ear) → cells ≡ [] → Called s cells call → ⊥
+no-call s cells call none c =
+    let h = subst (λ (at : List LaneCell). Hears station_ear s.ear at (c.before ++ call ∷ [])) none c.hears in
+    some-end c.before call (sym h.tells)
+
+no-answer : (s : SlaveState NodeState) (lane : List LaneCell) (m : MasterState NodeState) (reply : Telling master_ear) → back s lane ≡ [] → Answers s lane m.ear reply → ⊥
+no-answer s lane m reply none a =
+    let h = subst (λ (at : List LaneCell). Hears master_ear m.ear at (reply ∷ [])) none a.hears in
+    let no : [] ≡ reply ∷ [] = h.tells in
+    cc
+
+busy-progress : (m : MasterState NodeState) (side : StationSide) (awaited : Awaited) → m.mouth.left ≡ [] → IsIdle side → Progress m side awaited → ⊥
+busy-progress m side awaited given idle (comes called none outside) = no-call side.slave (tape m side) (call_of side.number awaited) (no-tape m side given idle.none_to_it) called
+busy-progress m side awaited given idle (answers reply hears answer fits) =
+    let none = ap (λ (lane : List LaneCell). back side.slave lane) idle.none_from_it ∙ nothing-comes (giving_of side.slave) side.slave.sending idle.gives_none in
+    no-answer side.slave side.from_it m reply none answer
+
+-- so not all stations are idle
+pub all-at : (stations : List StationSide) (place : ℕ) (side : StationSide) → list_all is_idle stations ≡ true → slice_get stations place ≡ Some side → is_idle side ≡ true
+all-at [] place side all at = absurd cc
+all-at (first ∷ stations) zero side all at =
+    let parts = both (is_idle first) (list_all is_idle stations) all in
+    subst (λ (s : StationSide). is_idle s ≡ true) (same-some first side at) parts.0
+all-at (first ∷ stations) (suc place) side all at = all-at stations place side (both (is_idle first) (list_all is_idle stations) all).1 at
+
+pub expects-busy : (m : MasterState NodeState) (stations : List StationSide) (place : ℕ) (awaited : Awaited) → m.mouth.left ≡ [] → Expects m stations place awaited → list_all is_idle stations ≡ true → ⊥
+expects-busy m stations place awaited given e all = busy-progress m e.side awaited given (idle-is e.side (all-at stations place e.side all e.is_at)) e.called.progress
+
+-- an idle station at rest holds no message
+pub rests-free : (m : MasterState NodeState) (side : StationSide) → m.mouth.left ≡ [] → IsIdle side → SideRests m side → side.slave.held ≡ None
+rests-free m side given idle r = by-rest r.rests.rest
+  where
+    none : r.rests.all ≡ []
+    none = sym r.rests.hears.tells ∙ ap (λ (cells : List LaneCell). tells_of station_ear side.slave.ear cells) (no-tape m side given idle.none_to_it)
+
+    by-rest : Rest side.slave.setup.station side.slave.held r.rests.all → side.slave.held ≡ None
+    by-rest (free is over) = is
+    by-rest (holds message rest is wait first over) = absurd (let no = sym none ∙ first in cc)

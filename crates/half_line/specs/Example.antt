@@ -1,0 +1,39 @@
+-- A half-duplex script whose run nothing disturbs: a command is issued, executed, and answered at a poll.
+use Rattle.std.specs.Prelude.{ℕ, true, List, [], ◌∷◌}
+use Rattle.df1_base.specs.declared.file_type.FileType.TheVariants.{Integer}
+use Rattle.df1_check.specs.declared.Check.TheVariants.{Bcc}
+use Rattle.line_statement.specs.declared.who.Who.TheVariants.{M, S}
+use Rattle.script_parts.specs.declared.script.Event.{Event}
+use Rattle.script_parts.specs.declared.script.Event.TheVariants.{Issue, Take, Deliver, Tick}
+use Rattle.script_parts.specs.declared.script.Script.{Script}
+use Rattle.script_parts.specs.Plans.{first_plan}
+
+-- so many bytes of the master arrive at a station, and so many of a station at the master
+abbrev pub reach : ℕ → ℕ → Event
+reach station n = Deliver (record { from = M; to = S station }) n
+
+abbrev pub come_from : ℕ → ℕ → Event
+come_from station n = Deliver (record { from = S station; to = M }) n
+
+-- a write of 1234 to word 0 of integer file 7 of station 3; a poll of station 3, which gives its reply; and a poll of station 5,
+-- which has none
+abbrev pub polled_write : Script
+polled_write = record {
+  half = true;
+  check = Bcc;
+  ends = first_plan M 0 ∷ record (first_plan (S 3) 3) { files = record { number = 7; kind = Integer; count = 16 } ∷ [] } ∷ first_plan (S 5) 5 ∷ [];
+  events =
+      Issue M 3 (0x0F ∷ 0xAA ∷ 0x02 ∷ 0x07 ∷ 0x89 ∷ 0x00 ∷ 0x00 ∷ 0x34 ∷ 0x12 ∷ [])
+      ∷ Take M 22 ∷ reach 3 22 ∷ reach 5 22 ∷ Take (S 3) 2 ∷ come_from 3 2
+      ∷ Tick M 1 ∷ Take M 4 ∷ reach 3 4 ∷ reach 5 4 ∷ Take (S 3) 11 ∷ come_from 3 11
+      ∷ Take M 2 ∷ reach 3 2 ∷ reach 5 2
+      ∷ Tick M 1 ∷ Take M 4 ∷ reach 3 4 ∷ reach 5 4 ∷ Take (S 5) 2 ∷ come_from 5 2
+      ∷ [];
+}
+
+-- the bodies of the command and of its reply
+abbrev pub the_command : List ℕ
+the_command = 0x03 ∷ 0x00 ∷ 0x0F ∷ 0x00 ∷ 0x01 ∷ 0x00 ∷ 0xAA ∷ 0x02 ∷ 0x07 ∷ 0x89 ∷ 0x00 ∷ 0x00 ∷ 0x34 ∷ 0x12 ∷ []
+
+abbrev pub the_reply : List ℕ
+the_reply = 0x00 ∷ 0x03 ∷ 0x4F ∷ 0x00 ∷ 0x01 ∷ 0x00 ∷ []
