@@ -1,5 +1,9 @@
+-- What the master accepted of a station, and which key is kept of that.
+pub mod AnswerBook
 -- A station hears its call: a message, or a poll, where it has a reply and where it has none.
 pub mod CallHeard
+-- A cell arrives at a station.
+pub mod CallStep
 -- The cells that an end is still to give of what it has begun.
 pub mod ComingCells
 -- How far the master's commands are: none is out for too many ticks.
@@ -8,6 +12,16 @@ pub mod CommandsInTime
 pub mod EarHears
 -- The master begins a thing, where it has given all else: what each station will hear then.
 pub mod MasterBegins
+-- What holds at each point of an undisturbed run.
+pub mod Invariant
+-- The books of all stations, and where the command is that is out.
+pub mod Ledger
+-- What a station changes of the books.
+pub mod LedgerSteps
+-- What is so of the commands and the numbers of a line, and of the reply to a command.
+pub mod LineFacts
+-- A command is issued, and a byte is given to every station.
+pub mod MasterStep
 -- What the master hears of what a station gives: DLE ACK, DLE EOT, and a message.
 pub mod MasterHears
 -- The next command for a station has another key than the one that it executed last.
@@ -18,6 +32,8 @@ pub mod QuietLine
 pub mod ReplyHeard
 -- The master begins a message or a poll, where nothing is awaited of any station.
 pub mod StageBegins
+-- A cell arrives at the master.
+pub mod ReplyStep
 -- A stage with one station as it is now, and after a byte of the master.
 pub mod StagePlaces
 -- What doesn't change a stage: bytes that are given, and cells of which nothing comes.
@@ -36,6 +52,8 @@ pub mod StationHears
 pub mod StationRests
 -- What a station does where it hears what the master gives.
 pub mod StationTurns
+-- A unit of time passes.
+pub mod TickStep
 -- A text that is given as it should be is read as one.
 pub mod WholeText
 -- The run of an undisturbed write, whose reply a poll fetches.

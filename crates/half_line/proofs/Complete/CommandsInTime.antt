@@ -1,8 +1,10 @@
 -- How far the master's commands are in an undisturbed run: so many are answered, one may be out, and none is out for too many ticks.
-use Rattle.std.proofs.Common.{◌≡◌, ℕ, zero, suc, ◌+◌, ◌-◌, ◌<◌, ◌≤◌, false, List, [], ◌∷◌, Option, Some, None, refl, arith}
+use Rattle.std.proofs.Common.{◌≡◌, ◌∙◌, ℕ, zero, suc, ◌+◌, ◌-◌, ◌<◌, ◌≤◌, Bool, true, false, cond, List, [], ◌∷◌, length, map, Option, Some, None, find, option_map, refl, ap, sym, arith}
+use Rattle.std.specs.Prelude.{slice_get, if◌then◌else◌}
+use Rattle.std.specs.List.{list_any}
 use Rattle.std.proofs.lemmas.Bool.{lt-ltb}
-use Rattle.df1_node.specs.Initiator.{Issued, Standing, Waiting, Out, Answered, InitiatorState, is_last_tick, unanswered_from, all_ticked, next_command, after_hand_out, after_issue, next_issued}
-use Rattle.each_once.proofs.InitiatorProgress.{IsUnderWay, IsOutFor, Waits, IsDone, under-issue, under-hand_out, under-tick-none, under-tick-out}
+use Rattle.df1_node.specs.Initiator.{Issued, Standing, Waiting, Out, Answered, InitiatorState, is_waiting, is_out, is_last_tick, unanswered_from, all_ticked, next_command, after_hand_out, after_issue, next_issued}
+use Rattle.each_once.proofs.InitiatorProgress.{IsUnderWay, IsOutFor, Waits, IsDone, out_count, under-busy, under-issue, under-hand_out, under-tick-none, under-tick-out}
 
 -- of the ticks of a reply so many are left, or have passed at all
 abbrev pub IsInTime : ℕ → ℕ → Option ℕ → Type 0
@@ -22,6 +24,43 @@ pub in-time-hand_out : (s : InitiatorState) (body : List ℕ) (done : ℕ) (out 
 in-time-hand_out s body done out ticks next t =
     let u = under-hand_out s done out body t.under_way next in
     (u.0, record { under_way = u.1; in_time = omega arith })
+
+-- more ticks pass, of which the initiator isn't told
+pub in-time-later : (s : InitiatorState) (done : ℕ) (out : Option ℕ) (ticks : ℕ) → AreInTime s done out ticks → AreInTime s done out (ticks + 1)
+in-time-later s done None ticks t = record { under_way = t.under_way; in_time = tt }
+in-time-later s done (Some left) ticks t = record { under_way = t.under_way; in_time = omega (arith, t.in_time) }
+
+-- ---- how many commands there are, and which is the next
+
+waits-waiting : (s : Standing) → Waits s → is_waiting s ≡ true
+waits-waiting Waiting w = refl
+waits-waiting other w = absurd w
+
+done-waiting : (s : Standing) → IsDone s → is_waiting s ≡ false
+done-waiting (Answered reply) d = refl
+done-waiting other d = absurd d
+
+pub under-few : (cs : List Issued) (n : ℕ) (out : Option ℕ) → IsUnderWay cs n out → n + out_count out ≤ length cs
+under-few [] zero None u = omega arith
+under-few [] zero (Some left) u = absurd u
+under-few [] (suc n) out u = absurd u
+under-few (c ∷ cs) zero None u = omega arith
+under-few (c ∷ cs) zero (Some left) u = omega arith
+under-few (c ∷ cs) (suc n) out u = let few = under-few cs n out u.1 in omega (arith, few)
+
+next-of : (cs : List Issued) (n : ℕ) (out : Option ℕ) (body : List ℕ) → IsUnderWay cs n out → out ≡ None → option_map (λ c. c.body) (find (λ c. is_waiting c.standing) cs) ≡ Some body → slice_get (map (λ c. c.body) cs) n ≡ Some body
+next-of [] n out body u none next = absurd cc
+next-of (c ∷ cs) zero None body u none next = sym (ap (λ (b : Bool). option_map (λ (x : Issued). x.body) (cond b (Some c) (find (λ x. is_waiting x.standing) cs))) (waits-waiting c.standing u.0)) ∙ next
+next-of (c ∷ cs) zero (Some left) body u none next = absurd cc
+next-of (c ∷ cs) (suc n) out body u none next = next-of cs n out body u.1 none (rw (done-waiting c.standing u.0) at next)
+
+unless-out : (out : Bool) (o : Option (List ℕ)) (body : List ℕ) → (if out then None else o) ≡ Some body → o ≡ Some body
+unless-out true o body is = absurd cc
+unless-out false o body is = is
+
+pub next-body : (cs : List Issued) (n : ℕ) (out : Option ℕ) (body : List ℕ) → IsUnderWay cs n out → next_command cs ≡ Some body → slice_get (map (λ c. c.body) cs) n ≡ Some body
+next-body cs n None body u next = next-of cs n None body u refl (unless-out (list_any (λ c. is_out c.standing) cs) (option_map (λ c. c.body) (find (λ c. is_waiting c.standing) cs)) body next)
+next-body cs n (Some left) body u next = absurd (let busy = under-busy cs n left u in cc)
 
 -- ---- a tick
 

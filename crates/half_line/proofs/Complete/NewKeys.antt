@@ -23,7 +23,7 @@ new-key before body differ = false_from_ne_true _ (λ kept.
     let last = kept-tns (slice_get before (length before - 1)) body kept in
     differ-last tns_of before (length before - 1) last.0 body differ last.1 last.2)
 
-filter-within : {A : Type 0} (p : A → Bool) (xs : List A) → IsWithin (filter p xs) xs
+pub filter-within : {A : Type 0} (p : A → Bool) (xs : List A) → IsWithin (filter p xs) xs
 filter-within p [] = nothing
 filter-within p (x ∷ xs) = cond_both (p x) (x ∷ filter p xs) (filter p xs) (λ l. IsWithin l (x ∷ xs)) (λ _. keeps x (filter p xs) xs (filter-within p xs)) (λ _. skips x (filter p xs) xs (filter-within p xs))
 

@@ -14,9 +14,8 @@ use Rattle.half_slave.proofs.Sizes.{some-left}
 use Rattle.each_once.specs.NodeHost.{node_host}
 use Rattle.half_line.specs.Acts.{StationSide, HalfState}
 use Rattle.half_line.specs.Prompt.{is_idle, is_quiet}
-use Rattle.half_line.proofs.Complete.StageBegins.{AllRest}
 use Rattle.half_line.proofs.Complete.StagePlaces.{none-given, awaits-busy}
-use Rattle.half_line.proofs.Complete.Stages.{Receipt, Answer, Stage, idles, waits, polls, idle-is, all-at, rests-free, both}
+use Rattle.half_line.proofs.Complete.Stages.{AllRest, Now, Idles, Awaits, Stage, idle-is, all-at, rests-free, both}
 
 pub record NothingAwaited (s : HalfState) : Type 0 where
   pub idle : s.master.phase ≡ phase.Idle
@@ -26,7 +25,7 @@ pub record NothingAwaited (s : HalfState) : Type 0 where
   pub free : (p : ℕ) (side : StationSide) → slice_get s.stations p ≡ Some side → side.slave.held ≡ None
 
 -- a master whose take gives nothing has given all
-done-left : (left : List Sent) → (length left == 0) ≡ true → left ≡ []
+pub done-left : (left : List Sent) → (length left == 0) ≡ true → left ≡ []
 done-left [] done = refl
 done-left (x ∷ more) done = absurd (let no : true ≡ false = sym done ∙ some-left x more in cc)
 
@@ -42,17 +41,16 @@ none-ready m body done idle none next listed =
     let no = ap (λ (e : MasterState NodeState). is_none (take e.mouth).1) (sym is) ∙ none in
     cc
 
-pub nothing-awaited : (late : ℕ) (s : HalfState) → Stage late s.master s.stations → is_quiet s ≡ true → NothingAwaited s
-nothing-awaited late s (idles idle outside all) quiet =
+pub nothing-awaited : (late : ℕ) (s : HalfState) (now : Now) → Stage late s.master s.stations now → is_quiet s ≡ true → NothingAwaited s
+nothing-awaited late s Idles stage quiet =
     let parts = both (is_none (master.out_at_take node_host s.master)) (list_all is_idle s.stations) quiet in
     let given = given-by s.master (is_done s.master.mouth) refl parts.0 in
     let done = ap (λ (left : List Sent). length left == 0) given in
     record {
-      idle = idle;
+      idle = stage.idle;
       given = given;
-      none_ready = λ body next listed. none-ready s.master body done idle parts.0 next listed;
-      rest = all;
-      free = λ p side at. rests-free s.master side given (idle-is side (all-at s.stations p side parts.1 at)) (all p side at);
+      none_ready = λ body next listed. none-ready s.master body done stage.idle parts.0 next listed;
+      rest = stage.rest;
+      free = λ p side at. rests-free s.master side given (idle-is side (all-at s.stations p side parts.1 at)) (stage.rest p side at);
     }
-nothing-awaited late s (waits left resent place at patient e) quiet = absurd (awaits-busy s place (Receipt s.master.sending) (ap master.is_idle at) e quiet)
-nothing-awaited late s (polls left place at patient e) quiet = absurd (awaits-busy s place Answer (ap master.is_idle at) e quiet)
+nothing-awaited late s (Awaits place awaited) stage quiet = absurd (awaits-busy late s place awaited stage quiet)

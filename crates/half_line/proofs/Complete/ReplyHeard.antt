@@ -13,6 +13,7 @@ use Rattle.half_mouth.specs.Giving.{Giving, give, is_done}
 use Rattle.pccc_envelope.specs.Envelope.{key_of}
 use Rattle.pccc_envelope.specs.Accepted.{is_kept}
 use Rattle.half_slave.specs.declared.held.Held.{Held}
+use Rattle.half_slave.specs.Slave.{SlaveState}
 use Rattle.half_master.specs.declared.stations.Station.{Station}
 use Rattle.half_master.specs.declared.table.Phase.TheVariants as phase
 use Rattle.half_master.specs.Stations.{with_key}
@@ -30,8 +31,8 @@ use Rattle.half_line.proofs.Complete.StationHears.{station_ear, hears-ack}
 use Rattle.half_line.proofs.Complete.MasterHears.{IsOutside, master_ear}
 use Rattle.half_line.proofs.Complete.MasterBegins.{rests-ack, tape-grows}
 use Rattle.half_line.proofs.Complete.StationRests.{the_ack, free, holds, IsStill, Rests}
-use Rattle.half_line.proofs.Complete.StationAnswers.{HearsReply, no-cells, none-left, Answers, StillAnswers}
-use Rattle.half_line.proofs.Complete.Stages.{tape, SideRests, Awaited, Receipt, Answer, SideCalled, Fits, Progress, answers}
+use Rattle.half_line.proofs.Complete.StationAnswers.{Reply, acks, ends, sends, HearsReply, no-cells, none-left, StillAnswers}
+use Rattle.half_line.proofs.Complete.Stages.{tape, SideRests, Awaited, Ack, Eot, Message, an_ack, an_eot, a_reply, Returns, SideCalled}
 
 -- the station with what is left of its lane to the master
 abbrev pub back_left : StationSide → List LaneCell → StationSide
@@ -66,12 +67,13 @@ given-done m given = ap (λ (left : List Sent). length left == 0) given
 -- ---- the reply is heard
 
 -- the master is idle then, and nothing is awaited of any station
-pub record Settles (m : MasterState NodeState) (side : StationSide) (cell : LaneCell) (cells : List LaneCell) (host : NodeState) : Type 0 where
+pub record Settles (m : MasterState NodeState) (side : StationSide) (cell : LaneCell) (cells : List LaneCell) (host : NodeState) (listed : List Station) : Type 0 where
   pub idle : (after_reply m cell).phase ≡ phase.Idle
   pub outside : IsOutside (after_reply m cell).ear.standing
   pub this : SideRests (after_reply m cell) (back_left side cells)
   pub others : (other : StationSide) → SideRests m other → SideRests (after_reply m cell) other
   pub host_is : (after_reply m cell).host ≡ host
+  pub list_is : (after_reply m cell).stations ≡ listed
   pub honest : deceived_at master_ear m.ear cell ≡ 0
 
 -- what is so of the station then, which holds nothing, or a message that waits for its ACK
@@ -80,33 +82,58 @@ here m side cells awaited c hears still empty none = record { own = c.own; check
 
 -- with a master that keeps what it has to give
 settles-as : (m after : MasterState NodeState) (side : StationSide) (cell : LaneCell) (cells : List LaneCell) (reply : Telling master_ear) → HearsReply side.slave cell cells m.ear reply → after_reply m cell ≡ after → after.phase ≡ phase.Idle → after.ear ≡ (with_byte m cell.byte).ear → after.mouth ≡ m.mouth
-    → after.sending ≡ m.sending → SideRests m (back_left side cells) → Settles m side cell cells after.host
+    → after.sending ≡ m.sending → SideRests m (back_left side cells) → Settles m side cell cells after.host after.stations
 settles-as m after side cell cells reply h is idle ear mouth sending this =
-    let Same : MasterState NodeState → Type 0 = λ e. (e.phase ≡ phase.Idle) × IsOutside e.ear.standing × SideRests e (back_left side cells) × ((other : StationSide) → SideRests m other → SideRests e other) × (e.host ≡ after.host) in
+    let Same : MasterState NodeState → Type 0 = λ e. (e.phase ≡ phase.Idle) × IsOutside e.ear.standing × SideRests e (back_left side cells) × ((other : StationSide) → SideRests m other → SideRests e other) × (e.host ≡ after.host) × (e.stations ≡ after.stations) in
     let check : after.ear.check ≡ m.ear.check = ap (λ (l : Listening). l.check) ear in
-    let now : Same (after_reply m cell) = subst Same (sym is) (idle, subst (λ (l : Listening). IsOutside l.standing) (sym ear) h.outside, rests-same m after (back_left side cells) check mouth sending this, λ other. rests-same m after other check mouth sending, refl) in
-    record { idle = now.0; outside = now.1; this = now.2; others = now.3; host_is = now.4; honest = h.honest }
+    let now : Same (after_reply m cell) = subst Same (sym is) (idle, subst (λ (l : Listening). IsOutside l.standing) (sym ear) h.outside, rests-same m after (back_left side cells) check mouth sending this, λ other. rests-same m after other check mouth sending, refl, refl) in
+    record { idle = now.0; outside = now.1; this = now.2; others = now.3; host_is = now.4; list_is = now.5; honest = h.honest }
+
+-- a station that acknowledged, or ended its poll, holds nothing
+ack-free : (s : SlaveState NodeState) → Reply s an_ack → s.held ≡ None
+ack-free s (acks is none) = none
+ack-free s (ends is none) = none
+ack-free s (sends message number is held waits numbered owes) = absurd (let no : master_hears.Ack ≡ master_hears.Good = ap (λ (t : Telling master_ear). t.what) is in cc)
+
+eot-free : (s : SlaveState NodeState) → Reply s an_eot → s.held ≡ None
+eot-free s (acks is none) = none
+eot-free s (ends is none) = none
+eot-free s (sends message number is held waits numbered owes) = absurd (let no : master_hears.Eot ≡ master_hears.Good = ap (λ (t : Telling master_ear). t.what) is in cc)
+
+-- and one that sends holds its message
+record HoldsIt (s : SlaveState NodeState) : Type 0 where
+  message : Held
+  held : s.held ≡ Some message
+  waits : message.wait_open ≡ is_done s.mouth
+
+message-held : (s : SlaveState NodeState) (body : List ℕ) → Reply s (a_reply body) → HoldsIt s
+message-held s body (acks is none) = absurd (let no : master_hears.Good ≡ master_hears.Ack = ap (λ (t : Telling master_ear). t.what) is in cc)
+message-held s body (ends is none) = absurd (let no : master_hears.Good ≡ master_hears.Eot = ap (λ (t : Telling master_ear). t.what) is in cc)
+message-held s body (sends message number is held waits numbered owes) = record { message = message; held = held; waits = waits }
 
 -- an ACK
-pub ack-heard : (m : MasterState NodeState) (side : StationSide) (cell : LaneCell) (cells : List LaneCell) (body : List ℕ) (left resent : ℕ) → SideCalled m side (Receipt body) → Hears station_ear side.slave.ear (tape m side) [] → m.phase ≡ phase.WaitsForAck left resent
-    → side.slave.held ≡ None → HearsReply side.slave cell cells m.ear (told master_ear master_hears.Ack []) → Settles m side cell cells (after_told m.host fate.Delivered) × Says node_host m cell.byte act.PeerAck None news.Nothing
-ack-heard m side cell cells body left resent c hears at none h =
+pub ack-heard : (m : MasterState NodeState) (side : StationSide) (cell : LaneCell) (cells : List LaneCell) (left resent : ℕ) → SideCalled m side Ack → m.phase ≡ phase.WaitsForAck left resent → HearsReply side.slave cell cells m.ear an_ack
+    → Settles m side cell cells (after_told m.host fate.Delivered) m.stations × Says node_host m cell.byte act.PeerAck None news.Nothing
+ack-heard m side cell cells left resent c at h =
+    let hears = c.progress.hears in
     let turn = turn-acked node_host m cell.byte left resent (given-done m (given-all m side hears)) h.what at in
-    (settles-as m _ side cell cells (told master_ear master_hears.Ack []) h turn.0 refl refl refl refl (here m side cells (Receipt body) c hears h.still h.empty none), turn.1)
+    (settles-as m _ side cell cells an_ack h turn.0 refl refl refl refl (here m side cells Ack c hears h.still h.empty (ack-free side.slave h.reply_is)), turn.1)
 
 -- an EOT
-pub eot-heard : (m : MasterState NodeState) (side : StationSide) (cell : LaneCell) (cells : List LaneCell) (left place : ℕ) → SideCalled m side Answer → Hears station_ear side.slave.ear (tape m side) [] → m.phase ≡ phase.WaitsAfterPoll left place
-    → side.slave.held ≡ None → HearsReply side.slave cell cells m.ear (told master_ear master_hears.Eot []) → Settles m side cell cells m.host × Says node_host m cell.byte act.Nothing None news.Nothing
-eot-heard m side cell cells left place c hears at none h =
+pub eot-heard : (m : MasterState NodeState) (side : StationSide) (cell : LaneCell) (cells : List LaneCell) (left place : ℕ) → SideCalled m side Eot → m.phase ≡ phase.WaitsAfterPoll left place → HearsReply side.slave cell cells m.ear an_eot
+    → Settles m side cell cells m.host m.stations × Says node_host m cell.byte act.Nothing None news.Nothing
+eot-heard m side cell cells left place c at h =
+    let hears = c.progress.hears in
     let turn = turn-ended node_host m cell.byte left place (given-done m (given-all m side hears)) h.what at in
-    (settles-as m _ side cell cells (told master_ear master_hears.Eot []) h turn.0 refl refl refl refl (here m side cells Answer c hears h.still h.empty none), turn.1)
+    (settles-as m _ side cell cells an_eot h turn.0 refl refl refl refl (here m side cells Eot c hears h.still h.empty (eot-free side.slave h.reply_is)), turn.1)
 
 -- ---- a message is heard, accepted and acknowledged
 
 -- the station holds it, and will hear the ACK
-held-here : (m after : MasterState NodeState) (side : StationSide) (cells : List LaneCell) (message : Held) → SideCalled m side Answer → Hears station_ear side.slave.ear (tape m side) [] → IsStill side.slave → cells ≡ [] → side.slave.held ≡ Some message → message.wait_open ≡ true
+held-here : (m after : MasterState NodeState) (side : StationSide) (cells : List LaneCell) (message : Held) (body : List ℕ) → SideCalled m side (Message body) → IsStill side.slave → cells ≡ [] → side.slave.held ≡ Some message → message.wait_open ≡ true
     → after.ear.check ≡ m.ear.check → m.mouth.left ≡ [] → after.mouth ≡ give m.mouth (unmarked (pair_bytes 6)) → SideRests after (back_left side cells)
-held-here m after side cells message c hears still empty held waits check given mouth =
+held-here m after side cells message body c still empty held waits check given mouth =
+    let hears = c.progress.hears in
     let ack = cells_of None after.sending (unmarked (pair_bytes 6)) in
     let grows : tape m side ++ ack ≡ tape after side = tape-grows side.to_it ack m.mouth m.sending given ∙ ap (λ (g : Giving). side.to_it ++ coming g after.sending) (sym mouth) in
     let told_ack = hears-join station_ear side.slave.ear (tape m side) ack [] (the_ack ∷ []) hears (hears-ack (ear_after station_ear side.slave.ear (tape m side)) after.sending hears.outside) in
@@ -118,46 +145,40 @@ held-here m after side cells message c hears still empty held waits check given 
       none_back = empty;
     }
 
-pub good-heard : (m : MasterState NodeState) (side : StationSide) (cell : LaneCell) (cells : List LaneCell) (body : List ℕ) (left place : ℕ) (station : Station) (message : Held) → SideCalled m side Answer → Hears station_ear side.slave.ear (tape m side) [] → m.phase ≡ phase.WaitsAfterPoll left place
-    → side.slave.held ≡ Some message → message.wait_open ≡ is_done side.slave.mouth → HearsReply side.slave cell cells m.ear (told master_ear master_hears.Good body)
+pub good-heard : (m : MasterState NodeState) (side : StationSide) (cell : LaneCell) (cells : List LaneCell) (body : List ℕ) (left place : ℕ) (station : Station) → SideCalled m side (Message body) → m.phase ≡ phase.WaitsAfterPoll left place → HearsReply side.slave cell cells m.ear (a_reply body)
     → slice_get m.stations place ≡ Some station → slice_index body 1 ≡ station.number → is_kept station.kept (key_of body) ≡ false → has_room m.host body ≡ true
-    → Settles m side cell cells (after_accept m.host body) × Says node_host m cell.byte act.Accept (Some (node_host.did m.host body)) news.Nothing × ((after_reply m cell).stations ≡ with_key m.stations place (key_of body))
-good-heard m side cell cells body left place station message c hears at held waits h found from new room =
+    → Settles m side cell cells (after_accept m.host body) (with_key m.stations place (key_of body)) × Says node_host m cell.byte act.Accept (Some (node_host.did m.host body)) news.Nothing
+good-heard m side cell cells body left place station c at h found from new room =
+    let it = message-held side.slave body h.reply_is in
     let b = cell.byte in
     let lent : body_of (with_byte m b) ≡ body = h.body in
     let back : body ≡ body_of (with_byte m b) = sym lent in
-    let given = given-all m side hears in
+    let given = given-all m side c.progress.hears in
     let turn = turn-accepts node_host m b left place station (given-done m given) h.what at found (subst (λ (x : List ℕ). slice_index x 1 ≡ station.number) back from) (subst (λ (x : List ℕ). is_kept station.kept (key_of x) ≡ false) back new)
     (subst (λ (x : List ℕ). has_room m.host x ≡ true) back room) in
     let now = with_byte m b in
     let after : MasterState NodeState = acknowledged (record now { stations = with_key m.stations place (key_of (body_of now)); host = after_accept m.host (body_of now) }) in
     let shut : is_done side.slave.mouth ≡ true = ap (λ (l : List Sent). length l == 0) h.still.gives_none in
     let Same : MasterState NodeState → Type 0 = λ e. (e.phase ≡ phase.Idle) × IsOutside e.ear.standing × SideRests e (back_left side cells) × ((other : StationSide) → SideRests m other → SideRests e other) × (e.host ≡ after_accept m.host body) × (e.stations ≡ with_key m.stations place (key_of body)) in
-    let all : Same (after_reply m cell) = subst Same (sym turn.0) (refl, h.outside, held-here m after side cells message c hears h.still h.empty held (waits ∙ shut) refl given refl, λ other. rests-acked m after other refl given refl, ap (after_accept m.host) lent, ap (λ (x : List ℕ). with_key m.stations place (key_of x)) lent) in
-    (record { idle = all.0; outside = all.1; this = all.2; others = all.3; host_is = all.4; honest = h.honest }, subst (λ (x : List ℕ). Says node_host m b act.Accept (Some (node_host.did m.host x)) news.Nothing) lent turn.1, all.5)
+    let all : Same (after_reply m cell) = subst Same (sym turn.0) (refl, h.outside, held-here m after side cells it.message body c h.still h.empty it.held (it.waits ∙ shut) refl given refl, λ other. rests-acked m after other refl given refl, ap (after_accept m.host) lent, ap (λ (x : List ℕ). with_key m.stations place (key_of x)) lent) in
+    (record { idle = all.0; outside = all.1; this = all.2; others = all.3; host_is = all.4; list_is = all.5; honest = h.honest }, subst (λ (x : List ℕ). Says node_host m b act.Accept (Some (node_host.did m.host x)) news.Nothing) lent turn.1)
 
 -- ---- nothing is heard yet
 
--- the reply is awaited as before, and nothing but the ear of the master changes
-pub record GoesOn (m : MasterState NodeState) (side : StationSide) (cell : LaneCell) (cells : List LaneCell) (awaited : Awaited) : Type 0 where
+-- the reply is on its way as before, and nothing but the ear of the master changes
+pub record GoesOn (m : MasterState NodeState) (side : StationSide) (cell : LaneCell) (cells : List LaneCell) (reply : Telling master_ear) : Type 0 where
   pub master : after_reply m cell ≡ with_byte m cell.byte
-  pub called : SideCalled (with_byte m cell.byte) (back_left side cells) awaited
+  pub returns : Returns (with_byte m cell.byte) (back_left side cells) reply
   pub others : (other : StationSide) → SideRests m other → SideRests (with_byte m cell.byte) other
   pub says : Says node_host m cell.byte act.Nothing None news.Nothing
   pub honest : deceived_at master_ear m.ear cell ≡ 0
 
-on-progress : (m : MasterState NodeState) (side : StationSide) (cell : LaneCell) (cells : List LaneCell) (awaited : Awaited) (reply : Telling master_ear) → Hears station_ear side.slave.ear (tape m side) [] → Fits side.slave awaited reply → Answers side.slave cells (with_byte m cell.byte).ear reply
-    → Progress (with_byte m cell.byte) (back_left side cells) awaited
-on-progress m side cell cells (Receipt body) reply hears fits answer = answers reply hears answer fits
-on-progress m side cell cells Answer reply hears fits answer = answers reply hears answer fits
-
-pub silent-heard : (m : MasterState NodeState) (side : StationSide) (cell : LaneCell) (cells : List LaneCell) (awaited : Awaited) (reply : Telling master_ear) → SideCalled m side awaited → Hears station_ear side.slave.ear (tape m side) [] → Fits side.slave awaited reply
-    → StillAnswers side.slave cell cells m.ear reply → GoesOn m side cell cells awaited
-silent-heard m side cell cells awaited reply c hears fits still =
+pub silent-heard : (m : MasterState NodeState) (side : StationSide) (cell : LaneCell) (cells : List LaneCell) (reply : Telling master_ear) → Returns m side reply → StillAnswers side.slave cell cells m.ear reply → GoesOn m side cell cells reply
+silent-heard m side cell cells reply r still =
     let turn = turn-silent node_host m cell.byte still.none_heard in
     record {
       master = turn.0;
-      called = record { own = c.own; check = c.check; line = c.line; progress = on-progress m side cell cells awaited reply hears fits still.answers };
+      returns = record { hears = r.hears; answers = still.answers };
       others = λ other r. rests-same m (with_byte m cell.byte) other refl refl refl r;
       says = turn.1;
       honest = still.honest;

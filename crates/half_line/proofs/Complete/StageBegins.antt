@@ -8,10 +8,12 @@ use Rattle.half_master.specs.Master.{MasterState}
 use Rattle.line_cells.specs.Cells.{LaneCell}
 use Rattle.half_line.specs.Acts.{StationSide}
 use Rattle.half_line.proofs.Complete.ComingCells.{cells_of, coming}
+use Rattle.half_line.proofs.Complete.EarHears.{Telling}
+use Rattle.half_line.proofs.Complete.StationHears.{station_ear}
 use Rattle.half_line.proofs.Complete.MasterHears.{IsOutside}
 use Rattle.half_line.proofs.Complete.MasterBegins.{rests-poll, called-poll, rests-message, called-message, tape-grows}
 use Rattle.half_line.proofs.Complete.StationRests.{Rests, Called}
-use Rattle.half_line.proofs.Complete.Stages.{tape, SideRests, Awaited, Receipt, Answer, call_of, comes, SideCalled, Expects}
+use Rattle.half_line.proofs.Complete.Stages.{tape, SideRests, AllRest, Receipt, Polling, a_message, a_poll, Comes, Expects}
 
 -- a master that had given all begins these cells, and is as it was but for that
 pub record Begins (m after : MasterState NodeState) (new : List LaneCell) : Type 0 where
@@ -32,19 +34,14 @@ rests-begins m after new side b r rests = record {
   none_back = r.none_back;
 }
 
-called-begins : (m after : MasterState NodeState) (new : List LaneCell) (side : StationSide) (awaited : Awaited) → Begins m after new → SideRests m side → IsOutside m.ear.standing → Called side.slave (tape m side ++ new) (call_of side.number awaited) → SideCalled after side awaited
-called-begins m after new side awaited b r outside called = record {
-  own = r.own;
-  check = r.check ∙ ap (λ ear. ear.check) (sym b.ear);
-  line = r.line ∙ ap (λ ear. ear.check) (sym b.ear);
-  progress = comes (subst (λ (cells : List LaneCell). Called side.slave cells (call_of side.number awaited)) (grows m after new side b) called) r.none_back (subst (λ ear. IsOutside ear.standing) (sym b.ear) outside);
+comes-begins : (m after : MasterState NodeState) (new : List LaneCell) (side : StationSide) (call : Telling station_ear) → Begins m after new → SideRests m side → IsOutside m.ear.standing → Called side.slave (tape m side ++ new) call → Comes after side call
+comes-begins m after new side call b r outside called = record {
+  called = subst (λ (cells : List LaneCell). Called side.slave cells call) (grows m after new side b) called;
+  none_back = r.none_back;
+  outside = subst (λ ear. IsOutside ear.standing) (sym b.ear) outside;
 }
 
 -- ---- all stations
-
--- nothing is awaited of any
-abbrev pub AllRest : MasterState NodeState → List StationSide → Type 0
-AllRest m stations = (p : ℕ) (side : StationSide) → slice_get stations p ≡ Some side → SideRests m side
 
 -- the others have other numbers than the station at this place
 abbrev pub IsAlone : List StationSide → ℕ → ℕ → Type 0
@@ -56,14 +53,19 @@ other-station side number own differ same = differ (same ∙ own)
 
 -- a poll
 pub poll-begins : (m after : MasterState NodeState) (stations : List StationSide) (place : ℕ) (side : StationSide) → m.mouth.left ≡ [] → IsOutside m.ear.standing → AllRest m stations → slice_get stations place ≡ Some side → IsAlone stations place side.number
-    → after.ear ≡ m.ear → after.mouth ≡ give m.mouth (unmarked (poll_bytes side.number)) → Expects after stations place Answer
+    → after.ear ≡ m.ear → after.mouth ≡ give m.mouth (unmarked (poll_bytes side.number)) → Expects after stations place Polling
 poll-begins m after stations place side given outside all at alone ear mouth =
     let new = cells_of None after.sending (unmarked (poll_bytes side.number)) in
     let b : Begins m after new = record { given = given; ear = ear; begun = ap (λ (g : Giving). coming g after.sending) mouth } in
     record {
       side = side;
       is_at = at;
-      called = called-begins m after new side Answer b (all place side at) outside (called-poll side.slave (tape m side) after.sending side.number (all place side at).rests);
+      called = let r = all place side at in record {
+        own = r.own;
+        check = r.check ∙ ap (λ ear. ear.check) (sym b.ear);
+        line = r.line ∙ ap (λ ear. ear.check) (sym b.ear);
+        progress = comes-begins m after new side (a_poll side.number) b r outside (called-poll side.slave (tape m side) after.sending side.number r.rests);
+      };
       others = λ p other found differ.
           let r = all p other found in
           rests-begins m after new other b r (rests-poll other.slave (tape m other) after.sending side.number (other-station other side.number r.own (alone p other found differ)) r.rests);
@@ -82,7 +84,12 @@ message-begins m after stations place side body given outside all at alone kind 
     record {
       side = side;
       is_at = at;
-      called = let r = all place side at in called-begins m after new side (Receipt body) b r outside (called-message side.slave (tape m side) m.ear.check number body side.number r.check least most first r.rests);
+      called = let r = all place side at in record {
+        own = r.own;
+        check = r.check ∙ ap (λ ear. ear.check) (sym b.ear);
+        line = r.line ∙ ap (λ ear. ear.check) (sym b.ear);
+        progress = comes-begins m after new side (a_message side.number body) b r outside (called-message side.slave (tape m side) m.ear.check number body side.number r.check least most first r.rests);
+      };
       others = λ p other found differ.
           let r = all p other found in
           rests-begins m after new other b r (rests-message other.slave (tape m other) m.ear.check number body side.number r.check least most first (other-station other side.number r.own (alone p other found differ)) r.rests);

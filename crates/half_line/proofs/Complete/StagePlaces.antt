@@ -16,14 +16,13 @@ use Rattle.each_once.proofs.Sublists.{same-some, from-map}
 use Rattle.half_line.specs.Acts.{StationSide, HalfState, after_take}
 use Rattle.half_line.specs.Prompt.{is_idle, is_quiet}
 use Rattle.half_line.proofs.Once.Places.{set-same, set-other}
-use Rattle.half_line.proofs.Complete.Stages.{SideRests, Awaited, Receipt, Answer, SideCalled, Expects, Stage, idles, waits, polls, expects-busy, both}
-use Rattle.half_line.proofs.Complete.StageBegins.{AllRest}
+use Rattle.half_line.proofs.Complete.Stages.{SideRests, AllRest, Awaited, Receipt, Polling, Ack, Eot, Message, SideCalled, Expects, Waits, Now, Idles, Awaits, Stage, waits-busy, expects-busy, both}
 use Rattle.half_line.proofs.Complete.StageSteps.{rests-gives, called-gives, with_given, rests-given, called-given}
 
 -- ---- one station is another now
 
 -- what a place holds then: the new one there, and the old ones elsewhere
-at-place : (P : ℕ → StationSide → Type 0) (stations : List StationSide) (place : ℕ) (was now : StationSide) → slice_get stations place ≡ Some was → P place now → ((p : ℕ) (other : StationSide) → slice_get stations p ≡ Some other → (p ≡ place → ⊥) → P p other)
+pub at-place : (P : ℕ → StationSide → Type 0) (stations : List StationSide) (place : ℕ) (was now : StationSide) → slice_get stations place ≡ Some was → P place now → ((p : ℕ) (other : StationSide) → slice_get stations p ≡ Some other → (p ≡ place → ⊥) → P p other)
     → (p : ℕ) (side : StationSide) → slice_get (slice_set stations place now) p ≡ Some side → P p side
 at-place P stations place was now is new others p side at = by-place (p == place) refl
   where
@@ -45,9 +44,9 @@ pub set-settled : (m after : MasterState NodeState) (stations : List StationSide
     → AllRest after (slice_set stations place now)
 set-settled m after stations place awaited now e new goes = at-place (λ p side. SideRests after side) stations place e.side now e.is_at new (λ p other at differ. goes other (e.others p other at differ))
 
--- it is still awaited of this one
-pub set-called : (m : MasterState NodeState) (stations : List StationSide) (place : ℕ) (awaited : Awaited) (now : StationSide) → (e : Expects m stations place awaited) → SideCalled m now awaited → Expects m (slice_set stations place now) place awaited
-set-called m stations place awaited now e called = record {
+-- something is awaited of this one, be it what was awaited before or not
+pub set-called : (m : MasterState NodeState) (stations : List StationSide) (place : ℕ) (before awaited : Awaited) (now : StationSide) → (e : Expects m stations place before) → SideCalled m now awaited → Expects m (slice_set stations place now) place awaited
+set-called m stations place before awaited now e called = record {
   side = now;
   is_at = set-same stations place e.side now e.is_at;
   called = called;
@@ -72,19 +71,18 @@ expects-gives m stations place q awaited side is e true same =
     let here = eqb-true q place same in
     let side_is : e.side ≡ side = same-some e.side side (sym e.is_at ∙ ap (slice_get stations) (sym here) ∙ is) in
     subst (λ (n : ℕ). Expects m (slice_set stations n (after_take side)) place awaited) (sym here)
-    (set-called m stations place awaited (after_take side) e (called-gives m side awaited (subst (λ (s : StationSide). SideCalled m s awaited) side_is e.called)))
+    (set-called m stations place awaited awaited (after_take side) e (called-gives m side awaited (subst (λ (s : StationSide). SideCalled m s awaited) side_is e.called)))
 expects-gives m stations place q awaited side is e false same =
     let differ = eqb-false q place same in
     set-another m stations place q awaited side (after_take side) is differ e (rests-gives m side (e.others q side is differ))
 
-pub stage-gives : (late : ℕ) (m : MasterState NodeState) (stations : List StationSide) (q : ℕ) (side : StationSide) → slice_get stations q ≡ Some side → Stage late m stations → Stage late m (slice_set stations q (after_take side))
-stage-gives late m stations q side is (idles idle outside all) = idles idle outside (set-rests m stations q side (after_take side) is (rests-gives m side (all q side is)) all)
-stage-gives late m stations q side is (waits left resent place at patient e) = waits left resent place at patient (expects-gives m stations place q (Receipt m.sending) side is e (q == place) refl)
-stage-gives late m stations q side is (polls left place at patient e) = polls left place at patient (expects-gives m stations place q Answer side is e (q == place) refl)
+pub stage-gives : (late : ℕ) (m : MasterState NodeState) (stations : List StationSide) (now : Now) (q : ℕ) (side : StationSide) → slice_get stations q ≡ Some side → Stage late m stations now → Stage late m (slice_set stations q (after_take side)) now
+stage-gives late m stations Idles q side is s = record { idle = s.idle; outside = s.outside; rest = set-rests m stations q side (after_take side) is (rests-gives m side (s.rest q side is)) s.rest }
+stage-gives late m stations (Awaits place awaited) q side is s = record { waits = s.waits; expects = expects-gives m stations place q awaited side is s.expects (q == place) refl }
 
 -- ---- the master gives a byte of what it has begun
 
-at-given : (e : MasterState NodeState) (stations : List StationSide) (p : ℕ) (side : StationSide) → slice_get (map (with_given e) stations) p ≡ Some side → (was : StationSide) × (slice_get stations p ≡ Some was) × (with_given e was ≡ side)
+pub at-given : (e : MasterState NodeState) (stations : List StationSide) (p : ℕ) (side : StationSide) → slice_get (map (with_given e) stations) p ≡ Some side → (was : StationSide) × (slice_get stations p ≡ Some was) × (with_given e was ≡ side)
 at-given e stations p side at =
     let found = from-map (with_given e) stations p side at in
     (found.0, found.1, same-some (with_given e found.0) side (sym (slice_get-map (with_given e) stations p ∙ ap (option_map (with_given e)) found.1) ∙ at))
@@ -104,10 +102,16 @@ expects-given e stations place awaited x = record {
       subst (SideRests (given_next e)) was.2 (rests-given e was.0 (x.others p was.0 was.1 differ));
 }
 
-pub stage-given : (late : ℕ) (e : MasterState NodeState) (stations : List StationSide) → Stage late e stations → Stage late (given_next e) (map (with_given e) stations)
-stage-given late e stations (idles idle outside all) = idles idle outside (all-given e stations all)
-stage-given late e stations (waits left resent place at patient x) = waits left resent place at patient (expects-given e stations place (Receipt e.sending) x)
-stage-given late e stations (polls left place at patient x) = polls left place at patient (expects-given e stations place Answer x)
+waits-given : (late : ℕ) (e : MasterState NodeState) (place : ℕ) (awaited : Awaited) → Waits late e place awaited → Waits late (given_next e) place awaited
+waits-given late e place (Receipt body) w = record { left = w.left; resent = w.resent; phase = w.phase; patient = w.patient }
+waits-given late e place Ack w = record { left = w.left; resent = w.resent; phase = w.phase; patient = w.patient }
+waits-given late e place Polling w = record { left = w.left; phase = w.phase; patient = w.patient }
+waits-given late e place Eot w = record { left = w.left; phase = w.phase; patient = w.patient }
+waits-given late e place (Message body) w = record { left = w.left; phase = w.phase; patient = w.patient }
+
+pub stage-given : (late : ℕ) (e : MasterState NodeState) (stations : List StationSide) (now : Now) → Stage late e stations now → Stage late (given_next e) (map (with_given e) stations) now
+stage-given late e stations Idles s = record { idle = s.idle; outside = s.outside; rest = all-given e stations s.rest }
+stage-given late e stations (Awaits place awaited) s = record { waits = waits-given late e place awaited s.waits; expects = expects-given e stations place awaited s.expects }
 
 -- ---- a line on which something is awaited isn't quiet
 
@@ -115,8 +119,14 @@ pub none-given : (left : List Sent) (number : Option ℕ) (begun : ℕ) → let 
 none-given [] number begun none = refl
 none-given (x ∷ left) number begun none = absurd cc
 
-pub awaits-busy : (s : HalfState) (place : ℕ) (awaited : Awaited) → master.is_idle s.master.phase ≡ false → Expects s.master s.stations place awaited → is_quiet s ≡ true → ⊥
-awaits-busy s place awaited waiting e quiet =
+pub awaits-busy : (late : ℕ) (s : HalfState) (place : ℕ) (awaited : Awaited) → Stage late s.master s.stations (Awaits place awaited) → is_quiet s ≡ true → ⊥
+awaits-busy late s place awaited a quiet =
     let parts = both (is_none (master.out_at_take node_host s.master)) (list_all is_idle s.stations) quiet in
+    let waiting = waits-busy late s.master place awaited a.waits in
     let none : is_none (take s.master.mouth).1 ≡ true = ap (λ (m : MasterState NodeState). is_none (take m.mouth).1) (sym (take-waiting node_host s.master waiting)) ∙ parts.0 in
-    expects-busy s.master s.stations place awaited (none-given s.master.mouth.left s.master.mouth.number s.master.mouth.begun none) e parts.1
+    expects-busy s.master s.stations place awaited (none-given s.master.mouth.left s.master.mouth.number s.master.mouth.begun none) a.expects parts.1
+
+-- so where the line is quiet, how many ticks were late doesn't matter
+pub stage-quiet : (late other : ℕ) (s : HalfState) (now : Now) → is_quiet s ≡ true → Stage late s.master s.stations now → Stage other s.master s.stations now
+stage-quiet late other s Idles quiet stage = stage
+stage-quiet late other s (Awaits place awaited) quiet stage = absurd (awaits-busy late s place awaited stage quiet)

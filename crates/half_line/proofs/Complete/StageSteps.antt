@@ -19,13 +19,13 @@ use Rattle.each_once.specs.NodeHost.{node_host}
 use Rattle.half_line.specs.declared.way.Way.TheVariants.{ToStation}
 use Rattle.half_line.specs.Acts.{StationSide, LinkState, joined, station_heard, after_take, deceptions_at}
 use Rattle.half_line.proofs.Complete.ComingCells.{coming, coming-take}
-use Rattle.half_line.proofs.Complete.EarHears.{Hears, deceived_at, hears-none}
+use Rattle.half_line.proofs.Complete.EarHears.{Telling, Hears, deceived_at, hears-none}
 use Rattle.half_line.proofs.Complete.StationHears.{station_ear}
-use Rattle.half_line.proofs.Complete.MasterHears.{IsOutside}
+use Rattle.half_line.proofs.Complete.MasterHears.{master_ear}
 use Rattle.half_line.proofs.Complete.StationTurns.{IsMute}
-use Rattle.half_line.proofs.Complete.StationRests.{IsStill, Rests, Called, HearsCall, StillCalled, rests-cell, called-cell}
+use Rattle.half_line.proofs.Complete.StationRests.{KeepsHost, IsStill, Rests, Called, HearsCall, StillCalled, rests-cell, called-cell}
 use Rattle.half_line.proofs.Complete.StationAnswers.{answers-take}
-use Rattle.half_line.proofs.Complete.Stages.{tape, SideRests, Awaited, Receipt, Answer, call_of, Progress, comes, answers, SideCalled}
+use Rattle.half_line.proofs.Complete.Stages.{tape, SideRests, Awaited, Receipt, Polling, Ack, Eot, Message, a_message, a_poll, an_ack, an_eot, a_reply, Comes, Returns, Progress, SideCalled}
 
 -- ---- a station gives a byte
 
@@ -54,10 +54,18 @@ take-still side still =
 pub rests-gives : (m : MasterState NodeState) (side : StationSide) → SideRests m side → SideRests m (after_take side)
 rests-gives m side r = subst (SideRests m) (sym (take-still side r.rests.still)) r
 
+comes-gives : (m : MasterState NodeState) (side : StationSide) (call : Telling station_ear) → Comes m side call → Comes m (after_take side) call
+comes-gives m side call c = subst (λ (s : StationSide). Comes m s call) (sym (take-still side c.called.still)) c
+
+returns-gives : (m : MasterState NodeState) (side : StationSide) (reply : Telling master_ear) → Returns m side reply → Returns m (after_take side) reply
+returns-gives m side reply r = record { hears = r.hears; answers = answers-take side.slave side.from_it m.ear reply r.answers }
+
 progress-gives : (m : MasterState NodeState) (side : StationSide) (awaited : Awaited) → Progress m side awaited → Progress m (after_take side) awaited
-progress-gives m side awaited (comes called none outside) = subst (λ (s : StationSide). Progress m s awaited) (sym (take-still side called.still)) (comes called none outside)
-progress-gives m side (Receipt body) (answers reply hears answer fits) = answers reply hears (answers-take side.slave side.from_it m.ear reply answer) fits
-progress-gives m side Answer (answers reply hears answer fits) = answers reply hears (answers-take side.slave side.from_it m.ear reply answer) fits
+progress-gives m side (Receipt body) c = comes-gives m side (a_message side.number body) c
+progress-gives m side Polling c = comes-gives m side (a_poll side.number) c
+progress-gives m side Ack r = returns-gives m side an_ack r
+progress-gives m side Eot r = returns-gives m side an_eot r
+progress-gives m side (Message body) r = returns-gives m side (a_reply body) r
 
 pub called-gives : (m : MasterState NodeState) (side : StationSide) (awaited : Awaited) → SideCalled m side awaited → SideCalled m (after_take side) awaited
 called-gives m side awaited c = record { own = c.own; check = c.check; line = c.line; progress = progress-gives m side awaited c.progress }
@@ -74,9 +82,18 @@ with_given e side = joined (option_to_list (option_map (cell_of e.sending) (take
 pub rests-given : (e : MasterState NodeState) (side : StationSide) → SideRests e side → SideRests (given_next e) (with_given e side)
 rests-given e side r = record { own = r.own; check = r.check; line = r.line; rests = subst (Rests side.slave) (sym (given-tape e side)) r.rests; none_back = r.none_back }
 
+comes-given : (e : MasterState NodeState) (side : StationSide) (call : Telling station_ear) → Comes e side call → Comes (given_next e) (with_given e side) call
+comes-given e side call c = record { called = subst (λ (cells : List LaneCell). Called side.slave cells call) (sym (given-tape e side)) c.called; none_back = c.none_back; outside = c.outside }
+
+returns-given : (e : MasterState NodeState) (side : StationSide) (reply : Telling master_ear) → Returns e side reply → Returns (given_next e) (with_given e side) reply
+returns-given e side reply r = record { hears = subst (λ (cells : List LaneCell). Hears station_ear side.slave.ear cells []) (sym (given-tape e side)) r.hears; answers = r.answers }
+
 progress-given : (e : MasterState NodeState) (side : StationSide) (awaited : Awaited) → Progress e side awaited → Progress (given_next e) (with_given e side) awaited
-progress-given e side awaited (comes called none outside) = comes (subst (λ (cells : List LaneCell). Called side.slave cells (call_of side.number awaited)) (sym (given-tape e side)) called) none outside
-progress-given e side awaited (answers reply hears answer fits) = answers reply (subst (λ (cells : List LaneCell). Hears station_ear side.slave.ear cells []) (sym (given-tape e side)) hears) answer fits
+progress-given e side (Receipt body) c = comes-given e side (a_message side.number body) c
+progress-given e side Polling c = comes-given e side (a_poll side.number) c
+progress-given e side Ack r = returns-given e side an_ack r
+progress-given e side Eot r = returns-given e side an_eot r
+progress-given e side (Message body) r = returns-given e side (a_reply body) r
 
 pub called-given : (e : MasterState NodeState) (side : StationSide) (awaited : Awaited) → SideCalled e side awaited → SideCalled (given_next e) (with_given e side) awaited
 called-given e side awaited c = record { own = c.own; check = c.check; line = c.line; progress = progress-given e side awaited c.progress }
@@ -106,6 +123,7 @@ station-deceived link cell none =
 pub record SideRested (m : MasterState NodeState) (side : StationSide) (cell : LaneCell) (cells : List LaneCell) : Type 0 where
   pub rests : SideRests m (station_heard (lane_left side cells) cell.byte)
   pub kept : (slave_after_byte node_host side.slave cell.byte).kept ≡ side.slave.kept
+  pub host : KeepsHost node_host side.slave.host (slave_after_byte node_host side.slave cell.byte).host
   pub mute : IsMute node_host side.slave cell.byte
   pub honest : deceived_at station_ear side.slave.ear cell ≡ 0
 
@@ -116,44 +134,38 @@ rests-arrives m side cell cells is r =
     record {
       rests = record { own = own-stays side.slave cell.byte side.number r.own; check = check-stays m side.slave cell.byte r.check; line = line-stays m side.slave cell.byte r.line; rests = now.rests; none_back = r.none_back };
       kept = now.kept;
+      host = now.host;
       mute = now.mute;
       honest = now.honest;
     }
 
--- one that is called stays so, or hears its call and no more is to come
-pub record SideStillCalled (m : MasterState NodeState) (side : StationSide) (cell : LaneCell) (cells : List LaneCell) (awaited : Awaited) : Type 0 where
-  pub called : SideCalled m (station_heard (lane_left side cells) cell.byte) awaited
+-- a call still comes to one that it came to
+pub record StillComes (m : MasterState NodeState) (side : StationSide) (cell : LaneCell) (cells : List LaneCell) (call : Telling station_ear) : Type 0 where
+  pub comes : Comes m (station_heard (lane_left side cells) cell.byte) call
   pub kept : (slave_after_byte node_host side.slave cell.byte).kept ≡ side.slave.kept
+  pub host : KeepsHost node_host side.slave.host (slave_after_byte node_host side.slave cell.byte).host
   pub mute : IsMute node_host side.slave cell.byte
   pub honest : deceived_at station_ear side.slave.ear cell ≡ 0
 
-comes-arrives : (m : MasterState NodeState) (side : StationSide) (cell : LaneCell) (cells : List LaneCell) (awaited : Awaited) → SideCalled m side awaited → Called side.slave (cell ∷ (cells ++ coming m.mouth m.sending)) (call_of side.number awaited)
-    → side.from_it ≡ [] → IsOutside m.ear.standing
-    → SideStillCalled m side cell cells awaited ⊎ HearsCall side.slave cell (cells ++ coming m.mouth m.sending) (call_of side.number awaited)
-comes-arrives m side cell cells awaited c called none outside = by-cell (called-cell node_host (λ host. refl) side.slave cell (cells ++ coming m.mouth m.sending) (call_of side.number awaited) called)
+-- or is heard, and no more is to come
+pub comes-arrives : (m : MasterState NodeState) (side : StationSide) (cell : LaneCell) (cells : List LaneCell) (call : Telling station_ear) → side.to_it ≡ cell ∷ cells → Comes m side call
+    → StillComes m side cell cells call ⊎ HearsCall side.slave cell (cells ++ coming m.mouth m.sending) call
+comes-arrives m side cell cells call is c =
+    by-cell (called-cell node_host (λ host. refl) side.slave cell (cells ++ coming m.mouth m.sending) call (subst (λ (lane : List LaneCell). Called side.slave (lane ++ coming m.mouth m.sending) call) is c.called))
   where
-    by-cell : StillCalled node_host side.slave cell (cells ++ coming m.mouth m.sending) (call_of side.number awaited) ⊎ HearsCall side.slave cell (cells ++ coming m.mouth m.sending) (call_of side.number awaited)
-        → SideStillCalled m side cell cells awaited ⊎ HearsCall side.slave cell (cells ++ coming m.mouth m.sending) (call_of side.number awaited)
+    by-cell : StillCalled node_host side.slave cell (cells ++ coming m.mouth m.sending) call ⊎ HearsCall side.slave cell (cells ++ coming m.mouth m.sending) call
+        → StillComes m side cell cells call ⊎ HearsCall side.slave cell (cells ++ coming m.mouth m.sending) call
     by-cell (inr hears) = inr hears
     by-cell (inl still) = inl (record {
-      called = record { own = own-stays side.slave cell.byte side.number c.own; check = check-stays m side.slave cell.byte c.check; line = line-stays m side.slave cell.byte c.line; progress = comes still.called none outside };
+      comes = record { called = still.called; none_back = c.none_back; outside = c.outside };
       kept = still.kept;
+      host = still.host;
       mute = still.mute;
       honest = still.honest;
     })
 
-pub called-arrives : (m : MasterState NodeState) (side : StationSide) (cell : LaneCell) (cells : List LaneCell) (awaited : Awaited) → side.to_it ≡ cell ∷ cells → SideCalled m side awaited
-    → SideStillCalled m side cell cells awaited ⊎ (HearsCall side.slave cell (cells ++ coming m.mouth m.sending) (call_of side.number awaited) × (side.from_it ≡ []) × IsOutside m.ear.standing)
-called-arrives m side cell cells awaited is c = by-progress c.progress
-  where
-    with-empty : (side.from_it ≡ []) → IsOutside m.ear.standing → SideStillCalled m side cell cells awaited ⊎ HearsCall side.slave cell (cells ++ coming m.mouth m.sending) (call_of side.number awaited)
-        → SideStillCalled m side cell cells awaited ⊎ (HearsCall side.slave cell (cells ++ coming m.mouth m.sending) (call_of side.number awaited) × (side.from_it ≡ []) × IsOutside m.ear.standing)
-    with-empty none outside (inl still) = inl still
-    with-empty none outside (inr hears) = inr (hears, none, outside)
-
-    by-progress : Progress m side awaited → SideStillCalled m side cell cells awaited ⊎ (HearsCall side.slave cell (cells ++ coming m.mouth m.sending) (call_of side.number awaited) × (side.from_it ≡ []) × IsOutside m.ear.standing)
-    by-progress (comes called none outside) =
-        with-empty none outside (comes-arrives m side cell cells awaited c (subst (λ (lane : List LaneCell). Called side.slave (lane ++ coming m.mouth m.sending) (call_of side.number awaited)) is called) none outside)
-    by-progress (answers reply hears answer fits) =
-        let no : cell ∷ (cells ++ coming m.mouth m.sending) ≡ [] = hears-none (subst (λ (lane : List LaneCell). Hears station_ear side.slave.ear (lane ++ coming m.mouth m.sending) []) is hears) in
-        absurd cc
+-- of one that has heard its call no cell is on its way to it
+pub none-arrives : (m : MasterState NodeState) (side : StationSide) (cell : LaneCell) (cells : List LaneCell) (reply : Telling master_ear) → side.to_it ≡ cell ∷ cells → Returns m side reply → ⊥
+none-arrives m side cell cells reply is r =
+    let no : cell ∷ (cells ++ coming m.mouth m.sending) ≡ [] = hears-none (subst (λ (lane : List LaneCell). Hears station_ear side.slave.ear (lane ++ coming m.mouth m.sending) []) is r.hears) in
+    cc

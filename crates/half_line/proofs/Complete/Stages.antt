@@ -1,6 +1,6 @@
 -- What a master waits for, and how its stations stand then, on a line that nothing disturbs; and that such a line is quiet only where the master waits for nothing.
 use Rattle.std.proofs.Common.{◌≡◌, ◌∙◌, ℕ, ◌+◌, ◌≤◌, zero, suc, Bool, true, false, is_none, List, [], ◌∷◌, ◌++◌, Option, Some, None, refl, ap, sym, subst}
-use Rattle.std.specs.Prelude.{◌⊎◌, ◌&&◌, slice_get}
+use Rattle.std.specs.Prelude.{◌&&◌, slice_get}
 use Rattle.std.specs.List.{list_all}
 use Rattle.half_frame.specs.declared.framer.Sent.{Sent}
 use Rattle.half_frame.specs.declared.heard.SlaveHeard.TheVariants as station_hears
@@ -8,6 +8,7 @@ use Rattle.half_frame.specs.declared.heard.MasterHeard.TheVariants as master_hea
 use Rattle.half_mouth.specs.Giving.{Giving, take}
 use Rattle.half_master.specs.declared.table.Phase.TheVariants as phase
 use Rattle.half_master.specs.Master.{MasterState}
+use Rattle.half_master.specs.Master as master
 use Rattle.half_slave.specs.Slave as slave
 use Rattle.half_slave.specs.Slave.{SlaveState}
 use Rattle.df1_node.specs.Node.{NodeState}
@@ -36,25 +37,47 @@ pub record SideRests (m : MasterState NodeState) (side : StationSide) : Type 0 w
   pub rests : Rests side.slave (tape m side)
   pub none_back : side.from_it ≡ []
 
--- what is awaited of a station: that it hears this message and acknowledges it, or that it hears a poll and answers it
+-- what is awaited of a station: that it hears this message, or a poll of it; or that the master hears its ACK, its EOT, or this message of it
 pub data Awaited : Type 0 where
   Receipt : (body : List ℕ) → Awaited
-  Answer : Awaited
+  Polling : Awaited
+  Ack : Awaited
+  Eot : Awaited
+  Message : (body : List ℕ) → Awaited
 
--- the thing by which it is called
-abbrev pub call_of : ℕ → Awaited → Telling station_ear
-call_of number (Receipt body) = told station_ear (station_hears.Addressed number) body
-call_of number Answer = told station_ear (station_hears.Poll number) []
+-- the things by which it is called, and those that the master hears then
+abbrev pub a_message : ℕ → List ℕ → Telling station_ear
+a_message number body = told station_ear (station_hears.Addressed number) body
 
--- the reply that fits
-abbrev pub Fits : SlaveState NodeState → Awaited → Telling master_ear → Type 0
-Fits s (Receipt body) reply = reply ≡ told master_ear master_hears.Ack []
-Fits s Answer reply = (reply ≡ told master_ear master_hears.Eot []) ⊎ (reply ≡ told master_ear master_hears.Good s.sending)
+abbrev pub a_poll : ℕ → Telling station_ear
+a_poll number = told station_ear (station_hears.Poll number) []
 
--- it hasn't heard the call yet; or it has, there is nothing more for it to hear, and the master hasn't heard its reply
-pub data Progress (m : MasterState NodeState) (side : StationSide) (awaited : Awaited) : Type 0 where
-  comes : Called side.slave (tape m side) (call_of side.number awaited) → side.from_it ≡ [] → IsOutside m.ear.standing → Progress m side awaited
-  answers : (reply : Telling master_ear) → Hears station_ear side.slave.ear (tape m side) [] → Answers side.slave side.from_it m.ear reply → Fits side.slave awaited reply → Progress m side awaited
+abbrev pub an_ack : Telling master_ear
+an_ack = told master_ear master_hears.Ack []
+
+abbrev pub an_eot : Telling master_ear
+an_eot = told master_ear master_hears.Eot []
+
+abbrev pub a_reply : List ℕ → Telling master_ear
+a_reply body = told master_ear master_hears.Good body
+
+-- it hasn't heard its call yet
+pub record Comes (m : MasterState NodeState) (side : StationSide) (call : Telling station_ear) : Type 0 where
+  pub called : Called side.slave (tape m side) call
+  pub none_back : side.from_it ≡ []
+  pub outside : IsOutside m.ear.standing
+
+-- it has, there is nothing more for it to hear, and the master hasn't heard its reply
+pub record Returns (m : MasterState NodeState) (side : StationSide) (reply : Telling master_ear) : Type 0 where
+  pub hears : Hears station_ear side.slave.ear (tape m side) []
+  pub answers : Answers side.slave side.from_it m.ear reply
+
+abbrev pub Progress : MasterState NodeState → StationSide → Awaited → Type 0
+Progress m side (Receipt body) = Comes m side (a_message side.number body)
+Progress m side Polling = Comes m side (a_poll side.number)
+Progress m side Ack = Returns m side an_ack
+Progress m side Eot = Returns m side an_eot
+Progress m side (Message body) = Returns m side (a_reply body)
 
 pub record SideCalled (m : MasterState NodeState) (side : StationSide) (awaited : Awaited) : Type 0 where
   pub own : side.slave.setup.station ≡ side.number
@@ -64,6 +87,10 @@ pub record SideCalled (m : MasterState NodeState) (side : StationSide) (awaited 
 
 -- ---- all of them
 
+-- nothing is awaited of any
+abbrev pub AllRest : MasterState NodeState → List StationSide → Type 0
+AllRest m stations = (p : ℕ) (side : StationSide) → slice_get stations p ≡ Some side → SideRests m side
+
 -- this is awaited of the station at one place, and nothing of the others
 pub record Expects (m : MasterState NodeState) (stations : List StationSide) (place : ℕ) (awaited : Awaited) : Type 0 where
   pub side : StationSide
@@ -71,11 +98,50 @@ pub record Expects (m : MasterState NodeState) (stations : List StationSide) (pl
   pub called : SideCalled m side awaited
   pub others : (p : ℕ) (other : StationSide) → slice_get stations p ≡ Some other → (p ≡ place → ⊥) → SideRests m other
 
--- by the master's phase; of a wait those ticks are left that weren't late
-pub data Stage (late : ℕ) (m : MasterState NodeState) (stations : List StationSide) : Type 0 where
-  idles : m.phase ≡ phase.Idle → IsOutside m.ear.standing → ((p : ℕ) (side : StationSide) → slice_get stations p ≡ Some side → SideRests m side) → Stage late m stations
-  waits : (left resent place : ℕ) → m.phase ≡ phase.WaitsForAck left resent → m.setup.ack_ticks ≤ left + late → Expects m stations place (Receipt m.sending) → Stage late m stations
-  polls : (left place : ℕ) → m.phase ≡ phase.WaitsAfterPoll left place → m.setup.poll_ticks ≤ left + late → Expects m stations place Answer → Stage late m stations
+-- of a wait those ticks are left that weren't late
+pub record WaitsForAck (late : ℕ) (m : MasterState NodeState) : Type 0 where
+  pub left : ℕ
+  pub resent : ℕ
+  pub phase : m.phase ≡ phase.WaitsForAck left resent
+  pub patient : m.setup.ack_ticks ≤ left + late
+
+pub record WaitsAfterPoll (late : ℕ) (m : MasterState NodeState) (place : ℕ) : Type 0 where
+  pub left : ℕ
+  pub phase : m.phase ≡ phase.WaitsAfterPoll left place
+  pub patient : m.setup.poll_ticks ≤ left + late
+
+abbrev pub Waits : ℕ → MasterState NodeState → ℕ → Awaited → Type 0
+Waits late m place (Receipt body) = WaitsForAck late m
+Waits late m place Ack = WaitsForAck late m
+Waits late m place Polling = WaitsAfterPoll late m place
+Waits late m place Eot = WaitsAfterPoll late m place
+Waits late m place (Message body) = WaitsAfterPoll late m place
+
+-- nothing is awaited, or this of the station at this place
+pub data Now : Type 0 where
+  Idles : Now
+  Awaits : (place : ℕ) (awaited : Awaited) → Now
+
+pub record Idling (m : MasterState NodeState) (stations : List StationSide) : Type 0 where
+  pub idle : m.phase ≡ phase.Idle
+  pub outside : IsOutside m.ear.standing
+  pub rest : AllRest m stations
+
+pub record Awaiting (late : ℕ) (m : MasterState NodeState) (stations : List StationSide) (place : ℕ) (awaited : Awaited) : Type 0 where
+  pub waits : Waits late m place awaited
+  pub expects : Expects m stations place awaited
+
+abbrev pub Stage : ℕ → MasterState NodeState → List StationSide → Now → Type 0
+Stage late m stations Idles = Idling m stations
+Stage late m stations (Awaits place awaited) = Awaiting late m stations place awaited
+
+-- a master that waits isn't idle
+pub waits-busy : (late : ℕ) (m : MasterState NodeState) (place : ℕ) (awaited : Awaited) → Waits late m place awaited → master.is_idle m.phase ≡ false
+waits-busy late m place (Receipt body) w = ap master.is_idle w.phase
+waits-busy late m place Ack w = ap master.is_idle w.phase
+waits-busy late m place Polling w = ap master.is_idle w.phase
+waits-busy late m place Eot w = ap master.is_idle w.phase
+waits-busy late m place (Message body) w = ap master.is_idle w.phase
 
 -- ---- a station of which something is awaited isn't idle, once the master has given all
 
@@ -126,11 +192,20 @@ no-answer s lane m reply none a =
     let no : [] ≡ reply ∷ [] = h.tells in
     cc
 
-busy-progress : (m : MasterState NodeState) (side : StationSide) (awaited : Awaited) → m.mouth.left ≡ [] → IsIdle side → Progress m side awaited → ⊥
-busy-progress m side awaited given idle (comes called none outside) = no-call side.slave (tape m side) (call_of side.number awaited) (no-tape m side given idle.none_to_it) called
-busy-progress m side awaited given idle (answers reply hears answer fits) =
+busy-comes : (m : MasterState NodeState) (side : StationSide) (call : Telling station_ear) → m.mouth.left ≡ [] → IsIdle side → Comes m side call → ⊥
+busy-comes m side call given idle c = no-call side.slave (tape m side) call (no-tape m side given idle.none_to_it) c.called
+
+busy-returns : (m : MasterState NodeState) (side : StationSide) (reply : Telling master_ear) → IsIdle side → Returns m side reply → ⊥
+busy-returns m side reply idle r =
     let none = ap (λ (lane : List LaneCell). back side.slave lane) idle.none_from_it ∙ nothing-comes (giving_of side.slave) side.slave.sending idle.gives_none in
-    no-answer side.slave side.from_it m reply none answer
+    no-answer side.slave side.from_it m reply none r.answers
+
+busy-progress : (m : MasterState NodeState) (side : StationSide) (awaited : Awaited) → m.mouth.left ≡ [] → IsIdle side → Progress m side awaited → ⊥
+busy-progress m side (Receipt body) given idle c = busy-comes m side (a_message side.number body) given idle c
+busy-progress m side Polling given idle c = busy-comes m side (a_poll side.number) given idle c
+busy-progress m side Ack given idle r = busy-returns m side an_ack idle r
+busy-progress m side Eot given idle r = busy-returns m side an_eot idle r
+busy-progress m side (Message body) given idle r = busy-returns m side (a_reply body) idle r
 
 -- so not all stations are idle
 pub all-at : (stations : List StationSide) (place : ℕ) (side : StationSide) → list_all is_idle stations ≡ true → slice_get stations place ≡ Some side → is_idle side ≡ true

@@ -1,6 +1,7 @@
 -- What a station has executed of the master's commands in an undisturbed run: all for it among the first so many; and which reply waits at its node.
-use Rattle.std.proofs.Common.{◌≡◌, ◌∙◌, ℕ, zero, suc, ◌≤◌, true, false, List, [], ◌∷◌, ◌++◌, length, take, Some, refl, ap, sym, subst}
-use Rattle.std.specs.Prelude.{slice_get}
+use Rattle.std.proofs.Common.{◌≡◌, ◌∙◌, ℕ, zero, suc, ◌≤◌, true, false, List, [], ◌∷◌, ◌++◌, drop, length, take, Some, is_some, refl, ap, sym, subst, inl, inr, append-nil}
+use Rattle.std.specs.Prelude.{slice_get, if◌then◌else◌}
+use Rattle.std.specs.Option.{option_map_or}
 use Rattle.std.specs.List.{filter}
 use Rattle.std.proofs.lemmas.List.{take-append-le}
 use Rattle.std.proofs.lemmas.List.Sums.{fold_push}
@@ -9,14 +10,18 @@ use Rattle.pccc_envelope.specs.Envelope.{is_reply, key_of}
 use Rattle.pccc_envelope.specs.Accepted.{last_key}
 use Rattle.pccc_envelope.proofs.LastAccepted.{last_key-append}
 use Rattle.df1_node.specs.Answer.{StationState, after_answer, reply_to}
-use Rattle.df1_node.specs.Node.{NodeState, after_accept}
+use Rattle.df1_node.specs.declared.handed.Handed.TheVariants as handed
+use Rattle.df1_node.specs.Initiator.{next_place, after_hand_out}
+use Rattle.df1_node.specs.Node.{NodeState, after_accept, after_next}
 use Rattle.half_slave.specs.Slave.{SlaveState}
 use Rattle.line_statement.specs.declared.who.Who.TheVariants.{S}
 use Rattle.line_report.specs.declared.record.Line.{Line}
 use Rattle.each_once.specs.Exchanges.{station_after}
+use Rattle.each_once.specs.NodeHost.{node_host}
 use Rattle.each_once.specs.Tells.{executed_at, executed_in}
 use Rattle.each_once.proofs.Sublists.{same-some, filter-keeps, filter-drops}
 use Rattle.half_line.specs.Complete.{is_to}
+use Rattle.half_line.proofs.Complete.StationRests.{KeepsHost}
 
 -- those for a station among the first so many commands
 abbrev pub first_to : ℕ → ℕ → List (List ℕ) → List (List ℕ)
@@ -46,6 +51,10 @@ to-another number bodies count body at other = ap (filter (is_to number)) (take-
 
 -- ---- what changes the book
 
+-- what is told with more lines
+more-executed : (number : ℕ) (lines more : List Line) (told : List (List ℕ)) → executed_in (S number) more ≡ told → executed_in (S number) (lines ++ more) ≡ executed_in (S number) lines ++ told
+more-executed number lines more told is = filter_map-append (executed_at (S number)) lines more ∙ ap (λ (xs : List (List ℕ)). executed_in (S number) lines ++ xs) is
+
 -- more commands are issued
 pub book-issue : (first : StationState) (number : ℕ) (bodies more : List (List ℕ)) (ran : ℕ) (due : List (List ℕ)) (s : SlaveState NodeState) (lines : List Line) → ran ≤ length bodies → StationBook first number bodies ran due s lines → StationBook first number (bodies ++ more) ran due s lines
 book-issue first number bodies more ran due s lines few b =
@@ -59,26 +68,46 @@ book-issue first number bodies more ran due s lines few b =
       executes = b.executes ∙ same;
     }
 
--- the station is otherwise than it was, with the same node and key; and more is told, but of no command that it executed
-pub book-same : (first : StationState) (number : ℕ) (bodies : List (List ℕ)) (ran : ℕ) (due : List (List ℕ)) (s after : SlaveState NodeState) (lines more : List Line) → after.host ≡ s.host → after.kept ≡ s.kept → executed_in (S number) more ≡ []
+-- what a station keeps of its node, be it told that a message was delivered or not
+pub record IsSameNode (was now : NodeState) : Type 0 where
+  pub station : now.station ≡ was.station
+  pub replies : now.replies ≡ was.replies
+  pub issued : now.initiator.issued ≡ was.initiator.issued
+  pub room : now.room ≡ was.room
+
+pub same-node : (was now : NodeState) → now ≡ was → IsSameNode was now
+same-node was now same = record {
+  station = ap (λ (node : NodeState). node.station) same;
+  replies = ap (λ (node : NodeState). node.replies) same;
+  issued = ap (λ (node : NodeState). node.initiator.issued) same;
+  room = ap (λ (node : NodeState). node.room) same;
+}
+
+pub kept-node : (was now : NodeState) → KeepsHost node_host was now → IsSameNode was now
+kept-node was now (inl same) = same-node was now same
+kept-node was now (inr told) = record {
+  station = ap (λ (node : NodeState). node.station) told;
+  replies = ap (λ (node : NodeState). node.replies) told;
+  issued = ap (λ (node : NodeState). node.initiator.issued) told;
+  room = ap (λ (node : NodeState). node.room) told;
+}
+
+-- the station is otherwise than it was, with the same key; and more is told, but of no command that it executed
+pub book-same : (first : StationState) (number : ℕ) (bodies : List (List ℕ)) (ran : ℕ) (due : List (List ℕ)) (s after : SlaveState NodeState) (lines more : List Line) → IsSameNode s.host after.host → after.kept ≡ s.kept → executed_in (S number) more ≡ []
     → StationBook first number bodies ran due s lines → StationBook first number bodies ran due after (lines ++ more)
 book-same first number bodies ran due s after lines more host kept silent b = record {
-  station = ap (λ (node : NodeState). node.station) host ∙ b.station;
+  station = host.station ∙ b.station;
   kept = kept ∙ b.kept;
-  replies = ap (λ (node : NodeState). node.replies) host ∙ b.replies;
-  issues_none = ap (λ (node : NodeState). node.initiator.issued) host ∙ b.issues_none;
-  room = subst (λ (node : NodeState). 2 ≤ node.room) (sym host) b.room;
-  executes = filter_map-append (executed_at (S number)) lines more ∙ ap (λ (told : List (List ℕ)). executed_in (S number) lines ++ told) silent ∙ append-none (executed_in (S number) lines) ∙ b.executes;
+  replies = host.replies ∙ b.replies;
+  issues_none = host.issued ∙ b.issues_none;
+  room = subst (λ (n : ℕ). 2 ≤ n) (sym host.room) b.room;
+  executes = more-executed number lines more [] silent ∙ append-nil (executed_in (S number) lines) ∙ b.executes;
 }
-  where
-    append-none : (xs : List (List ℕ)) → xs ++ [] ≡ xs
-    append-none [] = refl
-    append-none (x ∷ xs) = ap (λ (more : List (List ℕ)). x ∷ more) (append-none xs)
 
 -- another station executed the next command
-pub book-another : (first : StationState) (number : ℕ) (bodies : List (List ℕ)) (ran : ℕ) (due : List (List ℕ)) (s : SlaveState NodeState) (lines : List Line) (body : List ℕ) → slice_get bodies ran ≡ Some body → is_to number body ≡ false
-    → StationBook first number bodies ran due s lines → StationBook first number bodies (suc ran) due s lines
-book-another first number bodies ran due s lines body at other b =
+pub book-another : (first : StationState) (number : ℕ) (bodies : List (List ℕ)) (ran : ℕ) (due : List (List ℕ)) (s : SlaveState NodeState) (lines more : List Line) (body : List ℕ) → slice_get bodies ran ≡ Some body → is_to number body ≡ false → executed_in (S number) more ≡ []
+    → StationBook first number bodies ran due s lines → StationBook first number bodies (suc ran) due s (lines ++ more)
+book-another first number bodies ran due s lines more body at other silent b =
     let same = sym (to-another number bodies ran body at other) in
     record {
       station = b.station ∙ ap (station_after first) same;
@@ -86,7 +115,7 @@ book-another first number bodies ran due s lines body at other b =
       replies = b.replies;
       issues_none = b.issues_none;
       room = b.room;
-      executes = b.executes ∙ same;
+      executes = more-executed number lines more [] silent ∙ append-nil (executed_in (S number) lines) ∙ b.executes ∙ same;
     }
 
 -- a command that a node accepts is executed
@@ -115,5 +144,26 @@ book-executes first number bodies ran s after lines more body at to command host
           ∙ ap (λ (x : StationState). reply_to x body ∷ []) b.station;
       issues_none = ap (λ (node : NodeState). node.initiator.issued) host ∙ executed-issued s.host body command ∙ b.issues_none;
       room = subst (λ (node : NodeState). 2 ≤ node.room) (sym host) b.room;
-      executes = filter_map-append (executed_at (S number)) lines more ∙ ap (λ (xs : List (List ℕ)). xs ++ executed_in (S number) more) b.executes ∙ ap (λ (xs : List (List ℕ)). first_to number ran bodies ++ xs) told ∙ sym all;
+      executes = more-executed number lines more (body ∷ []) told ∙ ap (λ (xs : List (List ℕ)). xs ++ body ∷ []) b.executes ∙ sym all;
+    }
+
+-- the reply that waits at it is handed out, and nothing is told of that
+abbrev fetched : NodeState → NodeState
+fetched node = record node { replies = []; last = handed.Reply }
+
+pub one-fetched : (node : NodeState) (reply : List ℕ) → node.replies ≡ reply ∷ [] → after_next node ≡ fetched node
+one-fetched node reply is =
+    ap (λ (replies : List (List ℕ)). let now : NodeState = record node { replies = drop 1 replies; initiator = if is_some (slice_get replies 0) then node.initiator else after_hand_out node.initiator; last = if is_some (slice_get replies 0) then handed.Reply else option_map_or handed.Command (next_place node.initiator.issued) node.last } in now) is
+
+pub book-fetched : (first : StationState) (number : ℕ) (bodies : List (List ℕ)) (ran : ℕ) (reply : List ℕ) (s after : SlaveState NodeState) (lines more : List Line) → after.host ≡ after_next s.host → after.kept ≡ s.kept → executed_in (S number) more ≡ []
+    → StationBook first number bodies ran (reply ∷ []) s lines → StationBook first number bodies ran [] after (lines ++ more)
+book-fetched first number bodies ran reply s after lines more host kept silent b =
+    let is = host ∙ one-fetched s.host reply b.replies in
+    record {
+      station = ap (λ (node : NodeState). node.station) is ∙ b.station;
+      kept = kept ∙ b.kept;
+      replies = ap (λ (node : NodeState). node.replies) is;
+      issues_none = ap (λ (node : NodeState). node.initiator.issued) is ∙ b.issues_none;
+      room = subst (λ (node : NodeState). 2 ≤ node.room) (sym is) b.room;
+      executes = more-executed number lines more [] silent ∙ append-nil (executed_in (S number) lines) ∙ b.executes;
     }

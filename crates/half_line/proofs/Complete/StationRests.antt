@@ -2,6 +2,7 @@
 use Rattle.std.proofs.Common.{◌≡◌, ◌∙◌, ℕ, true, List, [], ◌∷◌, ◌++◌, Option, Some, None, refl, ap, sym, subst, inl, inr}
 use Rattle.std.specs.Prelude.{◌⊎◌}
 use Rattle.df1_base.specs.declared.host.Host.{Ghosts}
+use Rattle.df1_base.specs.declared.host.Fate.TheVariants as fate
 use Rattle.half_frame.specs.declared.heard.SlaveHeard.{SlaveHeard}
 use Rattle.half_frame.specs.declared.heard.SlaveHeard.TheVariants as heard
 use Rattle.half_frame.specs.SlaveStanding.{lent_at}
@@ -50,22 +51,28 @@ pub record Rests {H : Type 0} (s : SlaveState H) (cells : List LaneCell) : Type 
 
 -- ---- a thing that is heard at rest
 
+-- the host stays as it was, or is told that its message was delivered
+abbrev pub KeepsHost : {H : Type 0} → Ghosts H → H → H → Type 0
+KeepsHost m was now = (now ≡ was) ⊎ (now ≡ m.after_told was fate.Delivered)
+
 -- the station after a byte at which it stays at rest, and no line tells of it
 pub record Stays {H : Type 0} (m : Ghosts H) (s : SlaveState H) (b : ℕ) (left : List (Telling station_ear)) : Type 0 where
   pub ear : (slave_after_byte m s b).ear ≡ ear_at s b
   pub setup : (slave_after_byte m s b).setup ≡ s.setup
   pub kept : (slave_after_byte m s b).kept ≡ s.kept
+  pub host : KeepsHost m s.host (slave_after_byte m s b).host
   pub still : IsStill s → IsStill (slave_after_byte m s b)
   pub rest : Rest s.setup.station (slave_after_byte m s b).held left
   pub mute : IsMute m s b
 
 -- with this state after the byte
-stays-as : {H : Type 0} (m : Ghosts H) (s after : SlaveState H) (b : ℕ) (left : List (Telling station_ear)) → slave_after_byte m s b ≡ after → after.ear ≡ ear_at s b → after.setup ≡ s.setup → after.kept ≡ s.kept → (IsStill s → IsStill after) → Rest s.setup.station after.held left → IsMute m s b
+stays-as : {H : Type 0} (m : Ghosts H) (s after : SlaveState H) (b : ℕ) (left : List (Telling station_ear)) → slave_after_byte m s b ≡ after → after.ear ≡ ear_at s b → after.setup ≡ s.setup → after.kept ≡ s.kept → KeepsHost m s.host after.host → (IsStill s → IsStill after) → Rest s.setup.station after.held left → IsMute m s b
     → Stays m s b left
-stays-as m s after b left is ear setup kept still rest mute = record {
+stays-as {H} m s after b left is ear setup kept host still rest mute = record {
   ear = ap (λ (t : SlaveState _). t.ear) is ∙ ear;
   setup = ap (λ (t : SlaveState _). t.setup) is ∙ setup;
   kept = ap (λ (t : SlaveState _). t.kept) is ∙ kept;
+  host = subst (λ (t : SlaveState H). KeepsHost m s.host t.host) (sym is) host;
   still = λ now. subst IsStill (sym is) (still now);
   rest = subst (λ (t : SlaveState _). Rest s.setup.station t.held left) (sym is) rest;
   mute = mute;
@@ -77,15 +84,15 @@ first-same t u ts us e = (cc, cc)
 -- a thing that is heard, where it and what follows leave the station at rest
 stays-told : {H : Type 0} (m : Ghosts H) → IsDiscreet m → (s : SlaveState H) (b : ℕ) (what : SlaveHeard) (left : List (Telling station_ear)) → heard_at s b ≡ Some what → Rest s.setup.station s.held (told station_ear what (lent_at (ear_at s b).standing) ∷ left) → Stays m s b left
 stays-told m discreet s b what left is (free none over) =
-    stays-as m s _ b left (turn-passes m s b what is over.0 none) refl refl refl (λ now. record { gives_none = now.gives_none; owes_none = now.owes_none }) (free none over.1) (mute-passes m s b what is over.0 none)
+    stays-as m s _ b left (turn-passes m s b what is over.0 none) refl refl refl (inl refl) (λ now. record { gives_none = now.gives_none; owes_none = now.owes_none }) (free none over.1) (mute-passes m s b what is over.0 none)
 stays-told m discreet s b what left is (holds message rest held waits first over) =
     let same = first-same (told station_ear what (lent_at (ear_at s b).standing)) the_ack left rest first in
     let ack : heard_at s b ≡ Some heard.Ack = is ∙ ap (λ (t : Telling station_ear). Some t.what) same.0 in
-    stays-as m s _ b left (turn-acked m s b message ack held waits) refl refl refl (λ now. record { gives_none = now.gives_none; owes_none = now.owes_none }) (free refl (subst (AllPass s.setup.station) (sym same.1) over)) (mute-acked m discreet s b message ack held waits)
+    stays-as m s _ b left (turn-acked m s b message ack held waits) refl refl refl (inr refl) (λ now. record { gives_none = now.gives_none; owes_none = now.owes_none }) (free refl (subst (AllPass s.setup.station) (sym same.1) over)) (mute-acked m discreet s b message ack held waits)
 
 -- nothing is heard
 stays-silent : {H : Type 0} (m : Ghosts H) (s : SlaveState H) (b : ℕ) (all : List (Telling station_ear)) → heard_at s b ≡ None → Rest s.setup.station s.held all → Stays m s b all
-stays-silent m s b all is rest = stays-as m s _ b all (turn-silent m s b is) refl refl refl (λ now. record { gives_none = now.gives_none; owes_none = now.owes_none }) rest (mute-silent m s b is)
+stays-silent m s b all is rest = stays-as m s _ b all (turn-silent m s b is) refl refl refl (inl refl) (λ now. record { gives_none = now.gives_none; owes_none = now.owes_none }) rest (mute-silent m s b is)
 
 -- what it is after that
 rests-stays : {H : Type 0} (m : Ghosts H) (s : SlaveState H) (b : ℕ) (cells : List LaneCell) (left : List (Telling station_ear)) → IsStill s → Hears station_ear (ear_at s b) cells left → Stays m s b left → Rests (slave_after_byte m s b) cells
@@ -103,11 +110,12 @@ pub record Rested {H : Type 0} (m : Ghosts H) (s : SlaveState H) (cell : LaneCel
   pub rests : Rests (slave_after_byte m s cell.byte) cells
   pub setup : (slave_after_byte m s cell.byte).setup ≡ s.setup
   pub kept : (slave_after_byte m s cell.byte).kept ≡ s.kept
+  pub host : KeepsHost m s.host (slave_after_byte m s cell.byte).host
   pub mute : IsMute m s cell.byte
   pub honest : deceived_at station_ear s.ear cell ≡ 0
 
 rested : {H : Type 0} (m : Ghosts H) (s : SlaveState H) (cell : LaneCell) (cells : List LaneCell) (left : List (Telling station_ear)) → IsStill s → Hears station_ear (ear_at s cell.byte) cells left → deceived_at station_ear s.ear cell ≡ 0 → Stays m s cell.byte left → Rested m s cell cells
-rested m s cell cells left still hears honest stays = record { rests = rests-stays m s cell.byte cells left still hears stays; setup = stays.setup; kept = stays.kept; mute = stays.mute; honest = honest }
+rested m s cell cells left still hears honest stays = record { rests = rests-stays m s cell.byte cells left still hears stays; setup = stays.setup; kept = stays.kept; host = stays.host; mute = stays.mute; honest = honest }
 
 rests-first : {H : Type 0} (m : Ghosts H) → IsDiscreet m → (s : SlaveState H) (cell : LaneCell) (cells : List LaneCell) (r : Rests s (cell ∷ cells)) → First station_ear s.ear cell cells r.all → Rested m s cell cells
 rests-first m discreet s cell cells r (silent is hears) = rested m s cell cells r.all r.still hears r.hears.honest.0 (stays-silent m s cell.byte r.all is r.rest)
@@ -140,6 +148,7 @@ pub record StillCalled {H : Type 0} (m : Ghosts H) (s : SlaveState H) (cell : La
   pub called : Called (slave_after_byte m s cell.byte) cells call
   pub setup : (slave_after_byte m s cell.byte).setup ≡ s.setup
   pub kept : (slave_after_byte m s cell.byte).kept ≡ s.kept
+  pub host : KeepsHost m s.host (slave_after_byte m s cell.byte).host
   pub mute : IsMute m s cell.byte
   pub honest : deceived_at station_ear s.ear cell ≡ 0
 
@@ -154,6 +163,7 @@ still-called m s cell cells call before still hears honest stays = record {
   };
   setup = stays.setup;
   kept = stays.kept;
+  host = stays.host;
   mute = stays.mute;
   honest = honest;
 }

@@ -46,14 +46,14 @@ use Rattle.half_line.proofs.Once.WholeRun.{counted_over, counted-within, kept-ev
 -- ---- the start
 
 -- the plan of the station at a place
-abbrev plan_at : Script → ℕ → EndPlan
+abbrev pub plan_at : Script → ℕ → EndPlan
 plan_at script p = slice_index_or (station_plans script.ends) p (first_plan M 0)
 
-are-distinct : (ends : List EndPlan) → AreHalfEnds ends → IsDistinct nat_eq (numbers_of ends)
+pub are-distinct : (ends : List EndPlan) → AreHalfEnds ends → IsDistinct nat_eq (numbers_of ends)
 are-distinct [] are = absurd are
 are-distinct (master ∷ stations) are = are.2.distinct
 
-abbrev setting_of : (script : Script) → IsHalfPlayable script → Setting
+abbrev pub setting_of : (script : Script) → IsHalfPlayable script → Setting
 setting_of script playable = record {
   of_master = first_station (plan_of_m script);
   first = λ p. first_station (plan_at script p);
@@ -65,12 +65,12 @@ pub listed-numbers : (numbers : List ℕ) → station_numbers (listed numbers) �
 listed-numbers [] = refl
 listed-numbers (n ∷ numbers) = ap (λ ns. n ∷ ns) (listed-numbers numbers)
 
-listed-kept : (numbers : List ℕ) (p : ℕ) → kept_at (listed numbers) p ≡ None
+pub listed-kept : (numbers : List ℕ) (p : ℕ) → kept_at (listed numbers) p ≡ None
 listed-kept [] p = refl
 listed-kept (n ∷ numbers) zero = refl
 listed-kept (n ∷ numbers) (suc p) = listed-kept numbers p
 
-side-numbers : (check : Check) (plans : List EndPlan) → map (λ (side : StationSide). side.number) (map (first_side check) plans) ≡ map (λ (plan : EndPlan). plan.node) plans
+pub side-numbers : (check : Check) (plans : List EndPlan) → map (λ (side : StationSide). side.number) (map (first_side check) plans) ≡ map (λ (plan : EndPlan). plan.node) plans
 side-numbers check [] = refl
 side-numbers check (plan ∷ plans) = ap (λ ns. plan.node ∷ ns) (side-numbers check plans)
 
@@ -86,7 +86,7 @@ first-holds check plan = record {
   told = told-start M (S plan.node) (first_station plan) [];
 }
 
-holds-start : (script : Script) (playable : IsHalfPlayable script) → Holds (setting_of script playable) 0 (start script) []
+pub holds-start : (script : Script) (playable : IsHalfPlayable script) → Holds (setting_of script playable) 0 (start script) []
 holds-start script playable =
     let m = plan_of_m script in
     let plans = station_plans script.ends in
@@ -138,7 +138,7 @@ to-all : (number : ℕ) (bodies : List (List ℕ)) → AreTo number bodies → A
 to-all number bodies to k d inside = to k _ (slice_get-get_or bodies k d inside)
 
 -- the station at the place of a plan
-side-of : (setting : Setting) (count : ℕ) (s : HalfState) (lines : List Line) (plans : List EndPlan) (p : ℕ) (plan : EndPlan) → setting.numbers ≡ map (λ (x : EndPlan). x.node) plans → Holds setting count s lines → slice_get plans p ≡ Some plan
+pub side-of : (setting : Setting) (count : ℕ) (s : HalfState) (lines : List Line) (plans : List EndPlan) (p : ℕ) (plan : EndPlan) → setting.numbers ≡ map (λ (x : EndPlan). x.node) plans → Holds setting count s lines → slice_get plans p ≡ Some plan
     → (side : StationSide) × (slice_get s.stations p ≡ Some side) × (side.number ≡ plan.node)
 side-of setting count s lines plans p plan are h at =
     from-map (λ (x : StationSide). x.number) s.stations p plan.node

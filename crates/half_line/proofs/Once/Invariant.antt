@@ -170,7 +170,7 @@ pub record LinkHolds (setting : Setting) (count : ℕ) (stations : List StationS
   pub this : SideHolds (shared commands heard (issued_of s.master) lines) (setting.first place) (kept_at s.master.stations place) s.side
   pub others : (p : ℕ) (side : StationSide) → slice_get stations p ≡ Some side → (p ≡ place → ⊥) → SideHolds (shared commands heard (issued_of s.master) lines) (setting.first p) (kept_at s.master.stations p) side
 
-number-at : (numbers : List ℕ) (stations : List StationSide) (place : ℕ) (side : StationSide) → map (λ (x : StationSide). x.number) stations ≡ numbers → slice_get stations place ≡ Some side → slice_get numbers place ≡ Some side.number
+pub number-at : (numbers : List ℕ) (stations : List StationSide) (place : ℕ) (side : StationSide) → map (λ (x : StationSide). x.number) stations ≡ numbers → slice_get stations place ≡ Some side → slice_get numbers place ≡ Some side.number
 number-at numbers stations place side are is =
     ap (λ ns. slice_get ns place) (sym are) ∙ slice_get-map (λ (x : StationSide). x.number) stations place ∙ ap (option_map (λ (x : StationSide). x.number)) is
 

@@ -90,7 +90,7 @@ none-sent by (byte ∷ bytes) n = refl
 -- ---- the master
 
 -- each command names a station that is declared
-abbrev AreDeclared : List ℕ → List (List ℕ) → Type 0
+abbrev pub AreDeclared : List ℕ → List (List ℕ) → Type 0
 AreDeclared numbers bodies = (k : ℕ) (body : List ℕ) → slice_get bodies k ≡ Some body → is_declared numbers (slice_index body 0) ≡ true
 
 -- its list has these numbers, and the lines tell how each of its commands ended
@@ -229,7 +229,7 @@ recounts-give numbers m lines r =
 
 -- ---- a command is issued
 
-declared-push : (numbers : List ℕ) (bodies : List (List ℕ)) (body : List ℕ) → AreDeclared numbers bodies → is_declared numbers (slice_index body 0) ≡ true → AreDeclared numbers (bodies ++ body ∷ [])
+pub declared-push : (numbers : List ℕ) (bodies : List (List ℕ)) (body : List ℕ) → AreDeclared numbers bodies → is_declared numbers (slice_index body 0) ≡ true → AreDeclared numbers (bodies ++ body ∷ [])
 declared-push numbers [] body all is zero other at = ap (λ (b : List ℕ). is_declared numbers (slice_index b 0)) (sym (same-some body other at)) ∙ is
 declared-push numbers [] body all is (suc k) other at = absurd cc
 declared-push numbers (b ∷ bodies) body all is zero other at = all zero other at

@@ -1,0 +1,187 @@
+-- What the master does in an undisturbed run: a command is issued, a byte is given to every station.
+use Rattle.std.proofs.Common.{◌≡◌, ◌≢◌, ◌∙◌, ℕ, zero, suc, ◌+◌, ◌≤◌, Bool, true, false, List, [], ◌∷◌, ◌++◌, length, map, Option, Some, None, is_some, refl, ap, sym, subst, arith}
+use Rattle.std.specs.Prelude.{IsTrue, slice_get, slice_index, ◌==◌, ◌||◌, ◌&&◌, if◌then◌else◌}
+use Rattle.std.specs.Option.{option_map, option_or}
+use Rattle.std.specs.List.{filter, list_any}
+use Rattle.std.proofs.lemmas.Bool.{and_parts, eqb-true, eq-eqb}
+use Rattle.std.proofs.lemmas.List.{map-append, length-map, take-append-le}
+use Rattle.df1_node.specs.Answer.{StationState, reply_to}
+use Rattle.df1_node.specs.Initiator.{Issued, InitiatorState, Waiting, next_issued, next_command, after_hand_out}
+use Rattle.df1_node.specs.Node.{NodeState, next_body, after_next, after_node_issue}
+use Rattle.half_mouth.specs.Giving.{is_done, transmit}
+use Rattle.half_frame.specs.Spelling.{message_sent}
+use Rattle.half_master.specs.declared.stations.Station.{Station}
+use Rattle.half_master.specs.declared.table.Phase.{Phase}
+use Rattle.half_master.specs.declared.table.Phase.TheVariants as phase
+use Rattle.half_master.specs.Stations.{is_listed}
+use Rattle.half_master.specs.Master as master
+use Rattle.half_master.specs.Master.{MasterState, with_host, transmitted, message_next, begun_of, begun, given_next, master_after_take}
+use Rattle.half_master.proofs.Changes.{take-begins}
+use Rattle.half_master.proofs.LastMessage.{next-of}
+use Rattle.half_master.proofs.Seen.{listed-number}
+use Rattle.line_statement.specs.Statements.{is_payload}
+use Rattle.script_parts.specs.HalfPlayable.{is_declared}
+use Rattle.line_report.specs.declared.record.Line.{Line}
+use Rattle.each_once.specs.Exchanges.{station_after}
+use Rattle.each_once.specs.NodeHost.{node_host}
+use Rattle.each_once.proofs.Sublists.{Has, from-map}
+use Rattle.half_line.specs.Acts.{StationSide, HalfState, Issue, Give, after_issue, after_master_deed}
+use Rattle.half_line.specs.Complete.{is_to}
+use Rattle.half_line.specs.Issues.{bodies_of}
+use Rattle.half_line.proofs.Once.Invariant.{Setting, number-at, other-number}
+use Rattle.half_line.proofs.Complete.Stages.{Receipt, Polling, Ack, Eot, Message, waits-busy, Now, Idles, Awaits, Stage, Idling}
+use Rattle.half_line.proofs.Complete.StageBegins.{message-begins}
+use Rattle.half_line.proofs.Complete.StageSteps.{with_given}
+use Rattle.half_line.proofs.Complete.StageTicks.{stage-alike}
+use Rattle.half_line.proofs.Complete.StagePlaces.{stage-given, at-given}
+use Rattle.half_line.proofs.Complete.QuietLine.{done-left}
+use Rattle.half_line.proofs.Complete.StationBook.{first_to}
+use Rattle.half_line.proofs.Complete.Ledger.{Going, Stay, answer_to, SideBooks, bodies_in, Ledger, ledger-few, ledger-issue, ledger-hands}
+use Rattle.half_line.proofs.Complete.Invariant.{IsHere, GoesThere, ComesBack, IsTied, Course}
+use Rattle.half_line.proofs.Complete.LineFacts.{Known, body-at}
+use Rattle.half_master.specs.Keys.{kept_at}
+
+-- ---- a command is issued
+
+tied-more : (setting : Setting) (bodies more : List (List ℕ)) (done : ℕ) (now : Now) (stay : Stay) → done ≤ length bodies → IsTied setting bodies done now stay → IsTied setting (bodies ++ more) done now stay
+tied-more setting bodies more done Idles stay few tied = tied
+tied-more setting bodies more done (Awaits place (Receipt body)) stay few tied = tied
+tied-more setting bodies more done (Awaits place Polling) stay few tied = tied
+tied-more setting bodies more done (Awaits place Ack) stay few tied = tied
+tied-more setting bodies more done (Awaits place Eot) stay few tied = tied
+tied-more setting bodies more done (Awaits place (Message reply)) stay few tied = record {
+  body = tied.body;
+  here = tied.here;
+  stays = tied.stays;
+  is = tied.is ∙ ap (λ (all : List (List ℕ)). reply_to (station_after (setting.first place) (filter (is_to tied.here.number) all)) tied.body) (sym (take-append-le done bodies more few));
+}
+
+pub course-issue : (setting : Setting) (m : MasterState NodeState) (stations : List StationSide) (late ticks : ℕ) (lines : List Line) (dst : ℕ) (payload : List ℕ) → IsTrue (is_payload payload) → is_declared setting.numbers dst ≡ true → Course setting m stations late ticks lines
+    → Course setting (after_issue m dst payload) stations late ticks lines
+course-issue setting m stations late ticks lines dst payload may is c =
+    let i = m.host.initiator in
+    let new : Issued = record { body = next_issued i dst payload; standing = Waiting } in
+    let more = map-append (λ (x : Issued). x.body) i.issued (new ∷ []) in
+    record {
+      now = c.now;
+      stay = c.stay;
+      done = c.done;
+      stage = stage-alike late m (after_issue m dst payload) stations c.now (record { ear = refl; mouth = refl; sending = refl }) refl refl c.stage;
+      tied = subst (λ (all : List (List ℕ)). IsTied setting all c.done c.now c.stay) (sym more) (tied-more setting (bodies_of m) (new.body ∷ []) c.done c.now c.stay (ledger-few setting i m.stations stations lines c.stay c.done ticks c.ledger) c.tied);
+      ledger = ledger-issue setting i dst payload m.stations stations lines c.stay c.done ticks may is c.ledger;
+    }
+
+-- ---- the next command is handed out
+
+-- a number that is declared stands somewhere
+declared-first : (m n : ℕ) (numbers : List ℕ) (same : Bool) → (m == n) ≡ same → (is_declared numbers n ≡ true → Has numbers n) → (same || is_declared numbers n) ≡ true → Has (m ∷ numbers) n
+declared-first m n numbers true same later is = (zero, ap Some (eqb-true m n same))
+declared-first m n numbers false same later is = let has = later is in (suc has.0, has.1)
+
+declared-somewhere : (numbers : List ℕ) (n : ℕ) → is_declared numbers n ≡ true → Has numbers n
+declared-somewhere [] n is = absurd cc
+declared-somewhere (m ∷ numbers) n is = declared-first m n numbers (m == n) refl (declared-somewhere numbers n) is
+
+-- a station of the line by its number
+record Found (setting : Setting) (stations : List StationSide) (n : ℕ) : Type 0 where
+  place : ℕ
+  side : StationSide
+  is_at : slice_get stations place ≡ Some side
+  number_at : slice_get setting.numbers place ≡ Some n
+  number : side.number ≡ n
+
+found : (setting : Setting) (m : MasterState NodeState) (stations : List StationSide) (n : ℕ) → Known setting m stations → is_declared setting.numbers n ≡ true → Found setting stations n
+found setting m stations n k is =
+    let at = declared-somewhere setting.numbers n is in
+    let side = from-map (λ (x : StationSide). x.number) stations at.0 n (ap (λ (ns : List ℕ). slice_get ns at.0) k.numbers_are ∙ at.1) in
+    record { place = at.0; side = side.0; is_at = side.1; number_at = at.1; number = side.2 }
+
+-- of a master that keeps no reply
+next-command : (node : NodeState) (body : List ℕ) → node.replies ≡ [] → next_body node ≡ Some body → next_command node.initiator.issued ≡ Some body
+next-command node body none next = sym (ap (λ (replies : List (List ℕ)). option_or (slice_get replies 0) (next_command node.initiator.issued)) none) ∙ next
+
+handed-initiator : (node : NodeState) → node.replies ≡ [] → (after_next node).initiator ≡ after_hand_out node.initiator
+handed-initiator node none = ap (λ (replies : List (List ℕ)). if is_some (slice_get replies 0) then node.initiator else after_hand_out node.initiator) none
+
+-- in which phase a message is begun
+idle-phase : (p : Phase) → master.is_idle p ≡ true → p ≡ phase.Idle
+idle-phase phase.Idle is = refl
+idle-phase (phase.WaitsForAck left resent) is = absurd cc
+idle-phase (phase.WaitsAfterPoll left place) is = absurd cc
+
+may-begin : (m : MasterState NodeState) (body : List ℕ) → message_next node_host m ≡ Some body → (is_done m.mouth ≡ true) × (m.phase ≡ phase.Idle)
+may-begin m body next = by-test (is_done m.mouth && master.is_idle m.phase) refl next
+  where
+    by-test : (may : Bool) → (is_done m.mouth && master.is_idle m.phase) ≡ may → (if may then next_body m.host else None) ≡ Some body → (is_done m.mouth ≡ true) × (m.phase ≡ phase.Idle)
+    by-test true is next = let parts = and_parts (is_done m.mouth) (master.is_idle m.phase) is in (parts.0, idle-phase m.phase parts.1)
+    by-test false is next = absurd cc
+
+-- then nothing is awaited
+idle-stage : (late : ℕ) (m : MasterState NodeState) (stations : List StationSide) (now : Now) → m.phase ≡ phase.Idle → Stage late m stations now → Idling m stations
+idle-stage late m stations Idles idle stage = stage
+idle-stage late m stations (Awaits place awaited) idle stage = absurd (let no : true ≡ false = sym (ap master.is_idle idle) ∙ waits-busy late m place awaited stage.waits in cc)
+
+begins-course : (setting : Setting) (m : MasterState NodeState) (stations : List StationSide) (late ticks : ℕ) (lines : List Line) (body : List ℕ) → Known setting m stations → m.setup.check ≡ m.ear.check → message_next node_host m ≡ Some body → Course setting m stations late ticks lines
+    → Course setting (begun node_host m) stations late ticks lines
+begins-course setting m stations late ticks lines body k check next c =
+    let i = m.host.initiator in
+    let may = may-begin m body next in
+    let stage = idle-stage late m stations c.now may.1 c.stage in
+    let nexts = next-of node_host m body next in
+    let l = ledger-hands setting i body m.stations stations lines c.stay c.done ticks (next-command m.host body k.replies_none nexts) c.ledger in
+    let old = c.ledger in
+    let at = l.2 in
+    let declared : is_declared setting.numbers (slice_index body 0) ≡ true = old.declared c.done body at in
+    let listed : is_listed m.stations (slice_index body 0) ≡ true = listed-number m.stations (slice_index body 0) ∙ ap (λ (ns : List ℕ). is_declared ns (slice_index body 0)) k.list_is ∙ declared in
+    let f = found setting m stations (slice_index body 0) k declared in
+    let fits = body-at (bodies_of m) c.done body old.fits at in
+    let after : MasterState NodeState = transmitted (let now : MasterState NodeState = with_host m (after_next m.host) in record now { sending = body }) 0 in
+    let expects = message-begins m after stations f.place f.side body (done-left m.mouth.left may.0) stage.outside stage.rest f.is_at
+    (λ p other there differ same. other-number setting stations f.place p f.side.number other k.numbers_are (number-at setting.numbers stations f.place f.side k.numbers_are f.is_at) there differ (sym same))
+    check fits.0 fits.1 (sym f.number) refl refl refl in
+    let same : after.host.initiator ≡ after_hand_out i = handed-initiator m.host k.replies_none in
+    let course : Course setting after stations late ticks lines = record {
+      now = Awaits f.place (Receipt body);
+      stay = Going body;
+      done = c.done;
+      stage = record { waits = record { left = m.setup.ack_ticks; resent = 0; phase = refl; patient = omega arith }; expects = expects };
+      tied = record { here = record { number = slice_index body 0; is_at = f.number_at; to = eq-eqb (slice_index body 0) (slice_index body 0) refl }; stays = refl };
+      ledger = subst (λ (x : InitiatorState). Ledger setting x m.stations stations lines (Going body) c.done ticks) (sym same) l.1;
+    } in
+    subst (λ (e : MasterState NodeState). Course setting e stations late ticks lines) (sym (take-begins node_host m body may.0 may.1 nexts listed)) course
+
+begun-course : (setting : Setting) (m : MasterState NodeState) (stations : List StationSide) (late ticks : ℕ) (lines : List Line) (o : Option (List ℕ)) → Known setting m stations → m.setup.check ≡ m.ear.check → message_next node_host m ≡ o → Course setting m stations late ticks lines
+    → Course setting (begun_of node_host m o) stations late ticks lines
+begun-course setting m stations late ticks lines None k check next c = c
+begun-course setting m stations late ticks lines (Some body) k check next c =
+    subst (λ (o : Option (List ℕ)). Course setting (begun_of node_host m o) stations late ticks lines) next (begins-course setting m stations late ticks lines body k check next c)
+
+-- ---- a byte is given
+
+ledger-given : (setting : Setting) (e : MasterState NodeState) (stations : List StationSide) (lines : List Line) (stay : Stay) (done ticks : ℕ) → Ledger setting e.host.initiator e.stations stations lines stay done ticks → Ledger setting e.host.initiator e.stations (map (with_given e) stations) lines stay done ticks
+ledger-given setting e stations lines stay done ticks l = record {
+  out = l.out;
+  in_time = l.in_time;
+  is_out = l.is_out;
+  fits = l.fits;
+  declared = l.declared;
+  in_order = l.in_order;
+  sides = λ p side at.
+      let was = at-given e stations p side at in
+      subst (λ (x : StationSide). SideBooks (setting.first p) x.number (bodies_in e.host.initiator) stay done (kept_at e.stations p) x.slave lines) was.2 (l.sides p was.0 was.1);
+}
+
+given-course : (setting : Setting) (e : MasterState NodeState) (stations : List StationSide) (late ticks : ℕ) (lines : List Line) → Course setting e stations late ticks lines → Course setting (given_next e) (map (with_given e) stations) late ticks lines
+given-course setting e stations late ticks lines c = record {
+  now = c.now;
+  stay = c.stay;
+  done = c.done;
+  stage = stage-given late e stations c.now c.stage;
+  tied = c.tied;
+  ledger = ledger-given setting e stations lines c.stay c.done ticks c.ledger;
+}
+
+pub course-give : (setting : Setting) (m : MasterState NodeState) (stations : List StationSide) (late ticks : ℕ) (lines : List Line) → Known setting m stations → m.setup.check ≡ m.ear.check → Course setting m stations late ticks lines
+    → Course setting (master_after_take node_host m) (map (with_given (begun node_host m)) stations) late ticks lines
+course-give setting m stations late ticks lines k check c =
+    given-course setting (begun node_host m) stations late ticks lines (begun-course setting m stations late ticks lines (message_next node_host m) k check refl c)

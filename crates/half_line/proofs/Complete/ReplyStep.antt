@@ -1,0 +1,284 @@
+-- A cell arrives at the master in an undisturbed run: the reply that it is of goes on, or ends; a message that ends so is the answer to the command that is out.
+use Rattle.std.proofs.Common.{◌≡◌, ◌∙◌, ℕ, suc, ◌+◌, Bool, true, false, List, [], ◌∷◌, ◌++◌, Option, Some, None, refl, ap, sym, subst, inl, inr, append-nil}
+use Rattle.std.specs.Prelude.{◌⊎◌, slice_get, slice_set, slice_index, ◌==◌}
+use Rattle.std.specs.Option.{option_and_then, option_map_or}
+use Rattle.std.proofs.lemmas.Bool.{eqb-true, eqb-false}
+use Rattle.df1_base.specs.declared.host.Did.{Did}
+use Rattle.df1_base.specs.declared.host.Did.TheVariants as did
+use Rattle.df1_base.specs.declared.host.Fate.TheVariants as fate
+use Rattle.df1_base.specs.declared.host.News.TheVariants as news
+use Rattle.df1_base.specs.declared.link.Act.{Act}
+use Rattle.df1_base.specs.declared.link.Act.TheVariants as act
+use Rattle.df1_base.specs.declared.link.Step.{Step}
+use Rattle.pccc_envelope.specs.declared.key.Key.{Key}
+use Rattle.pccc_envelope.specs.Envelope.{is_reply, key_of}
+use Rattle.pccc_envelope.specs.Accepted.{is_kept}
+use Rattle.df1_node.specs.Initiator.{InitiatorState, answered_place, after_reply as initiator_after}
+use Rattle.df1_node.specs.Node.{NodeState, has_room, did_accept, after_accept, after_told}
+use Rattle.half_master.specs.declared.stations.Station.{Station}
+use Rattle.half_master.specs.Keys.{kept_at}
+use Rattle.half_master.specs.Stations.{with_key}
+use Rattle.half_master.specs.Master as master
+use Rattle.half_master.specs.Master.{MasterState, with_byte, master_after_byte}
+use Rattle.half_master.proofs.Changes.{Says}
+use Rattle.half_master.proofs.Seen.{lent-after}
+use Rattle.line_statement.specs.declared.who.Who.TheVariants.{M}
+use Rattle.line_report.specs.declared.record.Line.{Line}
+use Rattle.line_report.specs.declared.record.Line.TheVariants as line
+use Rattle.line_cells.specs.Cells.{LaneCell}
+use Rattle.each_once.specs.Exchanges.{station_after}
+use Rattle.each_once.specs.NodeHost.{node_host}
+use Rattle.each_once.specs.OfStation.{is_from}
+use Rattle.each_once.proofs.Sublists.{same-some, from-map}
+use Rattle.told_lines.specs.NodeLines.{did_lines, act_lines, step_lines}
+use Rattle.half_line.specs.Acts.{StationSide}
+use Rattle.half_line.specs.Complete.{is_to}
+use Rattle.half_line.specs.Issues.{bodies_of}
+use Rattle.half_line.proofs.Once.Invariant.{Setting, number-at}
+use Rattle.half_line.proofs.Once.Places.{set-same, set-other}
+use Rattle.half_line.proofs.Complete.EarHears.{Telling, deceived_at}
+use Rattle.half_line.proofs.Complete.MasterHears.{master_ear}
+use Rattle.half_line.proofs.Complete.Stages.{SideRests, Awaited, Receipt, Polling, Ack, Eot, Message, a_message, a_poll, an_ack, an_eot, a_reply, Comes, Returns, Progress, SideCalled, Waits, Now, Idles, Awaits, Awaiting, Stage}
+use Rattle.half_line.proofs.Complete.StageTicks.{waits-alike}
+use Rattle.half_line.proofs.Complete.StagePlaces.{set-settled}
+use Rattle.half_line.proofs.Complete.StationAnswers.{Answers, StillAnswers, HearsReply, reply-cell}
+use Rattle.half_line.proofs.Complete.ReplyHeard.{back_left, after_reply, GoesOn, silent-heard, Settles, ack-heard, eot-heard, good-heard}
+use Rattle.half_line.proofs.Complete.StationBook.{first_to, same-node}
+use Rattle.half_line.proofs.Complete.Ledger.{Nowhere, Returning, Stay, IsHome, answer_to, Ledger}
+use Rattle.half_line.proofs.Complete.LedgerSteps.{answer_lines, answer-place, ledger-side, ledger-answers}
+use Rattle.half_line.proofs.Complete.Invariant.{ComesBack, IsTied, Course}
+use Rattle.half_line.proofs.Complete.LineFacts.{Known, apart, here, elsewhere, answer-fits, answer-from, from-here, from-elsewhere, answer-new}
+use Rattle.half_line.proofs.Complete.CallStep.{At}
+
+-- what is told of the cell
+abbrev pub reply_lines : MasterState NodeState → LaneCell → List Line
+reply_lines m cell = step_lines M (master.step_at_byte node_host m cell.byte) (master.body_of (after_reply m cell))
+
+pub record Replied (setting : Setting) (m : MasterState NodeState) (stations : List StationSide) (late ticks : ℕ) (lines : List Line) (place : ℕ) (side : StationSide) (cell : LaneCell) (cells : List LaneCell) : Type 0 where
+  pub course : Course setting (after_reply m cell) (slice_set stations place (back_left side cells)) late ticks (lines ++ reply_lines m cell)
+  pub ear_check : (after_reply m cell).ear.check ≡ m.ear.check
+  pub honest : deceived_at master_ear m.ear cell ≡ 0
+
+-- a reply comes from the station at a place, on a line with this stage and these books
+record Comings (setting : Setting) (m : MasterState NodeState) (stations : List StationSide) (late ticks : ℕ) (lines : List Line) (place : ℕ) (side : StationSide) (awaited : Awaited) (stay : Stay) (done : ℕ) : Type 0 where
+  at : At setting m stations place side
+  stage : Stage late m stations (Awaits place awaited)
+  called : SideCalled m side awaited
+  ledger : Ledger setting m.host.initiator m.stations stations lines stay done ticks
+
+-- ---- what is told
+
+step-told : (step : Step) (named : List ℕ) (what : Act) (done : Option Did) → step.act ≡ what → step.did ≡ done → step.news ≡ news.Nothing → step_lines M step named ≡ act_lines M what done named
+step-told step named what done is-act is-did is-news = rw (is-act, is-did, is-news) (append-nil (act_lines M what done named))
+
+says-none : (m : MasterState NodeState) (cell : LaneCell) (what : Act) → Says node_host m cell.byte what None news.Nothing → ((named : List ℕ) → act_lines M what None named ≡ []) → reply_lines m cell ≡ []
+says-none m cell what says none = step-told (master.step_at_byte node_host m cell.byte) (master.body_of (after_reply m cell)) what None says.act says.did says.news ∙ none (master.body_of (after_reply m cell))
+
+-- the books with no line more, of a station that only gave a cell away
+told-none : (setting : Setting) (m : MasterState NodeState) (stations : List StationSide) (lines : List Line) (stay : Stay) (done ticks : ℕ) (place : ℕ) (side : StationSide) (cell : LaneCell) (cells : List LaneCell) → slice_get stations place ≡ Some side → reply_lines m cell ≡ []
+    → Ledger setting m.host.initiator m.stations stations lines stay done ticks → Ledger setting m.host.initiator m.stations (slice_set stations place (back_left side cells)) (lines ++ reply_lines m cell) stay done ticks
+told-none setting m stations lines stay done ticks place side cell cells at none l =
+    subst (λ (all : List Line). Ledger setting m.host.initiator m.stations (slice_set stations place (back_left side cells)) all stay done ticks)
+    (sym (append-nil lines) ∙ ap (λ (more : List Line). lines ++ more) (sym none))
+    (ledger-side setting m.host.initiator m.stations stations lines stay done ticks place side (back_left side cells) at refl (same-node side.slave.host side.slave.host refl) refl l)
+
+-- ---- it goes on
+
+on-step : {setting : Setting} {m : MasterState NodeState} {stations : List StationSide} {place : ℕ} {side : StationSide} {late ticks done : ℕ} {lines : List Line} {stay : Stay} (awaited : Awaited) (reply : Telling master_ear) (cell : LaneCell) (cells : List LaneCell)
+    → (c : Comings setting m stations late ticks lines place side awaited stay done) → IsTied setting (bodies_of m) done (Awaits place awaited) stay → (g : GoesOn m side cell cells reply) → Progress (with_byte m cell.byte) (back_left side cells) awaited
+    → Replied setting m stations late ticks lines place side cell cells
+on-step {setting = setting} {m = m} {stations = stations} {place = place} {side = side} {late = late} {ticks = ticks} {done = done} {lines = lines} {stay = stay} awaited reply cell cells c tied g progress =
+    let now = with_byte m cell.byte in
+    let left = back_left side cells in
+    let all = slice_set stations place left in
+    let e = c.stage.expects in
+    let stage : Awaiting late now all place awaited = record {
+      waits = waits-alike late m now place awaited refl refl c.stage.waits;
+      expects = record {
+        side = left;
+        is_at = set-same stations place side left c.at.is_at;
+        called = record { own = c.called.own; check = c.called.check; line = c.called.line; progress = progress };
+        others = λ p other at differ. g.others other (e.others p other (sym (set-other stations place p left differ) ∙ at) differ);
+      };
+    } in
+    let course : Course setting now all late ticks (lines ++ reply_lines m cell) = record {
+      now = Awaits place awaited;
+      stay = stay;
+      done = done;
+      stage = stage;
+      tied = tied;
+      ledger = told-none setting m stations lines stay done ticks place side cell cells c.at.is_at (says-none m cell act.Nothing g.says (λ named. refl)) c.ledger;
+    } in
+    record {
+      course = subst (λ (after : MasterState NodeState). Course setting after all late ticks (lines ++ reply_lines m cell)) (sym g.master) course;
+      ear_check = ap (λ (after : MasterState NodeState). after.ear.check) g.master;
+      honest = g.honest;
+    }
+
+-- ---- it ends
+
+settled-stage : {m : MasterState NodeState} {stations : List StationSide} {place : ℕ} {side : StationSide} {late : ℕ} {awaited : Awaited} {host : NodeState} {listed : List Station} (cell : LaneCell) (cells : List LaneCell) → Stage late m stations (Awaits place awaited) → Settles m side cell cells host listed
+    → Stage late (after_reply m cell) (slice_set stations place (back_left side cells)) Idles
+settled-stage {m = m} {stations = stations} {place = place} {side = side} {awaited = awaited} cell cells stage s = record {
+  idle = s.idle;
+  outside = s.outside;
+  rest = set-settled m (after_reply m cell) stations place awaited (back_left side cells) stage.expects s.this s.others;
+}
+
+settled-check : {m : MasterState NodeState} {side : StationSide} {awaited : Awaited} {host : NodeState} {listed : List Station} (cell : LaneCell) (cells : List LaneCell) → SideCalled m side awaited → Settles m side cell cells host listed → (after_reply m cell).ear.check ≡ m.ear.check
+settled-check cell cells c s = sym s.this.line ∙ c.line
+
+-- of an ACK and an EOT nothing is told, and the initiator stays
+settles-step : {setting : Setting} {m : MasterState NodeState} {stations : List StationSide} {place : ℕ} {side : StationSide} {late ticks done : ℕ} {lines : List Line} {stay : Stay} {awaited : Awaited} {host : NodeState} (cell : LaneCell) (cells : List LaneCell)
+    → Comings setting m stations late ticks lines place side awaited stay done → IsHome stay → host.initiator ≡ m.host.initiator → Settles m side cell cells host m.stations → reply_lines m cell ≡ [] → Replied setting m stations late ticks lines place side cell cells
+settles-step {setting = setting} {m = m} {stations = stations} {place = place} {side = side} {late = late} {ticks = ticks} {done = done} {lines = lines} {stay = stay} {awaited = awaited} {host = host} cell cells c home same s none =
+    let all = slice_set stations place (back_left side cells) in
+    let i : (after_reply m cell).host.initiator ≡ m.host.initiator = ap (λ (node : NodeState). node.initiator) s.host_is ∙ same in
+    let l = told-none setting m stations lines stay done ticks place side cell cells c.at.is_at none c.ledger in
+    record {
+      course = record {
+        now = Idles;
+        stay = stay;
+        done = done;
+        stage = settled-stage {m = m} {stations = stations} {place = place} {side = side} {late = late} {awaited = awaited} {host = host} {listed = m.stations} cell cells c.stage s;
+        tied = home;
+        ledger = subst (λ (listed : List Station). Ledger setting (after_reply m cell).host.initiator listed all (lines ++ reply_lines m cell) stay done ticks) (sym s.list_is)
+            (subst (λ (x : InitiatorState). Ledger setting x m.stations all (lines ++ reply_lines m cell) stay done ticks) (sym i) l);
+      };
+      ear_check = settled-check {m = m} {side = side} {awaited = awaited} {host = host} {listed = m.stations} cell cells c.called s;
+      honest = s.honest;
+    }
+
+-- ---- an answer
+
+-- what the master does with it
+accepted-reply : (node : NodeState) (reply : List ℕ) → is_reply reply ≡ true → (after_accept node reply).initiator ≡ initiator_after node.initiator reply
+accepted-reply node reply is = rw is refl
+
+answered : (node : NodeState) (reply : List ℕ) (place : ℕ) → is_reply reply ≡ true → answered_place node.initiator.issued reply ≡ Some place → did_accept node reply ≡ did.Answered (place + 1)
+answered node reply place is at = rw (is, at) refl
+
+room-for-reply : (node : NodeState) (reply : List ℕ) → is_reply reply ≡ true → has_room node reply ≡ true
+room-for-reply node reply is = rw is refl
+
+abbrev kept_in : Option Station → Option Key
+kept_in o = option_and_then {T = Station} (λ station. station.kept) o
+
+answer-step : {setting : Setting} {m : MasterState NodeState} {stations : List StationSide} {place : ℕ} {side : StationSide} {late ticks done : ℕ} {lines : List Line} (body : List ℕ) (cell : LaneCell) (cells : List LaneCell) → let reply = answer_to (setting.first place) side.number (bodies_of m) done body in
+    Comings setting m stations late ticks lines place side (Message reply) (Returning body) done → is_to side.number body ≡ true → HearsReply side.slave cell cells m.ear (a_reply reply) → Replied setting m stations late ticks lines place side cell cells
+answer-step {setting = setting} {m = m} {stations = stations} {place = place} {side = side} {late = late} {ticks = ticks} {done = done} {lines = lines} body cell cells c to h =
+    let k = c.at.known in
+    let l = c.ledger in
+    let i = m.host.initiator in
+    let first = setting.first place in
+    let n = side.number in
+    let bodies = bodies_of m in
+    let reply = answer_to first n bodies done body in
+    let w = c.stage.waits in
+    let then = station_after first (first_to n done bodies) in
+    let fits = answer-fits then body in
+    let at_number = number-at setting.numbers stations place side k.numbers_are c.at.is_at in
+    let station = from-map (λ (x : Station). x.number) m.stations place n (ap (λ (ns : List ℕ). slice_get ns place) k.list_is ∙ at_number) in
+    let from : slice_index reply 1 ≡ station.0.number = answer-from then body ∙ eqb-true (slice_index body 0) n to ∙ sym station.2 in
+    let kept : kept_at m.stations place ≡ station.0.kept = ap (λ (o : Option Station). kept_in o) station.1 in
+    let new : is_kept station.0.kept (key_of reply) ≡ false =
+    ap (λ key. is_kept key (key_of reply)) (sym kept ∙ (l.sides place side c.at.is_at).answer.key) ∙ answer-new first n bodies done body (apart setting m stations k) l.is_out.2 to in
+    let good = good-heard m side cell cells reply w.left place station.0 c.called w.phase h station.1 from new (room-for-reply m.host reply fits.1) in
+    let s = good.0 in
+    let placed = answer-place setting i m.stations stations lines body reply done ticks fits.0 l in
+    let named : master.body_of (after_reply m cell) ≡ reply = lent-after node_host m cell.byte ∙ h.body in
+    let told : reply_lines m cell ≡ answer_lines (done + 1) reply =
+    step-told (master.step_at_byte node_host m cell.byte) (master.body_of (after_reply m cell)) act.Accept (Some (did_accept m.host reply)) good.1.act good.1.did good.1.news
+    ∙ ap (λ (d : Did). did_lines M (Some d) (master.body_of (after_reply m cell))) (answered m.host reply done fits.1 placed.0)
+    ∙ ap (λ (b : List ℕ). answer_lines (done + 1) b) named in
+    let others = elsewhere setting m stations place side body k c.at.is_at to in
+    let all = slice_set stations place (back_left side cells) in
+    let now = ledger-answers setting i m.stations stations lines body done ticks place side (back_left side cells) station.0 c.at.is_at refl refl station.1 to fits.0 (from-here then n body to)
+    (λ p other found differ. let far = others p other found differ in (far.1, from-elsewhere then other.number body far.1)) l in
+    let same : (after_reply m cell).host.initiator ≡ initiator_after i reply = ap (λ (node : NodeState). node.initiator) s.host_is ∙ accepted-reply m.host reply fits.1 in
+    record {
+      course = record {
+        now = Idles;
+        stay = Nowhere;
+        done = suc done;
+        stage = settled-stage {m = m} {stations = stations} {place = place} {side = side} {late = late} {awaited = Message reply} {host = after_accept m.host reply} {listed = with_key m.stations place (key_of reply)} cell cells c.stage s;
+        tied = tt;
+        ledger = subst (λ (more : List Line). Ledger setting (after_reply m cell).host.initiator (after_reply m cell).stations all (lines ++ more) Nowhere (suc done) ticks) (sym told)
+            (subst (λ (listed : List Station). Ledger setting (after_reply m cell).host.initiator listed all (lines ++ answer_lines (done + 1) reply) Nowhere (suc done) ticks) (sym s.list_is)
+            (subst (λ (x : InitiatorState). Ledger setting x (with_key m.stations place (key_of reply)) all (lines ++ answer_lines (done + 1) reply) Nowhere (suc done) ticks) (sym same) now));
+      };
+      ear_check = settled-check {m = m} {side = side} {awaited = Message reply} {host = after_accept m.host reply} {listed = with_key m.stations place (key_of reply)} cell cells c.called s;
+      honest = s.honest;
+    }
+
+-- ---- whatever is awaited
+
+abbrev Next : MasterState NodeState → StationSide → LaneCell → List LaneCell → Telling master_ear → Type 0
+Next m side cell cells reply = StillAnswers side.slave cell cells m.ear reply ⊎ HearsReply side.slave cell cells m.ear reply
+
+next-cell : (m : MasterState NodeState) (side : StationSide) (cell : LaneCell) (cells : List LaneCell) (reply : Telling master_ear) → side.from_it ≡ cell ∷ cells → Returns m side reply → Next m side cell cells reply
+next-cell m side cell cells reply is r = reply-cell side.slave cell cells m.ear reply (subst (λ (lane : List LaneCell). Answers side.slave lane m.ear reply) is r.answers)
+
+none-comes : (m : MasterState NodeState) (side : StationSide) (cell : LaneCell) (cells : List LaneCell) → side.from_it ≡ cell ∷ cells → side.from_it ≡ [] → ⊥
+none-comes m side cell cells is none = let no : cell ∷ cells ≡ [] = sym is ∙ none in cc
+
+returns-step : {setting : Setting} {m : MasterState NodeState} {stations : List StationSide} {place : ℕ} {side : StationSide} {late ticks done : ℕ} {lines : List Line} {stay : Stay} (awaited : Awaited) (cell : LaneCell) (cells : List LaneCell) → side.from_it ≡ cell ∷ cells
+    → Comings setting m stations late ticks lines place side awaited stay done → IsTied setting (bodies_of m) done (Awaits place awaited) stay → Replied setting m stations late ticks lines place side cell cells
+returns-step {m = m} {side = side} (Receipt body) cell cells is c tied = absurd (none-comes m side cell cells is c.called.progress.none_back)
+returns-step {m = m} {side = side} Polling cell cells is c tied = absurd (none-comes m side cell cells is c.called.progress.none_back)
+returns-step {setting = setting} {m = m} {stations = stations} {place = place} {side = side} {late = late} {ticks = ticks} {done = done} {lines = lines} {stay = stay} Ack cell cells is c tied = by-cell (next-cell m side cell cells an_ack is c.called.progress)
+  where
+    by-cell : Next m side cell cells an_ack → Replied setting m stations late ticks lines place side cell cells
+    by-cell (inl still) =
+        let g = silent-heard m side cell cells an_ack c.called.progress still in
+        on-step {setting = setting} {m = m} {stations = stations} {place = place} {side = side} {late = late} {ticks = ticks} {done = done} {lines = lines} {stay = stay} Ack an_ack cell cells c tied g g.returns
+    by-cell (inr h) =
+        let w = c.stage.waits in
+        let r = ack-heard m side cell cells w.left w.resent c.called w.phase h in
+        settles-step {setting = setting} {m = m} {stations = stations} {place = place} {side = side} {late = late} {ticks = ticks} {done = done} {lines = lines} {stay = stay} {awaited = Ack} {host = after_told m.host fate.Delivered} cell cells c tied refl r.0 (says-none m cell act.PeerAck r.1 (λ named. refl))
+returns-step {setting = setting} {m = m} {stations = stations} {place = place} {side = side} {late = late} {ticks = ticks} {done = done} {lines = lines} {stay = stay} Eot cell cells is c tied = by-cell (next-cell m side cell cells an_eot is c.called.progress)
+  where
+    by-cell : Next m side cell cells an_eot → Replied setting m stations late ticks lines place side cell cells
+    by-cell (inl still) =
+        let g = silent-heard m side cell cells an_eot c.called.progress still in
+        on-step {setting = setting} {m = m} {stations = stations} {place = place} {side = side} {late = late} {ticks = ticks} {done = done} {lines = lines} {stay = stay} Eot an_eot cell cells c tied g g.returns
+    by-cell (inr h) =
+        let w = c.stage.waits in
+        let r = eot-heard m side cell cells w.left place c.called w.phase h in
+        settles-step {setting = setting} {m = m} {stations = stations} {place = place} {side = side} {late = late} {ticks = ticks} {done = done} {lines = lines} {stay = stay} {awaited = Eot} {host = m.host} cell cells c tied refl r.0 (says-none m cell act.Nothing r.1 (λ named. refl))
+returns-step {setting = setting} {m = m} {stations = stations} {place = place} {side = side} {late = late} {ticks = ticks} {done = done} {lines = lines} {stay = stay} (Message reply) cell cells is c tied = by-cell (next-cell m side cell cells (a_reply reply) is c.called.progress)
+  where
+    by-cell : Next m side cell cells (a_reply reply) → Replied setting m stations late ticks lines place side cell cells
+    by-cell (inl still) =
+        let g = silent-heard m side cell cells (a_reply reply) c.called.progress still in
+        on-step {setting = setting} {m = m} {stations = stations} {place = place} {side = side} {late = late} {ticks = ticks} {done = done} {lines = lines} {stay = stay} (Message reply) (a_reply reply) cell cells c tied g g.returns
+    by-cell (inr h) =
+        let number = here setting m stations place side tied.body c.at.known c.at.is_at tied.here in
+        let to : is_to side.number tied.body ≡ true = ap (λ (n : ℕ). is_to n tied.body) (sym number) ∙ tied.here.to in
+        let same : reply ≡ answer_to (setting.first place) side.number (bodies_of m) done tied.body = tied.is ∙ ap (λ (n : ℕ). answer_to (setting.first place) n (bodies_of m) done tied.body) number in
+        answer-step {setting = setting} {m = m} {stations = stations} {place = place} {side = side} {late = late} {ticks = ticks} {done = done} {lines = lines} tied.body cell cells
+        (subst (λ (r : List ℕ). Comings setting m stations late ticks lines place side (Message r) (Returning tied.body) done) same (subst (λ (s : Stay). Comings setting m stations late ticks lines place side (Message reply) s done) tied.stays c))
+        to (subst (λ (r : List ℕ). HearsReply side.slave cell cells m.ear (a_reply r)) same h)
+
+-- ---- of any station
+
+by-now : {setting : Setting} {m : MasterState NodeState} {stations : List StationSide} {place : ℕ} {side : StationSide} {late ticks done : ℕ} {lines : List Line} {stay : Stay} (now : Now) (cell : LaneCell) (cells : List LaneCell) → At setting m stations place side → side.from_it ≡ cell ∷ cells
+    → Stage late m stations now → IsTied setting (bodies_of m) done now stay → Ledger setting m.host.initiator m.stations stations lines stay done ticks → Replied setting m stations late ticks lines place side cell cells
+by-now {m = m} {place = place} {side = side} Idles cell cells at is stage tied l = absurd (none-comes m side cell cells is (stage.rest place side at.is_at).none_back)
+by-now {setting = setting} {m = m} {stations = stations} {place = place} {side = side} {late = late} {ticks = ticks} {done = done} {lines = lines} {stay = stay} (Awaits q awaited) cell cells at is stage tied l = by-place (place == q) refl
+  where
+    by-place : (same : Bool) → (place == q) ≡ same → Replied setting m stations late ticks lines place side cell cells
+    by-place false same = absurd (none-comes m side cell cells is (stage.expects.others place side at.is_at (eqb-false place q same)).none_back)
+    by-place true same =
+        let there = sym (eqb-true place q same) in
+        let stage_here : Awaiting late m stations place awaited = subst (λ (n : ℕ). Awaiting late m stations n awaited) there stage in
+        let e = stage_here.expects in
+        let side_is : e.side ≡ side = same-some e.side side (sym e.is_at ∙ at.is_at) in
+        let called = subst (λ (s : StationSide). SideCalled m s awaited) side_is e.called in
+        let tied_here : IsTied setting (bodies_of m) done (Awaits place awaited) stay = subst (λ (n : ℕ). IsTied setting (bodies_of m) done (Awaits n awaited) stay) there tied in
+        returns-step {setting = setting} {m = m} {stations = stations} {place = place} {side = side} {late = late} {ticks = ticks} {done = done} {lines = lines} {stay = stay} awaited cell cells is (record { at = at; stage = stage_here; called = called; ledger = l }) tied_here
+
+pub master-hears : (setting : Setting) (m : MasterState NodeState) (stations : List StationSide) (late ticks : ℕ) (lines : List Line) (place : ℕ) (side : StationSide) (cell : LaneCell) (cells : List LaneCell) → At setting m stations place side → side.from_it ≡ cell ∷ cells
+    → Course setting m stations late ticks lines → Replied setting m stations late ticks lines place side cell cells
+master-hears setting m stations late ticks lines place side cell cells at is c =
+    by-now {setting = setting} {m = m} {stations = stations} {place = place} {side = side} {late = late} {ticks = ticks} {done = c.done} {lines = lines} {stay = c.stay} c.now cell cells at is c.stage c.tied c.ledger

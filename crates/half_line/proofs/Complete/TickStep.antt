@@ -1,0 +1,155 @@
+-- A unit of time passes in an undisturbed run: a wait goes on, and an idle master polls, or has a message to give; no command is given up.
+use Rattle.std.proofs.Common.{◌≡◌, ◌∙◌, ℕ, ◌+◌, ◌<◌, ◌≤◌, Bool, true, false, List, [], ◌∷◌, ◌++◌, length, map, min, Option, Some, None, refl, ap, ap₂, sym, subst, append-nil, arith}
+use Rattle.std.specs.Prelude.{slice_get, if◌then◌else◌}
+use Rattle.std.specs.Option.{option_map}
+use Rattle.std.proofs.Math.Nat.{min-le_left, min-le_right}
+use Rattle.std.proofs.lemmas.Option.{slice_get-map}
+use Rattle.std.specs.List.{list_all}
+use Rattle.std.specs.Prelude.{is_none, ◌==◌, ◌&&◌}
+use Rattle.df1_base.specs.declared.link.Turn.{Turn}
+use Rattle.df1_base.specs.declared.link.Turn.TheVariants as turn
+use Rattle.df1_node.specs.Initiator.{InitiatorState}
+use Rattle.df1_node.specs.Node.{NodeState, next_body, after_tick}
+use Rattle.half_frame.specs.Spelling.{poll_bytes, unmarked}
+use Rattle.half_mouth.specs.Giving.{give, is_done}
+use Rattle.half_master.specs.declared.MasterSetup.{MasterSetup}
+use Rattle.half_master.specs.declared.stations.Station.{Station}
+use Rattle.half_master.specs.Emission.{Tick as TickLetter}
+use Rattle.half_master.specs.Stations.{numbers_of}
+use Rattle.half_master.specs.Master as master
+use Rattle.half_master.specs.Master.{MasterState, with_host, polled, master_after_tick, turn_at_tick, gone_at_tick}
+use Rattle.half_master.proofs.Changes.{TickLeaves, tick-giving, tick-ready, tick-polls}
+use Rattle.half_master.proofs.Runs.{signal-setup}
+use Rattle.line_statement.specs.declared.who.Who.TheVariants.{M}
+use Rattle.line_report.specs.declared.record.Line.{Line}
+use Rattle.each_once.specs.NodeHost.{node_host}
+use Rattle.each_once.proofs.Sublists.{from-map}
+use Rattle.told_lines.specs.NodeLines.{turn_lines, gone_lines}
+use Rattle.half_line.specs.Acts.{StationSide, HalfState, Tick, master_lines, after_master_deed}
+use Rattle.half_line.specs.Steps.{AtMaster}
+use Rattle.half_line.specs.Issues.{bodies_of}
+use Rattle.half_line.specs.Prompt.{is_idle, is_quiet, late_after, patience}
+use Rattle.half_line.proofs.Once.Invariant.{Setting, number-at, other-number}
+use Rattle.half_line.proofs.Complete.Stages.{Awaited, Polling, Now, Idles, Awaits, Stage, Idling, Awaiting, expects-busy, both}
+use Rattle.half_line.proofs.Complete.StageBegins.{poll-begins}
+use Rattle.half_line.proofs.Complete.StageTicks.{IsAlike, stage-alike, expects-same, Waited, tick-waited}
+use Rattle.half_line.proofs.Complete.StagePlaces.{awaits-busy}
+use Rattle.half_line.proofs.Complete.QuietLine.{done-left}
+use Rattle.half_line.proofs.Complete.Ledger.{Stay, IsHome, Ledger, ledger-tick, ledger-later}
+use Rattle.half_line.proofs.Complete.Invariant.{IsTied, Course}
+use Rattle.half_line.proofs.Complete.LineFacts.{Known}
+
+-- ---- what is told of a tick at which nothing is given up
+
+tick-told : (m after : MasterState NodeState) → TickLeaves node_host m after [] → master_lines m Tick ≡ []
+tick-told m after t = ap₂ (λ (x : Turn) (y : List ℕ). turn_lines M x ++ gone_lines M y) t.turn t.gone
+
+-- the course after a tick that leaves this master
+left-course : (setting : Setting) (m after : MasterState NodeState) (stations : List StationSide) (late ticks : ℕ) (lines : List Line) → TickLeaves node_host m after [] → Course setting after stations late ticks lines → Course setting (master_after_tick node_host m) stations late ticks (lines ++ master_lines m Tick)
+left-course setting m after stations late ticks lines t c =
+    subst (λ (all : List Line). Course setting (master_after_tick node_host m) stations late ticks all) (sym (append-nil lines) ∙ ap (λ (more : List Line). lines ++ more) (sym (tick-told m after t)))
+    (subst (λ (e : MasterState NodeState). Course setting e stations late ticks lines) (sym t.master) c)
+
+-- ---- while something is awaited
+
+-- the line isn't quiet after the tick either
+still-by : (s : HalfState) (late place : ℕ) (awaited : Awaited) (done : Bool) → is_done s.master.mouth ≡ done → Awaiting late s.master s.stations place awaited → is_quiet (after_master_deed s Tick) ≡ true → ⊥
+still-by s late place awaited false gives a quiet =
+    awaits-busy late s place awaited a (ap (λ (m : MasterState NodeState). is_none (master.out_at_take node_host m) && list_all is_idle s.stations) (sym (tick-giving node_host s.master gives).master) ∙ quiet)
+still-by s late place awaited true done a quiet =
+    expects-busy s.master s.stations place awaited (done-left s.master.mouth.left done) a.expects
+    (both (is_none (master.out_at_take node_host (master_after_tick node_host s.master))) (list_all is_idle s.stations) quiet).1
+
+not-true : (b : Bool) → (b ≡ true → ⊥) → b ≡ false
+not-true true not = absurd (not refl)
+not-true false not = refl
+
+-- so it was late
+late-one : (s : HalfState) (late place : ℕ) (awaited : Awaited) → Awaiting late s.master s.stations place awaited → late_after late s (AtMaster Tick) ≡ late + 1
+late-one s late place awaited a =
+    let before = not-true (is_quiet s) (λ quiet. awaits-busy late s place awaited a quiet) in
+    let after = not-true (is_quiet (after_master_deed s Tick)) (λ quiet. still-by s late place awaited (is_done s.master.mouth) refl a quiet) in
+    ap₂ (λ (x y : Bool). if x then 0 else (if y then late else late + 1)) after before
+
+few-left : (n a b : ℕ) → n < min a b → (n < a) × (n < b)
+few-left n a b few = let left = min-le_left a b in let right = min-le_right a b in (omega (arith, few, left), omega (arith, few, right))
+
+waiting-tick : (setting : Setting) (s : HalfState) (late ticks : ℕ) (lines : List Line) (place : ℕ) (awaited : Awaited) (stay : Stay) (done : ℕ) → late_after late s (AtMaster Tick) < patience (after_master_deed s Tick) → Awaiting late s.master s.stations place awaited
+    → IsTied setting (bodies_of s.master) done (Awaits place awaited) stay → Ledger setting s.master.host.initiator s.master.stations s.stations lines stay done ticks
+    → Course setting (master_after_tick node_host s.master) s.stations (late_after late s (AtMaster Tick)) (ticks + 1) (lines ++ master_lines s.master Tick)
+waiting-tick setting s late ticks lines place awaited stay done few a tied l =
+    let m = s.master in
+    let one = late-one s late place awaited a in
+    let setup = signal-setup node_host m TickLetter in
+    let few_now : late + 1 < min m.setup.ack_ticks m.setup.poll_ticks = subst (λ (n : ℕ). n < min m.setup.ack_ticks m.setup.poll_ticks) one (subst (λ (x : MasterSetup). late_after late s (AtMaster Tick) < min x.ack_ticks x.poll_ticks) setup few) in
+    let each = few-left (late + 1) m.setup.ack_ticks m.setup.poll_ticks few_now in
+    let w = tick-waited late m place awaited each.0 each.1 a.waits in
+    let stage : Stage (late + 1) w.after s.stations (Awaits place awaited) = record { waits = w.waits; expects = expects-same m w.after s.stations place awaited w.alike a.expects } in
+    let later = ledger-later setting m.host.initiator m.stations s.stations lines stay done ticks l in
+    let course : Course setting w.after s.stations (late + 1) (ticks + 1) lines = record {
+      now = Awaits place awaited;
+      stay = stay;
+      done = done;
+      stage = stage;
+      tied = subst (λ (node : NodeState). IsTied setting (map (λ c. c.body) node.initiator.issued) done (Awaits place awaited) stay) (sym w.host) tied;
+      ledger = subst (λ (listed : List Station). Ledger setting w.after.host.initiator listed s.stations lines stay done (ticks + 1)) (sym w.stations_are)
+          (subst (λ (node : NodeState). Ledger setting node.initiator m.stations s.stations lines stay done (ticks + 1)) (sym w.host) later);
+    } in
+    subst (λ (n : ℕ). Course setting (master_after_tick node_host m) s.stations n (ticks + 1) (lines ++ master_lines m Tick)) (sym one) (left-course setting m w.after s.stations (late + 1) (ticks + 1) lines w.leaves course)
+
+-- ---- where nothing is awaited
+
+-- the tick doesn't reach the host
+same-tick : (setting : Setting) (m : MasterState NodeState) (stations : List StationSide) (other ticks : ℕ) (lines : List Line) (stay : Stay) (done : ℕ) → TickLeaves node_host m m [] → Idling m stations → IsHome stay
+    → Ledger setting m.host.initiator m.stations stations lines stay done ticks → Course setting (master_after_tick node_host m) stations other (ticks + 1) (lines ++ master_lines m Tick)
+same-tick setting m stations other ticks lines stay done t idling tied l =
+    let course : Course setting m stations other (ticks + 1) lines = record { now = Idles; stay = stay; done = done; stage = idling; tied = tied; ledger = ledger-later setting m.host.initiator m.stations stations lines stay done ticks l } in
+    left-course setting m m stations other (ticks + 1) lines t course
+
+-- it does, and a station is polled, if there is one
+polls-course : (setting : Setting) (e : MasterState NodeState) (stations : List StationSide) (other ticks : ℕ) (lines : List Line) (stay : Stay) (done : ℕ) (o : Option Station) → slice_get e.stations e.next ≡ o → numbers_of e.stations ≡ setting.numbers → map (λ (x : StationSide). x.number) stations ≡ setting.numbers → e.mouth.left ≡ [] → Idling e stations
+    → IsHome stay → Ledger setting e.host.initiator e.stations stations lines stay done ticks → Course setting (polled e o) stations other ticks lines
+polls-course setting e stations other ticks lines stay done None is list_is numbers_are given idling tied l = record { now = Idles; stay = stay; done = done; stage = idling; tied = tied; ledger = l }
+polls-course setting e stations other ticks lines stay done (Some station) is list_is numbers_are given idling tied l =
+    let number : slice_get setting.numbers e.next ≡ Some station.number = ap (λ (ns : List ℕ). slice_get ns e.next) (sym list_is) ∙ slice_get-map (λ (x : Station). x.number) e.stations e.next ∙ ap (option_map (λ (x : Station). x.number)) is in
+    let side = from-map (λ (x : StationSide). x.number) stations e.next station.number (ap (λ (ns : List ℕ). slice_get ns e.next) numbers_are ∙ number) in
+    let after = polled e (Some station) in
+    let expects = poll-begins e after stations e.next side.0 given idling.outside idling.rest side.1
+    (λ p far there differ same. other-number setting stations e.next p side.0.number far numbers_are (number-at setting.numbers stations e.next side.0 numbers_are side.1) there differ (sym same))
+    refl (ap (λ (n : ℕ). give e.mouth (unmarked (poll_bytes n))) (sym side.2)) in
+    record {
+      now = Awaits e.next Polling;
+      stay = stay;
+      done = done;
+      stage = record { waits = record { left = e.setup.poll_ticks; phase = refl; patient = omega arith }; expects = expects };
+      tied = tied;
+      ledger = l;
+    }
+
+polls-tick : (setting : Setting) (m : MasterState NodeState) (stations : List StationSide) (other ticks : ℕ) (lines : List Line) (stay : Stay) (done : ℕ) → Known setting m stations → ticks + 1 < m.host.initiator.reply_ticks → is_done m.mouth ≡ true → next_body m.host ≡ None → Idling m stations → IsHome stay
+    → Ledger setting m.host.initiator m.stations stations lines stay done ticks → Course setting (master_after_tick node_host m) stations other (ticks + 1) (lines ++ master_lines m Tick)
+polls-tick setting m stations other ticks lines stay done k few gives next idling home l =
+    let t = tick-polls node_host m gives idling.idle next in
+    let passed = ledger-tick setting m.host.initiator m.stations stations lines stay done ticks few l in
+    let e : MasterState NodeState = with_host m (after_tick m.host) in
+    let after = polled e (slice_get m.stations m.next) in
+    let leaves : TickLeaves node_host m after [] = subst (λ (lost : List ℕ). TickLeaves node_host m after lost) passed.0 t in
+    let still = stage-alike 0 m e stations Idles (record { ear = refl; mouth = refl; sending = refl }) refl refl idling in
+    left-course setting m after stations other (ticks + 1) lines leaves
+    (polls-course setting e stations other (ticks + 1) lines stay done (slice_get m.stations m.next) refl k.list_is k.numbers_are (done-left m.mouth.left gives) still home passed.1)
+
+idle-tick : (setting : Setting) (m : MasterState NodeState) (stations : List StationSide) (other ticks : ℕ) (lines : List Line) (stay : Stay) (done : ℕ) (given : Bool) (next : Option (List ℕ)) → is_done m.mouth ≡ given → next_body m.host ≡ next → Known setting m stations → ticks + 1 < m.host.initiator.reply_ticks
+    → Idling m stations → IsHome stay → Ledger setting m.host.initiator m.stations stations lines stay done ticks → Course setting (master_after_tick node_host m) stations other (ticks + 1) (lines ++ master_lines m Tick)
+idle-tick setting m stations other ticks lines stay done false next gives is k few idling home l = same-tick setting m stations other ticks lines stay done (tick-giving node_host m gives) idling home l
+idle-tick setting m stations other ticks lines stay done true (Some body) gives is k few idling home l = same-tick setting m stations other ticks lines stay done (tick-ready node_host m body gives idling.idle is) idling home l
+idle-tick setting m stations other ticks lines stay done true None gives is k few idling home l = polls-tick setting m stations other ticks lines stay done k few gives is idling home l
+
+-- ---- whatever is awaited
+
+pub course-tick : (setting : Setting) (s : HalfState) (late ticks : ℕ) (lines : List Line) → Known setting s.master s.stations → ticks + 1 < s.master.host.initiator.reply_ticks → late_after late s (AtMaster Tick) < patience (after_master_deed s Tick) → Course setting s.master s.stations late ticks lines
+    → Course setting (master_after_tick node_host s.master) s.stations (late_after late s (AtMaster Tick)) (ticks + 1) (lines ++ master_lines s.master Tick)
+course-tick setting s late ticks lines k few patient c = by-now c.now c.stage c.tied
+  where
+    by-now : (now : Now) → Stage late s.master s.stations now → IsTied setting (bodies_of s.master) c.done now c.stay → Course setting (master_after_tick node_host s.master) s.stations (late_after late s (AtMaster Tick)) (ticks + 1) (lines ++ master_lines s.master Tick)
+    by-now Idles stage home = idle-tick setting s.master s.stations (late_after late s (AtMaster Tick)) ticks lines c.stay c.done (is_done s.master.mouth) (next_body s.master.host) refl refl k few stage home c.ledger
+    by-now (Awaits place awaited) stage tied = waiting-tick setting s late ticks lines place awaited c.stay c.done patient stage tied c.ledger
