@@ -20,6 +20,8 @@ pub mod Ledger
 pub mod LedgerSteps
 -- What is so of the commands and the numbers of a line, and of the reply to a command.
 pub mod LineFacts
+-- What happens at a station, or to the bytes to it or from it.
+pub mod LinkStep
 -- A command is issued, and a byte is given to every station.
 pub mod MasterStep
 -- What the master hears of what a station gives: DLE ACK, DLE EOT, and a message.

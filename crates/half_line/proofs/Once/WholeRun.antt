@@ -53,7 +53,7 @@ kept-with setting count place deed s (Some side) lines few at k none =
     left setting count s (lines ++ link_lines (link_of s side) deed) place side (after_link_deed (link_of s side) deed) at
     (link-deed setting count s.stations place deed (link_of s side) lines few none (entered setting count s lines place side at (k (earlier deed (link_of s side) none))))
 
-kept-plain : (setting : Setting) (count : ℕ) (step : UnitStep) → IsPlain step → (s : HalfState) (lines : List Line) → count ≤ 65535 → Kept setting count s lines → Kept setting count (after_step s step) (lines ++ lines_at s step)
+pub kept-plain : (setting : Setting) (count : ℕ) (step : UnitStep) → IsPlain step → (s : HalfState) (lines : List Line) → count ≤ 65535 → Kept setting count s lines → Kept setting count (after_step s step) (lines ++ lines_at s step)
 kept-plain setting count (AtMaster (Issue dst payload)) plain s lines few k none = absurd plain
 kept-plain setting count (AtMaster Give) plain s lines few k none = rw (append-nil lines) (holds-give setting count s lines (k none))
 kept-plain setting count (AtMaster Tick) plain s lines few k none = holds-tick setting count s lines (k none)
@@ -96,11 +96,11 @@ counted count (event.Foreign lane bytes) = count
 counted count (event.Tick who n) = count
 
 -- a command that comes isn't the 65,536th
-abbrev IsCounted : ℕ → Event → Type 0
+abbrev pub IsCounted : ℕ → Event → Type 0
 IsCounted count e = (count ≤ 65535) × (counted count e ≤ 65535)
 
 -- the steps of an event, with its bytes
-with-bytes : (setting : Setting) (count : ℕ) (s : HalfState) (e : Event) (lines : List Line) → Kept setting count (after_event s e) (lines ++ lines_over s (steps_of s e)) → Kept setting count (after_event s e) (lines ++ lines_of s e)
+pub with-bytes : (setting : Setting) (count : ℕ) (s : HalfState) (e : Event) (lines : List Line) → Kept setting count (after_event s e) (lines ++ lines_over s (steps_of s e)) → Kept setting count (after_event s e) (lines ++ lines_of s e)
 with-bytes setting count s e lines k none =
     let over = lines_over s (steps_of s e) in
     let sent = sent_lines (giver (station_at e)) (bytes_over s (steps_of s e)) in
@@ -128,7 +128,7 @@ kept-event setting numbers count (event.Foreign lane bytes) s lines may few k =
     plain-event setting count s (event.Foreign lane bytes) lines (plain-with (place_of s.stations (station_between lane.from lane.to)) (map (λ byte. OnLane (way_from lane.from) (Foreign byte)) bytes)) few.0 k
 kept-event setting numbers count (event.Tick who n) s lines may few k = plain-event setting count s (event.Tick who n) lines (plain-master Tick tt n) few.0 k
 
-counted-more : (count : ℕ) (e : Event) (events : List Event) → count + count_by is_issue (e ∷ events) ≡ counted count e + count_by is_issue events
+pub counted-more : (count : ℕ) (e : Event) (events : List Event) → count + count_by is_issue (e ∷ events) ≡ counted count e + count_by is_issue events
 counted-more count (event.Issue who dst payload) events = let more = sum_by-cons (λ (x : Event). cond (is_issue x) 1 0) (event.Issue who dst payload) events in omega (arith, more)
 counted-more count (event.Take who n) events = let more = sum_by-cons (λ (x : Event). cond (is_issue x) 1 0) (event.Take who n) events in omega (arith, more)
 counted-more count (event.Deliver lane n) events = let more = sum_by-cons (λ (x : Event). cond (is_issue x) 1 0) (event.Deliver lane n) events in omega (arith, more)
