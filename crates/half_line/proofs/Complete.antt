@@ -36,6 +36,8 @@ pub mod ReplyHeard
 pub mod StageBegins
 -- A cell arrives at the master.
 pub mod ReplyStep
+-- Each step of an undisturbed run leaves it such.
+pub mod RunSteps
 -- A stage with one station as it is now, and after a byte of the master.
 pub mod StagePlaces
 -- What doesn't change a stage: bytes that are given, and cells of which nothing comes.
