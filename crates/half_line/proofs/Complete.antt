@@ -60,5 +60,7 @@ pub mod StationTurns
 pub mod TickStep
 -- A text that is given as it should be is read as one.
 pub mod WholeText
+-- Over a whole run that nothing disturbs.
+pub mod WholeRun
 -- The run of an undisturbed write, whose reply a poll fetches.
 pub mod Witness

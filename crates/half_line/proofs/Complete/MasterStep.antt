@@ -83,14 +83,14 @@ declared-somewhere [] n is = absurd cc
 declared-somewhere (m ∷ numbers) n is = declared-first m n numbers (m == n) refl (declared-somewhere numbers n) is
 
 -- a station of the line by its number
-record Found (setting : Setting) (stations : List StationSide) (n : ℕ) : Type 0 where
-  place : ℕ
-  side : StationSide
-  is_at : slice_get stations place ≡ Some side
-  number_at : slice_get setting.numbers place ≡ Some n
-  number : side.number ≡ n
+pub record Found (setting : Setting) (stations : List StationSide) (n : ℕ) : Type 0 where
+  pub place : ℕ
+  pub side : StationSide
+  pub is_at : slice_get stations place ≡ Some side
+  pub number_at : slice_get setting.numbers place ≡ Some n
+  pub number : side.number ≡ n
 
-found : (setting : Setting) (m : MasterState NodeState) (stations : List StationSide) (n : ℕ) → Known setting m stations → is_declared setting.numbers n ≡ true → Found setting stations n
+pub found : (setting : Setting) (m : MasterState NodeState) (stations : List StationSide) (n : ℕ) → Known setting m stations → is_declared setting.numbers n ≡ true → Found setting stations n
 found setting m stations n k is =
     let at = declared-somewhere setting.numbers n is in
     let side = from-map (λ (x : StationSide). x.number) stations at.0 n (ap (λ (ns : List ℕ). slice_get ns at.0) k.numbers_are ∙ at.1) in
