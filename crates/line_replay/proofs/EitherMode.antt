@@ -18,6 +18,9 @@ use Rattle.half_line.specs.Acts.{HalfState}
 use Rattle.half_line.specs.Plays.{Played as HalfPlayed, numbers_at, weight}
 use Rattle.half_line.specs.Run as polled
 use Rattle.half_line.specs.Once.{EachOnce as HalfOnce}
+use Rattle.half_line.specs.Prompt.{IsUndisturbed as HalfUndisturbed}
+use Rattle.half_line.specs.Complete.{IsComplete as HalfComplete}
+use Rattle.half_line.proofs.Complete.WholeRun.{is-complete as polled-is-complete}
 use Rattle.half_line.proofs.Once.EachStation.{each-once as polled-each-once}
 use Rattle.half_line.proofs.Once.MasterCommands.{issued-run}
 use Rattle.half_line.proofs.Once.MasterOutcomes.{outcomes-run}
@@ -27,11 +30,12 @@ use Rattle.duplex_line.specs.Plays.{Played}
 use Rattle.duplex_line.specs.Run as duplex
 use Rattle.duplex_line.specs.Once.{EachOnce}
 use Rattle.duplex_line.specs.Prompt.{IsPrompt, EndsQuiet}
-use Rattle.duplex_line.specs.Complete.{IsComplete}
-use Rattle.duplex_line.proofs.Complete.WholeRun.{is-complete}
+use Rattle.duplex_line.specs.Complete.{IsComplete as DuplexComplete}
+use Rattle.duplex_line.proofs.Complete.WholeRun.{is-complete as duplex-is-complete}
 use Rattle.duplex_line.proofs.Once.WholeRun.{each-once}
 use Rattle.line_replay.specs.declared.world.World.{World}
 use Rattle.line_replay.specs.declared.world.World.TheVariants.{Duplex, Polled}
+use Rattle.line_replay.specs.Complete.{IsUndisturbed, IsUndisturbedIn, IsComplete, IsCompleteIn}
 use Rattle.line_replay.specs.Once.{EachCommandOnce, EachOnceIn}
 use Rattle.line_replay.specs.Runs.{after_event, after_events, all_lines, begun, begun_in, last_world, lines_in, lines_of, lines_after, played, printed, record_from, record_of, IsNext}
 
@@ -191,9 +195,9 @@ pub duplex-once : (script : Script) → IsPlayable script → (record_of script)
 unfolding duplex.record_of
 duplex-once script playable = subst (λ (r : Record). r.deceived ≡ 0 → EachOnce script r) (sym (duplex-record script playable.mode)) (each-once script playable)
 
-pub duplex-complete : (script : Script) → IsPlayable script → IsPrompt script → EndsQuiet script → IsComplete script (record_of script)
+duplex-complete : (script : Script) → IsPlayable script → IsPrompt script → EndsQuiet script → DuplexComplete script (record_of script)
 unfolding duplex.record_of
-duplex-complete script playable = subst (λ (r : Record). IsPrompt script → EndsQuiet script → IsComplete script r) (sym (duplex-record script playable.mode)) (is-complete script playable)
+duplex-complete script playable = subst (λ (r : Record). IsPrompt script → EndsQuiet script → DuplexComplete script r) (sym (duplex-record script playable.mode)) (duplex-is-complete script playable)
 
 -- ---- and on a half-duplex line
 
@@ -210,3 +214,17 @@ once-in false script mode h = duplex-once script (h.full mode)
 
 pub each-command-once : (script : Script) → CanBePlayed script → (record_of script).deceived ≡ 0 → EachCommandOnce script (record_of script)
 each-command-once script h = once-in script.half script refl h
+
+polled-undisturbed : (script : Script) → IsHalfPlayable script → HalfUndisturbed script → HalfComplete script (polled.record_of script)
+unfolding polled.record_of
+polled-undisturbed script playable undisturbed = polled-is-complete script playable undisturbed
+
+polled-complete : (script : Script) → IsHalfPlayable script → HalfUndisturbed script → HalfComplete script (record_of script)
+polled-complete script playable = subst (λ (r : Record). HalfUndisturbed script → HalfComplete script r) (sym (polled-record script playable.mode)) (polled-undisturbed script playable)
+
+complete-in : (half : Bool) (script : Script) → script.half ≡ half → CanBePlayed script → IsUndisturbedIn half script → IsCompleteIn half script (record_of script)
+complete-in true script mode h undisturbed = polled-complete script (h.half mode) undisturbed
+complete-in false script mode h undisturbed = duplex-complete script (h.full mode) undisturbed.0 undisturbed.1
+
+pub all-complete : (script : Script) → CanBePlayed script → IsUndisturbed script → IsComplete script (record_of script)
+all-complete script h = complete-in script.half script refl h

@@ -1,3 +1,4 @@
+pub mod Complete
 pub mod Fed
 pub mod Once
 pub mod Runs

@@ -1,12 +1,11 @@
 use Rattle.std.proofs.Common.{◌≡◌, ◌∙◌, ◌+◌, ◌∷◌, ◌++◌, take, drop, ap, refl, sym, subst, take-append-drop}
 use Rattle.line_report.specs.declared.record.Record.{Record}
-use Rattle.duplex_line.specs.Prompt.{IsPrompt, EndsQuiet}
-use Rattle.duplex_line.specs.Complete.{IsComplete}
 use Rattle.line_replay.specs.declared.world.World.{World}
+use Rattle.line_replay.specs.Complete.{IsUndisturbed, IsComplete}
 use Rattle.line_replay.specs.Once.{EachCommandOnce}
 use Rattle.line_replay.specs.Runs.{IsNext, lines_in, printed, record_of}
 use Rattle.line_replay.proofs.Next.{next-at}
-use Rattle.line_replay.proofs.EitherMode.{duplex-complete, each-command-once, events-next, lines-more, printed-next, record-at-end, world-more}
+use Rattle.line_replay.proofs.EitherMode.{all-complete, each-command-once, events-next, lines-more, printed-next, record-at-end, world-more}
 use Rattle.line_replay.proofs.play.replay.Goals as goal
 
 pub step-requires : goal.step-requires
@@ -47,8 +46,8 @@ returns-clause-once c =
     (each-command-once script c.requires)
 
 pub returns-clause-complete : goal.returns-clause-complete
-returns-clause-complete c mode =
+returns-clause-complete c =
     let script = c.args.script.now in
     let over = rw c.as_slice-event-items.ensures at c.loop-event-test.false in
-    record-at-end (λ (r : Record). IsPrompt script → EndsQuiet script → IsComplete script r) script c.loop-event.event-index c.loop-event.world over c.loop-event.invariant.world c.loop-event.invariant.lines c.finish.result c.finish.ensures
-    (duplex-complete script (c.requires.full mode))
+    record-at-end (λ (r : Record). IsUndisturbed script → IsComplete script r) script c.loop-event.event-index c.loop-event.world over c.loop-event.invariant.world c.loop-event.invariant.lines c.finish.result c.finish.ensures
+    (all-complete script c.requires)

@@ -1,0 +1,26 @@
+-- Each command executed and answered, in the record of a script of either mode whose run nothing disturbs.
+use Rattle.std.specs.Prelude.{Bool, true, false}
+use Rattle.script_parts.specs.declared.script.Script.{Script}
+use Rattle.line_report.specs.declared.record.Record.{Record}
+use Rattle.duplex_line.specs.Prompt as duplex_run
+use Rattle.duplex_line.specs.Complete as duplex
+use Rattle.half_line.specs.Prompt as polled_run
+use Rattle.half_line.specs.Complete as polled
+
+-- on either line no byte is lost, altered or added, few ticks come while something is under way, and nothing is in the end; on a
+-- half-duplex line also fewer ticks in all than the master waits for a reply, and in the end no reply is left at a station
+abbrev pub IsUndisturbedIn : Bool → Script → Type 0
+IsUndisturbedIn true script = polled_run.IsUndisturbed script
+IsUndisturbedIn false script = duplex_run.IsPrompt script × duplex_run.EndsQuiet script
+
+-- no end was deceived, and all commands were executed and answered, in their order
+abbrev pub IsCompleteIn : Bool → Script → Record → Type 0
+IsCompleteIn true script r = polled.IsComplete script r
+IsCompleteIn false script r = duplex.IsComplete script r
+
+-- of a script, in its mode
+abbrev pub IsUndisturbed : Script → Type 0
+IsUndisturbed script = IsUndisturbedIn script.half script
+
+abbrev pub IsComplete : Script → Record → Type 0
+IsComplete script r = IsCompleteIn script.half script r
