@@ -1,5 +1,5 @@
 -- What a run of `replay` that ended well shows.
-use Rattle.std.proofs.Common.{◌≡◌, ◌∙◌, ℕ, Bool, false, List, Option, Some, Result, Ok, Err, OnOk, refl, sym, subst, arith}
+use Rattle.std.proofs.Common.{◌≡◌, ◌∙◌, ℕ, List, Option, Some, Result, Ok, Err, OnOk, refl, sym, subst, arith}
 use Rattle.df1_base.specs.Outside.{Put}
 use Rattle.line_script.specs.declared.fault.Cause.{Cause}
 use Rattle.script_parts.specs.declared.script.Script.{Script}
@@ -7,11 +7,10 @@ use Rattle.line_script.specs.ScriptText.{script_of}
 use Rattle.script_parts.specs.HalfPlayable.{CanBePlayed}
 use Rattle.line_script.proofs.Standing.{CanBePlayed-script_of}
 use Rattle.line_report.specs.Report.{report}
-use Rattle.duplex_line.specs.Prompt.{IsPrompt, EndsQuiet}
-use Rattle.duplex_line.specs.Complete.{IsComplete}
+use Rattle.line_replay.specs.Complete.{IsUndisturbed, IsComplete}
 use Rattle.line_replay.specs.Once.{EachCommandOnce}
 use Rattle.line_replay.specs.Runs.{record_of}
-use Rattle.line_replay.proofs.EitherMode.{duplex-complete, each-command-once}
+use Rattle.line_replay.proofs.EitherMode.{all-complete, each-command-once}
 use Rattle.df1_tool.specs.declared.trouble.Trouble.{Trouble}
 use Rattle.df1_tool.specs.declared.trouble.Trouble.TheVariants.{Usage, Refusal, Input, Output, NoMemory}
 use Rattle.df1_tool.specs.Tool.{replayed, report_of, status_of, status_of_trouble}
@@ -26,8 +25,8 @@ script-read (Err fault) text is = absurd cc
 record-once : (script : Script) → CanBePlayed script → (record_of script).deceived ≡ 0 → EachCommandOnce script (record_of script)
 record-once script playable = each-command-once script playable
 
-record-complete : (script : Script) → CanBePlayed script → script.half ≡ false → IsPrompt script → EndsQuiet script → IsComplete script (record_of script)
-record-complete script playable mode = duplex-complete script (playable.full mode)
+record-complete : (script : Script) → CanBePlayed script → IsUndisturbed script → IsComplete script (record_of script)
+record-complete script playable = all-complete script playable
 
 pub replayed-well : (left left' held held' : Option (List ℕ)) → Answered replayed left left' held held' → Replayed left left' held held'
 replayed-well left left' held held' a =

@@ -5,8 +5,6 @@ use Rattle.std.proofs.lemmas.List.{take_more, drop_all, take_all}
 use Rattle.std.specs.Prelude.{sum_by}
 use Rattle.std.specs.List.{flat_map}
 use Rattle.std.proofs.lemmas.List.Sums.{sum_by-cons}
-use Rattle.df1_check.specs.declared.Check.{Check}
-use Rattle.script_parts.specs.declared.script.EndPlan.{EndPlan}
 use Rattle.script_parts.specs.declared.script.Event.{Event}
 use Rattle.script_parts.specs.declared.script.Script.{Script}
 use Rattle.script_parts.specs.Playable.{IsPlayable, count_of}

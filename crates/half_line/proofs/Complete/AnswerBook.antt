@@ -1,8 +1,7 @@
 -- What the master accepted of a station in an undisturbed run: its answer to each command for it among the first so many, in their order; and which key is kept of the last.
-use Rattle.std.proofs.Common.{◌≡◌, ◌∙◌, ℕ, zero, suc, ◌+◌, ◌≤◌, Bool, true, false, List, [], ◌∷◌, ◌++◌, length, map, take, cond, Option, Some, refl, ap, sym, subst, append-nil, arith}
+use Rattle.std.proofs.Common.{◌≡◌, ◌∙◌, ℕ, zero, suc, ◌+◌, ◌≤◌, Bool, true, false, List, [], ◌∷◌, ◌++◌, length, map, take, cond, Option, Some, refl, ap, sym, append-nil, arith}
 use Rattle.std.specs.Prelude.{slice_get}
-use Rattle.std.specs.List.{filter, filter_map, enumerate_from, fold}
-use Rattle.std.proofs.lemmas.Bool.{cond_both}
+use Rattle.std.specs.List.{filter, enumerate_from}
 use Rattle.std.proofs.lemmas.List.{map-append, take-append-le}
 use Rattle.std.proofs.lemmas.List.Elements.{filter_map-append}
 use Rattle.pccc_envelope.specs.declared.key.Key.{Key}
@@ -12,9 +11,8 @@ use Rattle.pccc_envelope.proofs.LastAccepted.{last_key-append}
 use Rattle.df1_node.specs.Answer.{StationState, after_answer, reply_to}
 use Rattle.line_statement.specs.declared.who.Who.TheVariants.{M}
 use Rattle.line_report.specs.declared.record.Line.{Line}
-use Rattle.line_report.specs.declared.record.Line.TheVariants as line
 use Rattle.each_once.specs.Exchanges.{exchanges, station_after}
-use Rattle.each_once.specs.OfStation.{is_from, lines_of}
+use Rattle.each_once.specs.OfStation.{lines_of}
 use Rattle.each_once.specs.Tells.{answer_at, answers_in}
 use Rattle.each_once.proofs.StationReplies.{exchanges-push}
 use Rattle.each_once.proofs.Sublists.{same-some, filter-keeps, filter-drops}

@@ -1,11 +1,10 @@
 -- A station hears its call: a message, which it accepts, or a poll, where it has a reply and where it has none; then it answers.
-use Rattle.std.proofs.Common.{◌≡◌, ◌∙◌, ℕ, ◌≤◌, true, false, List, [], ◌++◌, length, Some, None, is_none, refl, ap, sym, subst, inl, inr}
+use Rattle.std.proofs.Common.{◌≡◌, ◌∙◌, ℕ, ◌≤◌, true, false, List, [], ◌++◌, length, Some, None, is_none, refl, ap, sym, subst}
 use Rattle.std.specs.Prelude.{◌&&◌, ◌==◌}
 use Rattle.df1_base.specs.declared.link.Resp.TheVariants as resp
 use Rattle.df1_node.specs.Node.{NodeState, has_room, next_body, after_accept, after_next}
 use Rattle.half_frame.specs.declared.framer.Sent.{Sent}
 use Rattle.half_frame.specs.declared.heard.SlaveHeard.TheVariants as station_hears
-use Rattle.half_frame.specs.declared.heard.MasterHeard.TheVariants as master_hears
 use Rattle.half_frame.specs.SlaveStanding.{lent_at}
 use Rattle.half_frame.specs.Spelling.{pair_bytes, unmarked, reply_sent}
 use Rattle.half_mouth.specs.Giving.{give, transmit}
@@ -21,9 +20,9 @@ use Rattle.told_lines.specs.NodeLines.{did_lines, step_lines}
 use Rattle.half_slave.specs.Slave as slave
 use Rattle.half_line.specs.Acts.{StationSide, station_heard}
 use Rattle.half_line.proofs.Complete.ComingCells.{coming}
-use Rattle.half_line.proofs.Complete.EarHears.{Telling, told, Hears, deceived_at}
+use Rattle.half_line.proofs.Complete.EarHears.{Telling, Hears, deceived_at}
 use Rattle.half_line.proofs.Complete.StationHears.{station_ear}
-use Rattle.half_line.proofs.Complete.MasterHears.{IsOutside, master_ear}
+use Rattle.half_line.proofs.Complete.MasterHears.{master_ear}
 use Rattle.half_line.proofs.Complete.StationTurns.{IsMute, ear_at, turn-accepts, turn-ends, turn-sends, tells-accepts, mute-polled}
 use Rattle.half_line.proofs.Complete.StationRests.{IsStill, HearsCall}
 use Rattle.half_line.proofs.Complete.StationAnswers.{Answers, answers-acks, answers-ends, answers-sends}

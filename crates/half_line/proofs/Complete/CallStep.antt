@@ -1,10 +1,8 @@
 -- A cell arrives at a station in an undisturbed run: it passes the station over, or it ends a call, which the station answers.
-use Rattle.std.proofs.Common.{◌≡◌, ◌∙◌, ℕ, suc, ◌≤◌, Bool, true, false, List, [], ◌∷◌, ◌++◌, length, Option, Some, None, refl, ap, sym, subst, inl, inr, append-nil}
+use Rattle.std.proofs.Common.{◌≡◌, ◌∙◌, ℕ, Bool, true, false, List, [], ◌∷◌, ◌++◌, Some, None, refl, ap, sym, subst, inl, inr, append-nil}
 use Rattle.std.specs.Prelude.{◌⊎◌, slice_get, slice_set, ◌==◌}
 use Rattle.std.proofs.lemmas.Bool.{eqb-true, eqb-false}
 use Rattle.df1_base.specs.declared.host.Did.TheVariants as did
-use Rattle.pccc_envelope.specs.Envelope.{is_reply, key_of}
-use Rattle.df1_node.specs.Answer.{StationState}
 use Rattle.df1_node.specs.Initiator.{InitiatorState}
 use Rattle.df1_node.specs.Node.{NodeState, did_accept, next_body}
 use Rattle.half_frame.specs.SlaveStanding.{lent_at}
@@ -31,11 +29,11 @@ use Rattle.half_line.proofs.Complete.Stages.{SideRests, Awaited, Receipt, Pollin
 use Rattle.half_line.proofs.Complete.StageSteps.{lane_left, rests-arrives, StillComes, comes-arrives, none-arrives}
 use Rattle.half_line.proofs.Complete.StagePlaces.{set-rests, set-called, set-another}
 use Rattle.half_line.proofs.Complete.CallHeard.{HearsItsCall, called-after, message-heard, poll-ended, poll-answered}
-use Rattle.half_line.proofs.Complete.StationBook.{StationBook, IsSameNode, first_to, same-node, kept-node}
+use Rattle.half_line.proofs.Complete.StationBook.{IsSameNode, first_to, same-node, kept-node}
 use Rattle.half_line.proofs.Complete.NewKeys.{book-key}
-use Rattle.half_line.proofs.Complete.Ledger.{Nowhere, Going, Kept, Returning, Stay, IsHome, answer_to, due_if, bodies_in, Ledger}
+use Rattle.half_line.proofs.Complete.Ledger.{Nowhere, Going, Kept, Returning, Stay, IsHome, answer_to, due_if, Ledger}
 use Rattle.half_line.proofs.Complete.LedgerSteps.{ledger-side, ledger-executes, ledger-fetches}
-use Rattle.half_line.proofs.Complete.Invariant.{IsHere, GoesThere, ComesBack, IsTied, Course}
+use Rattle.half_line.proofs.Complete.Invariant.{IsHere, IsTied, Course}
 use Rattle.half_line.proofs.Complete.LineFacts.{Known, apart, plain, body-at, room-for, here, elsewhere, answer-body}
 
 -- a station of the line, at its place

@@ -16,7 +16,7 @@ use Rattle.line_statement.specs.declared.who.Who.TheVariants.{M, S}
 use Rattle.script_parts.specs.HalfPlayable.{is_declared}
 use Rattle.line_report.specs.declared.record.Line.{Line}
 use Rattle.each_once.specs.Exchanges.{station_after}
-use Rattle.each_once.specs.Tells.{answer_at, executed_in, answers_in}
+use Rattle.each_once.specs.Tells.{answer_at, answers_in}
 use Rattle.each_once.proofs.CommandBodies.{bodies-hand_out, bodies-tick}
 use Rattle.each_once.proofs.MessageLengths.{AreBodies, issued-fits}
 use Rattle.each_once.proofs.Sublists.{get-more}
@@ -208,18 +208,21 @@ ledger-hands setting i body listed stations lines stay done ticks next l =
     let nowhere = is-nowhere stay l.out (bodies_in i) done l.is_out t.0 in
     let now : Ledger setting i listed stations lines Nowhere done ticks = subst (λ (s : Stay). Ledger setting i listed stations lines s done ticks) nowhere l in
     let same = bodies-hand_out i in
-    let at = next-body i.issued done l.out body l.in_time.under_way next in
-    (nowhere, record {
-      out = Some i.reply_ticks;
-      in_time = t.1;
-      is_out = (i.reply_ticks, refl, ap (λ (all : List (List ℕ)). slice_get all done) same ∙ at);
-      fits = subst AreBodies (sym same) now.fits;
-      declared = subst (λ (all : List (List ℕ)). AreDeclared setting.numbers all) (sym same) now.declared;
-      in_order = now.in_order ∙ ap (λ (all : List (List ℕ)). numbers_in (take done (numbered all))) (sym same);
-      sides = λ p side is.
-          let b = now.sides p side is in
-          subst (λ (all : List (List ℕ)). SideBooks (setting.first p) side.number all (Going body) done (kept_at listed p) side.slave lines) (sym same) (record { station = b.station; answer = b.answer });
-    }, at)
+    let at = next-body i.issued done l.out body l.in_time.under_way next in (
+      nowhere,
+      record {
+        out = Some i.reply_ticks;
+        in_time = t.1;
+        is_out = (i.reply_ticks, refl, ap (λ (all : List (List ℕ)). slice_get all done) same ∙ at);
+        fits = subst AreBodies (sym same) now.fits;
+        declared = subst (λ (all : List (List ℕ)). AreDeclared setting.numbers all) (sym same) now.declared;
+        in_order = now.in_order ∙ ap (λ (all : List (List ℕ)). numbers_in (take done (numbered all))) (sym same);
+        sides = λ p side is.
+            let b = now.sides p side is in
+            subst (λ (all : List (List ℕ)). SideBooks (setting.first p) side.number all (Going body) done (kept_at listed p) side.slave lines) (sym same) (record { station = b.station; answer = b.answer });
+      },
+      at,
+    )
 
 -- ---- more is told, but of no command and no answer
 

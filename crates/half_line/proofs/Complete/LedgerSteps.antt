@@ -1,13 +1,12 @@
 -- What a station changes of the books of an undisturbed run: it hears what passes it over, executes a command, gives its reply, and the master accepts that.
-use Rattle.std.proofs.Common.{◌≡◌, ◌∙◌, ℕ, suc, ◌+◌, Bool, true, false, List, [], ◌∷◌, ◌++◌, length, map, take, Option, Some, None, refl, ap, sym, subst, append-nil}
-use Rattle.std.specs.Prelude.{slice_get, slice_set, ◌==◌}
+use Rattle.std.proofs.Common.{◌≡◌, ◌∙◌, ℕ, suc, ◌+◌, Bool, true, false, List, [], ◌∷◌, ◌++◌, take, Option, Some, None, refl, ap, sym, subst, append-nil}
+use Rattle.std.specs.Prelude.{slice_get, slice_set}
 use Rattle.std.specs.Option.{option_and_then}
 use Rattle.std.proofs.lemmas.List.{map-append}
 use Rattle.std.proofs.lemmas.List.Elements.{filter_map-append}
 use Rattle.std.proofs.lemmas.Bool.{eq-eqb, ne_eqb}
 use Rattle.pccc_envelope.specs.declared.key.Key.{Key}
 use Rattle.pccc_envelope.specs.Envelope.{is_reply, key_of}
-use Rattle.df1_node.specs.Answer.{StationState}
 use Rattle.df1_node.specs.Initiator.{Issued, InitiatorState, is_reply_to, answered_place, after_reply}
 use Rattle.df1_node.specs.Node.{after_accept, after_next}
 use Rattle.half_master.specs.declared.stations.Station.{Station}
@@ -22,19 +21,19 @@ use Rattle.line_report.specs.declared.record.Line.TheVariants as line
 use Rattle.each_once.specs.OfStation.{is_from, lines_of}
 use Rattle.each_once.specs.Tells.{answer_at, executed_in, answers_in}
 use Rattle.each_once.proofs.CommandBodies.{bodies-reply}
-use Rattle.each_once.proofs.InitiatorProgress.{under-at, under-reply}
+use Rattle.each_once.proofs.InitiatorProgress.{under-reply}
 use Rattle.each_once.proofs.MessageLengths.{AreBodies}
-use Rattle.each_once.proofs.Sublists.{same-some, from-map}
+use Rattle.each_once.proofs.Sublists.{from-map}
 use Rattle.half_line.specs.Acts.{StationSide}
 use Rattle.half_line.specs.Complete.{is_to, numbered}
 use Rattle.half_line.proofs.Once.Invariant.{Setting}
 use Rattle.half_line.proofs.Once.MasterOutcomes.{AreDeclared}
 use Rattle.half_line.proofs.Once.Places.{set-same, set-other}
-use Rattle.half_line.proofs.Complete.AnswerBook.{AnswerBook, next-numbered, answer-same, answer-another, answer-accepts}
+use Rattle.half_line.proofs.Complete.AnswerBook.{next-numbered, answer-same, answer-another, answer-accepts}
 use Rattle.half_line.proofs.Complete.CommandsInTime.{AreInTime}
 use Rattle.half_line.proofs.Complete.Ledger.{Nowhere, Going, Kept, Returning, Stay, ran_of, answer_to, due_if, due_of, SideBooks, bodies_in, numbers_in, Ledger}
 use Rattle.half_line.proofs.Complete.StagePlaces.{at-place}
-use Rattle.half_line.proofs.Complete.StationBook.{StationBook, IsSameNode, first_to, same-node, book-same, book-another, book-executes, book-fetched}
+use Rattle.half_line.proofs.Complete.StationBook.{StationBook, IsSameNode, same-node, book-same, book-another, book-executes, book-fetched}
 
 -- the other stations
 abbrev pub EachOther : List StationSide → ℕ → (ℕ → StationSide → Type 0) → Type 0

@@ -1,7 +1,6 @@
 -- What is so of the commands and the numbers of a line whose run deceives no end, and of the reply to a command.
-use Rattle.std.proofs.Common.{◌≡◌, ◌∙◌, ℕ, zero, suc, ◌+◌, ◌≤◌, Bool, true, false, List, [], ◌∷◌, ◌++◌, length, map, take, Some, refl, ap, sym, subst, arith}
-use Rattle.std.specs.Prelude.{slice_get, slice_index, nat_eq, nat_lt, ◌==◌, if◌then◌else◌}
-use Rattle.std.specs.List.{fold, IsDistinct}
+use Rattle.std.proofs.Common.{◌≡◌, ◌∙◌, ℕ, zero, suc, ◌≤◌, true, false, List, [], ◌∷◌, ◌++◌, length, map, take, Some, refl, ap, sym, subst, arith}
+use Rattle.std.specs.Prelude.{slice_get, slice_index, ◌==◌}
 use Rattle.std.proofs.lemmas.Bool.{eqb-true, eq-eqb, ne_eqb, lt-ltb}
 use Rattle.std.proofs.lemmas.List.{map-append}
 use Rattle.df1_base.specs.Host.{IsBody}
@@ -13,7 +12,6 @@ use Rattle.df1_node.specs.Initiator.{Issued, is_reply_to}
 use Rattle.df1_node.specs.Node.{NodeState, has_room}
 use Rattle.half_master.specs.Master.{MasterState}
 use Rattle.half_master.specs.Stations.{numbers_of}
-use Rattle.half_slave.specs.Slave.{SlaveState}
 use Rattle.line_report.specs.declared.record.Line.{Line}
 use Rattle.each_once.specs.Exchanges.{exchanges, station_after}
 use Rattle.each_once.specs.OfStation.{is_from}
@@ -26,12 +24,12 @@ use Rattle.half_line.specs.Acts.{StationSide, HalfState}
 use Rattle.half_line.specs.Complete.{is_to}
 use Rattle.half_line.specs.Issues.{issued_of, bodies_of}
 use Rattle.half_line.proofs.Once.Invariant.{Setting, Holds, number-at, other-number}
-use Rattle.half_line.proofs.Complete.AnswerBook.{AnswerBook, replies_of}
+use Rattle.half_line.proofs.Complete.AnswerBook.{replies_of}
 use Rattle.half_line.proofs.Complete.Invariant.{IsHere}
 use Rattle.half_line.proofs.Complete.Ledger.{answer_to}
 use Rattle.half_line.proofs.Complete.LedgerSteps.{EachOther}
 use Rattle.half_line.proofs.Complete.NewKeys.{new-key, filter-within}
-use Rattle.half_line.proofs.Complete.StationBook.{StationBook, first_to, to-this}
+use Rattle.half_line.proofs.Complete.StationBook.{first_to, to-this}
 
 -- the status reply of each station fits a message
 abbrev pub AreShort : Setting → Type 0

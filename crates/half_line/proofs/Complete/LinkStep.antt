@@ -1,5 +1,5 @@
 -- What happens at a station, or to the bytes to it or from it, leaves an undisturbed run such.
-use Rattle.std.proofs.Common.{◌≡◌, ◌∙◌, ℕ, zero, suc, ◌+◌, Bool, true, false, List, [], ◌∷◌, ◌++◌, Option, Some, None, refl, ap, sym, subst, append-nil, arith}
+use Rattle.std.proofs.Common.{◌≡◌, ◌∙◌, ℕ, zero, suc, ◌+◌, Bool, true, false, List, [], ◌∷◌, ◌++◌, Some, refl, ap, sym, subst, append-nil, arith}
 use Rattle.std.specs.Prelude.{slice_get, slice_set, if◌then◌else◌}
 use Rattle.df1_base.specs.declared.host.Fate.{Fate}
 use Rattle.df1_base.specs.declared.host.Fate.TheVariants as fate
@@ -7,17 +7,15 @@ use Rattle.pccc_envelope.specs.Envelope.{is_reply}
 use Rattle.df1_node.specs.declared.handed.Handed.{Handed}
 use Rattle.df1_node.specs.declared.handed.Handed.TheVariants as handed
 use Rattle.df1_node.specs.Initiator.{InitiatorState}
-use Rattle.df1_node.specs.Node.{NodeState, after_accept, after_next, after_told, initiator_after}
+use Rattle.df1_node.specs.Node.{NodeState, after_told, initiator_after}
 use Rattle.half_master.specs.declared.MasterSetup.{MasterSetup}
 use Rattle.half_master.specs.Emission.{Byte}
-use Rattle.half_master.specs.Master.{MasterState}
 use Rattle.half_master.proofs.HostSteps.{Keeps, byte-keeps}
 use Rattle.half_master.proofs.Runs.{signal-setup}
 use Rattle.line_report.specs.declared.record.Line.{Line}
 use Rattle.line_cells.specs.Cells.{LaneCell}
 use Rattle.each_once.specs.NodeHost.{node_host}
 use Rattle.each_once.proofs.Sublists.{same-some}
-use Rattle.half_line.specs.declared.way.Way.{Way}
 use Rattle.half_line.specs.declared.way.Way.TheVariants.{ToStation, ToMaster}
 use Rattle.half_line.specs.Acts.{StationSide, HalfState, LinkDeed, LaneDeed, StationGives, OnLane, Deliver, Lose, Alter, Foreign, after_take, moved, after_link_deed, link_lines}
 use Rattle.half_line.specs.Prompt.{IsGentleOn, IsGentleAt}
@@ -26,7 +24,7 @@ use Rattle.half_line.proofs.Once.Invariant.{Setting}
 use Rattle.half_line.proofs.Complete.StageSteps.{lane_left, station-deceived}
 use Rattle.half_line.proofs.Complete.StagePlaces.{stage-gives}
 use Rattle.half_line.proofs.Complete.StationBook.{same-node}
-use Rattle.half_line.proofs.Complete.ReplyHeard.{back_left, after_reply, master-deceived}
+use Rattle.half_line.proofs.Complete.ReplyHeard.{back_left, master-deceived}
 use Rattle.half_line.proofs.Complete.LedgerSteps.{ledger-side}
 use Rattle.half_line.proofs.Complete.Invariant.{Course, Flow}
 use Rattle.half_line.proofs.Complete.CallStep.{At, station-arrives}

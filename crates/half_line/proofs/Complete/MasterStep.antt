@@ -1,16 +1,14 @@
 -- What the master does in an undisturbed run: a command is issued, a byte is given to every station.
-use Rattle.std.proofs.Common.{◌≡◌, ◌≢◌, ◌∙◌, ℕ, zero, suc, ◌+◌, ◌≤◌, Bool, true, false, List, [], ◌∷◌, ◌++◌, length, map, Option, Some, None, is_some, refl, ap, sym, subst, arith}
+use Rattle.std.proofs.Common.{◌≡◌, ◌∙◌, ℕ, zero, suc, ◌≤◌, Bool, true, false, List, [], ◌∷◌, ◌++◌, length, map, Option, Some, None, is_some, refl, ap, sym, subst, arith}
 use Rattle.std.specs.Prelude.{IsTrue, slice_get, slice_index, ◌==◌, ◌||◌, ◌&&◌, if◌then◌else◌}
-use Rattle.std.specs.Option.{option_map, option_or}
-use Rattle.std.specs.List.{filter, list_any}
+use Rattle.std.specs.Option.{option_or}
+use Rattle.std.specs.List.{filter}
 use Rattle.std.proofs.lemmas.Bool.{and_parts, eqb-true, eq-eqb}
-use Rattle.std.proofs.lemmas.List.{map-append, length-map, take-append-le}
-use Rattle.df1_node.specs.Answer.{StationState, reply_to}
+use Rattle.std.proofs.lemmas.List.{map-append, take-append-le}
+use Rattle.df1_node.specs.Answer.{reply_to}
 use Rattle.df1_node.specs.Initiator.{Issued, InitiatorState, Waiting, next_issued, next_command, after_hand_out}
-use Rattle.df1_node.specs.Node.{NodeState, next_body, after_next, after_node_issue}
-use Rattle.half_mouth.specs.Giving.{is_done, transmit}
-use Rattle.half_frame.specs.Spelling.{message_sent}
-use Rattle.half_master.specs.declared.stations.Station.{Station}
+use Rattle.df1_node.specs.Node.{NodeState, next_body, after_next}
+use Rattle.half_mouth.specs.Giving.{is_done}
 use Rattle.half_master.specs.declared.table.Phase.{Phase}
 use Rattle.half_master.specs.declared.table.Phase.TheVariants as phase
 use Rattle.half_master.specs.Stations.{is_listed}
@@ -25,7 +23,7 @@ use Rattle.line_report.specs.declared.record.Line.{Line}
 use Rattle.each_once.specs.Exchanges.{station_after}
 use Rattle.each_once.specs.NodeHost.{node_host}
 use Rattle.each_once.proofs.Sublists.{Has, from-map}
-use Rattle.half_line.specs.Acts.{StationSide, HalfState, Issue, Give, after_issue, after_master_deed}
+use Rattle.half_line.specs.Acts.{StationSide, after_issue}
 use Rattle.half_line.specs.Complete.{is_to}
 use Rattle.half_line.specs.Issues.{bodies_of}
 use Rattle.half_line.proofs.Once.Invariant.{Setting, number-at, other-number}
@@ -35,9 +33,8 @@ use Rattle.half_line.proofs.Complete.StageSteps.{with_given}
 use Rattle.half_line.proofs.Complete.StageTicks.{stage-alike}
 use Rattle.half_line.proofs.Complete.StagePlaces.{stage-given, at-given}
 use Rattle.half_line.proofs.Complete.QuietLine.{done-left}
-use Rattle.half_line.proofs.Complete.StationBook.{first_to}
-use Rattle.half_line.proofs.Complete.Ledger.{Going, Stay, answer_to, SideBooks, bodies_in, Ledger, ledger-few, ledger-issue, ledger-hands}
-use Rattle.half_line.proofs.Complete.Invariant.{IsHere, GoesThere, ComesBack, IsTied, Course}
+use Rattle.half_line.proofs.Complete.Ledger.{Going, Stay, SideBooks, bodies_in, Ledger, ledger-few, ledger-issue, ledger-hands}
+use Rattle.half_line.proofs.Complete.Invariant.{IsTied, Course}
 use Rattle.half_line.proofs.Complete.LineFacts.{Known, body-at}
 use Rattle.half_master.specs.Keys.{kept_at}
 

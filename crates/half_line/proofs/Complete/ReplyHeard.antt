@@ -26,7 +26,7 @@ use Rattle.half_line.specs.declared.way.Way.TheVariants.{ToMaster}
 use Rattle.each_once.specs.NodeHost.{node_host}
 use Rattle.half_line.specs.Acts.{StationSide, LinkState, deceptions_at}
 use Rattle.half_line.proofs.Complete.ComingCells.{cells_of, coming}
-use Rattle.half_line.proofs.Complete.EarHears.{Telling, told, Hears, deceived_at, ear_after, hears-join, hears-none}
+use Rattle.half_line.proofs.Complete.EarHears.{Telling, Hears, deceived_at, ear_after, hears-join, hears-none}
 use Rattle.half_line.proofs.Complete.StationHears.{station_ear, hears-ack}
 use Rattle.half_line.proofs.Complete.MasterHears.{IsOutside, master_ear}
 use Rattle.half_line.proofs.Complete.MasterBegins.{rests-ack, tape-grows}

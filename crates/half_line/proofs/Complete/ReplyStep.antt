@@ -1,7 +1,7 @@
 -- A cell arrives at the master in an undisturbed run: the reply that it is of goes on, or ends; a message that ends so is the answer to the command that is out.
 use Rattle.std.proofs.Common.{◌≡◌, ◌∙◌, ℕ, suc, ◌+◌, Bool, true, false, List, [], ◌∷◌, ◌++◌, Option, Some, None, refl, ap, sym, subst, inl, inr, append-nil}
 use Rattle.std.specs.Prelude.{◌⊎◌, slice_get, slice_set, slice_index, ◌==◌}
-use Rattle.std.specs.Option.{option_and_then, option_map_or}
+use Rattle.std.specs.Option.{option_and_then}
 use Rattle.std.proofs.lemmas.Bool.{eqb-true, eqb-false}
 use Rattle.df1_base.specs.declared.host.Did.{Did}
 use Rattle.df1_base.specs.declared.host.Did.TheVariants as did
@@ -24,11 +24,9 @@ use Rattle.half_master.proofs.Changes.{Says}
 use Rattle.half_master.proofs.Seen.{lent-after}
 use Rattle.line_statement.specs.declared.who.Who.TheVariants.{M}
 use Rattle.line_report.specs.declared.record.Line.{Line}
-use Rattle.line_report.specs.declared.record.Line.TheVariants as line
 use Rattle.line_cells.specs.Cells.{LaneCell}
 use Rattle.each_once.specs.Exchanges.{station_after}
 use Rattle.each_once.specs.NodeHost.{node_host}
-use Rattle.each_once.specs.OfStation.{is_from}
 use Rattle.each_once.proofs.Sublists.{same-some, from-map}
 use Rattle.told_lines.specs.NodeLines.{did_lines, act_lines, step_lines}
 use Rattle.half_line.specs.Acts.{StationSide}
@@ -38,7 +36,7 @@ use Rattle.half_line.proofs.Once.Invariant.{Setting, number-at}
 use Rattle.half_line.proofs.Once.Places.{set-same, set-other}
 use Rattle.half_line.proofs.Complete.EarHears.{Telling, deceived_at}
 use Rattle.half_line.proofs.Complete.MasterHears.{master_ear}
-use Rattle.half_line.proofs.Complete.Stages.{SideRests, Awaited, Receipt, Polling, Ack, Eot, Message, a_message, a_poll, an_ack, an_eot, a_reply, Comes, Returns, Progress, SideCalled, Waits, Now, Idles, Awaits, Awaiting, Stage}
+use Rattle.half_line.proofs.Complete.Stages.{Awaited, Receipt, Polling, Ack, Eot, Message, an_ack, an_eot, a_reply, Returns, Progress, SideCalled, Now, Idles, Awaits, Awaiting, Stage}
 use Rattle.half_line.proofs.Complete.StageTicks.{waits-alike}
 use Rattle.half_line.proofs.Complete.StagePlaces.{set-settled}
 use Rattle.half_line.proofs.Complete.StationAnswers.{Answers, StillAnswers, HearsReply, reply-cell}
@@ -46,8 +44,8 @@ use Rattle.half_line.proofs.Complete.ReplyHeard.{back_left, after_reply, GoesOn,
 use Rattle.half_line.proofs.Complete.StationBook.{first_to, same-node}
 use Rattle.half_line.proofs.Complete.Ledger.{Nowhere, Returning, Stay, IsHome, answer_to, Ledger}
 use Rattle.half_line.proofs.Complete.LedgerSteps.{answer_lines, answer-place, ledger-side, ledger-answers}
-use Rattle.half_line.proofs.Complete.Invariant.{ComesBack, IsTied, Course}
-use Rattle.half_line.proofs.Complete.LineFacts.{Known, apart, here, elsewhere, answer-fits, answer-from, from-here, from-elsewhere, answer-new}
+use Rattle.half_line.proofs.Complete.Invariant.{IsTied, Course}
+use Rattle.half_line.proofs.Complete.LineFacts.{apart, here, elsewhere, answer-fits, answer-from, from-here, from-elsewhere, answer-new}
 use Rattle.half_line.proofs.Complete.CallStep.{At}
 
 -- what is told of the cell

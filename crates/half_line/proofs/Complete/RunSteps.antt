@@ -1,11 +1,11 @@
 -- Each step of an undisturbed run leaves it such, whether something is under way after it or not.
-use Rattle.std.proofs.Common.{◌≡◌, ◌∙◌, ℕ, ◌+◌, ◌<◌, ◌≤◌, Bool, true, false, List, [], ◌∷◌, ◌++◌, map, Option, Some, None, refl, ap, sym, subst, append-nil, append_assoc, arith}
+use Rattle.std.proofs.Common.{◌≡◌, ◌∙◌, ℕ, ◌+◌, ◌<◌, ◌≤◌, Bool, true, false, List, [], ◌∷◌, ◌++◌, Option, Some, None, refl, ap, sym, subst, append-nil, append_assoc, arith}
 use Rattle.std.specs.Prelude.{IsTrue, slice_get, if◌then◌else◌}
 use Rattle.df1_node.specs.Node.{NodeState}
 use Rattle.half_master.specs.declared.MasterSetup.{MasterSetup}
 use Rattle.half_frame.specs.MasterStanding.{Listening}
 use Rattle.half_master.specs.Emission.{Tick as TickLetter, Take as TakeLetter}
-use Rattle.half_master.specs.Master.{MasterState, with_host, effect_at_tick, fate_of, host_told, host_ticked, master_after_tick, master_after_take}
+use Rattle.half_master.specs.Master.{MasterState, with_host, effect_at_tick, fate_of, host_told, host_ticked, master_after_tick}
 use Rattle.half_master.proofs.EarLemmas.{take-ear, performed-ear}
 use Rattle.half_master.proofs.HostSteps.{tick-keeps, take-keeps}
 use Rattle.half_master.proofs.Runs.{signal-setup}
@@ -13,14 +13,14 @@ use Rattle.line_statement.specs.Statements.{is_payload}
 use Rattle.script_parts.specs.HalfPlayable.{is_declared}
 use Rattle.line_report.specs.declared.record.Line.{Line}
 use Rattle.each_once.specs.NodeHost.{node_host}
-use Rattle.half_line.specs.Acts.{StationSide, HalfState, MasterDeed, LinkDeed, Issue, Give, Tick, after_master_deed}
+use Rattle.half_line.specs.Acts.{StationSide, HalfState, LinkDeed, Issue, Give, Tick, after_master_deed}
 use Rattle.half_line.specs.Prompt.{is_quiet, ticks_of, late_after, patience, IsGentleWith, IsGentle, late_over, IsPromptOver}
 use Rattle.half_line.specs.Steps.{UnitStep, AtMaster, AtStation, after_with, after_step, lines_with, lines_at, after_steps, lines_over}
-use Rattle.half_line.proofs.Once.Invariant.{Setting, Holds}
+use Rattle.half_line.proofs.Once.Invariant.{Setting}
 use Rattle.half_line.proofs.Once.MasterSteps.{holds-issue}
 use Rattle.half_line.proofs.Once.WholeRun.{Kept, IsPlain, ArePlain, kept-plain}
 use Rattle.half_line.proofs.Complete.StagePlaces.{stage-quiet}
-use Rattle.half_line.proofs.Complete.Invariant.{Course, Flow}
+use Rattle.half_line.proofs.Complete.Invariant.{Flow}
 use Rattle.half_line.proofs.Complete.LineFacts.{AreShort, Known, known}
 use Rattle.half_line.proofs.Complete.LinkStep.{keeps-waits, flow-link}
 use Rattle.half_line.proofs.Complete.MasterStep.{course-issue, course-give}

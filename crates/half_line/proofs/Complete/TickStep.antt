@@ -1,14 +1,12 @@
 -- A unit of time passes in an undisturbed run: a wait goes on, and an idle master polls, or has a message to give; no command is given up.
-use Rattle.std.proofs.Common.{◌≡◌, ◌∙◌, ℕ, ◌+◌, ◌<◌, ◌≤◌, Bool, true, false, List, [], ◌∷◌, ◌++◌, length, map, min, Option, Some, None, refl, ap, ap₂, sym, subst, append-nil, arith}
+use Rattle.std.proofs.Common.{◌≡◌, ◌∙◌, ℕ, ◌+◌, ◌<◌, Bool, true, false, List, [], ◌++◌, map, min, Option, Some, None, refl, ap, ap₂, sym, subst, append-nil, arith}
 use Rattle.std.specs.Prelude.{slice_get, if◌then◌else◌}
 use Rattle.std.specs.Option.{option_map}
 use Rattle.std.proofs.Math.Nat.{min-le_left, min-le_right}
 use Rattle.std.proofs.lemmas.Option.{slice_get-map}
 use Rattle.std.specs.List.{list_all}
-use Rattle.std.specs.Prelude.{is_none, ◌==◌, ◌&&◌}
+use Rattle.std.specs.Prelude.{is_none, ◌&&◌}
 use Rattle.df1_base.specs.declared.link.Turn.{Turn}
-use Rattle.df1_base.specs.declared.link.Turn.TheVariants as turn
-use Rattle.df1_node.specs.Initiator.{InitiatorState}
 use Rattle.df1_node.specs.Node.{NodeState, next_body, after_tick}
 use Rattle.half_frame.specs.Spelling.{poll_bytes, unmarked}
 use Rattle.half_mouth.specs.Giving.{give, is_done}
@@ -32,7 +30,7 @@ use Rattle.half_line.specs.Prompt.{is_idle, is_quiet, late_after, patience}
 use Rattle.half_line.proofs.Once.Invariant.{Setting, number-at, other-number}
 use Rattle.half_line.proofs.Complete.Stages.{Awaited, Polling, Now, Idles, Awaits, Stage, Idling, Awaiting, expects-busy, both}
 use Rattle.half_line.proofs.Complete.StageBegins.{poll-begins}
-use Rattle.half_line.proofs.Complete.StageTicks.{IsAlike, stage-alike, expects-same, Waited, tick-waited}
+use Rattle.half_line.proofs.Complete.StageTicks.{stage-alike, expects-same, tick-waited}
 use Rattle.half_line.proofs.Complete.StagePlaces.{awaits-busy}
 use Rattle.half_line.proofs.Complete.QuietLine.{done-left}
 use Rattle.half_line.proofs.Complete.Ledger.{Stay, IsHome, Ledger, ledger-tick, ledger-later}

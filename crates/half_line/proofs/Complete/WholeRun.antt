@@ -1,6 +1,6 @@
 -- Over a whole run that nothing disturbs, and that ends with nothing under way and no reply left at a station: each command executed and answered.
-use Rattle.std.proofs.Common.{◌≡◌, ◌∙◌, ℕ, zero, suc, ◌+◌, ◌<◌, ◌≤◌, Bool, true, false, List, [], ◌∷◌, ◌++◌, length, map, take, Option, Some, None, refl, ap, sym, subst, append_assoc, append-nil, arith}
-use Rattle.std.specs.Prelude.{IsTrue, All, replicate, count_by, sum_by, slice_get, slice_index}
+use Rattle.std.proofs.Common.{◌≡◌, ◌∙◌, ℕ, zero, suc, ◌+◌, ◌<◌, ◌≤◌, Bool, true, List, [], ◌∷◌, ◌++◌, length, map, take, Option, Some, None, refl, ap, sym, subst, append_assoc, append-nil, arith}
+use Rattle.std.specs.Prelude.{All, replicate, count_by, sum_by, slice_get, slice_index}
 use Rattle.std.specs.List.{filter}
 use Rattle.std.specs.Option.{option_or}
 use Rattle.std.proofs.lemmas.Bool.{eq-eqb}
@@ -11,9 +11,7 @@ use Rattle.std.proofs.lemmas.List.Sums.{sum_by-cons}
 use Rattle.std.proofs.lemmas.Option.{slice_get_within, slice_get-get_or, get_or_from_slice_get}
 use Rattle.df1_node.specs.Answer.{StationState}
 use Rattle.df1_node.specs.Initiator.{Issued, next_command}
-use Rattle.df1_node.specs.Node.{NodeState, next_body}
 use Rattle.half_master.specs.Stations.{is_listed}
-use Rattle.half_master.specs.Master.{MasterState}
 use Rattle.half_master.proofs.Seen.{listed-number}
 use Rattle.line_statement.specs.declared.who.Who.{Who}
 use Rattle.line_statement.specs.declared.who.Who.TheVariants.{M, S}
@@ -21,20 +19,20 @@ use Rattle.script_parts.specs.declared.script.Event.{Event}
 use Rattle.script_parts.specs.declared.script.Event.TheVariants as event
 use Rattle.script_parts.specs.declared.script.EndPlan.{EndPlan}
 use Rattle.script_parts.specs.declared.script.Script.{Script}
-use Rattle.script_parts.specs.HalfPlayable.{IsHalfPossible, IsHalfPlayable, is_declared, is_issue, station_plans, numbers_of}
+use Rattle.script_parts.specs.HalfPlayable.{IsHalfPossible, IsHalfPlayable, is_declared, is_issue, station_plans}
 use Rattle.script_parts.specs.Plans.{first_plan}
 use Rattle.line_report.specs.declared.record.Line.{Line}
 use Rattle.outset.specs.Outset.{first_station}
 use Rattle.each_once.specs.Tells.{executed_in, answers_in}
 use Rattle.each_once.specs.OfStation.{lines_of as own_lines}
 use Rattle.each_once.proofs.InitiatorProgress.{IsUnderWay, under-all}
-use Rattle.each_once.proofs.Sublists.{same-some, from-map}
-use Rattle.half_line.specs.Acts.{StationSide, HalfState, MasterDeed, LinkDeed, Issue, Give, Tick, StationGives, OnLane, Deliver, Lose, Alter, Foreign}
+use Rattle.each_once.proofs.Sublists.{from-map}
+use Rattle.half_line.specs.Acts.{StationSide, HalfState, LinkDeed, Give, Tick, StationGives}
 use Rattle.half_line.specs.Complete.{is_to, numbered, answers_of, AllDoneAt, IsComplete}
 use Rattle.half_line.specs.Issues.{commands_of_m, issued_of, bodies_of}
-use Rattle.half_line.specs.Prompt.{is_quiet, ticks_of, ticks_at, late_event, IsPromptOver, IsPromptAfter, KeepsNone, IsUndisturbed}
-use Rattle.half_line.specs.Run.{plan_of_m, start, station_at, number_of, station_between, way_from, place_of, link_deeds, steps_with, steps_at, steps_of, after_event, giver, sent_lines, lines_of, state_after, lines_after, last_state, record_from}
-use Rattle.half_line.specs.Steps.{UnitStep, AtMaster, AtStation, bytes_over, lines_over}
+use Rattle.half_line.specs.Prompt.{is_quiet, ticks_at, late_event, IsPromptOver, IsPromptAfter, KeepsNone, IsUndisturbed}
+use Rattle.half_line.specs.Run.{plan_of_m, start, station_at, number_of, station_between, place_of, link_deeds, steps_with, steps_at, steps_of, after_event, giver, sent_lines, lines_of, state_after, lines_after, last_state, record_from}
+use Rattle.half_line.specs.Steps.{AtMaster, AtStation, bytes_over, lines_over}
 use Rattle.half_line.proofs.Once.EachStation.{plan_at, setting_of, holds-start, side-of}
 use Rattle.half_line.proofs.Once.Invariant.{Setting, Holds}
 use Rattle.half_line.proofs.Once.MasterCommands.{issued-run}
@@ -42,10 +40,10 @@ use Rattle.half_line.proofs.Once.QuietLines.{sent-silent, sent-mute}
 use Rattle.half_line.proofs.Once.WholeRun.{ArePlain, plain-with, plain-master, plain-take, counted, counted-more, with-bytes}
 use Rattle.half_line.proofs.Complete.AnswerBook.{is_numbered_to}
 use Rattle.half_line.proofs.Complete.CommandsInTime.{next-body}
-use Rattle.half_line.proofs.Complete.Invariant.{Course, Flow, IsTied, HasRoom, rooms, flow-start}
+use Rattle.half_line.proofs.Complete.Invariant.{Flow, IsTied, rooms, flow-start}
 use Rattle.half_line.proofs.Complete.Ledger.{Nowhere, Going, Kept, Returning, Stay, IsHome, due_if, numbers_in, answer_to, Ledger, ledger-lines}
 use Rattle.half_line.proofs.Complete.LineFacts.{AreShort, Known, known}
-use Rattle.half_line.proofs.Complete.MasterStep.{Found, found}
+use Rattle.half_line.proofs.Complete.MasterStep.{found}
 use Rattle.half_line.proofs.Complete.QuietLine.{NothingAwaited, nothing-awaited}
 use Rattle.half_line.proofs.Complete.RunSteps.{Along, ticks_over, along-steps, along-issue}
 use Rattle.half_line.proofs.Complete.StagePlaces.{awaits-busy}

@@ -1,9 +1,9 @@
-use Rattle.std.proofs.Common.{◌≡◌, ◌∙◌, ◌+◌, ◌∷◌, ◌++◌, take, drop, ap, refl, sym, subst, take-append-drop}
+use Rattle.std.proofs.Common.{◌≡◌, ◌∙◌, ◌+◌, ◌++◌, take, drop, ap, refl, sym, subst, take-append-drop}
 use Rattle.line_report.specs.declared.record.Record.{Record}
 use Rattle.line_replay.specs.declared.world.World.{World}
 use Rattle.line_replay.specs.Complete.{IsUndisturbed, IsComplete}
 use Rattle.line_replay.specs.Once.{EachCommandOnce}
-use Rattle.line_replay.specs.Runs.{IsNext, lines_in, printed, record_of}
+use Rattle.line_replay.specs.Runs.{IsNext, record_of}
 use Rattle.line_replay.proofs.Next.{next-at}
 use Rattle.line_replay.proofs.EitherMode.{all-complete, each-command-once, events-next, lines-more, printed-next, record-at-end, world-more}
 use Rattle.line_replay.proofs.play.replay.Goals as goal
