@@ -82,9 +82,9 @@ mute-step {setting = setting} {m = m} {stations = stations} {place = place} {sid
 rest-step : {setting : Setting} {m : MasterState NodeState} {stations : List StationSide} {place : ℕ} {side : StationSide} {late ticks done : ℕ} {lines : List Line} {stay : Stay} (cell : LaneCell) (cells : List LaneCell) (now : Now) → At setting m stations place side → side.to_it ≡ cell ∷ cells
     → SideRests m side → (SideRests m (side_heard side cell cells) → Stage late m (slice_set stations place (side_heard side cell cells)) now) → IsTied setting (bodies_of m) done now stay
     → Ledger setting m.host.initiator m.stations stations lines stay done ticks → Arrived setting m stations late ticks lines place side cell cells
-rest-step {setting = setting} {m = m} {stations = stations} {place = place} {side = side} {late = late} {ticks = ticks} {done = done} {lines = lines} {stay = stay} cell cells now at is rests stage tied l =
+rest-step {m = m} {side = side} cell cells now at is rests stage tied l =
     let r = rests-arrives m side cell cells is rests in
-    mute-step {setting = setting} {m = m} {stations = stations} {place = place} {side = side} {late = late} {ticks = ticks} {done = done} {lines = lines} {stay = stay} cell cells now at (stage r.rests) tied (kept-node side.slave.host _ r.host) r.kept r.mute r.honest l
+    mute-step cell cells now at (stage r.rests) tied (kept-node side.slave.host _ r.host) r.kept r.mute r.honest l
 
 -- ---- what is called stays so
 
@@ -101,14 +101,14 @@ StageAfter late m stations place side cell cells awaited = Stage late m (slice_s
 still-step : {setting : Setting} {m : MasterState NodeState} {stations : List StationSide} {place : ℕ} {side : StationSide} {late ticks done : ℕ} {lines : List Line} {stay : Stay} {awaited : Awaited} (cell : LaneCell) (cells : List LaneCell) → (c : Calls setting m stations late ticks lines place side awaited stay done)
     → StageAfter late m stations place side cell cells awaited → IsTied setting (bodies_of m) done (Awaits place awaited) stay → IsSameNode side.slave.host (slave_after_byte node_host side.slave cell.byte).host → (slave_after_byte node_host side.slave cell.byte).kept ≡ side.slave.kept
     → IsMute node_host side.slave cell.byte → deceived_at station_ear side.slave.ear cell ≡ 0 → Arrived setting m stations late ticks lines place side cell cells
-still-step {setting = setting} {m = m} {stations = stations} {place = place} {side = side} {late = late} {ticks = ticks} {done = done} {lines = lines} {stay = stay} {awaited = awaited} cell cells c stage tied node kept mute honest =
-    mute-step {setting = setting} {m = m} {stations = stations} {place = place} {side = side} {late = late} {ticks = ticks} {done = done} {lines = lines} {stay = stay} cell cells (Awaits place awaited) c.at stage tied node kept mute honest c.ledger
+still-step {place = place} {awaited = awaited} cell cells c stage tied node kept mute honest =
+    mute-step cell cells (Awaits place awaited) c.at stage tied node kept mute honest c.ledger
 
 -- ---- it hears a message
 
 receipt-hears : {setting : Setting} {m : MasterState NodeState} {stations : List StationSide} {place : ℕ} {side : StationSide} {late ticks done : ℕ} {lines : List Line} (cell : LaneCell) (cells : List LaneCell) (body : List ℕ) → Calls setting m stations late ticks lines place side (Receipt body) (Going body) done
     → IsHere setting place body → HearsItsCall m side cell cells (a_message side.number body) → Arrived setting m stations late ticks lines place side cell cells
-receipt-hears {setting = setting} {m = m} {stations = stations} {place = place} {side = side} {late = late} {ticks = ticks} {done = done} {lines = lines} cell cells body c there h =
+receipt-hears {setting = setting} {m = m} {stations = stations} {place = place} {side = side} {ticks = ticks} {done = done} {lines = lines} cell cells body c there h =
     let k = c.at.known in
     let l = c.ledger in
     let bodies = bodies_of m in
@@ -138,14 +138,14 @@ receipt-hears {setting = setting} {m = m} {stations = stations} {place = place} 
 
 receipt-step : {setting : Setting} {m : MasterState NodeState} {stations : List StationSide} {place : ℕ} {side : StationSide} {late ticks done : ℕ} {lines : List Line} (cell : LaneCell) (cells : List LaneCell) (body : List ℕ) → side.to_it ≡ cell ∷ cells
     → Calls setting m stations late ticks lines place side (Receipt body) (Going body) done → IsHere setting place body → Arrived setting m stations late ticks lines place side cell cells
-receipt-step {setting = setting} {m = m} {stations = stations} {place = place} {side = side} {late = late} {ticks = ticks} {done = done} {lines = lines} cell cells body is c there = by-cell (comes-arrives m side cell cells (a_message side.number body) is c.called.progress)
+receipt-step {setting = setting} {m = m} {stations = stations} {place = place} {side = side} {late = late} {ticks = ticks} {lines = lines} cell cells body is c there = by-cell (comes-arrives m side cell cells (a_message side.number body) is c.called.progress)
   where
     by-cell : StillComes m side cell cells (a_message side.number body) ⊎ HearsItsCall m side cell cells (a_message side.number body) → Arrived setting m stations late ticks lines place side cell cells
-    by-cell (inr h) = receipt-hears {setting = setting} {m = m} {stations = stations} {place = place} {side = side} {late = late} {ticks = ticks} {done = done} {lines = lines} cell cells body c there h
+    by-cell (inr h) = receipt-hears cell cells body c there h
     by-cell (inl s) =
         let called = called-after m side cell cells (Receipt body) (Receipt body) c.called s.comes in
         let stage : StageAfter late m stations place side cell cells (Receipt body) = record { waits = c.stage.waits; expects = set-called m stations place (Receipt body) (Receipt body) (side_heard side cell cells) c.stage.expects called } in
-        still-step {setting = setting} {m = m} {stations = stations} {place = place} {side = side} {late = late} {ticks = ticks} {done = done} {lines = lines} {stay = Going body} {awaited = Receipt body} cell cells c stage (record { here = there; stays = refl }) (kept-node side.slave.host _ s.host) s.kept s.mute s.honest
+        still-step cell cells c stage (record { here = there; stays = refl }) (kept-node side.slave.host _ s.host) s.kept s.mute s.honest
 
 -- ---- it hears a poll
 
@@ -158,16 +158,16 @@ one-waits node reply replies = rw replies refl
 
 poll-ends : {setting : Setting} {m : MasterState NodeState} {stations : List StationSide} {place : ℕ} {side : StationSide} {late ticks done : ℕ} {lines : List Line} {stay : Stay} (cell : LaneCell) (cells : List LaneCell) → Calls setting m stations late ticks lines place side Polling stay done → IsHome stay
     → side.slave.host.replies ≡ [] → HearsItsCall m side cell cells (a_poll side.number) → Arrived setting m stations late ticks lines place side cell cells
-poll-ends {setting = setting} {m = m} {stations = stations} {place = place} {side = side} {late = late} {ticks = ticks} {done = done} {lines = lines} {stay = stay} cell cells c home none h =
+poll-ends {m = m} {stations = stations} {place = place} {side = side} {late = late} cell cells c home none h =
     let book = (c.ledger.sides place side c.at.is_at).station in
     let r = poll-ended m side cell cells c.called h (none-waits side.slave.host none book.issues_none) in
     let stage : StageAfter late m stations place side cell cells Eot = record { waits = c.stage.waits; expects = set-called m stations place Polling Eot (side_heard side cell cells) c.stage.expects r.called } in
-    mute-step {setting = setting} {m = m} {stations = stations} {place = place} {side = side} {late = late} {ticks = ticks} {done = done} {lines = lines} {stay = stay} cell cells (Awaits place Eot) c.at stage home (same-node side.slave.host _ r.host) r.kept r.mute r.honest c.ledger
+    mute-step cell cells (Awaits place Eot) c.at stage home (same-node side.slave.host _ r.host) r.kept r.mute r.honest c.ledger
 
 -- it has one
 poll-sends : {setting : Setting} {m : MasterState NodeState} {stations : List StationSide} {place : ℕ} {side : StationSide} {late ticks done : ℕ} {lines : List Line} (cell : LaneCell) (cells : List LaneCell) (body : List ℕ) → Calls setting m stations late ticks lines place side Polling (Kept body) done
     → is_to side.number body ≡ true → HearsItsCall m side cell cells (a_poll side.number) → Arrived setting m stations late ticks lines place side cell cells
-poll-sends {setting = setting} {m = m} {stations = stations} {place = place} {side = side} {late = late} {ticks = ticks} {done = done} {lines = lines} cell cells body c to h =
+poll-sends {setting = setting} {m = m} {stations = stations} {place = place} {side = side} {ticks = ticks} {done = done} {lines = lines} cell cells body c to h =
     let k = c.at.known in
     let l = c.ledger in
     let bodies = bodies_of m in
@@ -195,38 +195,38 @@ poll-sends {setting = setting} {m = m} {stations = stations} {place = place} {si
 
 poll-hears : {setting : Setting} {m : MasterState NodeState} {stations : List StationSide} {place : ℕ} {side : StationSide} {late ticks done : ℕ} {lines : List Line} (stay : Stay) (cell : LaneCell) (cells : List LaneCell) → Calls setting m stations late ticks lines place side Polling stay done → IsHome stay
     → HearsItsCall m side cell cells (a_poll side.number) → Arrived setting m stations late ticks lines place side cell cells
-poll-hears {setting = setting} {m = m} {stations = stations} {place = place} {side = side} {late = late} {ticks = ticks} {done = done} {lines = lines} Nowhere cell cells c home h =
-    poll-ends {setting = setting} {m = m} {stations = stations} {place = place} {side = side} {late = late} {ticks = ticks} {done = done} {lines = lines} {stay = Nowhere} cell cells c home ((c.ledger.sides place side c.at.is_at).station.replies) h
+poll-hears {place = place} {side = side} Nowhere cell cells c home h =
+    poll-ends cell cells c home ((c.ledger.sides place side c.at.is_at).station.replies) h
 poll-hears (Going body) cell cells c home h = absurd home
 poll-hears {setting = setting} {m = m} {stations = stations} {place = place} {side = side} {late = late} {ticks = ticks} {done = done} {lines = lines} (Kept body) cell cells c home h = by-number (is_to side.number body) refl
   where
     by-number : (mine : Bool) → is_to side.number body ≡ mine → Arrived setting m stations late ticks lines place side cell cells
-    by-number true to = poll-sends {setting = setting} {m = m} {stations = stations} {place = place} {side = side} {late = late} {ticks = ticks} {done = done} {lines = lines} cell cells body c to h
+    by-number true to = poll-sends cell cells body c to h
     by-number false other =
-        poll-ends {setting = setting} {m = m} {stations = stations} {place = place} {side = side} {late = late} {ticks = ticks} {done = done} {lines = lines} {stay = Kept body} cell cells c home
+        poll-ends cell cells c home
         ((c.ledger.sides place side c.at.is_at).station.replies ∙ ap (λ (mine : Bool). due_if mine (answer_to (setting.first place) side.number (bodies_of m) done body)) other) h
 poll-hears (Returning body) cell cells c home h = absurd home
 
 poll-step : {setting : Setting} {m : MasterState NodeState} {stations : List StationSide} {place : ℕ} {side : StationSide} {late ticks done : ℕ} {lines : List Line} {stay : Stay} (cell : LaneCell) (cells : List LaneCell) → side.to_it ≡ cell ∷ cells → Calls setting m stations late ticks lines place side Polling stay done → IsHome stay
     → Arrived setting m stations late ticks lines place side cell cells
-poll-step {setting = setting} {m = m} {stations = stations} {place = place} {side = side} {late = late} {ticks = ticks} {done = done} {lines = lines} {stay = stay} cell cells is c home = by-cell (comes-arrives m side cell cells (a_poll side.number) is c.called.progress)
+poll-step {setting = setting} {m = m} {stations = stations} {place = place} {side = side} {late = late} {ticks = ticks} {lines = lines} {stay = stay} cell cells is c home = by-cell (comes-arrives m side cell cells (a_poll side.number) is c.called.progress)
   where
     by-cell : StillComes m side cell cells (a_poll side.number) ⊎ HearsItsCall m side cell cells (a_poll side.number) → Arrived setting m stations late ticks lines place side cell cells
-    by-cell (inr h) = poll-hears {setting = setting} {m = m} {stations = stations} {place = place} {side = side} {late = late} {ticks = ticks} {done = done} {lines = lines} stay cell cells c home h
+    by-cell (inr h) = poll-hears stay cell cells c home h
     by-cell (inl s) =
         let called = called-after m side cell cells Polling Polling c.called s.comes in
         let stage : StageAfter late m stations place side cell cells Polling = record { waits = c.stage.waits; expects = set-called m stations place Polling Polling (side_heard side cell cells) c.stage.expects called } in
-        still-step {setting = setting} {m = m} {stations = stations} {place = place} {side = side} {late = late} {ticks = ticks} {done = done} {lines = lines} {stay = stay} {awaited = Polling} cell cells c stage home (kept-node side.slave.host _ s.host) s.kept s.mute s.honest
+        still-step cell cells c stage home (kept-node side.slave.host _ s.host) s.kept s.mute s.honest
 
 -- ---- whatever is awaited
 
 called-step : {setting : Setting} {m : MasterState NodeState} {stations : List StationSide} {place : ℕ} {side : StationSide} {late ticks done : ℕ} {lines : List Line} {stay : Stay} (awaited : Awaited) (cell : LaneCell) (cells : List LaneCell) → side.to_it ≡ cell ∷ cells
     → Calls setting m stations late ticks lines place side awaited stay done → IsTied setting (bodies_of m) done (Awaits place awaited) stay → Arrived setting m stations late ticks lines place side cell cells
-called-step {setting = setting} {m = m} {stations = stations} {place = place} {side = side} {late = late} {ticks = ticks} {done = done} {lines = lines} {stay = stay} (Receipt body) cell cells is c tied =
-    receipt-step {setting = setting} {m = m} {stations = stations} {place = place} {side = side} {late = late} {ticks = ticks} {done = done} {lines = lines} cell cells body is
+called-step {setting = setting} {m = m} {stations = stations} {place = place} {side = side} {late = late} {ticks = ticks} {done = done} {lines = lines} (Receipt body) cell cells is c tied =
+    receipt-step cell cells body is
     (subst (λ (s : Stay). Calls setting m stations late ticks lines place side (Receipt body) s done) tied.stays c) tied.here
-called-step {setting = setting} {m = m} {stations = stations} {place = place} {side = side} {late = late} {ticks = ticks} {done = done} {lines = lines} {stay = stay} Polling cell cells is c tied =
-    poll-step {setting = setting} {m = m} {stations = stations} {place = place} {side = side} {late = late} {ticks = ticks} {done = done} {lines = lines} {stay = stay} cell cells is c tied
+called-step Polling cell cells is c tied =
+    poll-step cell cells is c tied
 called-step {m = m} {side = side} Ack cell cells is c tied = absurd (none-arrives m side cell cells an_ack is c.called.progress)
 called-step {m = m} {side = side} Eot cell cells is c tied = absurd (none-arrives m side cell cells an_eot is c.called.progress)
 called-step {m = m} {side = side} (Message body) cell cells is c tied = absurd (none-arrives m side cell cells (a_reply body) is c.called.progress)
@@ -235,15 +235,15 @@ called-step {m = m} {side = side} (Message body) cell cells is c tied = absurd (
 
 by-now : {setting : Setting} {m : MasterState NodeState} {stations : List StationSide} {place : ℕ} {side : StationSide} {late ticks done : ℕ} {lines : List Line} {stay : Stay} (now : Now) (cell : LaneCell) (cells : List LaneCell) → At setting m stations place side → side.to_it ≡ cell ∷ cells
     → Stage late m stations now → IsTied setting (bodies_of m) done now stay → Ledger setting m.host.initiator m.stations stations lines stay done ticks → Arrived setting m stations late ticks lines place side cell cells
-by-now {setting = setting} {m = m} {stations = stations} {place = place} {side = side} {late = late} {ticks = ticks} {done = done} {lines = lines} {stay = stay} Idles cell cells at is stage tied l =
-    rest-step {setting = setting} {m = m} {stations = stations} {place = place} {side = side} {late = late} {ticks = ticks} {done = done} {lines = lines} {stay = stay} cell cells Idles at is (stage.rest place side at.is_at)
+by-now {m = m} {stations = stations} {place = place} {side = side} Idles cell cells at is stage tied l =
+    rest-step cell cells Idles at is (stage.rest place side at.is_at)
     (λ new. record { idle = stage.idle; outside = stage.outside; rest = set-rests m stations place side (side_heard side cell cells) at.is_at new stage.rest }) tied l
 by-now {setting = setting} {m = m} {stations = stations} {place = place} {side = side} {late = late} {ticks = ticks} {done = done} {lines = lines} {stay = stay} (Awaits q awaited) cell cells at is stage tied l = by-place (place == q) refl
   where
     by-place : (same : Bool) → (place == q) ≡ same → Arrived setting m stations late ticks lines place side cell cells
     by-place false same =
         let differ = eqb-false place q same in
-        rest-step {setting = setting} {m = m} {stations = stations} {place = place} {side = side} {late = late} {ticks = ticks} {done = done} {lines = lines} {stay = stay} cell cells (Awaits q awaited) at is (stage.expects.others place side at.is_at differ)
+        rest-step cell cells (Awaits q awaited) at is (stage.expects.others place side at.is_at differ)
         (λ new. record { waits = stage.waits; expects = set-another m stations q place awaited side (side_heard side cell cells) at.is_at differ stage.expects new }) tied l
     by-place true same =
         let there = sym (eqb-true place q same) in
@@ -252,9 +252,9 @@ by-now {setting = setting} {m = m} {stations = stations} {place = place} {side =
         let side_is : e.side ≡ side = same-some e.side side (sym e.is_at ∙ at.is_at) in
         let called = subst (λ (s : StationSide). SideCalled m s awaited) side_is e.called in
         let tied_here : IsTied setting (bodies_of m) done (Awaits place awaited) stay = subst (λ (n : ℕ). IsTied setting (bodies_of m) done (Awaits n awaited) stay) there tied in
-        called-step {setting = setting} {m = m} {stations = stations} {place = place} {side = side} {late = late} {ticks = ticks} {done = done} {lines = lines} {stay = stay} awaited cell cells is (record { at = at; stage = stage_here; called = called; ledger = l }) tied_here
+        called-step awaited cell cells is (record { at = at; stage = stage_here; called = called; ledger = l }) tied_here
 
 pub station-arrives : (setting : Setting) (m : MasterState NodeState) (stations : List StationSide) (late ticks : ℕ) (lines : List Line) (place : ℕ) (side : StationSide) (cell : LaneCell) (cells : List LaneCell) → At setting m stations place side → side.to_it ≡ cell ∷ cells
     → Course setting m stations late ticks lines → Arrived setting m stations late ticks lines place side cell cells
 station-arrives setting m stations late ticks lines place side cell cells at is c =
-    by-now {setting = setting} {m = m} {stations = stations} {place = place} {side = side} {late = late} {ticks = ticks} {done = c.done} {lines = lines} {stay = c.stay} c.now cell cells at is c.stage c.tied c.ledger
+    by-now c.now cell cells at is c.stage c.tied c.ledger

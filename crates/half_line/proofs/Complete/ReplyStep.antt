@@ -129,7 +129,7 @@ settled-check cell cells c s = sym s.this.line ∙ c.line
 -- of an ACK and an EOT nothing is told, and the initiator stays
 settles-step : {setting : Setting} {m : MasterState NodeState} {stations : List StationSide} {place : ℕ} {side : StationSide} {late ticks done : ℕ} {lines : List Line} {stay : Stay} {awaited : Awaited} {host : NodeState} (cell : LaneCell) (cells : List LaneCell)
     → Comings setting m stations late ticks lines place side awaited stay done → IsHome stay → host.initiator ≡ m.host.initiator → Settles m side cell cells host m.stations → reply_lines m cell ≡ [] → Replied setting m stations late ticks lines place side cell cells
-settles-step {setting = setting} {m = m} {stations = stations} {place = place} {side = side} {late = late} {ticks = ticks} {done = done} {lines = lines} {stay = stay} {awaited = awaited} {host = host} cell cells c home same s none =
+settles-step {setting = setting} {m = m} {stations = stations} {place = place} {side = side} {ticks = ticks} {done = done} {lines = lines} {stay = stay} cell cells c home same s none =
     let all = slice_set stations place (back_left side cells) in
     let i : (after_reply m cell).host.initiator ≡ m.host.initiator = ap (λ (node : NodeState). node.initiator) s.host_is ∙ same in
     let l = told-none setting m stations lines stay done ticks place side cell cells c.at.is_at none c.ledger in
@@ -138,12 +138,12 @@ settles-step {setting = setting} {m = m} {stations = stations} {place = place} {
         now = Idles;
         stay = stay;
         done = done;
-        stage = settled-stage {m = m} {stations = stations} {place = place} {side = side} {late = late} {awaited = awaited} {host = host} {listed = m.stations} cell cells c.stage s;
+        stage = settled-stage cell cells c.stage s;
         tied = home;
         ledger = subst (λ (listed : List Station). Ledger setting (after_reply m cell).host.initiator listed all (lines ++ reply_lines m cell) stay done ticks) (sym s.list_is)
             (subst (λ (x : InitiatorState). Ledger setting x m.stations all (lines ++ reply_lines m cell) stay done ticks) (sym i) l);
       };
-      ear_check = settled-check {m = m} {side = side} {awaited = awaited} {host = host} {listed = m.stations} cell cells c.called s;
+      ear_check = settled-check cell cells c.called s;
       honest = s.honest;
     }
 
@@ -164,7 +164,7 @@ kept_in o = option_and_then {T = Station} (λ station. station.kept) o
 
 answer-step : {setting : Setting} {m : MasterState NodeState} {stations : List StationSide} {place : ℕ} {side : StationSide} {late ticks done : ℕ} {lines : List Line} (body : List ℕ) (cell : LaneCell) (cells : List LaneCell) → let reply = answer_to (setting.first place) side.number (bodies_of m) done body in
     Comings setting m stations late ticks lines place side (Message reply) (Returning body) done → is_to side.number body ≡ true → HearsReply side.slave cell cells m.ear (a_reply reply) → Replied setting m stations late ticks lines place side cell cells
-answer-step {setting = setting} {m = m} {stations = stations} {place = place} {side = side} {late = late} {ticks = ticks} {done = done} {lines = lines} body cell cells c to h =
+answer-step {setting = setting} {m = m} {stations = stations} {place = place} {side = side} {ticks = ticks} {done = done} {lines = lines} body cell cells c to h =
     let k = c.at.known in
     let l = c.ledger in
     let i = m.host.initiator in
@@ -199,13 +199,13 @@ answer-step {setting = setting} {m = m} {stations = stations} {place = place} {s
         now = Idles;
         stay = Nowhere;
         done = suc done;
-        stage = settled-stage {m = m} {stations = stations} {place = place} {side = side} {late = late} {awaited = Message reply} {host = after_accept m.host reply} {listed = with_key m.stations place (key_of reply)} cell cells c.stage s;
+        stage = settled-stage cell cells c.stage s;
         tied = tt;
         ledger = subst (λ (more : List Line). Ledger setting (after_reply m cell).host.initiator (after_reply m cell).stations all (lines ++ more) Nowhere (suc done) ticks) (sym told)
             (subst (λ (listed : List Station). Ledger setting (after_reply m cell).host.initiator listed all (lines ++ answer_lines (done + 1) reply) Nowhere (suc done) ticks) (sym s.list_is)
             (subst (λ (x : InitiatorState). Ledger setting x (with_key m.stations place (key_of reply)) all (lines ++ answer_lines (done + 1) reply) Nowhere (suc done) ticks) (sym same) now));
       };
-      ear_check = settled-check {m = m} {side = side} {awaited = Message reply} {host = after_accept m.host reply} {listed = with_key m.stations place (key_of reply)} cell cells c.called s;
+      ear_check = settled-check cell cells c.called s;
       honest = s.honest;
     }
 
@@ -224,37 +224,37 @@ returns-step : {setting : Setting} {m : MasterState NodeState} {stations : List 
     → Comings setting m stations late ticks lines place side awaited stay done → IsTied setting (bodies_of m) done (Awaits place awaited) stay → Replied setting m stations late ticks lines place side cell cells
 returns-step {m = m} {side = side} (Receipt body) cell cells is c tied = absurd (none-comes m side cell cells is c.called.progress.none_back)
 returns-step {m = m} {side = side} Polling cell cells is c tied = absurd (none-comes m side cell cells is c.called.progress.none_back)
-returns-step {setting = setting} {m = m} {stations = stations} {place = place} {side = side} {late = late} {ticks = ticks} {done = done} {lines = lines} {stay = stay} Ack cell cells is c tied = by-cell (next-cell m side cell cells an_ack is c.called.progress)
+returns-step {setting = setting} {m = m} {stations = stations} {place = place} {side = side} {late = late} {ticks = ticks} {lines = lines} Ack cell cells is c tied = by-cell (next-cell m side cell cells an_ack is c.called.progress)
   where
     by-cell : Next m side cell cells an_ack → Replied setting m stations late ticks lines place side cell cells
     by-cell (inl still) =
         let g = silent-heard m side cell cells an_ack c.called.progress still in
-        on-step {setting = setting} {m = m} {stations = stations} {place = place} {side = side} {late = late} {ticks = ticks} {done = done} {lines = lines} {stay = stay} Ack an_ack cell cells c tied g g.returns
+        on-step Ack an_ack cell cells c tied g g.returns
     by-cell (inr h) =
         let w = c.stage.waits in
         let r = ack-heard m side cell cells w.left w.resent c.called w.phase h in
-        settles-step {setting = setting} {m = m} {stations = stations} {place = place} {side = side} {late = late} {ticks = ticks} {done = done} {lines = lines} {stay = stay} {awaited = Ack} {host = after_told m.host fate.Delivered} cell cells c tied refl r.0 (says-none m cell act.PeerAck r.1 (λ named. refl))
-returns-step {setting = setting} {m = m} {stations = stations} {place = place} {side = side} {late = late} {ticks = ticks} {done = done} {lines = lines} {stay = stay} Eot cell cells is c tied = by-cell (next-cell m side cell cells an_eot is c.called.progress)
+        settles-step cell cells c tied refl r.0 (says-none m cell act.PeerAck r.1 (λ named. refl))
+returns-step {setting = setting} {m = m} {stations = stations} {place = place} {side = side} {late = late} {ticks = ticks} {lines = lines} Eot cell cells is c tied = by-cell (next-cell m side cell cells an_eot is c.called.progress)
   where
     by-cell : Next m side cell cells an_eot → Replied setting m stations late ticks lines place side cell cells
     by-cell (inl still) =
         let g = silent-heard m side cell cells an_eot c.called.progress still in
-        on-step {setting = setting} {m = m} {stations = stations} {place = place} {side = side} {late = late} {ticks = ticks} {done = done} {lines = lines} {stay = stay} Eot an_eot cell cells c tied g g.returns
+        on-step Eot an_eot cell cells c tied g g.returns
     by-cell (inr h) =
         let w = c.stage.waits in
         let r = eot-heard m side cell cells w.left place c.called w.phase h in
-        settles-step {setting = setting} {m = m} {stations = stations} {place = place} {side = side} {late = late} {ticks = ticks} {done = done} {lines = lines} {stay = stay} {awaited = Eot} {host = m.host} cell cells c tied refl r.0 (says-none m cell act.Nothing r.1 (λ named. refl))
-returns-step {setting = setting} {m = m} {stations = stations} {place = place} {side = side} {late = late} {ticks = ticks} {done = done} {lines = lines} {stay = stay} (Message reply) cell cells is c tied = by-cell (next-cell m side cell cells (a_reply reply) is c.called.progress)
+        settles-step cell cells c tied refl r.0 (says-none m cell act.Nothing r.1 (λ named. refl))
+returns-step {setting = setting} {m = m} {stations = stations} {place = place} {side = side} {late = late} {ticks = ticks} {done = done} {lines = lines} (Message reply) cell cells is c tied = by-cell (next-cell m side cell cells (a_reply reply) is c.called.progress)
   where
     by-cell : Next m side cell cells (a_reply reply) → Replied setting m stations late ticks lines place side cell cells
     by-cell (inl still) =
         let g = silent-heard m side cell cells (a_reply reply) c.called.progress still in
-        on-step {setting = setting} {m = m} {stations = stations} {place = place} {side = side} {late = late} {ticks = ticks} {done = done} {lines = lines} {stay = stay} (Message reply) (a_reply reply) cell cells c tied g g.returns
+        on-step (Message reply) (a_reply reply) cell cells c tied g g.returns
     by-cell (inr h) =
         let number = here setting m stations place side tied.body c.at.known c.at.is_at tied.here in
         let to : is_to side.number tied.body ≡ true = ap (λ (n : ℕ). is_to n tied.body) (sym number) ∙ tied.here.to in
         let same : reply ≡ answer_to (setting.first place) side.number (bodies_of m) done tied.body = tied.is ∙ ap (λ (n : ℕ). answer_to (setting.first place) n (bodies_of m) done tied.body) number in
-        answer-step {setting = setting} {m = m} {stations = stations} {place = place} {side = side} {late = late} {ticks = ticks} {done = done} {lines = lines} tied.body cell cells
+        answer-step tied.body cell cells
         (subst (λ (r : List ℕ). Comings setting m stations late ticks lines place side (Message r) (Returning tied.body) done) same (subst (λ (s : Stay). Comings setting m stations late ticks lines place side (Message reply) s done) tied.stays c))
         to (subst (λ (r : List ℕ). HearsReply side.slave cell cells m.ear (a_reply r)) same h)
 
@@ -274,9 +274,9 @@ by-now {setting = setting} {m = m} {stations = stations} {place = place} {side =
         let side_is : e.side ≡ side = same-some e.side side (sym e.is_at ∙ at.is_at) in
         let called = subst (λ (s : StationSide). SideCalled m s awaited) side_is e.called in
         let tied_here : IsTied setting (bodies_of m) done (Awaits place awaited) stay = subst (λ (n : ℕ). IsTied setting (bodies_of m) done (Awaits n awaited) stay) there tied in
-        returns-step {setting = setting} {m = m} {stations = stations} {place = place} {side = side} {late = late} {ticks = ticks} {done = done} {lines = lines} {stay = stay} awaited cell cells is (record { at = at; stage = stage_here; called = called; ledger = l }) tied_here
+        returns-step awaited cell cells is (record { at = at; stage = stage_here; called = called; ledger = l }) tied_here
 
 pub master-hears : (setting : Setting) (m : MasterState NodeState) (stations : List StationSide) (late ticks : ℕ) (lines : List Line) (place : ℕ) (side : StationSide) (cell : LaneCell) (cells : List LaneCell) → At setting m stations place side → side.from_it ≡ cell ∷ cells
     → Course setting m stations late ticks lines → Replied setting m stations late ticks lines place side cell cells
 master-hears setting m stations late ticks lines place side cell cells at is c =
-    by-now {setting = setting} {m = m} {stations = stations} {place = place} {side = side} {late = late} {ticks = ticks} {done = c.done} {lines = lines} {stay = c.stay} c.now cell cells at is c.stage c.tied c.ledger
+    by-now c.now cell cells at is c.stage c.tied c.ledger
