@@ -120,19 +120,19 @@ fn the_first_flawed_line_is_told_with_its_first_flaw(rt: HostRuntime) {
     }
 }
 
-/// Lines with so many stations or commands of one master, and the line with a flaw, if there is one.
+/// Lines with stations from 17 up to this number, or so many commands of one master, and the line with a flaw, if there is one.
 const MANY: [(&str, u32, u32, Option<(u32, Flaw)>); 4] = [
-    ("", 32, 0, None),
-    ("", 33, 0, Some((33, Flaw::Value))),
-    ("station 3\n", 0, 65_535, None),
-    ("station 3\n", 0, 65_536, Some((65_537, Flaw::Spent))),
+    ("", 48, 0, None),
+    ("", 49, 0, Some((33, Flaw::Value))),
+    ("station 3\n", 16, 65_535, None),
+    ("station 3\n", 16, 65_536, Some((65_537, Flaw::Spent))),
 ];
 
-/// Lines for so many stations, from 17 on, and so many commands.
-fn many(alloc: Global, front: &str, stations: u32, commands: u32) -> Result<String, AllocError> {
+/// Lines for the stations from 17 to the last one, and so many commands.
+fn many(alloc: Global, front: &str, last: u32, commands: u32) -> Result<String, AllocError> {
     let mut text = String::from_str(alloc, front)?;
-    for number in 0..stations {
-        let line = format!(in alloc; "station {}\n", number + 17)?;
+    for number in 17..=last {
+        let line = format!(in alloc; "station {number}\n")?;
         text.push_str(&line)?;
     }
     for _ in 0..commands {
@@ -143,8 +143,8 @@ fn many(alloc: Global, front: &str, stations: u32, commands: u32) -> Result<Stri
 
 #[test]
 fn a_line_has_32_stations_and_a_master_65535_commands(rt: HostRuntime) -> Result<(), Fail> {
-    for (front, stations, commands, flaw) in MANY {
-        let text = many(rt.alloc(), front, stations, commands)?;
+    for (front, last, commands, flaw) in MANY {
+        let text = many(rt.alloc(), front, last, commands)?;
         let expected = flaw.map(|(line, flaw)| (line, Some(StatementFault::Flawed(flaw))));
         assert_eq!(rt; read(rt.alloc(), &text).err(), expected);
     }

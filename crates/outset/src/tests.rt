@@ -5,25 +5,24 @@ use df1_base::FileType;
 use df1_node::FileSpec;
 use line_statement::{Items, Who};
 use script_parts::{EndPlan, WordOf};
-use std::alloc::Global;
 use std::test::Fail;
 
-/// End b, with a file of two words, the second of which is given.
-fn plan_of(alloc: Global) -> Result<EndPlan, Fail> {
-    let mut files = Items::new(alloc);
+#[test]
+fn a_node_has_the_first_words_of_its_plan(rt: HostRuntime) -> Result<(), Fail> {
+    let mut files = Items::new(rt.alloc());
     files.push(FileSpec {
         number: 7,
         kind: FileType::Integer,
         count: 2,
     })?;
-    let mut words = Items::new(alloc);
+    let mut words = Items::new(rt.alloc());
     words.push(WordOf {
         who: Who::B,
         file: 7,
         index: 1,
         value: 0x12AB,
     })?;
-    Ok(EndPlan {
+    let plan = EndPlan {
         who: Who::B,
         embed: false,
         node: 1,
@@ -37,15 +36,10 @@ fn plan_of(alloc: Global) -> Result<EndPlan, Fail> {
         max_sends: 3,
         room: 2,
         compat: None,
-        block: Items::new(alloc),
+        block: Items::new(rt.alloc()),
         files,
         words,
-    })
-}
-
-#[test]
-fn a_node_has_the_first_words_of_its_plan(rt: HostRuntime) -> Result<(), Fail> {
-    let plan = plan_of(rt.alloc())?;
+    };
     let node = node_of(rt.alloc(), &plan)?;
     let tables = node.tables();
     let words = [tables.word(7, 0), tables.word(7, 1), tables.word(7, 2)];
