@@ -1,0 +1,110 @@
+//! A drill that was run: what it came to, and the line that tells it.
+ghost use Rattle.std.specs.Prelude.{◌≡◌, ◌≤◌, ◌+◌, ◌++◌, IfOk, decimal, length};
+ghost use Rattle.arrayvec.specs.ArrayVec.{array_vec_len};
+ghost use Rattle.line_report.specs.Report.{word_digits};
+ghost use Rattle.df1_drill.specs.Tally.{drilled, line_of};
+
+use crate::grown::Grown;
+use crate::script::{MOST_ROUNDS, drill_script};
+use crate::tally::{answered, damaged, enquiries, executed, issued, repeats};
+use arrayvec::ArrayVec;
+use df1_base::NoMemory;
+use df1_check::crc;
+use line_replay::replay;
+use line_report::pair;
+use std::alloc::Global;
+
+/// Room for the line, in bytes: seven numbers of at most 20 digits, four hexadecimal digits, and the words.
+pub const LINE: usize = 219;
+
+/// What a drill came to.
+#[derive(Clone, Copy, Debug, PartialEq, Eq)]
+pub struct Drilled {
+    /// The commands that the script issues.
+    pub issued: usize,
+    /// The commands that were executed.
+    pub executed: usize,
+    /// The commands that were answered.
+    pub answered: usize,
+    /// The messages that came damaged.
+    pub damaged: usize,
+    /// The messages that came again.
+    pub repeats: usize,
+    /// How often a missing response was asked for.
+    pub enquiries: usize,
+    /// How often an end was deceived.
+    pub deceived: u64,
+    /// The CRC-16 of the report's text.
+    pub report: u16,
+}
+
+/// Runs the drill's script of `count` rounds, at most 20,000, whose patterns and words begin at `seed`: what its report
+/// tells is counted. An error is want of memory.
+pub fn drill(alloc: Global, seed: u32, count: u32) -> Result<Drilled, NoMemory>
+    requires { count ≤ MOST_ROUNDS }
+    ensures { IfOk result (λ d. d ≡ drilled seed count) }
+{
+    let script = drill_script(alloc, seed, count)?;
+    let record = replay(alloc, &script)?;
+    let report = Grown::of_report(alloc, &record)?;
+    let lines = record.lines.as_slice();
+    Ok(Drilled {
+        issued: issued(script.events.as_slice()),
+        executed: executed(lines),
+        answered: answered(lines),
+        damaged: damaged(lines),
+        repeats: repeats(lines),
+        enquiries: enquiries(lines),
+        deceived: record.deceived,
+        report: crc(report.bytes()),
+    })
+}
+
+impl Drilled {
+    /// The line that tells it, which ends with a line feed: the counts in decimal, and the CRC in four hexadecimal digits,
+    /// high byte first.
+    pub fn line(&self) -> ArrayVec<u8, LINE>
+        ensures { result.items ≡ line_of self.now }
+    {
+        let mut line = ArrayVec::new();
+        append_count(&mut line, b"issued ", self.issued as u64);
+        append_count(&mut line, b" executed ", self.executed as u64);
+        append_count(&mut line, b" answered ", self.answered as u64);
+        append_count(&mut line, b" damaged ", self.damaged as u64);
+        append_count(&mut line, b" repeats ", self.repeats as u64);
+        append_count(&mut line, b" enquiries ", self.enquiries as u64);
+        append_count(&mut line, b" deceived ", self.deceived);
+        append(&mut line, b" report ");
+        append_digits(&mut line, self.report);
+        append(&mut line, b"\n");
+        line
+    }
+}
+
+/// Adds a name and a count to a line that has room for them.
+fn append_count(line: &mut ArrayVec<u8, LINE>, name: &[u8], n: u64)
+    requires { array_vec_len line.old + length name.now + 20 ≤ LINE }
+    ensures text { line.new.items ≡ line.old.items ++ name.now ++ decimal n }
+    ensures size { array_vec_len line.new ≤ array_vec_len line.old + length name.now + 20 }
+{
+    append(line, name);
+    append(line, itoa::Buffer::new().format(n).as_bytes());
+}
+
+/// Adds the four hexadecimal digits of a number, high byte first, to a line that has room for them.
+fn append_digits(line: &mut ArrayVec<u8, LINE>, n: u16)
+    requires { array_vec_len line.old + 4 ≤ LINE }
+    ensures text { line.new.items ≡ line.old.items ++ word_digits n }
+    ensures size { array_vec_len line.new ≡ array_vec_len line.old + 4 }
+{
+    append(line, &pair((n / 256) as u8));
+    append(line, &pair((n % 256) as u8));
+}
+
+/// Adds bytes to a line that has room for them.
+fn append(line: &mut ArrayVec<u8, LINE>, bytes: &[u8])
+    requires { array_vec_len line.old + length bytes.now ≤ LINE }
+    ensures { line.new.items ≡ line.old.items ++ bytes.now }
+{
+    line.try_extend_from_slice(bytes).unwrap();
+}

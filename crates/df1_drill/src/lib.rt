@@ -1,0 +1,14 @@
+//! The drill: a full-duplex script that is made from two numbers, its run, and one line that tells what the run came to.
+#![tactic(auto)]
+
+mod course;
+mod drilled;
+mod grown;
+mod script;
+mod tally;
+
+pub use drilled::{Drilled, LINE, drill};
+pub use script::{MOST_ROUNDS, drill_script, each_drill_can_be_played};
+
+#[cfg(test)]
+mod tests;
