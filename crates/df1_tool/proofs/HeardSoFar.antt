@@ -1,5 +1,5 @@
 -- What was taken of a capture so far, and what of its dissection is written.
-use Rattle.std.proofs.Common.{◌≡◌, ◌∙◌, ◌≤◌, ◌<◌, ℕ, ◌+◌, List, [], ◌∷◌, ◌++◌, Option, length, Result, Ok, Err, refl, sym, ap, subst, arith, append-nil, append_assoc, length-append}
+use Rattle.std.proofs.Common.{◌≡◌, ◌∙◌, ◌≤◌, ◌<◌, ℕ, ◌+◌, List, [], ◌∷◌, ◌++◌, Option, length, Result, Ok, Err, inl, inr, refl, sym, ap, subst, arith, append-nil, append_assoc, length-append}
 use Rattle.std.specs.Prelude.{OnOk, OnErr}
 use Rattle.std.specs.Io.KnownBytes.{IsAtEnd, Keeps}
 use Rattle.std.proofs.KnownBytes.{Appends-nil, Appends-trans, Consumes-nil, Consumes-trans, Consumes-kept}
@@ -14,11 +14,11 @@ use Rattle.half_frame.specs.MasterGrammar.{Nothing as SlaveNothing}
 use Rattle.df1_dissect.specs.declared.ear.Side.{Side}
 use Rattle.df1_dissect.specs.declared.ear.Side.TheVariants as side
 use Rattle.df1_dissect.specs.Reading.{Reading, StandsFor}
-use Rattle.df1_dissect.specs.Dissection.{HasLines, Dissects, lines_at, open_text}
-use Rattle.df1_dissect.proofs.Sides.{dissects, fed-length}
+use Rattle.df1_dissect.specs.Dissection.{HasLines, Dissects, lines_at}
+use Rattle.df1_dissect.proofs.Sides.{fed-length}
 use Rattle.df1_tool.specs.declared.capture.CaptureFault.{CaptureFault}
 use Rattle.df1_tool.specs.declared.capture.CaptureFault.TheVariants as fault
-use Rattle.df1_tool.specs.Dissected.{CloseEnd, DissectEnd, HasHeard, HasPut, HasPutFront, HasPutPart, IsCutShort, IsMoved, PieceEnd, PutEnd}
+use Rattle.df1_tool.specs.Dissected.{CloseEnd, DissectEnd, HasHeard, HasPut, HasPutFront, HasPutPart, IsCutShort, IsDue, IsMoved, PieceEnd, PutEnd}
 
 -- ---- a count of faults
 
@@ -86,25 +86,18 @@ all-put of check bytes text d held held' held'' waiting w put = record {
 
 -- or a first part of it is
 pub part-put : (of : Side) (check : Check) (before piece front unheard text : List ℕ) (d : Reading) (held held' held'' : Option (List ℕ)) (waiting : List ℕ) → Waiting of check (before ++ front) text d held held' waiting
-    → piece ≡ front ++ unheard → WrotePart held' held'' waiting → HasPutPart of check before piece text held held''
-part-put of check before piece front unheard text d held held' held'' waiting w split part =
-    let last = open_text d.start d.fed in
+    → d.fed ≤ 268435456 → piece ≡ front ++ unheard → WrotePart held' held'' waiting → HasPutPart of check before piece text held held''
+part-put of check before piece front unheard text d held held' held'' waiting w few split part =
+    let fed = fed-length of check (before ++ front) d w.heard.stands in
     let both = put_wrote held held' held'' w.written waiting part.0 w.put part.1 in
-    let all = dissects of check (before ++ front) d (text ++ (w.written ++ waiting)) w.heard.stands w.heard.lines in
     record {
       front = front;
       unheard = unheard;
       whole = split;
-      due = (w.written ++ waiting) ++ last;
-      dissects = subst (λ (l : List ℕ). Dissects of check (before ++ front) l) (append_assoc text (w.written ++ waiting) last) all;
-      part = (
-        part.0 ++ last,
-        record {
-          part = both.part;
-          text_is = ap (λ (l : List ℕ). l ++ last) both.text_is ∙ append_assoc both.part part.0 last;
-          put = both.put;
-        },
-      );
+      within = omega (arith, few, fed);
+      due = w.written ++ waiting;
+      lines = w.heard.lines;
+      part = (part.0, both);
     }
 
 -- ---- a piece
@@ -115,8 +108,9 @@ piece-of of check before piece front unheard text held held' split p = record {
   front = p.front;
   unheard = p.unheard ++ unheard;
   whole = split ∙ ap (λ (l : List ℕ). l ++ unheard) p.whole ∙ append_assoc p.front p.unheard unheard;
+  within = p.within;
   due = p.due;
-  dissects = p.dissects;
+  lines = p.lines;
   part = p.part;
 }
 
@@ -151,11 +145,11 @@ piece-front of check before piece front unheard text d d' held held' faults faul
 
 -- what hearing bytes comes to, where what waits goes to the output in the end
 pub put-ended : (of : Side) (check : Check) (before heard text : List ℕ) (d : Reading) (held held' held'' : Option (List ℕ)) (out out' out'' : ℕ) (waiting : List ℕ) (result : Result (Unit {0}) Failed)
-    → Waiting of check (before ++ heard) text d held held' waiting → out' ≡ out → OnOk result (Put held' held'' waiting) → OnErr result (WrotePart held' held'' waiting) → OnOk result (out'' ≡ out') → OnErr result (Rose out' out'')
+    → Waiting of check (before ++ heard) text d held held' waiting → d.fed ≤ 268435456 → out' ≡ out → OnOk result (Put held' held'' waiting) → OnErr result (WrotePart held' held'' waiting) → OnOk result (out'' ≡ out') → OnErr result (Rose out' out'')
     → PutEnd of check before heard text d held held'' out out'' result
-put-ended of check before heard text d held held' held'' out out' out'' waiting (Ok done) w steady put part calm rose = (all-put of check (before ++ heard) text d held held' held'' waiting w put, calm ∙ steady)
-put-ended of check before heard text d held held' held'' out out' out'' waiting (Err failed) w steady put part calm rose =
-    (part-put of check before heard heard [] text d held held' held'' waiting w (sym (append-nil heard)) part, same-rose out out' out'' steady rose)
+put-ended of check before heard text d held held' held'' out out' out'' waiting (Ok done) w few steady put part calm rose = (all-put of check (before ++ heard) text d held held' held'' waiting w put, calm ∙ steady)
+put-ended of check before heard text d held held' held'' out out' out'' waiting (Err failed) w few steady put part calm rose =
+    (part-put of check before heard heard [] text d held held' held'' waiting w few (sym (append-nil heard)) part, same-rose out out' out'' steady rose)
 
 -- ---- the whole input
 
@@ -193,17 +187,19 @@ piece-so-far of check left left' left'' held held' held'' faults faults' d d' pi
 
 -- a first part of what is due is written
 cut-short : (of : Side) (check : Check) (left left'' held held' held'' : Option (List ℕ)) (before front unheard text due : List ℕ) → Took left left'' (before ++ (front ++ unheard)) → length (front ++ unheard) ≤ 4096
-    → HasLines of check before text → Put held held' text → Dissects of check (before ++ front) (text ++ due) → WrotePart held' held'' due → IsCutShort of check left left'' held held''
-cut-short of check left left'' held held' held'' before front unheard text due took few lines put all part = record {
+    → length (before ++ front) ≤ input_limit → HasLines of check before text → Put held held' text → IsDue of check left'' (before ++ front) unheard (text ++ due) → WrotePart held' held'' due
+    → IsCutShort of check left left'' held held''
+cut-short of check left left'' held held' held'' before front unheard text due took few within lines put all part = record {
   before = before;
   next = front;
   unheard = unheard;
   took = took;
   few = few;
+  within = within;
   text = text;
   due = due;
   lines = lines;
-  dissects = all;
+  whole = all;
   rest = part.0;
   part = part.1.part;
   due_is = part.1.text_is;
@@ -219,7 +215,7 @@ piece-ended of check left left' left'' input input' input'' held held' held'' ou
     let p = end.0 in
     let all = Consumes-trans left left' left'' s.bytes piece s.took took in (
       cut-short of check left left'' held held' held'' s.bytes p.front p.unheard s.text p.due (subst (λ (l : List ℕ). Took left left'' (s.bytes ++ l)) p.whole all)
-          (subst (λ (l : List ℕ). length l ≤ 4096) p.whole few) s.heard.lines s.put p.dissects p.part,
+          (subst (λ (l : List ℕ). length l ≤ 4096) p.whole few) p.within s.heard.lines s.put (inl p.lines) p.part,
       same-rose out out' out'' steady end.1,
       calm' ∙ calm,
     )
@@ -277,9 +273,11 @@ closed of check left left' left'' input input' input'' held held' held'' out out
     )
 closed of check left left' left'' input input' input'' held held' held'' out out' out'' d (Err fault.Input) s few took end calm calm' steady close = absurd close
 closed of check left left' left'' input input' input'' held held' held'' out out' out'' d (Err fault.Output) s few took end calm calm' steady close =
-    let due = close.0 in (
-      cut-short of check left left'' held held' held'' s.bytes [] [] s.text due.0 (Consumes-trans left left' left'' s.bytes [] s.took took) (omega arith) s.heard.lines s.put
-          (subst (λ (l : List ℕ). Dissects of check l (s.text ++ due.0)) (sym (append-nil s.bytes)) due.1) due.2,
+    let due = close.0 in
+    let same : s.bytes ≡ s.bytes ++ [] = sym (append-nil s.bytes) in (
+      cut-short of check left left'' held held' held'' s.bytes [] [] s.text due.0 (Consumes-trans left left' left'' s.bytes [] s.took took) (omega arith)
+          (subst (λ (l : List ℕ). length l ≤ input_limit) same (size-of of check left left' held held' d s few)) s.heard.lines s.put
+          (inr (end, refl, subst (λ (l : List ℕ). Dissects of check l (s.text ++ due.0)) same due.1)) due.2,
       same-rose out out' out'' steady close.1,
       calm' ∙ calm,
     )

@@ -1,5 +1,6 @@
 -- What a run of `dissect` shows: its status, what it read and wrote, and its note.
-use Rattle.std.specs.Prelude.{◌≡◌, ◌≢◌, ◌⊎◌, ◌≤◌, ℕ, List, ◌++◌, length, Option, Some, Result, Ok, Err, nat_lt, if◌then◌else◌}
+use Rattle.std.specs.Prelude.{◌≡◌, ◌≢◌, ◌⊎◌, ◌≤◌, ℕ, List, [], ◌++◌, length, Option, Some, Result, Ok, Err, nat_lt, if◌then◌else◌}
+use Rattle.std.specs.Io.KnownBytes.{IsAtEnd}
 use Rattle.df1_base.specs.Outside.{Rose, Took, Put, WrotePart}
 use Rattle.df1_base.specs.Signals.{input_limit}
 use Rattle.df1_base.specs.declared.outside.Failed.{Failed}
@@ -27,18 +28,23 @@ pub record HasWritten (of : Side) (check : Check) (held held' : Option (List ℕ
   pub lines : HasLines of check bytes text
   pub put : Put held held' text
 
--- The lines of all that is heard in the bytes before are written, and of what follows in the dissection of these bytes and
--- the next ones a first part. At most 4,096 bytes were taken after those before.
+-- what is due of bytes: the lines of all that is heard in them, and at the end of the input that of the unfinished item too
+abbrev pub IsDue : (of : Side) (check : Check) (left' : Option (List ℕ)) (bytes unheard text : List ℕ) → Type 0
+IsDue of check left' bytes unheard text = HasLines of check bytes text ⊎ (IsAtEnd left' × (unheard ≡ []) × Dissects of check bytes text)
+
+-- The lines of all that is heard in the bytes before are written, and of what is due after them, with the next ones, a first
+-- part. At most 4,096 bytes were taken after those before. What is beyond the limit isn't heard.
 pub record IsCutShort (of : Side) (check : Check) (left left' held held' : Option (List ℕ)) : Type 0 where
   pub before : List ℕ
   pub next : List ℕ
   pub unheard : List ℕ
   pub took : Took left left' (before ++ (next ++ unheard))
   pub few : length (next ++ unheard) ≤ 4096
+  pub within : length (before ++ next) ≤ input_limit
   pub text : List ℕ
   pub due : List ℕ
   pub lines : HasLines of check before text
-  pub dissects : Dissects of check (before ++ next) (text ++ due)
+  pub whole : IsDue of check left' (before ++ next) unheard (text ++ due)
   pub rest : List ℕ
   pub part : List ℕ
   pub due_is : due ≡ part ++ rest
@@ -82,13 +88,14 @@ pub record HasPutFront (of : Side) (check : Check) (before piece text : List ℕ
   pub lines : HasLines of check (before ++ front) (text ++ more)
   pub put : Put held held' more
 
--- of what follows in the dissection of the bytes before and of a front of a piece, a first part is written
+-- of what the lines of the bytes before and of a front of a piece have more than before, a first part is written
 pub record HasPutPart (of : Side) (check : Check) (before piece text : List ℕ) (held held' : Option (List ℕ)) : Type 0 where
   pub front : List ℕ
   pub unheard : List ℕ
   pub whole : piece ≡ front ++ unheard
+  pub within : length (before ++ front) ≤ input_limit
   pub due : List ℕ
-  pub dissects : Dissects of check (before ++ front) (text ++ due)
+  pub lines : HasLines of check (before ++ front) (text ++ due)
   pub part : WrotePart held held' due
 
 -- what hearing bytes comes to, and writing their lines
@@ -116,8 +123,8 @@ CloseEnd of check bytes text held held' faults faults' (Err fault.TooLong) = ⊥
 --
 -- 0: the input was read to its end, and its dissection is written.
 -- 4: the input has failed: the lines of all that is heard in the bytes taken are written.
--- 5: the output has failed: a part of the dissection is written, and at most 4,096 bytes were taken after the one that made
--- the first missing line due.
+-- 5: the output has failed: a first part of what is due is written, and at most 4,096 bytes were taken after the one that made
+-- the first missing line due; that of the unfinished item is due at the end of the input.
 -- 8: 268,435,456 bytes were taken and another is there: the lines of all that is heard in them are written.
 pub record DissectRun (of : Side) (check : Check) (before after : Streams) (status : ℕ) : Type 0 where
   pub statuses : (status ≡ 0) ⊎ (status ≡ 4) ⊎ (status ≡ 5) ⊎ (status ≡ 8)
