@@ -1,7 +1,7 @@
 //! The commands `dissect` and `check`, over the outside in memory.
 use crate::tests::words;
 use crate::{Ran, run};
-use df1_base::{BytesIn, BytesOut};
+use df1_base::{ByteRun, BytesIn, BytesOut};
 use df1_shelf::ShelfMem;
 use std::alloc::Global;
 use std::process::Abort;
@@ -227,6 +227,33 @@ fn other_endings_of_a_capture_have_their_status_and_note(rt: HostRuntime) -> Res
         assert_eq!(rt; ran.status, case.status);
         assert_eq!(rt; ran.out.held(), case.out.as_bytes());
         assert_eq!(rt; ran.note.held(), case.note.as_bytes());
+    }
+    Ok(())
+}
+
+fn ran_over(alloc: Global, count: u64) -> Result<Ran<ShelfMem, ByteRun, BytesOut, BytesOut>, Fail> {
+    let words = words(alloc, &["check", "full", "bcc"])?;
+    Ok(run(
+        alloc,
+        &words,
+        ShelfMem::new(alloc),
+        ByteRun::new(0x55, count),
+        BytesOut::new(alloc, 200, 200, &[])?,
+        BytesOut::new(alloc, 200, 200, &[])?,
+    ))
+}
+
+#[test]
+fn a_capture_has_at_most_268435456_bytes(rt: HostRuntime) -> Result<(), Fail> {
+    let cases = [
+        (268_435_456, 1, "heard 268435456 bad 268435456 open 0\n", ""),
+        (268_435_457, 8, "", "df1: input is over 268435456 bytes\n"),
+    ];
+    for (count, status, out, note) in cases {
+        let ran = ran_over(rt.alloc(), count)?;
+        assert_eq!(rt; ran.status, status);
+        assert_eq!(rt; ran.out.held(), out.as_bytes());
+        assert_eq!(rt; ran.note.held(), note.as_bytes());
     }
     Ok(())
 }
