@@ -28,7 +28,7 @@ pub mod MasterStep
 pub mod MasterHears
 -- The next command for a station has another key than the one that it executed last.
 pub mod NewKeys
--- Where nothing is under way nothing is awaited.
+-- Where nothing is under way the master has no message to give.
 pub mod QuietLine
 -- The master hears the reply of the station of which it is awaited.
 pub mod ReplyHeard

@@ -1,6 +1,6 @@
--- Where nothing is under way nothing is awaited: the master is idle and has no message to give, and no station holds one.
-use Rattle.std.proofs.Common.{◌≡◌, ◌∙◌, ℕ, Bool, true, false, List, [], ◌∷◌, length, Some, None, is_none, refl, ap, sym}
-use Rattle.std.specs.Prelude.{◌==◌, slice_get, slice_index}
+-- Where nothing is under way nothing is awaited, and the master has no message to give.
+use Rattle.std.proofs.Common.{◌≡◌, ◌∙◌, ℕ, Bool, true, false, List, [], ◌∷◌, length, Some, is_none, refl, ap, sym}
+use Rattle.std.specs.Prelude.{◌==◌, slice_index}
 use Rattle.std.specs.List.{list_all}
 use Rattle.df1_node.specs.Node.{NodeState, next_body}
 use Rattle.half_frame.specs.declared.framer.Sent.{Sent}
@@ -12,17 +12,10 @@ use Rattle.half_master.specs.Master.{MasterState, transmitted, begun, with_host}
 use Rattle.half_master.proofs.Changes.{take-giving, take-begins}
 use Rattle.half_slave.proofs.Sizes.{some-left}
 use Rattle.each_once.specs.NodeHost.{node_host}
-use Rattle.half_line.specs.Acts.{StationSide, HalfState}
+use Rattle.half_line.specs.Acts.{HalfState}
 use Rattle.half_line.specs.Prompt.{is_idle, is_quiet}
 use Rattle.half_line.proofs.Complete.StagePlaces.{none-given, awaits-busy}
-use Rattle.half_line.proofs.Complete.Stages.{AllRest, Now, Idles, Awaits, Stage, idle-is, all-at, rests-free, both}
-
-pub record NothingAwaited (s : HalfState) : Type 0 where
-  pub idle : s.master.phase ≡ phase.Idle
-  pub given : s.master.mouth.left ≡ []
-  pub none_ready : (body : List ℕ) → next_body s.master.host ≡ Some body → is_listed s.master.stations (slice_index body 0) ≡ true → ⊥
-  pub rest : AllRest s.master s.stations
-  pub free : (p : ℕ) (side : StationSide) → slice_get s.stations p ≡ Some side → side.slave.held ≡ None
+use Rattle.half_line.proofs.Complete.Stages.{Now, Idles, Awaits, Stage, both}
 
 -- a master whose take gives nothing has given all
 pub done-left : (left : List Sent) → (length left == 0) ≡ true → left ≡ []
@@ -41,16 +34,9 @@ none-ready m body done idle none next listed =
     let no = ap (λ (e : MasterState NodeState). is_none (take e.mouth).1) (sym is) ∙ none in
     cc
 
-pub nothing-awaited : (late : ℕ) (s : HalfState) (now : Now) → Stage late s.master s.stations now → is_quiet s ≡ true → NothingAwaited s
-nothing-awaited late s Idles stage quiet =
-    let parts = both (is_none (master.out_at_take node_host s.master)) (list_all is_idle s.stations) quiet in
-    let given = given-by s.master (is_done s.master.mouth) refl parts.0 in
-    let done = ap (λ (left : List Sent). length left == 0) given in
-    record {
-      idle = stage.idle;
-      given = given;
-      none_ready = λ body next listed. none-ready s.master body done stage.idle parts.0 next listed;
-      rest = stage.rest;
-      free = λ p side at. rests-free s.master side given (idle-is side (all-at s.stations p side parts.1 at)) (stage.rest p side at);
-    }
-nothing-awaited late s (Awaits place awaited) stage quiet = absurd (awaits-busy late s place awaited stage quiet)
+pub nothing-ready : (late : ℕ) (s : HalfState) (now : Now) (body : List ℕ) → Stage late s.master s.stations now → is_quiet s ≡ true → next_body s.master.host ≡ Some body → is_listed s.master.stations (slice_index body 0) ≡ true → ⊥
+nothing-ready late s Idles body stage quiet next listed =
+    let none = (both (is_none (master.out_at_take node_host s.master)) (list_all is_idle s.stations) quiet).0 in
+    let given = given-by s.master (is_done s.master.mouth) refl none in
+    none-ready s.master body (ap (λ (left : List Sent). length left == 0) given) stage.idle none next listed
+nothing-ready late s (Awaits place awaited) body stage quiet next listed = absurd (awaits-busy late s place awaited stage quiet)

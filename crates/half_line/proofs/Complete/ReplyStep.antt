@@ -5,7 +5,6 @@ use Rattle.std.specs.Option.{option_and_then}
 use Rattle.std.proofs.lemmas.Bool.{eqb-true, eqb-false}
 use Rattle.df1_base.specs.declared.host.Did.{Did}
 use Rattle.df1_base.specs.declared.host.Did.TheVariants as did
-use Rattle.df1_base.specs.declared.host.Fate.TheVariants as fate
 use Rattle.df1_base.specs.declared.host.News.TheVariants as news
 use Rattle.df1_base.specs.declared.link.Act.{Act}
 use Rattle.df1_base.specs.declared.link.Act.TheVariants as act
@@ -14,7 +13,7 @@ use Rattle.pccc_envelope.specs.declared.key.Key.{Key}
 use Rattle.pccc_envelope.specs.Envelope.{is_reply, key_of}
 use Rattle.pccc_envelope.specs.Accepted.{is_kept}
 use Rattle.df1_node.specs.Initiator.{InitiatorState, answered_place, after_reply as initiator_after}
-use Rattle.df1_node.specs.Node.{NodeState, has_room, did_accept, after_accept, after_told}
+use Rattle.df1_node.specs.Node.{NodeState, has_room, did_accept, after_accept}
 use Rattle.half_master.specs.declared.stations.Station.{Station}
 use Rattle.half_master.specs.Keys.{kept_at}
 use Rattle.half_master.specs.Stations.{with_key}

@@ -1,5 +1,5 @@
 -- What a master waits for, and how its stations stand then, on a line that nothing disturbs; and that such a line is quiet only where the master waits for nothing.
-use Rattle.std.proofs.Common.{◌≡◌, ◌∙◌, ℕ, ◌+◌, ◌≤◌, zero, suc, Bool, true, false, is_none, List, [], ◌∷◌, ◌++◌, Option, Some, None, refl, ap, sym, subst}
+use Rattle.std.proofs.Common.{◌≡◌, ◌∙◌, ℕ, ◌+◌, ◌≤◌, zero, suc, Bool, true, false, is_none, List, [], ◌∷◌, ◌++◌, Option, Some, refl, ap, sym, subst}
 use Rattle.std.specs.Prelude.{◌&&◌, slice_get}
 use Rattle.std.specs.List.{list_all}
 use Rattle.half_frame.specs.declared.framer.Sent.{Sent}
@@ -17,10 +17,10 @@ use Rattle.each_once.proofs.Sublists.{same-some}
 use Rattle.half_line.specs.Acts.{StationSide}
 use Rattle.half_line.specs.Prompt.{is_idle}
 use Rattle.half_line.proofs.Complete.ComingCells.{cells_of, coming}
-use Rattle.half_line.proofs.Complete.EarHears.{Telling, told, tells_of, Hears}
+use Rattle.half_line.proofs.Complete.EarHears.{Telling, told, Hears}
 use Rattle.half_line.proofs.Complete.StationHears.{station_ear}
 use Rattle.half_line.proofs.Complete.MasterHears.{IsOutside, master_ear}
-use Rattle.half_line.proofs.Complete.StationRests.{Rest, free, holds, Rests, Called}
+use Rattle.half_line.proofs.Complete.StationRests.{Rests, Called}
 use Rattle.half_line.proofs.Complete.StationAnswers.{giving_of, back, Answers}
 
 -- ---- one station
@@ -217,14 +217,3 @@ all-at (first ∷ stations) (suc place) side all at = all-at stations place side
 
 pub expects-busy : (m : MasterState NodeState) (stations : List StationSide) (place : ℕ) (awaited : Awaited) → m.mouth.left ≡ [] → Expects m stations place awaited → list_all is_idle stations ≡ true → ⊥
 expects-busy m stations place awaited given e all = busy-progress m e.side awaited given (idle-is e.side (all-at stations place e.side all e.is_at)) e.called.progress
-
--- an idle station at rest holds no message
-pub rests-free : (m : MasterState NodeState) (side : StationSide) → m.mouth.left ≡ [] → IsIdle side → SideRests m side → side.slave.held ≡ None
-rests-free m side given idle r = by-rest r.rests.rest
-  where
-    none : r.rests.all ≡ []
-    none = sym r.rests.hears.tells ∙ ap (λ (cells : List LaneCell). tells_of station_ear side.slave.ear cells) (no-tape m side given idle.none_to_it)
-
-    by-rest : Rest side.slave.setup.station side.slave.held r.rests.all → side.slave.held ≡ None
-    by-rest (free is over) = is
-    by-rest (holds message rest is wait first over) = absurd (let no = sym none ∙ first in cc)

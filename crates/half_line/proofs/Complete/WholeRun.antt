@@ -11,6 +11,7 @@ use Rattle.std.proofs.lemmas.List.Sums.{sum_by-cons}
 use Rattle.std.proofs.lemmas.Option.{slice_get_within, slice_get-get_or, get_or_from_slice_get}
 use Rattle.df1_node.specs.Answer.{StationState}
 use Rattle.df1_node.specs.Initiator.{Issued, next_command}
+use Rattle.df1_node.specs.Node.{next_body}
 use Rattle.half_master.specs.Stations.{is_listed}
 use Rattle.half_master.proofs.Seen.{listed-number}
 use Rattle.line_statement.specs.declared.who.Who.{Who}
@@ -44,7 +45,7 @@ use Rattle.half_line.proofs.Complete.Invariant.{Flow, IsTied, rooms, flow-start}
 use Rattle.half_line.proofs.Complete.Ledger.{Nowhere, Going, Kept, Returning, Stay, IsHome, due_if, numbers_in, answer_to, Ledger, ledger-lines}
 use Rattle.half_line.proofs.Complete.LineFacts.{AreShort, Known, known}
 use Rattle.half_line.proofs.Complete.MasterStep.{found}
-use Rattle.half_line.proofs.Complete.QuietLine.{NothingAwaited, nothing-awaited}
+use Rattle.half_line.proofs.Complete.QuietLine.{nothing-ready}
 use Rattle.half_line.proofs.Complete.RunSteps.{Along, ticks_over, along-steps, along-issue}
 use Rattle.half_line.proofs.Complete.StagePlaces.{awaits-busy}
 use Rattle.half_line.proofs.Complete.Stages.{Now, Idles, Awaits, Stage}
@@ -172,14 +173,14 @@ none-kept setting s lines done ticks (Kept body) k fetched home l =
     absurd (let no : [] ≡ answer_to first f.side.number (bodies_of s.master) done body ∷ [] = sym none ∙ waits in cc)
 
 -- the master has none to hand out
-none-waits : (setting : Setting) (s : HalfState) (lines : List Line) (stay : Stay) (done ticks : ℕ) (o : Option (List ℕ)) → next_command s.master.host.initiator.issued ≡ o → Known setting s.master s.stations → NothingAwaited s → Ledger setting s.master.host.initiator s.master.stations s.stations lines stay done ticks
+none-waits : (setting : Setting) (s : HalfState) (lines : List Line) (stay : Stay) (done ticks : ℕ) (o : Option (List ℕ)) → next_command s.master.host.initiator.issued ≡ o → Known setting s.master s.stations → ((body : List ℕ) → next_body s.master.host ≡ Some body → is_listed s.master.stations (slice_index body 0) ≡ true → ⊥) → Ledger setting s.master.host.initiator s.master.stations s.stations lines stay done ticks
     → next_command s.master.host.initiator.issued ≡ None
 none-waits setting s lines stay done ticks None is k n l = is
 none-waits setting s lines stay done ticks (Some body) is k n l =
     let m = s.master in
     let at = next-body m.host.initiator.issued done l.out body l.in_time.under_way is in
     let listed : is_listed m.stations (slice_index body 0) ≡ true = listed-number m.stations (slice_index body 0) ∙ ap (λ (ns : List ℕ). is_declared ns (slice_index body 0)) k.list_is ∙ l.declared done body at in
-    absurd (n.none_ready body (ap (λ (replies : List (List ℕ)). option_or (slice_get replies 0) (next_command m.host.initiator.issued)) k.replies_none ∙ is) listed)
+    absurd (n body (ap (λ (replies : List (List ℕ)). option_or (slice_get replies 0) (next_command m.host.initiator.issued)) k.replies_none ∙ is) listed)
 
 -- so all are answered
 record AllAnswered (setting : Setting) (s : HalfState) (lines : List Line) : Type 0 where
@@ -195,7 +196,7 @@ all-answered setting wait s late ticks lines k quiet fetched f =
     let home = quiet-home setting s late (bodies_of s.master) c.done c.now c.stay c.stage quiet c.tied in
     let nowhere = none-kept setting s lines c.done ticks c.stay k fetched home c.ledger in
     let l = subst (λ (stay : Stay). Ledger setting s.master.host.initiator s.master.stations s.stations lines stay c.done ticks) nowhere c.ledger in
-    let none = none-waits setting s lines Nowhere c.done ticks (next_command issued) refl k (nothing-awaited late s c.now c.stage quiet) l in
+    let none = none-waits setting s lines Nowhere c.done ticks (next_command issued) refl k (λ body. nothing-ready late s c.now body c.stage quiet) l in
     let under : IsUnderWay issued c.done None = subst (λ (out : Option ℕ). IsUnderWay issued c.done out) l.is_out l.in_time.under_way in
     record { done = c.done; ticks = ticks; count = length-map issued (λ (x : Issued). x.body) ∙ (under-all issued c.done under none).0; ledger = l }
 
