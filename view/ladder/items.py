@@ -1,0 +1,170 @@
+"""What an end gave, split into messages, polls and pairs, and their names.
+
+An end gives whole items, one behind another; responses may stand inside a full-duplex frame.
+"""
+from __future__ import annotations
+
+from dataclasses import dataclass
+
+DLE, STX, ETX = 0x10, 0x02, 0x03
+SOH, ENQ = 0x01, 0x05
+
+PAIRS = {
+    "full": {0x05: "ENQ", 0x06: "ACK", 0x0F: "NAK", 0x15: "NAK"},
+    "master": {0x06: "ACK", 0x0F: "NAK, a reset", 0x15: "NAK, a reset"},
+    "slave": {0x04: "EOT", 0x06: "ACK", 0x0F: "NAK", 0x15: "NAK"},
+}
+WITH_FUNCTION = (0x06, 0x0F)
+
+
+class NoItem(Exception):
+    """A byte that no item has at its place."""
+
+
+@dataclass(frozen=True)
+class Item:
+    """A message, a poll or a pair: its name, the station that it names, and its bytes' places among all that were given."""
+
+    name: str
+    station: str | None
+    first: int
+    last: int
+    inside: tuple[Item, ...] = ()
+    is_whole: bool = True
+
+    def places(self):
+        """The places of its own bytes: those of the responses inside it are theirs."""
+        others = {place for item in self.inside for place in (item.first, item.last)}
+        return tuple(place for place in range(self.first, self.last + 1) if place not in others)
+
+
+class Splitter:
+    """Splits the bytes of one side of a line, as they come."""
+
+    def __init__(self, side, check_size):
+        self._side = side
+        self._check_size = check_size
+        self._place = 0
+        self._expects = self._outside
+        self._begin()
+
+    def _begin(self):
+        self._first = self._place
+        self._station = None
+        self._body = bytearray()
+        self._inside = []
+        self._left = 0
+
+    def feed(self, data):
+        """The items that end in these bytes. Raises NoItem where they are none."""
+        ended = []
+        for byte in data:
+            item = self._expects(byte)
+            self._place += 1
+            if item:
+                ended.append(item)
+        return ended
+
+    def unfinished(self):
+        """What is begun and isn't whole yet, as an item up to the last byte so far, or None."""
+        if self._expects == self._outside:
+            return None
+        return Item("unfinished", self._station, self._first, self._place - 1, tuple(self._inside), is_whole=False)
+
+    def _outside(self, byte):
+        self._begin()
+        self._want(byte, DLE)
+        self._expects = self._second
+
+    def _second(self, byte):
+        name = PAIRS[self._side].get(byte)
+        if name:
+            return self._end(name)
+        if self._side == "master":
+            self._want(byte, SOH, ENQ)
+            self._left = 2
+            self._expects = self._address if byte == SOH else self._poll
+        else:
+            self._want(byte, STX)
+            self._expects = self._unit
+
+    def _poll(self, byte):
+        if self._left == 2:
+            self._station = str(byte)
+        self._left -= 1
+        if self._left == 0:
+            return self._end(f"poll {self._station}")
+
+    def _address(self, byte):
+        if self._station is None:
+            self._station = str(byte)
+            return
+        self._want(byte, (DLE, STX)[2 - self._left])
+        self._left -= 1
+        if self._left == 0:
+            self._expects = self._unit
+
+    def _unit(self, byte):
+        if byte == DLE:
+            self._expects = self._escaped
+        else:
+            self._body.append(byte)
+
+    def _escaped(self, byte):
+        self._expects = self._unit
+        if byte == DLE:
+            self._body.append(DLE)
+        elif byte == ETX:
+            self._left = self._check_size
+            self._expects = self._check
+        else:
+            name = PAIRS["full"].get(byte) if self._side == "full" and byte != ENQ else None
+            if name is None:
+                raise NoItem
+            response = Item(f"{name}, embedded", None, self._place - 1, self._place)
+            self._inside.append(response)
+            return response
+
+    def _check(self, _byte):
+        self._left -= 1
+        if self._left == 0:
+            return self._end(message_name(bytes(self._body)))
+
+    def _end(self, name):
+        self._expects = self._outside
+        return Item(name, self._station, self._first, self._place, tuple(self._inside))
+
+    @staticmethod
+    def _want(byte, *wanted):
+        if byte not in wanted:
+            raise NoItem
+
+
+def message_name(body):
+    """Whether a body is a command or a reply, and the fields that tell which."""
+    if len(body) < 6:
+        return "message"
+    command, status = body[2], body[3]
+    fields = [f"CMD {command:02X}"]
+    if command & 0x40:
+        if status == 0xF0 and len(body) > 6:
+            fields.append(f"STS F0/{body[6]:02X}")
+        elif status:
+            fields.append(f"STS {status:02X}")
+    elif command in WITH_FUNCTION and len(body) > 6:
+        fields.append(f"FNC {body[6]:02X}")
+    fields.append(f"TNS {body[5]:02X}{body[4]:02X}")
+    return " ".join(["reply" if command & 0x40 else "command"] + fields)
+
+
+def split_foreign(side, check_size, data):
+    """Foreign bytes as pairs of a name and bytes: their items, or all of them where they are no whole items."""
+    splitter = Splitter(side, check_size)
+    try:
+        items = splitter.feed(data)
+    except NoItem:
+        items = []
+    if not items or splitter.unfinished():
+        return [(data.hex().upper(), data)]
+    inner = {response for item in items for response in item.inside}
+    return [(item.name, data[item.first:item.last + 1]) for item in items if item not in inner]

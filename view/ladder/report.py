@@ -1,0 +1,78 @@
+"""The lines of a report."""
+from __future__ import annotations
+
+import re
+from dataclasses import dataclass
+
+WHO = r"(?P<who>[abm]|[0-9]{1,3})"
+HEX = r"(?:[0-9A-F]{2})+"
+LINE = re.compile(
+    rf"{WHO} (?P<told>sent {HEX}|exec {HEX}|answered [0-9]+ {HEX}|(?:undelivered|unanswered) [0-9]+|stray {HEX}"
+    r"|repeat|full|damaged|enquiry|dropped)"
+)
+WORD = re.compile(rf"{WHO} word (?P<file>[0-9]+) (?P<index>[0-9]+) (?P<value>[0-9A-F]{{4}})")
+LAST = re.compile(r"deceived (?P<count>[0-9]+)")
+
+
+class Unknown(Exception):
+    """A text that is no line of a report."""
+
+    def __str__(self):
+        return f"the report's line `{self.args[0]}` is none"
+
+
+@dataclass(frozen=True)
+class Told:
+    """What one line tells of an end."""
+
+    who: str
+    text: str
+
+    @property
+    def kind(self):
+        """Its word: `exec`, `repeat`, .."""
+        return self.text.split(" ")[0]
+
+    @property
+    def sent(self):
+        """The bytes of a `sent` line, or None."""
+        return bytes.fromhex(self.text[5:]) if self.kind == "sent" else None
+
+
+@dataclass(frozen=True)
+class Foot:
+    """The end of a report: the words that aren't 0, and how often an end was deceived."""
+
+    words: dict[tuple[str, int, int], int]
+    deceived: int
+
+    def changed(self, first):
+        """The words that differ from their first values, each with both; a word that isn't named is 0."""
+        names = list(self.words) + [name for name in first if name not in self.words]
+        pairs = [(name, first.get(name, 0), self.words.get(name, 0)) for name in names]
+        return [pair for pair in pairs if pair[1] != pair[2]]
+
+
+def read_line(line):
+    """What a line of the events tells."""
+    match = LINE.fullmatch(line)
+    if not match:
+        raise Unknown(line)
+    return Told(match["who"], match["told"])
+
+
+def read_report(text):
+    """The lines of the events of a whole report, and its foot."""
+    lines = text.splitlines()
+    last = LAST.fullmatch(lines[-1]) if lines else None
+    if not last:
+        raise Unknown(lines[-1] if lines else "")
+    words = {}
+    lines.pop()
+    for line in lines[::-1]:
+        match = WORD.fullmatch(line)
+        if not match:
+            break
+        words[match["who"], int(match["file"]), int(match["index"])] = int(match["value"], 16)
+    events = lines[:len(lines) - len(words)]
+    return events, Foot(dict(reversed(list(words.items()))), int(last["count"]))

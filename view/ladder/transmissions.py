@@ -1,0 +1,89 @@
+"""What went over the line in a run: each item that an end gave, and its flight through each queue."""
+from __future__ import annotations
+
+from dataclasses import dataclass
+
+from .line import Change
+
+
+@dataclass(frozen=True)
+class Flight:
+    """The way of an item to one end: the step in which its last byte left the queue, and what became of its bytes."""
+
+    receiver: str
+    ended: int | None
+    losses: tuple[tuple[int, int], ...]
+    changes: tuple[Change, ...]
+
+    @property
+    def lost(self):
+        """How many of its bytes were lost."""
+        return sum(count for _, count in self.losses)
+
+    @property
+    def is_cut_off(self):
+        """Whether its last byte was lost."""
+        return any(step == self.ended for step, _ in self.losses)
+
+
+@dataclass(frozen=True)
+class Transmission:
+    """An item that an end gave, its own bytes and their places, and the step of the first of them.
+
+    `ended` are its flights that ended in a step that is drawn. `waiting` are those that are still under way, the flight to the station
+    that it names first; there are none where another ended there, or where this flight has ended.
+    """
+
+    name: str
+    sender: str
+    station: str | None
+    places: tuple[int, ...]
+    data: bytes
+    begun: int
+    ended: tuple[Flight, ...]
+    waiting: tuple[Flight, ...]
+
+    @property
+    def first(self):
+        """The place of its first byte."""
+        return self.places[0]
+
+    @property
+    def last_step(self):
+        """The last step in which one of its flights ended, or in which it was begun."""
+        return max([self.begun] + [flight.ended for flight in self.ended])
+
+
+def transmissions(run):
+    """All that was under way in the steps that are drawn, in the order in which it was begun."""
+    if not run.steps:
+        return []
+    first_step = run.steps[0].number
+    found = []
+    for sender, stream in run.streams.items():
+        queues = [queue for queue in run.queues.values() if queue.sender == sender]
+        for item in stream.all_items():
+            if not item.is_whole or not all(queue.has_left(item.last, first_step) for queue in queues):
+                found.append(_transmission(item, stream, queues, first_step))
+    drawn = [one for one in found if one.ended or one.waiting]
+    return sorted(drawn, key=lambda one: (one.begun, one.first))
+
+
+def _transmission(item, stream, queues, first_step):
+    """The transmission of an item, as far as it is drawn from a step on."""
+    places = item.places()
+    data = bytes(stream.data[place] for place in places)
+    flights = [_flight(queue, item, places) for queue in queues]
+    ended = tuple(flight for flight in flights if flight.ended is not None and flight.ended >= first_step)
+    waiting = tuple(flight for flight in flights if flight.ended is None)
+    named = tuple(flight for flight in waiting if flight.receiver == item.station)
+    waiting = named + tuple(flight for flight in waiting if flight not in named) if named or len(waiting) == len(flights) else ()
+    return Transmission(item.name, queues[0].sender, item.station, places, data, stream.step_of(item.first), ended, waiting)
+
+
+def _flight(queue, item, places):
+    """What became of an item, whose bytes have these places, in a queue."""
+    departures = queue.departures_of(places)
+    losses = tuple((departure.step, count) for departure, count in departures if departure.lost)
+    changes = tuple(change for change in queue.changes if change.place in places)
+    return Flight(queue.receiver, queue.step_of(item.last) if item.is_whole else None, losses, changes)
