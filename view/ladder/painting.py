@@ -100,7 +100,7 @@ class Painter:
         """An arrow from beyond an end's labels to its line."""
         x, reach = self._columns.place[foreign.receiver], self._columns.reach[foreign.receiver]
         start = (x + self._columns.label_side(foreign.receiver) * (reach - 8), height)
-        title = f"foreign, as if from {foreign.sender}, to {foreign.receiver}: {foreign.name}; {foreign.data.hex(' ').upper()}"
+        title = f"foreign to {foreign.receiver}: {foreign.name}; arrived; {foreign.data.hex(' ').upper()}"
         group = self._svg.group("flight foreign", title)
         self._svg.arrow(start, (x, height), group)
         self._svg.dot(start, group, "ring")

@@ -29,11 +29,10 @@ class Window:
 
 @dataclass
 class Foreign:
-    """Bytes that nobody gave: what they are, and the ends between which they seem to pass."""
+    """Bytes that nobody gave: what they are, and the end at which they arrive."""
 
     name: str
     data: bytes
-    sender: str
     receiver: str
 
 
@@ -126,7 +125,7 @@ class Player:
         if event.kind == "n":
             script, receiver = self._run.script, self._run.script.other(event)
             items = split_foreign(script.side(event.end), script.check_size, event.data)
-            return [(data.hex(), Foreign(name, data, event.end, receiver)) for name, data in items]
+            return [(data.hex(), Foreign(name, data, receiver)) for name, data in items]
         return [(event.operand, None)]
 
     def _lines_of(self, piece):

@@ -1,0 +1,150 @@
+"""What must be in the picture of each example."""
+import unittest
+
+from seen import EXAMPLES, TOP, Seen, picture
+
+
+def command(fields, tns, way="a>b"):
+    return f"{way} command CMD {fields} TNS {tns:04X}"
+
+
+def exchange(fields, reply, tns):
+    """The four arrows of an ordinary exchange."""
+    return [command(fields, tns), "b>a ACK", f"b>a reply CMD {reply} TNS {tns:04X}", "a>b ACK"]
+
+
+WRITE = command("0F FNC AA", 1)
+ACKS = ["b>a ACK", "b>a reply CMD 4F TNS 0001", "a>b ACK"]
+ECHO = "command CMD 06 FNC 00 TNS 0001"
+
+ARROWS = {
+    "ack-turned-into-nak": [WRITE, "b>a ACK; byte 2: 06 → 15", WRITE, *ACKS],
+    "compatibility-file": [
+        *exchange("06 FNC 03", "46", 1), *exchange("01", "41", 2), *exchange("08", "48", 3), *exchange("01", "41 STS 50", 4)
+    ],
+    "crc": exchange("06 FNC 00", "46", 1),
+    "damaged-frame-and-lost-nak": [
+        f"{WRITE}; byte 3: 01 → 00", "b>a NAK; 2 of 2 bytes lost", "a>b ENQ", "b>a NAK", WRITE, *ACKS
+    ],
+    "deception-on-purpose": ["foreign>b command CMD 0F FNC AA TNS 0001"],
+    "embedding": [WRITE, command("06 FNC 00", 1, "b>a"), "a>b ACK, embedded"],
+    "limits-passed": [f"{WRITE}; 19 of 19 bytes lost", "foreign>a NAK"],
+    "lost-ack": [WRITE, "b>a ACK; 2 of 2 bytes lost", "a>b ENQ", *ACKS],
+    "masked-write": exchange("0F FNC AB", "4F", 1) + exchange("0F FNC A2", "4F", 2),
+    "no-room": [
+        command("06 FNC 00", 1), "b>a ACK", command("06 FNC 00", 2), "b>a ACK", command("06 FNC 00", 3), "b>a NAK; under way"
+    ],
+    "one-write": [WRITE],
+    "ordinary-exchange": [WRITE, *ACKS],
+    "polled-write": [
+        "m>3 command CMD 0F FNC AA TNS 0001", "m>5 command CMD 0F FNC AA TNS 0001", "3>m ACK",
+        "m>3 poll 3", "m>5 poll 3", "3>m reply CMD 4F TNS 0001; 11 of 11 bytes lost",
+        "m>3 poll 5", "m>5 poll 5", "5>m EOT",
+        "m>3 poll 3", "m>5 poll 3", "3>m reply CMD 4F TNS 0001", "m>3 ACK", "m>5 ACK",
+    ],
+    "refused-second-set": [
+        *exchange("0F FNC 26", "4F STS F0/0A", 1), *exchange("0F FNC A2", "4F", 2), *exchange("0F FNC 26", "4F", 3)
+    ],
+    "repeat-after-lost-ack": [
+        f"m>3 {ECHO}", "3>m ACK", "m>3 poll 3", "3>m reply CMD 46 TNS 0001", "m>3 ACK; 2 of 2 bytes lost",
+        "m>3 poll 3", "3>m reply CMD 46 TNS 0001", "m>3 ACK", "m>3 poll 3", "3>m EOT",
+    ],
+    "replies-of-one-tns": [
+        f"m>3 {ECHO}", f"m>5 {ECHO}; 16 of 16 bytes lost", "3>m ACK",
+        "m>3 poll 3", "m>5 poll 3; 4 of 4 bytes lost", "3>m reply CMD 46 TNS 0001",
+        "m>3 ACK; 2 of 2 bytes lost", "m>5 ACK; 2 of 2 bytes lost", f"foreign>5 {ECHO}",
+        "m>3 poll 5; 4 of 4 bytes lost", "m>5 poll 5", "5>m ACK; 2 of 2 bytes lost", "5>m reply CMD 46 TNS 0001",
+        "m>3 ACK; 2 of 2 bytes lost", "m>5 ACK", "m>3 poll 3", "m>5 poll 3; 4 of 4 bytes lost", "3>m reply CMD 46 TNS 0001",
+    ],
+    "reset": [
+        f"m>3 {ECHO}", "3>m ACK", "m>3 poll 3", "3>m reply CMD 46 TNS 0001; 12 of 12 bytes lost", "foreign>3 NAK, a reset",
+        "m>3 poll 3", "3>m EOT",
+    ],
+    "silent-station": [f"m>9 {ECHO}; 16 of 16 bytes lost"] * 4 + ["m>9 poll 9; 4 of 4 bytes lost"],
+    "stale-ack": [
+        WRITE, "b>a ACK", "b>a reply CMD 4F TNS 0001", "a>b ENQ", "b>a ACK", "a>b ACK", f"{command('0F FNC AA', 2)}; 19 of 19 bytes lost"
+    ],
+    "timer-and-float": [
+        *exchange("0F FNC AA", "4F", 1), *exchange("0F FNC A2", "4F", 2), *exchange("0F FNC AA", "4F", 3), *exchange("0F FNC A2", "4F", 4)
+    ],
+    "typed-read-of-floats": exchange("0F FNC 68", "4F", 1) + exchange("0F FNC 68", "4F STS F0/0A", 2),
+    "word-range": exchange("0F FNC 01", "4F", 1) + exchange("0F FNC 01", "4F", 2) + exchange("0F FNC 01", "4F STS F0/0A", 3),
+}
+
+LABELS = {
+    "lost-ack": ["a issue 1", "b exec 01000F000100AA02078900003412", "a 10 ticks", "a enquiry", "a answered 1 00014F000100"],
+    "no-room": [
+        "a issue 1", "a issue 2", "a issue 3", "b exec 0100060001000055", "a 33 ticks", "a unanswered 1",
+        "b exec 0100060002000055", "a 33 ticks", "a unanswered 2", "b full",
+    ],
+    "reset": [
+        "m issue 1", "3 exec 0300060001000055", "m 1 tick", "3 foreign NAK, a reset", "3 dropped", "m 10 ticks", "m 1 tick",
+    ],
+    "silent-station": ["m issue 1", "m 2 ticks", "m 2 ticks", "m 2 ticks", "m 2 ticks", "m undelivered 1", "m 1 tick", "m 10 ticks"],
+    "stale-ack": [
+        "a issue 1", "a issue 2", "b exec 01000F000100AA02078900003412", "a 10 ticks", "a enquiry", "a answered 1 00014F000100",
+        "a 100 ticks", "a unanswered 2",
+    ],
+}
+
+FEET = {
+    "compatibility-file": ["b word 7 1: 5678 → ABCD", "deceived 0"],
+    "deception-on-purpose": ["b word 7 0: 0000 → 1234", "deceived 1"],
+    "masked-write": ["b word 7 0: 1234 → 12CD", "deceived 0"],
+    "polled-write": ["3 word 7 0: 0000 → 1234", "deceived 0"],
+    "word-range": ["deceived 0"],
+}
+
+
+class Examples(unittest.TestCase):
+    def test_each_has_its_arrows(self):
+        for script in EXAMPLES:
+            with self.subTest(script.stem):
+                self.assertEqual(Seen(picture(script)).arrows, ARROWS.get(script.stem))
+
+    def test_each_has_what_its_report_tells_in_order(self):
+        for script in EXAMPLES:
+            with self.subTest(script.stem):
+                lines = [line.split(" ", 2) for line in script.with_suffix(".report").read_text().splitlines()]
+                told = [line for line in lines if line[1] not in ("sent", "word") and line[0] != "deceived"]
+                words = {line[1] for line in told}
+                labels = [label.split(" ", 2) for label in Seen(picture(script)).labels]
+                self.assertEqual([label for label in labels if label[1] in words], told)
+
+    def test_some_have_these_labels_beside_their_ends(self):
+        for name, labels in LABELS.items():
+            with self.subTest(name):
+                self.assertEqual(Seen(picture(TOP / "examples" / f"{name}.df1")).labels, labels)
+
+    def test_some_have_these_words_and_deceptions_at_the_foot(self):
+        for name, foot in FEET.items():
+            with self.subTest(name):
+                seen = Seen(picture(TOP / "examples" / f"{name}.df1"))
+                self.assertEqual([words for words in seen.words() if " word " in words] + seen.words("word")[-1:], foot)
+                self.assertEqual(seen.words("red"), [words for words in foot if words == "deceived 1"])
+
+    def test_what_is_told_stands_where_an_arrow_ends(self):
+        for script in EXAMPLES:
+            with self.subTest(script.stem):
+                seen = Seen(picture(script))
+                arrivals = [(arrow.text.split(" ")[0].split(">")[1], arrow.end[1]) for arrow in seen.flights]
+                for end, label in seen.beside:
+                    if label.words.split(" ")[0] in ("exec", "answered", "stray", "repeat", "full", "damaged"):
+                        self.assertTrue(any(at == end and abs(height - label.place[1]) < 24 for at, height in arrivals), label)
+
+    def test_each_has_its_stored_picture_and_its_place_in_the_index(self):
+        index = (TOP / "examples" / "README.md").read_text()
+        for script in EXAMPLES:
+            with self.subTest(script.stem):
+                stored = TOP / "examples" / "pictures" / f"{script.stem}.svg"
+                self.assertTrue(stored.exists() and stored.read_text() == picture(script), f"{stored} is stale: view/make makes it anew")
+                self.assertIn(f"({script.name})", index)
+                self.assertIn(f"pictures/{script.stem}.svg", index)
+
+    def test_no_picture_is_stored_of_a_script_that_is_gone(self):
+        stored = sorted(path.stem for path in (TOP / "examples" / "pictures").iterdir())
+        self.assertEqual(stored, [script.stem for script in EXAMPLES])
+
+
+if __name__ == "__main__":
+    unittest.main()
