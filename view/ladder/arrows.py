@@ -3,7 +3,7 @@ from __future__ import annotations
 
 import math
 
-from .layout import CUT_OFF
+from .layout import CUT_OFF, LETTER
 
 UNDER_WAY_DROP = 16
 
@@ -30,9 +30,10 @@ class Arrows:
             self._svg.arrow(self._start, end, group)
         size = len(self._one.data)
         for step, count in flight.losses:
-            self._paint_mark(end, step, "lost" if count == size else f"{count} of {size} lost", group, self._svg.cross)
+            text = "lost" if count == size else f"{count} of {size} lost"
+            self._paint_mark(self._svg.cross, group, end, step, text, abs(place - x))
         for change in flight.changes:
-            self._paint_mark(end, change.step, self._change(change), group, self._svg.dot)
+            self._paint_mark(self._svg.dot, group, end, change.step, self._change(change))
         return end
 
     def paint_waiting(self):
@@ -56,16 +57,18 @@ class Arrows:
         angle = math.degrees(slope if goes_right else -slope)
         self._svg.text((x, y), [(self._one.name, None)], "start" if goes_right else "end", angle)
 
-    def _paint_mark(self, end, step, text, group, shape):
-        """A cross or a dot on the line to an end, at the height of a step, and what it means."""
+    def _paint_mark(self, shape, group, end, step, text, room=0.0):
+        """A shape on the line to an end, at the height of a step, and what it means: behind the end where there is room, else below."""
         if step not in self._heights.steps:
             return
         y = self._heights.steps[step]
         part = (y - self._start[1]) / (end[1] - self._start[1])
         x = self._start[0] + part * (end[0] - self._start[0])
         shape((x, y), group)
-        goes_right = end[0] > self._start[0]
-        self._svg.text((x + (-8 if goes_right else 8), y + 16), [(text, "rest")], "end" if goes_right else "start")
+        is_behind = y == end[1] and len(text) * LETTER + 14 < room
+        goes_left = (end[0] > self._start[0]) != is_behind
+        place = (x + (-9 if goes_left else 9), y + (4 if is_behind else 16))
+        self._svg.text(place, [(text, "rest")], "end" if goes_left else "start")
 
     def _change(self, change):
         """Which byte of it was altered, and how."""
