@@ -78,6 +78,7 @@ class Seen:
 
 
 def _arrow(group):
+    """An arrow from its group of shapes."""
     what, fate, _bytes = group.find(f"{SVG}title").text.split("; ")
     text = what.replace(" to ", ">", 1).replace(": ", " ", 1) + ("" if fate == "arrived" else f"; {fate}")
     line, head = group.find(f"{SVG}line"), group.find(f"{SVG}polygon")

@@ -80,6 +80,7 @@ def _options(words):
 
 
 def _read(name):
+    """The bytes of a script."""
     try:
         if name == "-":
             return sys.stdin.buffer.read()
@@ -90,6 +91,7 @@ def _read(name):
 
 
 def _write(name, picture):
+    """Writes the picture to a file, or to standard output."""
     try:
         if name is None:
             sys.stdout.buffer.write(picture.encode())

@@ -49,6 +49,7 @@ class Splitter:
         self._begin()
 
     def _begin(self):
+        """An item begins with the next byte."""
         self._first = self._place
         self._station = None
         self._body = bytearray()
@@ -72,11 +73,13 @@ class Splitter:
         return Item("unfinished", self._station, self._first, self._place - 1, tuple(self._inside), is_whole=False)
 
     def _outside(self, byte):
+        """Outside an item: its first byte."""
         self._begin()
         self._want(byte, DLE)
         self._expects = self._second
 
     def _second(self, byte):
+        """Behind an item's first byte: what it is."""
         name = PAIRS[self._side].get(byte)
         if name:
             return self._end(name)
@@ -89,6 +92,7 @@ class Splitter:
             self._expects = self._unit
 
     def _poll(self, byte):
+        """In a poll: its station, then its check."""
         if self._left == 2:
             self._station = str(byte)
         self._left -= 1
@@ -96,6 +100,7 @@ class Splitter:
             return self._end(f"poll {self._station}")
 
     def _address(self, byte):
+        """In the front of a master's message: its station, then the pair that begins the body."""
         if self._station is None:
             self._station = str(byte)
             return
@@ -105,12 +110,14 @@ class Splitter:
             self._expects = self._unit
 
     def _unit(self, byte):
+        """In a body: a byte of it, or the first of a pair."""
         if byte == DLE:
             self._expects = self._escaped
         else:
             self._body.append(byte)
 
     def _escaped(self, byte):
+        """Behind a DLE in a body: a second one, the body's end, or a response."""
         self._expects = self._unit
         if byte == DLE:
             self._body.append(DLE)
@@ -126,16 +133,19 @@ class Splitter:
             return response
 
     def _check(self, _byte):
+        """In a check."""
         self._left -= 1
         if self._left == 0:
             return self._end(message_name(bytes(self._body)))
 
     def _end(self, name):
+        """The item ends with this byte."""
         self._expects = self._outside
         return Item(name, self._station, self._first, self._place, tuple(self._inside))
 
     @staticmethod
     def _want(byte, *wanted):
+        """Raises NoItem unless the byte is one of these."""
         if byte not in wanted:
             raise NoItem
 

@@ -105,6 +105,7 @@ class Queue:
             self.changes.append(Change(self.head, step, before, before ^ mask))
 
     def _is_altered(self):
+        """Whether the head was altered before."""
         return bool(self.changes) and self.changes[-1].place == self.head
 
     def step_of(self, place):

@@ -168,6 +168,7 @@ class Player:
         self._count_arrows(event, len(ended) * len(self._run.script.receivers(event.end)))
 
     def _count_arrows(self, event, count):
+        """Counts the arrows that an event begins, where it is drawn."""
         if event.line >= self._run.window.first:
             self._arrows += count
 
@@ -181,6 +182,7 @@ def _told(event, lines):
 
 
 def _misfit(event, told, why=""):
+    """That a line of the report doesn't fit the event that made it."""
     return Misfit(f"line {event.line}: `{event.text()}` doesn't fit the report's line `{told.who} {told.text}`{why}")
 
 

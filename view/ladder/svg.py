@@ -111,7 +111,8 @@ class Svg:
         if whole:
             self._add(element, "title").text = clean(whole)
         for words, class_ in parts:
-            self._add(element, "tspan", class_).text = clean(words)
+            if words:
+                self._add(element, "tspan", class_).text = clean(words)
 
     def document(self, width, height):
         """The whole document, of this size."""
