@@ -100,7 +100,8 @@ class Examples(unittest.TestCase):
     def test_each_has_its_arrows(self):
         for script in EXAMPLES:
             with self.subTest(script.stem):
-                self.assertEqual(Seen(picture(script)).arrows, ARROWS.get(script.stem))
+                self.assertIn(script.stem, ARROWS, "what arrows must its picture have?")
+                self.assertEqual(Seen(picture(script)).arrows, ARROWS[script.stem])
 
     def test_each_has_what_its_report_tells_in_order(self):
         for script in EXAMPLES:

@@ -56,6 +56,7 @@ class Svg:
         self._paper = self._add(self._root, "rect", class_="paper")
         self._shapes = self._add(self._root, "g")
         self._texts = self._add(self._root, "g")
+        self._texts.set("xml:space", "preserve")  # some viewers drop the blank at which a part of a text begins
 
     @staticmethod
     def _add(parent, name, class_=None, **attributes):
