@@ -75,11 +75,11 @@ end
 
 
 def many_stations():
-    """Polls of some of 32 stations, each heard by all."""
+    """A command to one of 32 stations and polls of three, each heard by all."""
     numbers = [number for number in range(1, 34) if number != 16]
-    lines = ["set mode half"] + [f"station {number}" for number in numbers] + ["mi 7 060055", "mk 17"]
-    lines += [f"md {number} 17" for number in numbers] + ["7k 2", "7d 2"]
-    for polled in (1, 20, 33):
+    lines = ["set mode half"] + [f"station {number}" for number in numbers] + ["mi 7 060055", "mk 16"]
+    lines += [f"md {number} 16" for number in numbers] + ["7k 2", "7d 2"]
+    for polled in (1, 2, 3):
         lines += ["mt", "mk 4"] + [f"md {number} 4" for number in numbers] + [f"{polled}k 2", f"{polled}d 2"]
     return "\n".join(lines + ["end"]) + "\n"
 
@@ -152,6 +152,13 @@ class Fates(unittest.TestCase):
     def test_events_that_give_and_deliver_byte_by_byte_make_one_row(self):
         script = "ai 0603\n" + "ak\n" * 13 + "ad\n" * 13 + "end\n"
         self.assertEqual(Seen(picture(script)).words("gutter"), ["1 ai 0603", "2–14 ak 13", "15–26 ad 12", "27 ad"])
+
+    def test_what_many_stations_hear_of_a_message_to_another_stands_at_one_height(self):
+        seen = Seen(picture(many_stations()))
+        polls = [arrow for arrow in seen.flights if arrow.text.endswith("poll 2")]
+        self.assertEqual((len(polls), len({arrow.end[1] for arrow in polls})), (32, 1))
+        self.assertEqual([arrow.text for arrow in polls if "overheard" not in arrow.classes], ["m>2 poll 2"])
+        self.assertEqual(sum(words.startswith("md 1 4, md 2 4, md 3 4, md 4 4,") for words in seen.words("gutter")), 3)
 
     def test_a_comment_stands_where_it_was_written(self):
         words = [text.words for text in Seen(picture("# First.\nai 0603\n# Then\n# this.\nak 9\nend\n")).texts]

@@ -77,8 +77,7 @@ class Arrows:
 
     def _classes(self, flight):
         """The classes of its arrow to an end."""
-        is_overheard = self._one.station not in (None, flight.receiver)
-        marks = [("overheard", is_overheard), ("lost", flight.losses), ("altered", flight.changes)]
+        marks = [("overheard", self._one.is_overheard(flight)), ("lost", flight.losses), ("altered", flight.changes)]
         return " ".join(["flight"] + [name for name, holds in marks if holds])
 
     def _title(self, flight):

@@ -5,7 +5,7 @@ import textwrap
 from dataclasses import dataclass, field
 
 from .labels import labels_of
-from .rows import Row
+from .rows import FEW_ENDS, Row
 
 LETTER = 7.3
 SMALL_LETTER = 6.7
@@ -36,9 +36,11 @@ class Columns:
         """Where the labels of an end stand: -1 at its left, 1 at its right."""
         return -1 if end == self.ends[0] else 1
 
-    def lift(self, end):
-        """How far a label stands above the height at which something arrives: arrows to the ends beyond go on below it."""
-        return 8 if end in self.ends[1:-1] else 0
+    def drop(self, step, label):
+        """How far below its step's height a label stands: where arrows go on to the ends beyond, above them, or below where they are many."""
+        if step.event.kind != "d" or label.end not in self.ends[1:-1]:
+            return label.drop
+        return label.drop + (12 if len(self.ends) > FEW_ENDS else -8)
 
     def gap_before(self, receiver, sender):
         """The place of the line next to the receiver's on the way from the sender, and the receiver's place."""
@@ -124,8 +126,8 @@ class Heights:
         return height
 
 
-def heights(rows, sent, top, letters):
-    """The heights of rows, from a top down, for what was under way in them and comments of so many letters a line."""
+def heights(places, rows, sent, top, letters):
+    """The heights of rows, from a top down, for these columns, what was under way, and comments of so many letters a line."""
     found = Heights(top, top + 14)
     begun = {step.number: [] for row in rows if isinstance(row, Row) for step in row.steps}
     for one in sent:
@@ -135,7 +137,7 @@ def heights(rows, sent, top, letters):
             found.earlier.append(_begin_row(found, one))
     for row in rows:
         if isinstance(row, Row):
-            _steps_row(found, row, [one for step in row.steps for one in begun[step.number]])
+            _steps_row(found, places, row, [one for step in row.steps for one in begun[step.number]])
         else:
             found.bottom += 6
             for line in wrapped(row.text, letters):
@@ -156,7 +158,7 @@ def _begin_row(found, one):
     return height
 
 
-def _steps_row(found, row, begun):
+def _steps_row(found, places, row, begun):
     """The height of a row's steps, or of each item that is begun in them, and room for their labels."""
     heights_of_begins = [_begin_row(found, one) for one in begun]
     height = heights_of_begins[-1] if begun else found.row(*ROWS[row.steps[0].event.kind])
@@ -164,4 +166,4 @@ def _steps_row(found, row, begun):
     for step in row.steps:
         found.steps[step.number] = height
         for label in labels_of(step):
-            found.bottom = max(found.bottom, height + label.drop + 10)
+            found.bottom = max(found.bottom, height + places.drop(step, label) + 10)

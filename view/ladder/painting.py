@@ -22,7 +22,7 @@ def paint(run, name):
     width = max(places.width, LEAST_WIDTH)
     letters = int((width - 2 * MARGIN) / CAPTION_LETTER)
     caption = wrapped(run.script.caption, letters)
-    levels = heights(rows, sent, CAPTION_TOP + len(caption) * LINE_HEIGHT + 14, letters)
+    levels = heights(places, rows, sent, CAPTION_TOP + len(caption) * LINE_HEIGHT + 14, letters)
     painter = Painter(run, Svg(f"{name} as a ladder"), places, levels)
     painter.paint_head(name, caption)
     painter.paint_ends()
@@ -91,8 +91,7 @@ class Painter:
             self._paint_foreign(step.foreign, height)
         for label in labels_of(step):
             side = self._columns.label_side(label.end)
-            lift = self._columns.lift(label.end) if step.event.kind == "d" else 0
-            place = (self._columns.place[label.end] + 10 * side, height + label.drop - lift + 4)
+            place = (self._columns.place[label.end] + 10 * side, height + self._columns.drop(step, label) + 4)
             parts = [(label.word, label.class_), (label.shown[len(label.word):], "rest")]
             self._svg.text(place, parts, "start" if side > 0 else "end", whole=_whole(label))
 
@@ -108,7 +107,7 @@ class Painter:
     def paint_transmission(self, one):
         """The arrows of what an end gave, one to each end that it came to, or was lost on its way to, and its name along one."""
         arrows = Arrows(self._svg, self._columns, self._heights, one)
-        ends = [arrows.paint_flight(flight) for flight in one.ended]
+        ends = [arrows.paint_flight(flight) for flight in sorted(one.ended, key=one.is_overheard, reverse=True)]
         if one.waiting:
             ends.append(arrows.paint_waiting())
         arrows.paint_name(ends)

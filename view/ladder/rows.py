@@ -1,20 +1,25 @@
-"""The rows of a picture: its steps and comments from the top down, what shows nothing joined to what does."""
+"""The rows of a picture: its steps and comments from the top down, what shows little joined to what shows more."""
 from __future__ import annotations
 
-from dataclasses import dataclass
+from dataclasses import dataclass, field
+from itertools import groupby
 
 from .labels import shortened
 from .run import Step
 
 EVENT_LETTERS = 22
 
+# With more ends than these, what stations hear of a message to another one stands at one height.
+FEW_ENDS = 5
+
 
 @dataclass
 class Row:
     """Steps that stand at one height: more than one where bytes are given, or delivered, event by event."""
 
-    steps: list[Step]
-    is_loud: bool
+    steps: list[Step] = field(default_factory=list)
+    is_loud: bool = False
+    closed: set[str | None] = field(default_factory=set)
 
     @property
     def lines(self):
@@ -26,38 +31,49 @@ class Row:
 
     @property
     def text(self):
-        """The event of its lines; of several the sum."""
-        events = [step.event for step in self.steps if step.is_first_part]
-        if len(events) < 2:
-            return events[0].text() if events else ""
-        return events[0].text(str(sum(event.count for event in events)))
+        """The events of its lines; of several for one station the sum."""
+        texts = []
+        for _, group in groupby((step.event for step in self.steps if step.is_first_part), lambda event: event.station):
+            events = list(group)
+            texts.append(events[0].text(str(sum(event.count for event in events)) if len(events) > 1 else None))
+        return ", ".join(texts)
 
     @property
     def shown(self):
-        """The event, cut where it is long."""
+        """The events, cut where they are long."""
         return shortened(self.text, EVENT_LETTERS)
+
+    def add(self, step, is_loud, is_end):
+        """Adds a step, and whether something ends in it or is told of it."""
+        self.steps.append(step)
+        self.is_loud = self.is_loud or is_loud
+        if is_loud or is_end:
+            self.closed.add(step.event.station)
+
+    def takes(self, step, is_loud, is_crowded):
+        """Whether a step may stand in it: takes behind what they begin, deliveries before what they end."""
+        event, last = step.event, self.steps[-1].event
+        if (event.end, event.kind) != (last.end, last.kind):
+            return False
+        if event.kind == "k":
+            return not is_loud
+        is_near = event.station == last.station or is_crowded
+        return event.kind == "d" and is_near and event.station not in self.closed and not (is_loud and self.is_loud)
 
 
 def rows_of(run, sent):
     """The rows of a run in which this was under way: rows of steps, and comments as they are."""
-    seen = {one.begun for one in sent} | {flight.ended for one in sent for flight in one.ended}
+    is_crowded = len(run.script.ends) > FEW_ENDS
+    begins = {one.begun for one in sent}
+    ends = {flight.ended: one.is_overheard(flight) for one in sent for flight in one.ended}
     rows = []
     for one in run.happenings:
         if not isinstance(one, Step):
             rows.append(one)
             continue
-        is_loud = one.event.kind not in "kd" or bool(one.told) or one.number in seen
-        if rows and isinstance(rows[-1], Row) and _joins(rows[-1], one, is_loud):
-            rows[-1].steps.append(one)
-            rows[-1].is_loud = rows[-1].is_loud or is_loud
-        else:
-            rows.append(Row([one], is_loud))
+        is_end = one.number in ends
+        is_loud = one.event.kind not in "kd" or bool(one.told) or one.number in begins or not ends.get(one.number, True)
+        if not rows or not isinstance(rows[-1], Row) or not rows[-1].takes(one, is_loud, is_crowded):
+            rows.append(Row())
+        rows[-1].add(one, is_loud, is_end)
     return rows
-
-
-def _joins(row, step, is_loud):
-    """Whether a step stands in a row: takes behind what they begin, deliveries before what they end."""
-    event, last = step.event, row.steps[-1].event
-    if (event.end, event.kind, event.station) != (last.end, last.kind, last.station):
-        return False
-    return not is_loud if event.kind == "k" else event.kind == "d" and not row.is_loud

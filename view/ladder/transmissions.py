@@ -48,6 +48,10 @@ class Transmission:
         """The place of its first byte."""
         return self.places[0]
 
+    def is_overheard(self, flight):
+        """Whether a flight is to another station than the one that it names."""
+        return self.station not in (None, flight.receiver)
+
     @property
     def last_step(self):
         """The last step in which one of its flights ended, or in which it was begun."""
