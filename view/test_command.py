@@ -36,7 +36,7 @@ MISFITS = [
     ("a deed of the end that gave", {"ad 2": "a repeat\n"}, "line 3: `ad 2` doesn't fit the report's line `a repeat`"),
     ("a deed at a loss", {"ax 2": "b damaged\n"}, "line 4: `ax 2` doesn't fit the report's line `b damaged`"),
     ("a deed at an issue", {"ai 0603": "a exec 00\n"}, "line 1: `ai 0603` doesn't fit the report's line `a exec 00`"),
-    ("a line that is none", {"ad 2": "b hello\n"}, "line 3: the report's line `b hello` is none"),
+    ("a line that is none", {"ad 2": "b hello\n"}, "line 3: `b hello` is no line of a report"),
 ]
 
 
@@ -67,7 +67,7 @@ class Statuses(unittest.TestCase):
     def test_a_report_without_its_last_line_is_none(self):
         with self.assertRaises(Failed) as failed:
             draw(SCRIPT, "a script", self.teller({}, last=""))
-        self.assertEqual((failed.exception.status, failed.exception.note), (1, "the report's line `` is none"))
+        self.assertEqual((failed.exception.status, failed.exception.note), (1, "the report doesn't end with `deceived N`"))
 
     def test_a_report_that_is_not_told_event_by_event_does_not_fit(self):
         with self.assertRaises(Failed) as failed:

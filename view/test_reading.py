@@ -2,7 +2,7 @@
 import unittest
 
 from ladder.items import NoItem, Splitter, split_foreign
-from ladder.report import Foot, Unknown, read_line, read_report
+from ladder.report import Foot, NoReport, read_line, read_report
 from ladder.script import Comment, Event, read_script
 
 # What it is, the side, the bytes of a check, the bytes, and each item with the places of its first and last byte.
@@ -127,10 +127,10 @@ class Reports(unittest.TestCase):
 
     def test_what_is_no_report(self):
         for text in ("", "a sent 1006\n", "deceived\n", "deceived 0\na sent 1006\n"):
-            with self.subTest(text), self.assertRaises(Unknown):
+            with self.subTest(text), self.assertRaises(NoReport):
                 read_report(text)
         for line in ("a sent", "a sent 1", "a sent 1a", "a answered 00", "c repeat", "a repeat 1", "a undelivered"):
-            with self.subTest(line), self.assertRaises(Unknown):
+            with self.subTest(line), self.assertRaises(NoReport):
                 read_line(line)
 
 

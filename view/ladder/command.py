@@ -7,7 +7,7 @@ import sys
 
 from .painting import paint
 from .program import Stopped, replay
-from .report import Unknown, read_report
+from .report import NoReport, read_report
 from .run import Misfit, Window, play
 from .script import read_script
 
@@ -55,7 +55,7 @@ def draw(source, name, program, window=Window()):
             raise Failed(answer.status)
         lines, foot = read_report(answer.report)
         return paint(play(program, read_script(source), window, lines, foot), name)
-    except (Misfit, Unknown) as misfit:
+    except (Misfit, NoReport) as misfit:
         raise Failed(FITS_NOT, str(misfit)) from None
     except Stopped:
         raise Failed(FITS_NOT, "df1 stopped before the end of the script") from None

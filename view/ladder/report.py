@@ -14,11 +14,8 @@ WORD = re.compile(rf"{WHO} word (?P<file>[0-9]+) (?P<index>[0-9]+) (?P<value>[0-
 LAST = re.compile(r"deceived (?P<count>[0-9]+)")
 
 
-class Unknown(Exception):
-    """A text that is no line of a report."""
-
-    def __str__(self):
-        return f"the report's line `{self.args[0]}` is none"
+class NoReport(Exception):
+    """Why a text is no report, or no line of one."""
 
 
 @dataclass(frozen=True)
@@ -57,7 +54,7 @@ def read_line(line):
     """What a line of the events tells."""
     match = LINE.fullmatch(line)
     if not match:
-        raise Unknown(line)
+        raise NoReport(f"`{line}` is no line of a report")
     return Told(match["who"], match["told"])
 
 
@@ -66,7 +63,7 @@ def read_report(text):
     lines = text.splitlines()
     last = LAST.fullmatch(lines[-1]) if lines else None
     if not last:
-        raise Unknown(lines[-1] if lines else "")
+        raise NoReport("the report doesn't end with `deceived N`")
     words = {}
     lines.pop()
     for line in lines[::-1]:

@@ -10,7 +10,7 @@ from dataclasses import dataclass, field
 from .items import NoItem, split_foreign
 from .line import Queue, Stream
 from .program import Stepwise
-from .report import Foot, Told, Unknown, read_line
+from .report import Foot, NoReport, Told, read_line
 from .script import Comment, Event, Script
 
 
@@ -177,8 +177,8 @@ def _told(event, lines):
     """What the lines of the report that an event made tell."""
     try:
         return [read_line(line) for line in lines]
-    except Unknown as unknown:
-        raise Misfit(f"line {event.line}: {unknown}") from None
+    except NoReport as why:
+        raise Misfit(f"line {event.line}: {why}") from None
 
 
 def _misfit(event, told, why=""):
