@@ -128,6 +128,13 @@ class Fates(unittest.TestCase):
         marks = ["2 of 19 lost", "byte 6: 00 → 40", "byte 6: 40 → 42", "byte 10: 02 → 03", "1 of 19 lost", "1 of 2 lost"]
         self.assertEqual([words for words in seen.words("rest") if words in marks], marks)
 
+    def test_what_is_lost_or_delivered_in_one_event_has_heights_of_its_own(self):
+        for kind in "xd":
+            seen = Seen(picture(f"ai 0603\nak 99\nad 99\nbk 99\nb{kind} 99\nend\n"))
+            _, ack, reply = seen.flights
+            self.assertLess(ack.end[1] + 16, reply.end[1])
+            self.assertEqual(seen.words("gutter"), ["1 ai 0603", "2 ak 99", "3 ad 99", "4 bk 99", f"5 b{kind} 99"])
+
     def test_an_arrow_whose_last_byte_arrives_ends_at_the_line_of_its_end_and_another_before_it(self):
         seen = Seen(picture(TOP / "examples" / "lost-ack.df1"))
         self.assertEqual([arrow.end[0] in seen.ends.values() for arrow in seen.flights], [True, False, True, True, True, True])

@@ -120,7 +120,7 @@ class Player:
 
     def _parts(self, event):
         """What stands in place of the event's operand in each part, and the foreign bytes of the part."""
-        if event.kind == "d":
+        if event.kind in "dx":
             return [(str(count), None) for count in self._run.queue(event).cut(event.count)]
         if event.kind == "n":
             script, receiver = self._run.script, self._run.script.other(event)
