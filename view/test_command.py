@@ -94,7 +94,7 @@ class Statuses(unittest.TestCase):
     def test_a_picture_from_any_folder_to_a_file_or_to_standard_output(self):
         script = (TOP / "examples" / "one-write.df1").read_text()
         (self.folder / "one-write.df1").write_text(script)
-        stored = (TOP / "examples" / "pictures" / "one-write.svg").read_text()
+        stored = (TOP / "docs" / "pictures" / "one-write.svg").read_text()
         self.assertEqual(self.ladder("one-write.df1"), (0, stored, ""))
         self.assertEqual(self.ladder("one-write.df1", "-o", "picture.svg"), (0, "", ""))
         self.assertEqual((self.folder / "picture.svg").read_text(), stored)

@@ -137,13 +137,13 @@ class Examples(unittest.TestCase):
         index = (TOP / "examples" / "README.md").read_text()
         for script in EXAMPLES:
             with self.subTest(script.stem):
-                stored = TOP / "examples" / "pictures" / f"{script.stem}.svg"
+                stored = TOP / "docs" / "pictures" / f"{script.stem}.svg"
                 self.assertTrue(stored.exists() and stored.read_text() == picture(script), f"{stored} is stale: view/make makes it anew")
                 self.assertIn(f"({script.name})", index)
                 self.assertIn(f"pictures/{script.stem}.svg", index)
 
     def test_no_picture_is_stored_of_a_script_that_is_gone(self):
-        stored = sorted(path.stem for path in (TOP / "examples" / "pictures").iterdir())
+        stored = sorted(path.stem for path in (TOP / "docs" / "pictures").iterdir())
         self.assertEqual(stored, [script.stem for script in EXAMPLES])
 
 
