@@ -74,6 +74,19 @@ end
 """
 
 
+# A comment while a frame and a reply are under way.
+COMMENTED = """\
+ai 0603
+ak 99
+# b executes a's command, and its ACK and its reply go out in the middle of what end a still has to say about all of that
+ad 99
+bk 99
+# and so on
+bd 99
+end
+"""
+
+
 def many_stations():
     """A command to one of 32 stations and polls of three, each heard by all."""
     numbers = [number for number in range(1, 34) if number != 16]
@@ -84,7 +97,7 @@ def many_stations():
     return "\n".join(lines + ["end"]) + "\n"
 
 
-SCRIPTS = [*EXAMPLES, PIECES, PARTED, FOREIGN_HALF, FOREIGN_FULL, LONG, many_stations(), "end\n", "set mode half\nmt 5\nend\n"]
+SCRIPTS = [*EXAMPLES, PIECES, PARTED, FOREIGN_HALF, FOREIGN_FULL, LONG, COMMENTED, many_stations(), "end\n", "set mode half\nmt 5\nend\n"]
 SEEN = [(script, Seen(picture(script))) for script in SCRIPTS]
 
 

@@ -28,12 +28,8 @@ class Arrows:
             self._svg.line(self._start, end, group=group)
         else:
             self._svg.arrow(self._start, end, group)
-        size = len(self._one.data)
-        for step, count in flight.losses:
-            text = "lost" if count == size else f"{count} of {size} lost"
-            self._paint_mark(self._svg.cross, group, end, step, text, abs(place - x))
-        for change in flight.changes:
-            self._paint_mark(self._svg.dot, group, end, change.step, self._change(change))
+        for mark in self._one.marks(flight):
+            self._paint_mark(mark, group, end, abs(place - x))
         return end
 
     def paint_waiting(self):
@@ -57,23 +53,30 @@ class Arrows:
         angle = math.degrees(slope if goes_right else -slope)
         self._svg.text((x, y), [(self._one.name, None)], "start" if goes_right else "end", angle)
 
-    def _paint_mark(self, shape, group, end, step, text, room=0.0):
-        """A shape on the line to an end, at the height of a step, and what it means: behind the end where there is room, else below."""
-        if step not in self._heights.steps:
+    def _paint_mark(self, mark, group, end, room):
+        """A cross or a dot at the height of a mark on the line to an end, behind which there is so much room, and what it means.
+
+        The text stands behind the end of the line where it fits, else below the line, else beyond the line of the sender.
+        """
+        if mark.step not in self._heights.steps:
             return
-        y = self._heights.steps[step]
+        y = self._heights.steps[mark.step]
         part = (y - self._start[1]) / (end[1] - self._start[1])
         x = self._start[0] + part * (end[0] - self._start[0])
+        shape = self._svg.cross if mark.is_loss else self._svg.dot
         shape((x, y), group)
-        is_behind = y == end[1] and len(text) * LETTER + 14 < room
-        goes_left = (end[0] > self._start[0]) != is_behind
-        place = (x + (-9 if goes_left else 9), y + (4 if is_behind else 16))
-        self._svg.text(place, [(text, "rest")], "end" if goes_left else "start")
+        towards = math.copysign(9, end[0] - self._start[0])
+        width = len(mark.text) * LETTER + 14
+        if y == end[1] and width < room:
+            self._paint_note((x, y + 4), towards, mark.text)
+        elif width < abs(x - self._start[0]):
+            self._paint_note((x, y + 16), -towards, mark.text)
+        else:
+            self._paint_note((self._start[0], y + 4), -towards, mark.text)
 
-    def _change(self, change):
-        """Which byte of it was altered, and how."""
-        number = sum(place <= change.place for place in self._one.places)
-        return f"byte {number}: {change.before:02X} → {change.after:02X}"
+    def _paint_note(self, place, away, text):
+        """A text at one side of a place, so far away."""
+        self._svg.text((place[0] + away, place[1]), [(text, "rest")], "start" if away > 0 else "end")
 
     def _classes(self, flight):
         """The classes of its arrow to an end."""
@@ -83,7 +86,4 @@ class Arrows:
     def _title(self, flight):
         """What it is, where it went and what became of it, and its bytes."""
         one = self._one
-        fates = [f"{flight.lost} of {len(one.data)} bytes lost"] if flight.losses else []
-        fates += [f"{self._change(change)}" for change in flight.changes]
-        fates += ["under way"] if flight.ended is None else []
-        return f"{one.sender} to {flight.receiver}: {one.name}; {', '.join(fates) or 'arrived'}; {one.data.hex(' ').upper()}"
+        return f"{one.sender} to {flight.receiver}: {one.name}; {one.fate(flight)}; {one.data.hex(' ').upper()}"

@@ -10,6 +10,8 @@ from .rows import FEW_ENDS, Row
 LETTER = 7.3
 SMALL_LETTER = 6.7
 CAPTION_LETTER = 7.0
+COMMENT_LETTER = 6.6
+COMMENT_LETTERS = 44
 MARGIN = 12
 LANE = 300
 TALL = 800
@@ -59,8 +61,10 @@ def columns(ends, rows, sent):
             beside[label.end] = max(beside[label.end], len(label.shown) * LETTER + 18)
     for one in sent:
         along[one.sender] = max(along[one.sender], _room(one))
+        for mark in [mark for flight in one.ended for mark in one.marks(flight)]:
+            beside[one.sender] = max(beside[one.sender], len(mark.text) * LETTER + 18)
     found = Columns(ends)
-    x = _gutter(rows) + beside[ends[0]]
+    x = max(_gutter(rows) + beside[ends[0]], _comments(rows))
     for index, end in enumerate(ends):
         found.place[end], found.reach[end] = x, beside[end]
         following = ends[index + 1:index + 2]
@@ -102,6 +106,12 @@ def _gutter(rows):
     return MARGIN + max(letters, default=0) * SMALL_LETTER
 
 
+def _comments(rows):
+    """The width of the comments at the left, longer ones wrapped."""
+    letters = [min(len(row.text), COMMENT_LETTERS) for row in rows if not isinstance(row, Row)]
+    return MARGIN + max(letters, default=0) * COMMENT_LETTER + 14
+
+
 @dataclass
 class Heights:
     """The heights of steps, of what is begun in them or was earlier, and of comments and the script's lines. Time goes downwards."""
@@ -126,9 +136,10 @@ class Heights:
         return height
 
 
-def heights(places, rows, sent, top, letters):
-    """The heights of rows, from a top down, for these columns, what was under way, and comments of so many letters a line."""
+def heights(places, rows, sent, top):
+    """The heights of rows, from a top down, for these columns and what was under way."""
     found = Heights(top, top + 14)
+    letters = int((places.place[places.ends[0]] - MARGIN - 14) / COMMENT_LETTER)
     begun = {step.number: [] for row in rows if isinstance(row, Row) for step in row.steps}
     for one in sent:
         if one.begun in begun:

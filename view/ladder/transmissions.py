@@ -27,6 +27,15 @@ class Flight:
 
 
 @dataclass(frozen=True)
+class Mark:
+    """Something that happened to bytes of a flight on the way: the step, what it was, and whether it was a loss."""
+
+    step: int
+    text: str
+    is_loss: bool
+
+
+@dataclass(frozen=True)
 class Transmission:
     """An item that an end gave, its own bytes and their places, and the step of the first of them.
 
@@ -51,6 +60,26 @@ class Transmission:
     def is_overheard(self, flight):
         """Whether a flight is to another station than the one that it names."""
         return self.station not in (None, flight.receiver)
+
+    def marks(self, flight):
+        """The losses of a flight, and then what was altered."""
+        size = len(self.data)
+        losses = [(step, "lost" if count == size else f"{count} of {size} lost") for step, count in flight.losses]
+        return [Mark(step, text, True) for step, text in losses] + [
+            Mark(change.step, self._change(change), False) for change in flight.changes
+        ]
+
+    def fate(self, flight):
+        """What became of a flight."""
+        fates = [f"{flight.lost} of {len(self.data)} bytes lost"] if flight.losses else []
+        fates += [self._change(change) for change in flight.changes]
+        fates += ["under way"] if flight.ended is None else []
+        return ", ".join(fates) or "arrived"
+
+    def _change(self, change):
+        """Which of its bytes was altered, and how."""
+        number = sum(place <= change.place for place in self.places)
+        return f"byte {number}: {change.before:02X} → {change.after:02X}"
 
     @property
     def last_step(self):
