@@ -107,8 +107,9 @@ class Statuses(unittest.TestCase):
         self.assertEqual(self.ladder("script", "-o", "none/x"), (5, "", f"df1-ladder: none/x can't be written: {nothing}"))
 
     def test_words_of_no_form_are_a_usage_error(self):
-        for words in ([], ["one", "two"], ["one", "--from", "x"], ["one", "--from", "0"], ["one", "--from", "3", "--to", "2"], ["one", "--fr", "1"]):
-            with self.subTest(words), contextlib.redirect_stderr(io.StringIO()) as note, self.assertRaises(SystemExit) as exit_:
+        for text in ("", "one two", "one --from x", "one --from 0", "one --from 3 --to 2", "one --fr 1"):
+            words = text.split()
+            with self.subTest(text), contextlib.redirect_stderr(io.StringIO()) as note, self.assertRaises(SystemExit) as exit_:
                 main(words, [])
             self.assertEqual(exit_.exception.code, 2)
             self.assertIn("usage: df1-ladder", note.getvalue())

@@ -39,7 +39,7 @@ class Columns:
         return -1 if end == self.ends[0] else 1
 
     def drop(self, step, label):
-        """How far below its step's height a label stands: where arrows go on to the ends beyond, above them, or below where they are many."""
+        """How far below its step's height a label stands: above or, where they are many, below the arrows to the ends beyond."""
         if step.event.kind != "d" or label.end not in self.ends[1:-1]:
             return label.drop
         return label.drop + (12 if len(self.ends) > FEW_ENDS else -8)
@@ -139,7 +139,7 @@ class Heights:
 def heights(places, rows, sent, top):
     """The heights of rows, from a top down, for these columns and what was under way."""
     found = Heights(top, top + 14)
-    letters = int((places.place[places.ends[0]] - MARGIN - 14) / COMMENT_LETTER)
+    letters = round((places.place[places.ends[0]] - MARGIN - 14) / COMMENT_LETTER)
     begun = {step.number: [] for row in rows if isinstance(row, Row) for step in row.steps}
     for one in sent:
         if one.begun in begun:
