@@ -171,9 +171,9 @@ def _begin_row(found, one):
 
 def _steps_row(found, places, row, begun):
     """The height of a row's steps, or of each item that is begun in them, and room for their labels."""
-    heights_of_begins = [_begin_row(found, one) for one in begun]
-    height = heights_of_begins[-1] if begun else found.row(*ROWS[row.steps[0].event.kind])
-    found.gutter.append((heights_of_begins[0] if begun else height, row))
+    levels = [_begin_row(found, one) for one in begun] or [found.row(*ROWS[row.steps[0].event.kind])]
+    found.gutter.append((levels[0], row))
+    height = levels[-1]
     for step in row.steps:
         found.steps[step.number] = height
         for label in labels_of(step):

@@ -78,6 +78,7 @@ class Queue:
     departures: list[Departure] = field(default_factory=list)
     changes: list[Change] = field(default_factory=list)
     _afters: list[int] = field(default_factory=list)
+    _changed: list[int] = field(default_factory=list)
 
     def cut(self, count):
         """A count of events on the head, cut behind the bytes that end an item, but behind the last byte that waits."""
@@ -103,10 +104,11 @@ class Queue:
         if self.head < len(self.stream.data):
             before = self.changes[-1].after if self._is_altered() else self.stream.data[self.head]
             self.changes.append(Change(self.head, step, before, before ^ mask))
+            self._changed.append(self.head)
 
     def _is_altered(self):
         """Whether the head was altered before."""
-        return bool(self.changes) and self.changes[-1].place == self.head
+        return self._changed[-1:] == [self.head]
 
     def step_of(self, place):
         """The step in which the byte of a place left, or None."""
@@ -129,3 +131,8 @@ class Queue:
             if count:
                 found.append((departure, count))
         return found
+
+    def changes_of(self, places):
+        """What was altered at these places, which rise."""
+        near = self.changes[bisect_left(self._changed, places[0]):bisect_right(self._changed, places[-1])]
+        return [change for change in near if change.place in places]

@@ -27,7 +27,7 @@ class Window:
     arrows: int = 400
 
 
-@dataclass
+@dataclass(frozen=True)
 class Foreign:
     """Bytes that nobody gave: what they are, and the end at which they arrive."""
 

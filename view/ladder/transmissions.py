@@ -109,8 +109,9 @@ def _transmission(item, stream, queues, first_step):
     flights = [_flight(queue, item, places) for queue in queues]
     ended = tuple(flight for flight in flights if flight.ended is not None and flight.ended >= first_step)
     waiting = tuple(flight for flight in flights if flight.ended is None)
-    named = tuple(flight for flight in waiting if flight.receiver == item.station)
-    waiting = named + tuple(flight for flight in waiting if flight not in named) if named or len(waiting) == len(flights) else ()
+    if len(waiting) < len(flights) and not any(flight.receiver == item.station for flight in waiting):
+        waiting = ()
+    waiting = tuple(sorted(waiting, key=lambda flight: flight.receiver != item.station))
     return Transmission(item.name, queues[0].sender, item.station, places, data, stream.step_of(item.first), ended, waiting)
 
 
@@ -118,5 +119,5 @@ def _flight(queue, item, places):
     """What became of an item, whose bytes have these places, in a queue."""
     departures = queue.departures_of(places)
     losses = tuple((departure.step, count) for departure, count in departures if departure.lost)
-    changes = tuple(change for change in queue.changes if change.place in places)
-    return Flight(queue.receiver, queue.step_of(item.last) if item.is_whole else None, losses, changes)
+    ended = queue.step_of(item.last) if item.is_whole else None
+    return Flight(queue.receiver, ended, losses, tuple(queue.changes_of(places)))
