@@ -19,18 +19,33 @@ ECHO = "command CMD 06 FNC 00 TNS 0001"
 
 ARROWS = {
     "ack-turned-into-nak": [WRITE, "b>a ACK; byte 2: 06 → 15", WRITE, *ACKS],
+    "both-ends-at-once": [
+        WRITE, f"b>a {ECHO}", "b>a ACK, embedded", "a>b ACK", "a>b reply CMD 46 TNS 0001", "b>a reply CMD 4F TNS 0001",
+        "a>b ACK, embedded", "b>a ACK",
+    ],
     "compatibility-file": [
         *exchange("06 FNC 03", "46", 1), *exchange("01", "41", 2), *exchange("08", "48", 3), *exchange("01", "41 STS 50", 4)
     ],
     "crc": exchange("06 FNC 00", "46", 1),
+    "damage-that-bcc-misses": [f"{WRITE}; byte 15: 34 → 35, byte 16: 12 → 11", *ACKS],
+    "damage-that-crc-catches": [f"{WRITE}; byte 15: 34 → 35, byte 16: 12 → 11", "b>a NAK", WRITE, *ACKS],
     "damaged-frame-and-lost-nak": [
         f"{WRITE}; byte 3: 01 → 00", "b>a NAK; 2 of 2 bytes lost", "a>b ENQ", "b>a NAK", WRITE, *ACKS
     ],
+    "damaged-message": [f"m>3 {ECHO}; byte 6: 03 → 02"],
     "deception-on-purpose": ["foreign>b command CMD 0F FNC AA TNS 0001"],
     "embedding": [WRITE, command("06 FNC 00", 1, "b>a"), "a>b ACK, embedded"],
+    "enqs-run-out": [
+        WRITE, "b>a ACK; 2 of 2 bytes lost", "a>b ENQ", "b>a ACK; 2 of 2 bytes lost", "b>a reply CMD 4F TNS 0001", "a>b ACK"
+    ],
+    "foreign-frame": ["foreign>b command CMD 0F FNC AA TNS 0001", *ACKS],
+    "foreign-reset": [f"m>3 {ECHO}", "3>m ACK", "foreign>3 NAK, a reset", "m>3 poll 3", "3>m EOT"],
+    "late-reply": exchange("06 FNC 00", "46", 1),
     "limits-passed": [f"{WRITE}; 19 of 19 bytes lost", "foreign>a NAK"],
     "lost-ack": [WRITE, "b>a ACK; 2 of 2 bytes lost", "a>b ENQ", *ACKS],
+    "lost-frame": [f"{WRITE}; 19 of 19 bytes lost"],
     "masked-write": exchange("0F FNC AB", "4F", 1) + exchange("0F FNC A2", "4F", 2),
+    "nak-turned-into-ack": [f"{WRITE}; byte 3: 01 → 00", "b>a NAK; byte 2: 15 → 06"],
     "no-room": [
         command("06 FNC 00", 1), "b>a ACK", command("06 FNC 00", 2), "b>a ACK", command("06 FNC 00", 3), "b>a NAK; under way"
     ],
@@ -44,6 +59,10 @@ ARROWS = {
     ],
     "refused-second-set": [
         *exchange("0F FNC 26", "4F STS F0/0A", 1), *exchange("0F FNC A2", "4F", 2), *exchange("0F FNC 26", "4F", 3)
+    ],
+    "refused-writes": [
+        *exchange("0F FNC AA", "4F STS F0/06", 1), *exchange("0F FNC AA", "4F STS F0/0A", 2),
+        *exchange("0F FNC AA", "4F STS F0/11", 3), *exchange("0F FNC 99", "4F STS 10", 4),
     ],
     "repeat-after-lost-ack": [
         f"m>3 {ECHO}", "3>m ACK", "m>3 poll 3", "3>m reply CMD 46 TNS 0001", "m>3 ACK; 2 of 2 bytes lost",
@@ -61,13 +80,19 @@ ARROWS = {
         "m>3 poll 3", "3>m EOT",
     ],
     "silent-station": [f"m>9 {ECHO}; 16 of 16 bytes lost"] * 4 + ["m>9 poll 9; 4 of 4 bytes lost"],
+    "slow-line": [WRITE, *ACKS],
+    "slow-poll": [f"m>3 {ECHO}", "3>m ACK", "m>3 poll 3", "3>m reply CMD 46 TNS 0001", "m>3 poll 3", "3>m EOT"],
     "stale-ack": [
         WRITE, "b>a ACK", "b>a reply CMD 4F TNS 0001", "a>b ENQ", "b>a ACK", "a>b ACK", f"{command('0F FNC AA', 2)}; 19 of 19 bytes lost"
     ],
     "timer-and-float": [
         *exchange("0F FNC AA", "4F", 1), *exchange("0F FNC A2", "4F", 2), *exchange("0F FNC AA", "4F", 3), *exchange("0F FNC A2", "4F", 4)
     ],
+    "tns-wraps": [*exchange("06 FNC 00", "46", 0xFFFF), *exchange("06 FNC 00", "46", 0)],
+    "trace": [f"{WRITE}; byte 15: 34 → 74", "b>a NAK", WRITE, *ACKS, *exchange("0F FNC A2", "4F", 2)],
     "typed-read-of-floats": exchange("0F FNC 68", "4F", 1) + exchange("0F FNC 68", "4F STS F0/0A", 2),
+    "unpolled-reply": [f"m>3 {ECHO}", "3>m ACK"],
+    "untaken-command": [],
     "word-range": exchange("0F FNC 01", "4F", 1) + exchange("0F FNC 01", "4F", 2) + exchange("0F FNC 01", "4F STS F0/0A", 3),
 }
 
