@@ -1,75 +1,101 @@
 //! Drills against the replays of their texts.
 
+ghost use Rattle.script_parts.specs.HalfPlayable.{CanBePlayed};
+
 use crate::grown::Grown;
 use crate::{MOST_ROUNDS, drill, drill_script};
 use df1_check::crc;
-use line_replay::{Replayer, read_script, replay};
+use line_replay::{read_script, replay};
+use line_report::pair;
+use script_parts::Script;
 use std::alloc::{AllocError, Global};
 use std::test::Fail;
 
 /// The lines behind a round's command, by its pattern.
 const COURSES: [&str; 4] = [
-    "ak 23\nad 23\nbk 15\nbd 15\nak 2\nad 2\n",
-    "ak 23\nad 2\nac 01\nad 21\nbk 2\nbd 2\nak 23\nad 23\nbk 15\nbd 15\nak 2\nad 2\n",
-    "ak 23\nad 23\nbk 2\nbx 2\nat 10\nak 2\nad 2\nbk 15\nbd 15\nak 2\nad 2\n",
-    "ak 23\nad 23\nbk 2\nbx 2\nbn 1015\nak 23\nad 23\nbk 15\nbd 15\nak 2\nad 2\n",
+    "\nak 23\nad 23\nbk 15\nbd 15\nak 2\nad 2\n",
+    "\nak 23\nad 2\nac 01\nad 21\nbk 2\nbd 2\nak 23\nad 23\nbk 15\nbd 15\nak 2\nad 2\n",
+    "\nak 23\nad 23\nbk 2\nbx 2\nat 10\nak 2\nad 2\nbk 15\nbd 15\nak 2\nad 2\n",
+    "\nak 23\nad 23\nbk 2\nbx 2\nbn 1015\nak 23\nad 23\nbk 15\nbd 15\nak 2\nad 2\n",
 ];
 
 /// The text of a drill's script.
-fn text_of(alloc: Global, seed: u32, count: u32) -> Result<String, AllocError> {
-    let mut text = format!(in alloc; "file b 7 89 16\n")?;
+fn text_of(alloc: Global, seed: u32, count: u32) -> Result<Vec<u8>, AllocError> {
+    let mut text = Vec::from_slice(alloc, b"file b 7 89 16\n")?;
     for round in 1..count.min(MOST_ROUNDS) + 1 {
-        let turn = u64::from(seed) + u64::from(round);
-        let [low, high] = ((turn % 65_536) as u16).to_le_bytes();
-        let element = (round % 16) as u8;
-        let command = format!(in alloc; "ai 0FAA020789{element:02X}00{low:02X}{high:02X}\n")?;
-        text.push_str(command.as_str())?;
-        text.push_str(COURSES[(turn % 4) as usize])?;
+        put_round(&mut text, u64::from(seed) + u64::from(round), round)?;
     }
-    text.push_str("end\n")?;
+    text.extend_from_slice(b"end\n")?;
     Ok(text)
+}
+
+/// Adds the lines of a round, which is this one by its pattern and its word.
+fn put_round(text: &mut Vec<u8>, turn: u64, round: u32) -> Result<(), AllocError> {
+    text.extend_from_slice(b"ai 0FAA020789")?;
+    text.extend_from_slice(&pair((round % 16) as u8))?;
+    text.extend_from_slice(b"00")?;
+    text.extend_from_slice(&pair((turn % 256) as u8))?;
+    text.extend_from_slice(&pair((turn / 256 % 256) as u8))?;
+    text.extend_from_slice(COURSES[(turn % 4) as usize].as_bytes())
+}
+
+/// The report of the run that a text says.
+fn report_of(alloc: Global, text: &[u8]) -> Result<Grown, Fail> {
+    let script = read_script(alloc, text)?;
+    printed(alloc, &script)
+}
+
+/// The report of a script's run.
+fn printed(alloc: Global, script: &Script) -> Result<Grown, Fail>
+    requires { CanBePlayed script.now }
+{
+    let record = replay(alloc, script)?;
+    Ok(Grown::of_report(alloc, &record)?)
+}
+
+/// Drills, each with its line up to the CRC of the report.
+const DRILLS: [(u32, u32, &str); 2] = [
+    (
+        0,
+        4,
+        "issued 4 executed 4 answered 4 damaged 1 repeats 1 enquiries 1 deceived 0 report ",
+    ),
+    (
+        7,
+        20_000,
+        "issued 20000 executed 20000 answered 20000 damaged 5000 repeats 5000 enquiries 5000 deceived 0 report ",
+    ),
+];
+
+/// The last part of a line: a number in hexadecimal digits, and a line feed.
+fn ending(number: u16) -> [u8; 5] {
+    let [first, second] = pair((number / 256) as u8);
+    let [third, fourth] = pair((number % 256) as u8);
+    [first, second, third, fourth, b'\n']
 }
 
 #[test]
 fn a_line_tells_the_replay_of_the_text(rt: HostRuntime) -> Result<(), Fail> {
-    let alloc = rt.alloc();
-    let table = [
-        (
-            0,
-            4,
-            "issued 4 executed 4 answered 4 damaged 1 repeats 1 enquiries 1 deceived 0",
-        ),
-        (
-            7,
-            20_000,
-            "issued 20000 executed 20000 answered 20000 damaged 5000 repeats 5000 enquiries 5000 deceived 0",
-        ),
-    ];
-    for (seed, count, counts) in table {
-        let text = text_of(alloc, seed, count)?;
-        let mut replayer = Replayer::new(alloc);
-        let mut out = Grown::new(alloc);
-        replayer.feed_all(text.as_bytes(), &mut out)?;
-        replayer.finish(&mut out)?;
-        let [high, low] = crc(out.bytes()).to_be_bytes();
-        let line = format!(in alloc; "{counts} report {high:02X}{low:02X}\n")?;
+    for (seed, count, counts) in DRILLS {
         assert!(rt; count <= MOST_ROUNDS);
-        let drilled = drill(alloc, seed, count)?;
-        assert_eq!(rt; drilled.line().as_slice(), line.as_bytes());
+        let line = drill(rt.alloc(), seed, count)?.line();
+        let (told, digits) = line.as_slice().split_at(counts.len().min(line.len()));
+        assert_eq!(rt; told, counts.as_bytes());
+        let text = text_of(rt.alloc(), seed, count)?;
+        let report = report_of(rt.alloc(), &text)?;
+        assert_eq!(rt; digits, ending(crc(report.bytes())).as_slice());
     }
     Ok(())
 }
 
 #[test]
 fn a_text_says_the_script_of_its_drill(rt: HostRuntime) -> Result<(), Fail> {
-    let alloc = rt.alloc();
     for seed in 0..4 {
-        let text = text_of(alloc, seed, 8)?;
-        let said = read_script(alloc, text.as_bytes())?;
-        let made = drill_script(alloc, seed, 8)?;
-        let report = Grown::of_report(alloc, &replay(alloc, &said)?)?;
-        let same = Grown::of_report(alloc, &replay(alloc, &made)?)?;
-        assert_eq!(rt; same.bytes(), report.bytes());
+        let script = drill_script(rt.alloc(), seed, 8)?;
+        let made = printed(rt.alloc(), &script)?;
+        let text = text_of(rt.alloc(), seed, 8)?;
+        let said = report_of(rt.alloc(), &text)?;
+        assert_eq!(rt; made.bytes(), said.bytes());
     }
     Ok(())
 }

@@ -1,5 +1,6 @@
 pub mod CaptureRuns
 pub mod Counting
+pub mod Drills
 pub mod Headline
 pub mod HeardSoFar
 pub mod Services

@@ -2,6 +2,7 @@ pub mod Captures
 pub mod Collecting
 pub mod Counted
 pub mod Dissected
+pub mod Drilling
 pub mod Notes
 pub mod Outcome
 pub mod Replayed

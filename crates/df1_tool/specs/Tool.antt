@@ -1,6 +1,10 @@
 -- What the program answers, and with which status and note.
-use Rattle.std.specs.Prelude.{◌≡◌, ◌⊎◌, ℕ, List, [], ◌∷◌, ◌++◌, Option, Some, None, Result, Ok, Err, true, false, if◌then◌else◌, ◌==◌, is_none, codes, decimal, option_and_then, option_map, slice_index_or}
+use Rattle.std.specs.Prelude.{◌≡◌, ◌⊎◌, ℕ, List, [], ◌∷◌, ◌++◌, Option, Some, None, Result, Ok, Err, true, false, nat_lt, nat_le, ◌&&◌, if◌then◌else◌, ◌==◌, is_none, codes, decimal, length, option_and_then, option_map, slice_index_or}
 use Rattle.std.specs.Str.{bytes_eq}
+use Rattle.std.specs.Str.Parse.{digits_value}
+use Rattle.std.specs.Char.{is_ascii_digit}
+use Rattle.std.specs.List.{list_all}
+use Rattle.line_statement.specs.Words.{within}
 use Rattle.line_script.specs.declared.fault.Cause.{Cause}
 use Rattle.line_replay.specs.declared.replayer.StreamFault.{StreamFault}
 use Rattle.line_replay.specs.declared.replayer.StreamFault.TheVariants as stream
@@ -11,7 +15,7 @@ use Rattle.line_report.specs.Report.{report}
 use Rattle.line_replay.specs.Runs.{record_of}
 use Rattle.df1_tool.specs.Notes.{input_failed, output_failed, no_memory}
 use Rattle.df1_tool.specs.declared.form.Form.{Form}
-use Rattle.df1_tool.specs.declared.form.Form.TheVariants.{Replay, Serve, Issue, Dissect, Check as Count}
+use Rattle.df1_tool.specs.declared.form.Form.TheVariants.{Replay, Serve, Issue, Dissect, Check as Count, Drill}
 use Rattle.df1_tool.specs.declared.capture.Capture.{Capture}
 use Rattle.df1_check.specs.declared.Check.{Check}
 use Rattle.df1_check.specs.declared.Check.TheVariants.{Bcc, Crc}
@@ -41,6 +45,19 @@ captured (Some side) (Some check) = Some (record { side = side; check = check })
 abbrev pub capture_of : List ℕ → List ℕ → Option Capture
 capture_of side check = captured (side_of side) (check_of check)
 
+-- the number that a word of 1 to 10 decimal digits is
+unfoldable pub number_of : List ℕ → Option ℕ
+number_of word = if nat_lt 0 (length word) && nat_le (length word) 10 && list_all is_ascii_digit word then Some (digits_value 10 word) else None
+
+-- what the last words of `drill` ask for: a seed of 32 bits, and 1 to 20,000 rounds
+abbrev pub drill_by : Option ℕ → Option ℕ → Option Form
+drill_by None count = None
+drill_by (Some seed) None = None
+drill_by (Some seed) (Some count) = Some (Drill seed count)
+
+abbrev pub drill_of : List ℕ → List ℕ → Option Form
+drill_of seed count = drill_by (within 0 4294967295 (number_of seed)) (within 1 20000 (number_of count))
+
 -- what two words ask for
 abbrev pub form_of_two : List ℕ → Option Form
 form_of_two word = if bytes_eq word (codes "issue") then Some Issue else None
@@ -51,6 +68,7 @@ form_of_three word second third =
     if bytes_eq word (codes "serve") then mode_of third
     else if bytes_eq word (codes "dissect") then option_map Dissect (capture_of second third)
     else if bytes_eq word (codes "check") then option_map Count (capture_of second third)
+    else if bytes_eq word (codes "drill") then drill_of second third
     else None
 
 -- what the words ask for
@@ -67,6 +85,7 @@ service_of (Serve timed) = Some (record { timed = timed; issues = false })
 service_of Issue = Some (record { timed = true; issues = true })
 service_of (Dissect capture) = None
 service_of (Count capture) = None
+service_of (Drill seed count) = None
 
 -- the same of the words
 abbrev pub service_for : List (List ℕ) → Option Service
@@ -125,7 +144,7 @@ abbrev pub line_note : ℕ → Cause → List ℕ
 line_note line fault = codes "df1: line " ++ decimal line ++ codes ": " ++ cause_text fault ++ codes "\n"
 
 abbrev pub note_of : Trouble → List ℕ
-note_of Usage = codes "df1: usage: df1 replay | serve PLAN raw|timed | issue PLAN | dissect SIDE CHECK | check SIDE CHECK\n"
+note_of Usage = codes "df1: usage: df1 replay | serve PLAN raw|timed | issue PLAN | dissect SIDE CHECK | check SIDE CHECK | drill SEED COUNT\n"
 note_of (Refusal line cause) = line_note line cause
 note_of Input = input_failed
 note_of Output = output_failed

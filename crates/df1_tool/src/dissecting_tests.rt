@@ -1,5 +1,5 @@
 //! The commands `dissect` and `check`, over the outside in memory.
-use crate::tests::words;
+use crate::tests::{USAGE, words};
 use crate::{Ran, run};
 use df1_base::{ByteRun, BytesIn, BytesOut};
 use df1_shelf::ShelfMem;
@@ -257,6 +257,3 @@ fn a_capture_has_at_most_268435456_bytes(rt: HostRuntime) -> Result<(), Fail> {
     }
     Ok(())
 }
-
-const USAGE: &str =
-    "df1: usage: df1 replay | serve PLAN raw|timed | issue PLAN | dissect SIDE CHECK | check SIDE CHECK\n";

@@ -1,10 +1,12 @@
 //! What the words of a call ask for.
 ghost use Rattle.std.specs.Prelude.{◌≡◌, ◌≤◌, IfSome, IsSome, length, map, string_bytes};
-ghost use Rattle.df1_tool.specs.Tool.{capture_of as the_capture, captured, check_of as the_check, form_of as the_form, form_of_three as of_three, form_of_two as of_two, mode_of as the_mode, service_of, side_of as the_side};
+ghost use Rattle.df1_tool.specs.Tool.{capture_of as the_capture, captured, check_of as the_check, drill_by as the_drill, drill_of as drill_asked, form_of as the_form, form_of_three as of_three, form_of_two as of_two, mode_of as the_mode, service_of, side_of as the_side};
 
 use crate::capture::Capture;
+use crate::number::number_within;
 use df1_check::Check;
 use df1_dissect::Side;
+use df1_drill::MOST_ROUNDS;
 
 /// A command of the program.
 #[derive(Clone, Copy, Debug, PartialEq, Eq)]
@@ -22,6 +24,13 @@ pub(crate) enum Form {
     Dissect(Capture),
     /// `check SIDE CHECK`: tells how much of that is a fault of the line.
     Check(Capture),
+    /// `drill SEED COUNT`: runs a script that is made from the two numbers, and tells what it came to.
+    Drill {
+        /// Where its patterns and words begin.
+        seed: u32,
+        /// Its rounds, 1 to 20,000.
+        count: u32,
+    },
 }
 
 /// What the words ask for, if they are one of the forms. A plan's name is the second word.
@@ -56,6 +65,7 @@ fn form_of_three(word: &str, second: &str, third: &str) -> Option<Form>
         "serve" => mode_of(third),
         "dissect" => Some(Form::Dissect(capture_of(second, third)?)),
         "check" => Some(Form::Check(capture_of(second, third)?)),
+        "drill" => drill_of(second, third),
         _ => None,
     }
 }
@@ -67,6 +77,26 @@ fn mode_of(word: &str) -> Option<Form>
     match word {
         "raw" => Some(Form::Serve { timed: false }),
         "timed" => Some(Form::Serve { timed: true }),
+        _ => None,
+    }
+}
+
+/// What the last words of `drill` ask for, if each is a number of its own.
+fn drill_of(seed: &str, count: &str) -> Option<Form>
+    ensures { result ≡ drill_asked seed.now count.now }
+{
+    drill_by(
+        number_within(seed, 0, u32::MAX),
+        number_within(count, 1, MOST_ROUNDS),
+    )
+}
+
+/// The drill of both numbers.
+fn drill_by(seed: Option<u32>, count: Option<u32>) -> Option<Form>
+    ensures { result ≡ the_drill seed count }
+{
+    match (seed, count) {
+        (Some(seed), Some(count)) => Some(Form::Drill { seed, count }),
         _ => None,
     }
 }

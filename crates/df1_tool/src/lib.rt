@@ -7,8 +7,12 @@ mod collected;
 mod dissecting;
 #[cfg(test)]
 mod dissecting_tests;
+mod drilling;
+#[cfg(test)]
+mod drilling_tests;
 mod form;
 mod note;
+mod number;
 mod replaying;
 mod serving;
 #[cfg(test)]

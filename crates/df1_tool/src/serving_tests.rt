@@ -1,5 +1,5 @@
 //! The commands `serve` and `issue`, over the outside in memory.
-use crate::tests::words;
+use crate::tests::{USAGE, words};
 use crate::{Ran, run};
 use df1_base::{BytesIn, BytesOut};
 use df1_shelf::ShelfMem;
@@ -217,22 +217,8 @@ fn a_service_that_does_not_end_well_tells_why(rt: HostRuntime) -> Result<(), Fai
             "df1: record at 2: form\n",
         ),
         // Words that are no form.
-        stopped(
-            &["serve", "p"],
-            "",
-            b"",
-            2,
-            b"",
-            "df1: usage: df1 replay | serve PLAN raw|timed | issue PLAN | dissect SIDE CHECK | check SIDE CHECK\n",
-        ),
-        stopped(
-            &["issue", "p", "raw"],
-            "",
-            b"",
-            2,
-            b"",
-            "df1: usage: df1 replay | serve PLAN raw|timed | issue PLAN | dissect SIDE CHECK | check SIDE CHECK\n",
-        ),
+        stopped(&["serve", "p"], "", b"", 2, b"", USAGE),
+        stopped(&["issue", "p", "raw"], "", b"", 2, b"", USAGE),
         // No plan.
         Case {
             plan: None,

@@ -12,6 +12,10 @@ use std::fmt::Display;
 use std::process::Abort;
 use std::test::Fail;
 
+/// The note where the words are none of the forms.
+pub(crate) const USAGE: &str =
+    "df1: usage: df1 replay | serve PLAN raw|timed | issue PLAN | dissect SIDE CHECK | check SIDE CHECK | drill SEED COUNT\n";
+
 /// What a run of the program is to show.
 #[derive(Drop)]
 struct Case {
@@ -208,7 +212,7 @@ fn a_run_that_does_not_end_well_tells_why(rt: HostRuntime) -> Result<(), Fail> {
             room: 4000,
             status: 2,
             out: "",
-            note: "df1: usage: df1 replay | serve PLAN raw|timed | issue PLAN | dissect SIDE CHECK | check SIDE CHECK\n",
+            note: USAGE,
         },
         // A read that fails.
         Case {

@@ -2,7 +2,7 @@
 //!
 //! | Status | Comes |
 //! |---|---|
-//! | 0 | the input was read to its end and all text was written |
+//! | 0 | the input was read to its end, which `drill` doesn't touch, and all text was written |
 //! | 1 | `check`: the same, and something that is heard is a fault of the line, or an item is unfinished |
 //! | 2 | exactly where the words are none of the forms |
 //! | 3 | the script, the plan or a timed record is refused: the note tells which and why |
@@ -21,8 +21,9 @@ ghost use Rattle.df1_tool.specs.Replayed.{Replayed};
 ghost use Rattle.df1_tool.specs.Served.{ServiceRun};
 ghost use Rattle.df1_tool.specs.Counted.{CheckRun};
 ghost use Rattle.df1_tool.specs.Dissected.{DissectRun};
+ghost use Rattle.df1_tool.specs.Drilling.{DrillRun};
 ghost use Rattle.df1_tool.specs.declared.capture.Capture.{Capture as OneCapture};
-ghost use Rattle.df1_tool.specs.declared.form.Form.TheVariants.{Replay, Dissect, Check as Count};
+ghost use Rattle.df1_tool.specs.declared.form.Form.TheVariants.{Replay, Dissect, Check as Count, Drill};
 ghost use Rattle.df1_tool.specs.Tool.{form_of as the_form, line_note, note_at, note_of, plan_name, replayed, service_for, status_for, IsReplayStatus};
 ghost use Rattle.df1_tool.specs.declared.trouble.Trouble.TheVariants.{Usage as ForNone};
 ghost use Rattle.df1_service.specs.declared.service.Service.{Service as OneService};
@@ -31,7 +32,7 @@ ghost use Rattle.line_script.specs.declared.fault.Cause.{Cause as Fault};
 
 use crate::form::{Form, form_of};
 use crate::trouble::{Trouble, tell};
-use crate::{checking, dissecting, replaying, serving};
+use crate::{checking, dissecting, drilling, replaying, serving};
 use df1_base::{Sink, Source};
 use df1_service::Service;
 use df1_shelf::Shelf;
@@ -89,7 +90,7 @@ pub fn run<H: Shelf, S: Source, K: Sink, N: Sink>(
         result.status }
     ensures before { (service : OneService) → service_for (map string_bytes words.now) ≡ Some service → (result.status ≡ 6) ⊎ (result.status ≡ 7) → (result.input ≡ input) × (result.out ≡ out) }
 
-    // `dissect` and `check`. They leave the shelf.
+    // `dissect` and `check`.
     ensures dissects { (capture : OneCapture) → the_form (map string_bytes words.now) ≡ Some (Dissect capture) → DissectRun capture.side capture.check
         (record { left = S.left input; input_faults = S.faults input; held = K.held out; out_faults = K.faults out; noted = N.held note; note_faults = N.faults note })
         (record { left = S.left result.input; input_faults = S.faults result.input; held = K.held result.out; out_faults = K.faults result.out; noted = N.held result.note; note_faults = N.faults result.note })
@@ -98,12 +99,19 @@ pub fn run<H: Shelf, S: Source, K: Sink, N: Sink>(
         (record { left = S.left input; input_faults = S.faults input; held = K.held out; out_faults = K.faults out; noted = N.held note; note_faults = N.faults note })
         (record { left = S.left result.input; input_faults = S.faults result.input; held = K.held result.out; out_faults = K.faults result.out; noted = N.held result.note; note_faults = N.faults result.note })
         result.status }
-    ensures same_shelf { (capture : OneCapture) → (the_form (map string_bytes words.now) ≡ Some (Dissect capture)) ⊎ (the_form (map string_bytes words.now) ≡ Some (Count capture))
-        → result.shelf ≡ shelf }
 
-    // `replay` leaves the shelf.
+    // `drill`. It leaves the input.
+    ensures drills { (seed count : ℕ) → the_form (map string_bytes words.now) ≡ Some (Drill seed count) → DrillRun seed count
+        (record { held = K.held out; out_faults = K.faults out; noted = N.held note; note_faults = N.faults note })
+        (record { held = K.held result.out; out_faults = K.faults result.out; noted = N.held result.note; note_faults = N.faults result.note })
+        result.status }
+    ensures same_input { (seed count : ℕ) → the_form (map string_bytes words.now) ≡ Some (Drill seed count) → result.input ≡ input }
+
+    // What doesn't serve a plan leaves the shelf.
+    ensures same_shelf { service_for (map string_bytes words.now) ≡ None → result.shelf ≡ shelf }
+
+    // `replay`.
     ensures statuses { the_form (map string_bytes words.now) ≡ Some Replay → IsReplayStatus result.status }
-    ensures shelf { the_form (map string_bytes words.now) ≡ Some Replay → result.shelf ≡ shelf }
 
     // 0 of `replay`: the input is read to its end, and the report of its script's run is written; nothing has failed, and no
     // note is written. Unless an end was deceived, each station executed commands that were issued to it, in their order, each
@@ -173,6 +181,10 @@ pub fn run<H: Shelf, S: Source, K: Sink, N: Sink>(
         }
         Form::Check(capture) => {
             let status = checking::run(capture, &mut input, &mut out, &mut note);
+            Ran::new(status, shelf, input, out, note)
+        }
+        Form::Drill { seed, count } => {
+            let status = drilling::run(alloc, seed, count, &mut out, &mut note);
             Ran::new(status, shelf, input, out, note)
         }
     }

@@ -1,8 +1,8 @@
-//! Why a replay didn't end well, or that the words are none of the forms, with status and note.
+//! Why a replay or a drill didn't end well, or that the words are none of the forms, with status and note.
 //!
 //! | Status | Note |
 //! |---|---|
-//! | 2 | `df1: usage: df1 replay \| serve PLAN raw\|timed \| issue PLAN \| dissect SIDE CHECK \| check SIDE CHECK` |
+//! | 2 | `df1: usage: df1 replay \| serve PLAN raw\|timed \| issue PLAN \| dissect SIDE CHECK \| check SIDE CHECK \| drill SEED COUNT` |
 //! | 3 | `df1: line N: CAUSE` |
 //! | 4 | `df1: input cannot be read` |
 //! | 5 | `df1: output cannot be written` |
@@ -12,7 +12,7 @@ ghost use Rattle.df1_tool.specs.Outcome.{IsNoted};
 ghost use Rattle.df1_tool.specs.Tool.{cause_text, line_note, note_of, status_of, status_of_trouble};
 
 use crate::note::{Note, append, input_failed, no_memory, noted, output_failed};
-use df1_base::{Sink, write_all};
+use df1_base::{NoMemory, Sink, write_all};
 use line_replay::{Cause, StreamFault};
 
 /// Why a run didn't end well.
@@ -44,6 +44,17 @@ impl From<StreamFault> for Trouble {
     }
 }
 
+impl From<NoMemory> for Trouble {
+    ghost use Rattle.std.specs.Prelude.{◌≡◌};
+    ghost use Rattle.df1_tool.specs.declared.trouble.Trouble.TheVariants.{NoMemory as Want};
+
+    ghost from_gives = { λ _ e. e ≡ Want };
+
+    fn from(_: NoMemory) -> Self {
+        Trouble::NoMemory
+    }
+}
+
 impl Trouble {
     /// The exit status.
     pub fn status(self) -> u8
@@ -64,7 +75,7 @@ impl Trouble {
     {
         match self {
             Trouble::Usage => noted(
-                b"df1: usage: df1 replay | serve PLAN raw|timed | issue PLAN | dissect SIDE CHECK | check SIDE CHECK\n",
+                b"df1: usage: df1 replay | serve PLAN raw|timed | issue PLAN | dissect SIDE CHECK | check SIDE CHECK | drill SEED COUNT\n",
             ),
             Trouble::Refusal(line, cause) => refused(line, cause),
             Trouble::Input => input_failed(),

@@ -14,7 +14,7 @@ loop-round-preserved c =
     let round = c.loop-round.round in
     let was = c.loop-round.invariant in
     let events : c.put_round.new.events ≡ drill_events seed (round + 1 - 1) =
-        c.in_ok-put_round.ensures ∙ ap (λ (s : Script). s.events ++ round_of seed round) was ∙ sym (rounds-next seed round c.loop-round.auto.round) in
+    c.in_ok-put_round.ensures ∙ ap (λ (s : Script). s.events ++ round_of seed round) was ∙ sym (rounds-next seed round c.loop-round.auto.round) in
     ap (λ (s : Script). record s { events = c.put_round.new.events }) was ∙ ap (λ (l : List Event). record setup { events = l }) events
 
 pub returns-clause-script : goal.returns-clause-script

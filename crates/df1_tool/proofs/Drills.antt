@@ -1,0 +1,92 @@
+-- What a run of `drill` shows, by how it ended, and how many rounds the words may ask for.
+use Rattle.std.proofs.Common.{◌≡◌, ◌⊎◌, ◌∙◌, ◌≤◌, ℕ, Bool, true, false, List, [], ◌∷◌, Option, None, Some, Result, Ok, Err, inl, inr, refl, sym, ap, subst, arith}
+use Rattle.std.specs.Prelude.{MatchResult, IfSome, nat_le, ◌&&◌, if◌then◌else◌, codes, option_map}
+use Rattle.std.specs.Str.{bytes_eq}
+use Rattle.df1_base.specs.Outside.{Rose}
+use Rattle.line_statement.specs.Words.{within}
+use Rattle.df1_tool.specs.declared.form.Form.{Form}
+use Rattle.df1_tool.specs.declared.form.Form.TheVariants.{Replay, Serve, Issue, Dissect, Check as Count, Drill}
+use Rattle.df1_tool.specs.declared.capture.Capture.{Capture}
+use Rattle.df1_tool.specs.declared.trouble.Trouble.{Trouble}
+use Rattle.df1_tool.specs.declared.trouble.Trouble.TheVariants.{Usage, Refusal, Input, Output, NoMemory}
+use Rattle.df1_tool.specs.Outcome.{IsNoted}
+use Rattle.df1_tool.specs.Tool.{capture_of, drill_by, drill_of, form_of, form_of_three, form_of_two, mode_of, note_of, number_of, status_of}
+use Rattle.df1_tool.specs.Drilling.{DrillEnd, DrillRun}
+
+-- ---- how it ended
+
+pub drill-ended : {N : Type 0} (noted : N → Option (List ℕ)) (faults : N → ℕ) (note note' : N) (seed count : ℕ) (held held' : Option (List ℕ)) (out out' : ℕ) (status : ℕ) (ended : Result (Unit {0}) Trouble)
+    → DrillEnd seed count held held' out out' ended → status ≡ status_of ended
+    → MatchResult ended (λ done. note' ≡ note) (λ trouble. IsNoted (noted note) (noted note') (faults note) (faults note') (note_of trouble))
+    → DrillRun seed count (record { held = held; out_faults = out; noted = noted note; note_faults = faults note }) (record { held = held'; out_faults = out'; noted = noted note'; note_faults = faults note' }) status
+drill-ended noted faults note note' seed count held held' out out' status (Ok done) (put, steady) is same = record {
+  statuses = inl is;
+  done = λ at. (put, ap noted same, ap faults same);
+  cut = λ at. absurd (omega (arith, is, at));
+  wanting = λ at. absurd (omega (arith, is, at));
+  steady = λ at. steady;
+}
+drill-ended noted faults note note' seed count held held' out out' status (Err Usage) none is told = absurd none
+drill-ended noted faults note note' seed count held held' out out' status (Err (Refusal line cause)) none is told = absurd none
+drill-ended noted faults note note' seed count held held' out out' status (Err Input) none is told = absurd none
+drill-ended noted faults note note' seed count held held' out out' status (Err Output) (part, rose) is told = record {
+  statuses = inr (inl is);
+  done = λ at. absurd (omega (arith, is, at));
+  cut = λ at. (rose, part, told);
+  wanting = λ at. absurd (omega (arith, is, at));
+  steady = λ at. absurd (at is);
+}
+drill-ended noted faults note note' seed count held held' out out' status (Err NoMemory) (same, steady) is told = record {
+  statuses = inr (inr is);
+  done = λ at. absurd (omega (arith, is, at));
+  cut = λ at. absurd (omega (arith, is, at));
+  wanting = λ at. (same, told);
+  steady = λ at. steady;
+}
+
+-- ---- the rounds
+
+-- a drill has at most 20,000 rounds
+abbrev Few : Form → Type 0
+Few Replay = Unit {0}
+Few (Serve timed) = Unit {0}
+Few Issue = Unit {0}
+Few (Dissect capture) = Unit {0}
+Few (Count capture) = Unit {0}
+Few (Drill seed count) = count ≤ 20000
+
+few-if : (test : Bool) (a b : Option Form) → IfSome a Few → IfSome b Few → IfSome (if test then a else b) Few
+few-if true a b few few' = few
+few-if false a b few few' = few'
+
+few-within : (least most n : ℕ) (known : Option ℕ) → within least most known ≡ Some n → n ≤ most
+few-within least most n None is = absurd cc
+few-within least most n (Some m) is = grind arith
+
+few-drill : (seed count : Option ℕ) → ((n : ℕ) → count ≡ Some n → n ≤ 20000) → IfSome (drill_by seed count) Few
+few-drill None count few = tt
+few-drill (Some seed) None few = tt
+few-drill (Some seed) (Some n) few = few n refl
+
+few-capture : (capture : Option Capture) (make : Capture → Form) → ((c : Capture) → Few (make c)) → IfSome (option_map make capture) Few
+few-capture None make few = tt
+few-capture (Some capture) make few = few capture
+
+few-three : (word second third : List ℕ) → IfSome (form_of_three word second third) Few
+few-three word second third =
+    let drill = few-drill (within 0 4294967295 (number_of second)) (within 1 20000 (number_of third)) (λ n is. few-within 1 20000 n (number_of third) is) in
+    few-if (bytes_eq word (codes "serve")) _ _ (few-if (bytes_eq third (codes "raw")) _ _ tt (few-if (bytes_eq third (codes "timed")) _ _ tt tt))
+    (few-if (bytes_eq word (codes "dissect")) _ _ (few-capture (capture_of second third) Dissect (λ c. tt))
+    (few-if (bytes_eq word (codes "check")) _ _ (few-capture (capture_of second third) Count (λ c. tt))
+    (few-if (bytes_eq word (codes "drill")) _ _ drill tt)))
+
+few-form : (words : List (List ℕ)) → IfSome (form_of words) Few
+unfolding form_of
+few-form [] = tt
+few-form (word ∷ []) = few-if (bytes_eq word (codes "replay")) _ _ tt tt
+few-form (word ∷ plan ∷ []) = few-if (bytes_eq word (codes "issue")) _ _ tt tt
+few-form (word ∷ second ∷ third ∷ []) = few-three word second third
+few-form (a ∷ b ∷ c ∷ d ∷ more) = tt
+
+pub few-rounds : (words : List (List ℕ)) (seed count : ℕ) → form_of words ≡ Some (Drill seed count) → count ≤ 20000
+few-rounds words seed count is = let few = few-form words in rw is at few

@@ -1,0 +1,35 @@
+//! Numbers among the words of a call.
+ghost use Rattle.std.specs.Prelude.{◌≡◌};
+ghost use Rattle.line_statement.specs.Words.{within};
+ghost use Rattle.df1_tool.specs.Tool.{number_of as the_number};
+
+/// The most decimal digits that a number has.
+const DIGITS: usize = 10;
+
+/// The number that a word is, if it is 1 to 10 decimal digits and within these bounds.
+pub(crate) fn number_within(word: &str, least: u32, most: u32) -> Option<u32>
+    ensures { result ≡ within least most (the_number word.now) }
+{
+    match number_of(word.as_bytes()) {
+        Some(n) if u64::from(least) <= n && n <= u64::from(most) => Some(n as u32),
+        _ => None,
+    }
+}
+
+/// The number that a word of 1 to 10 decimal digits is. Leading zeros are digits like others.
+#[tactic(auto, unfolding(crate::specs::Tool::number_of))]
+fn number_of(word: &[u8]) -> Option<u64>
+    ensures { result ≡ the_number word.now }
+{
+    if word.is_empty() || word.len() > DIGITS {
+        return None;
+    }
+    let mut value = 0;
+    for byte in word {
+        if !byte.is_ascii_digit() {
+            return None;
+        }
+        value = value * 10 + u64::from(byte - b'0');
+    }
+    Some(value)
+}
