@@ -1,8 +1,7 @@
 -- What a run of `drill` shows, by how it ended, and how many rounds the words may ask for.
-use Rattle.std.proofs.Common.{◌≡◌, ◌⊎◌, ◌∙◌, ◌≤◌, ℕ, Bool, true, false, List, [], ◌∷◌, Option, None, Some, Result, Ok, Err, inl, inr, refl, sym, ap, subst, arith}
-use Rattle.std.specs.Prelude.{MatchResult, IfSome, nat_le, ◌&&◌, if◌then◌else◌, codes, option_map}
+use Rattle.std.proofs.Common.{◌≡◌, ◌≤◌, ℕ, Bool, true, false, List, [], ◌∷◌, Option, None, Some, Result, Ok, Err, inl, inr, refl, ap, arith}
+use Rattle.std.specs.Prelude.{MatchResult, IfSome, if◌then◌else◌, codes, option_map}
 use Rattle.std.specs.Str.{bytes_eq}
-use Rattle.df1_base.specs.Outside.{Rose}
 use Rattle.line_statement.specs.Words.{within}
 use Rattle.df1_tool.specs.declared.form.Form.{Form}
 use Rattle.df1_tool.specs.declared.form.Form.TheVariants.{Replay, Serve, Issue, Dissect, Check as Count, Drill}
@@ -10,7 +9,7 @@ use Rattle.df1_tool.specs.declared.capture.Capture.{Capture}
 use Rattle.df1_tool.specs.declared.trouble.Trouble.{Trouble}
 use Rattle.df1_tool.specs.declared.trouble.Trouble.TheVariants.{Usage, Refusal, Input, Output, NoMemory}
 use Rattle.df1_tool.specs.Outcome.{IsNoted}
-use Rattle.df1_tool.specs.Tool.{capture_of, drill_by, drill_of, form_of, form_of_three, form_of_two, mode_of, note_of, number_of, status_of}
+use Rattle.df1_tool.specs.Tool.{capture_of, drill_by, form_of, form_of_three, note_of, number_of, status_of}
 use Rattle.df1_tool.specs.Drilling.{DrillEnd, DrillRun}
 
 -- ---- how it ended
