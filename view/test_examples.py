@@ -88,6 +88,7 @@ ARROWS = {
     "timer-and-float": [
         *exchange("0F FNC AA", "4F", 1), *exchange("0F FNC A2", "4F", 2), *exchange("0F FNC AA", "4F", 3), *exchange("0F FNC A2", "4F", 4)
     ],
+    "stations-in-their-order": [],
     "tns-wraps": [*exchange("06 FNC 00", "46", 0xFFFF), *exchange("06 FNC 00", "46", 0)],
     "trace": [f"{WRITE}; byte 15: 34 → 74", "b>a NAK", WRITE, *ACKS, *exchange("0F FNC A2", "4F", 2)],
     "typed-read-of-floats": exchange("0F FNC 68", "4F", 1) + exchange("0F FNC 68", "4F STS F0/0A", 2),
