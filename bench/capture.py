@@ -14,7 +14,8 @@ import random
 import subprocess
 import sys
 import tempfile
-import time
+
+import timed
 
 CAPTURE = 268_435_456
 PIECE = 1_048_576
@@ -71,34 +72,19 @@ def write_capture(kind, check, path):
             write_noise(file)
 
 
-def run(program, words, capture):
-    """Runs the program over a file, and answers the seconds and the most KiB that it took."""
-    with open(capture, "rb") as source:
-        start = time.perf_counter()
-        child = subprocess.Popen([program, *words], stdin=source, stdout=subprocess.DEVNULL)
-        _, status, usage = os.wait4(child.pid, 0)
-        taken = time.perf_counter() - start
-    # 1 is for a capture with a fault of the line, or with an item that its end cuts off.
-    if os.waitstatus_to_exitcode(status) not in (0, 1):
-        sys.exit(f"bench/capture.py: {program} ended with {os.waitstatus_to_exitcode(status)}")
-    return taken, usage.ru_maxrss
-
-
 def main():
     if sys.argv[1:2] == ["--write"]:
         write_capture(*sys.argv[2:5])
         return
-    top = os.path.dirname(os.path.dirname(os.path.abspath(__file__)))
-    program = sys.argv[1] if len(sys.argv) > 1 else os.path.join(top, "crates", "df1", "out", "df1")
-    if not os.path.exists(program):
-        sys.exit(f"bench/capture.py: there is no {program}; ./df1 builds it, as ./df1 replay < examples/one-write.df1")
+    program = timed.program()
     with tempfile.TemporaryDirectory() as folder:
         capture = os.path.join(folder, "capture")
         for kind in ("frames", "noise"):
             for command, check in CASES:
                 # In a process of its own: a run's peak counts what its parent holds.
                 subprocess.run([sys.executable, os.path.abspath(__file__), "--write", kind, check, capture], check=True)
-                taken, peak = run(program, [command, "full", check], capture)
+                # 1 is for a capture with a fault of the line, or with an item that its end cuts off.
+                taken, peak = timed.run(program, [command, "full", check], capture, os.devnull, ends=(0, 1))
                 print(f"{command} full {check}, {kind}: {CAPTURE} bytes: {taken:.2f} s, {CAPTURE / taken / 1e6:.1f} MB/s, "
                       f"peak {peak / 1024:.0f} MiB", flush=True)
 

@@ -17,7 +17,8 @@ import os
 import subprocess
 import sys
 import tempfile
-import time
+
+import timed
 
 LIMIT = 16_777_216
 EVENTS = 4_000_000
@@ -119,18 +120,6 @@ def made(name, path):
     return int(code.stdout)
 
 
-def run(program, script, report):
-    """Runs the program over a file, and answers the seconds and the most KiB that it took."""
-    with open(script, "rb") as source, open(report, "wb") as sink:
-        start = time.perf_counter()
-        child = subprocess.Popen([program, "replay"], stdin=source, stdout=sink)
-        _, status, usage = os.wait4(child.pid, 0)
-        taken = time.perf_counter() - start
-    if status != 0:
-        sys.exit(f"bench/replay.py: {program} ended with {os.waitstatus_to_exitcode(status)}")
-    return taken, usage.ru_maxrss
-
-
 def main():
     if sys.argv[1:2] == ["--write"]:
         text = SCRIPTS[sys.argv[2]]()
@@ -138,15 +127,12 @@ def main():
             file.write(text)
         print(events(text))
         return
-    top = os.path.dirname(os.path.dirname(os.path.abspath(__file__)))
-    program = sys.argv[1] if len(sys.argv) > 1 else os.path.join(top, "crates", "df1", "out", "df1")
-    if not os.path.exists(program):
-        sys.exit(f"bench/replay.py: there is no {program}; ./df1 builds it, as ./df1 replay < examples/one-write.df1")
+    program = timed.program()
     with tempfile.TemporaryDirectory() as folder:
         script, report = os.path.join(folder, "script"), os.path.join(folder, "report")
         for name in SCRIPTS:
             count = made(name, script)
-            taken, peak = run(program, script, report)
+            taken, peak = timed.run(program, ["replay"], script, report)
             size = os.path.getsize(script)
             print(f"{name}: {size} bytes, {count} events, {os.path.getsize(report)} bytes of report: {taken:.2f} s, "
                   f"{size / taken / 1e6:.1f} MB/s, {count / taken:,.0f} events/s, peak {peak / 1024:.0f} MiB")

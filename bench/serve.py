@@ -10,7 +10,8 @@ import os
 import subprocess
 import sys
 import tempfile
-import time
+
+import timed
 
 INPUT = 64_000_000
 
@@ -36,25 +37,16 @@ def main():
     if sys.argv[1:2] == ["--write"]:
         write_input(sys.argv[2])
         return
-    top = os.path.dirname(os.path.dirname(os.path.abspath(__file__)))
-    program = sys.argv[1] if len(sys.argv) > 1 else os.path.join(top, "crates", "df1", "out", "df1")
-    if not os.path.exists(program):
-        sys.exit(f"bench/serve.py: there is no {program}; ./df1 builds it, as ./df1 replay < examples/one-write.df1")
-    program = os.path.abspath(program)
+    program = timed.program()
     with tempfile.TemporaryDirectory() as folder:
         # In a process of its own: a run's peak counts what its parent holds.
         subprocess.run([sys.executable, os.path.abspath(__file__), "--write", os.path.join(folder, "line")], check=True)
         with open(os.path.join(folder, "plan"), "w") as file:
             file.write(PLAN)
-        with open(os.path.join(folder, "line"), "rb") as source, open(os.path.join(folder, "wire"), "wb") as sink:
-            start = time.perf_counter()
-            child = subprocess.Popen([program, "serve", "plan", "raw"], stdin=source, stdout=sink, cwd=folder)
-            _, status, usage = os.wait4(child.pid, 0)
-            taken = time.perf_counter() - start
-        if status != 0:
-            sys.exit(f"bench/serve.py: {program} ended with {os.waitstatus_to_exitcode(status)}")
-        given = os.path.getsize(os.path.join(folder, "wire"))
-        print(f"serve: {INPUT} bytes, {given} bytes given: {taken:.2f} s, {INPUT / taken / 1e6:.1f} MB/s, peak {usage.ru_maxrss / 1024:.0f} MiB")
+        wire = os.path.join(folder, "wire")
+        taken, peak = timed.run(program, ["serve", "plan", "raw"], os.path.join(folder, "line"), wire, folder)
+        given = os.path.getsize(wire)
+        print(f"serve: {INPUT} bytes, {given} bytes given: {taken:.2f} s, {INPUT / taken / 1e6:.1f} MB/s, peak {peak / 1024:.0f} MiB")
 
 
 if __name__ == "__main__":
