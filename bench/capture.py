@@ -4,7 +4,8 @@
 Usage: bench/capture.py [PROGRAM]     (crates/df1/out/df1 where PROGRAM is left out)
 
 For `check full bcc`, `check full crc` and `dissect full crc`, over each capture, it prints the bytes of the capture, the
-megabytes of it a second, and the most memory that the run took. The lines of a dissection go to the null device.
+megabytes of it a second, by the clock and of a processor, and the most memory that the run took. The lines of a dissection
+go to the null device.
 
 - frames: commands that read a word, one after another, each with the check of the line;
 - noise: bytes of a generator of random numbers, the same in each run.
@@ -84,9 +85,9 @@ def main():
                 # In a process of its own: a run's peak counts what its parent holds.
                 subprocess.run([sys.executable, os.path.abspath(__file__), "--write", kind, check, capture], check=True)
                 # 1 is for a capture with a fault of the line, or with an item that its end cuts off.
-                taken, peak = timed.run(program, [command, "full", check], capture, os.devnull, ends=(0, 1))
+                taken, used, peak = timed.run_used(program, [command, "full", check], capture, os.devnull, ends=(0, 1))
                 print(f"{command} full {check}, {kind}: {CAPTURE} bytes: {taken:.2f} s, {CAPTURE / taken / 1e6:.1f} MB/s, "
-                      f"peak {peak / 1024:.0f} MiB", flush=True)
+                      f"of a processor {used:.2f} s, {CAPTURE / used / 1e6:.1f} MB/s, peak {peak / 1024:.0f} MiB", flush=True)
 
 
 if __name__ == "__main__":

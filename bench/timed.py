@@ -15,8 +15,14 @@ def program():
 
 
 def run(path, words, given, written, folder=None, ends=(0,)):
-    """Runs the program over a file in a folder, and answers the seconds and the most KiB that it took. It must end with one of
-    these statuses."""
+    """Runs the program over a file in a folder, and answers the seconds by the clock and the most KiB that it took. It must
+    end with one of these statuses."""
+    taken, _, peak = run_used(path, words, given, written, folder, ends)
+    return taken, peak
+
+
+def run_used(path, words, given, written, folder=None, ends=(0,)):
+    """The same, and answers the seconds of a processor too, before the KiB."""
     with open(given, "rb") as source, open(written, "wb") as sink:
         start = time.perf_counter()
         child = subprocess.Popen([path, *words], stdin=source, stdout=sink, cwd=folder)
@@ -24,4 +30,4 @@ def run(path, words, given, written, folder=None, ends=(0,)):
         taken = time.perf_counter() - start
     if os.waitstatus_to_exitcode(status) not in ends:
         sys.exit(f"{sys.argv[0]}: {path} ended with {os.waitstatus_to_exitcode(status)}")
-    return taken, usage.ru_maxrss
+    return taken, usage.ru_utime + usage.ru_stime, usage.ru_maxrss

@@ -23,6 +23,11 @@ pub record Taker : Type 0 where
   pub fail : List ℕ
   pub faults : ℕ
 
+-- a sink that grows: the bytes that it holds, and how often a growth was refused
+pub record Collection : Type 0 where
+  pub held : List ℕ
+  pub faults : ℕ
+
 -- a source that gives one byte so many times more
 pub record Repeated : Type 0 where
   pub byte : ℕ

@@ -1,7 +1,9 @@
 //! The calls of each source and sink, one by one.
 ghost use Rattle.std.specs.Prelude.{◌≤◌, IfOk};
 
-use crate::{ByteRun, BytesIn, BytesOut, Failed, Nowhere, Sink, Source, StdIn, StdOut, write_all};
+use crate::{
+    ByteRun, BytesIn, BytesOut, Collected, Failed, Nowhere, Sink, Source, StdIn, StdOut, write_all,
+};
 use std::alloc::Global;
 use std::io::{self, ErrorKind, Read, Write};
 use std::test::Fail;
@@ -45,6 +47,20 @@ fn a_run_of_a_byte_ends_and_nowhere_takes_all(rt: HostRuntime) -> Result<(), Fai
     let mut sink = Nowhere::new();
     assert_eq!(rt; sink.write(&into), Ok(4));
     assert_eq!(rt; sink.write(b""), Ok(0));
+    Ok(())
+}
+
+#[test]
+fn a_sink_that_grows_holds_what_was_written_since_it_was_cleared(
+    rt: HostRuntime,
+) -> Result<(), Fail> {
+    let mut sink = Collected::new(rt.alloc());
+    assert_eq!(rt; sink.write(b"abc"), Ok(3));
+    assert_eq!(rt; sink.write(b"de"), Ok(2));
+    assert_eq!(rt; sink.bytes(), b"abcde".as_slice());
+    sink.clear();
+    assert_eq!(rt; sink.write(b"f"), Ok(1));
+    assert_eq!(rt; sink.bytes(), b"f".as_slice());
     Ok(())
 }
 

@@ -1,12 +1,13 @@
 //! Writing until all is written.
 ghost use Rattle.std.specs.Prelude.{◌≡◌, ◌≤◌, OnOk, OnErr};
-ghost use Rattle.df1_base.specs.Outside.{Rose, Put, WrotePart};
+ghost use Rattle.df1_base.specs.Outside.{Rose, Put, WroteLess, WrotePart};
 
 use crate::{Failed, Sink};
 
-/// Writes all the bytes. Where the sink fails, it holds a first part of them.
+/// Writes all the bytes. Where the sink fails, it holds a first part of them, and not all.
 pub fn write_all<K: Sink>(sink: &mut K, bytes: &[u8]) -> Result<(), Failed>
     ensures ok { OnOk result (Put (K.held sink.old) (K.held sink.new) bytes.now) }
+    ensures missing { OnErr result (WroteLess (K.held sink.old) (K.held sink.new) bytes.now) }
     ensures part { WrotePart (K.held sink.old) (K.held sink.new) bytes.now }
     ensures calm { OnOk result (K.faults sink.new ≡ K.faults sink.old) }
     ensures later { K.faults sink.old ≤ K.faults sink.new }

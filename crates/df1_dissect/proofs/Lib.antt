@@ -4,3 +4,4 @@ pub mod MasterSideLemmas
 pub mod SlaveSideLemmas
 pub mod Sides
 pub mod Digits
+pub mod RunLemmas

@@ -6,6 +6,7 @@ pub mod MasterItems
 pub mod SlaveItems
 pub mod Reading
 pub mod Step
+pub mod Runs
 pub mod Commands
 pub mod Lines
 pub mod Dissection

@@ -13,7 +13,7 @@ ghost use Rattle.df1_dissect.specs.Dissection.{Dissects, HasLines, lines_at, ope
 ghost use Rattle.df1_dissect.specs.Step.{with_body};
 
 use crate::ear::Side;
-use crate::line::{ROOM, line_of, open_line};
+use crate::line::{ROOM, append_line, append_open_line};
 use crate::reader::{Reader, Thing};
 use arrayvec::ArrayVec;
 use df1_base::{Failed, MAX_BODY, Sink, write_all};
@@ -90,7 +90,7 @@ impl Dissector {
     {
         match self.reader.hear(b) {
             None => {}
-            Some(thing) => add_thing(lines, thing, self.reader.body()),
+            Some(thing) => append_line(lines, thing, self.reader.body()),
         }
     }
 
@@ -160,17 +160,9 @@ fn put_thing<K: Sink>(sink: &mut K, thing: Thing, body: &[u8]) -> Result<(), Fai
     ensures later { K.faults sink.old ≤ K.faults sink.new }
     ensures cause { OnErr result (Rose (K.faults sink.old) (K.faults sink.new)) }
 {
-    write_all(sink, &line_of(thing, body))
-}
-
-/// Adds the line of a thing with a body of at most 250 bytes to lines that have room for one more.
-#[inline(never)]
-fn add_thing(lines: &mut Lines, thing: Thing, body: &[u8])
-    requires body { length body.now ≤ MAX_BODY }
-    requires room { array_vec_len lines.old + 700 ≤ 8192 }
-    ensures { lines.new.items ≡ lines.old.items ++ line_text (with_body thing body.now) }
-{
-    lines.try_extend_from_slice(&line_of(thing, body)).unwrap();
+    let mut line = ArrayVec::<u8, ROOM>::new();
+    append_line(&mut line, thing, body);
+    write_all(sink, &line)
 }
 
 /// Writes the line of an item that is unfinished.
@@ -182,5 +174,7 @@ fn put_open<K: Sink>(sink: &mut K, first: u64, last: u64) -> Result<(), Failed>
     ensures later { K.faults sink.old ≤ K.faults sink.new }
     ensures cause { OnErr result (Rose (K.faults sink.old) (K.faults sink.new)) }
 {
-    write_all(sink, &open_line(first, last))
+    let mut line = ArrayVec::<u8, ROOM>::new();
+    append_open_line(&mut line, first, last);
+    write_all(sink, &line)
 }

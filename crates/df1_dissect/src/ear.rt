@@ -1,6 +1,8 @@
 //! What hears one side of a line: a byte goes in, and what comes of it comes out.
-ghost use Rattle.std.specs.Prelude.{◌≡◌, ◌≤◌, length};
+ghost use Rattle.std.specs.Prelude.{◌≡◌, ◌≤◌, length, take};
+ghost use Rattle.df1_frame.specs.Runs.{steps};
 ghost use Rattle.df1_dissect.specs.Hearing.{ear_next, ear_of_none, lent_by, turn_of};
+ghost use Rattle.df1_dissect.specs.Runs.{ear_inside, turns_in_run};
 
 use crate::kind::{Kind, full_kind, master_kind, slave_kind};
 use df1_base::MAX_BODY;
@@ -53,6 +55,7 @@ impl Ear {
     }
 
     /// Takes a byte.
+    #[inline(always)]
     pub(crate) fn hear(&mut self, b: u8) -> Turn
         ensures value { self.new ≡ (ear_next self.old b).0 }
         ensures turn { result ≡ (ear_next self.old b).1 }
@@ -61,6 +64,31 @@ impl Ear {
             Ear::Full(decoder) => turn_of(full_kind(decoder.feed(b)), decoder.inside()),
             Ear::Master(ear) => turn_of(master_kind(ear.feed(b)), ear.inside()),
             Ear::Slave(ear) => turn_of(slave_kind(ear.feed(b)), ear.inside()),
+        }
+    }
+
+    /// Takes the bytes before the first DLE where it stands in a body or outside, and none elsewhere, and says how many. In a
+    /// body the item goes on at them; outside each is an item.
+    pub(crate) fn hear_run(&mut self, bytes: &[u8]) -> usize
+        ensures most { result ≤ length bytes.now }
+        ensures value { self.new ≡ (steps ear_next self.old (take result bytes.now)).0 }
+        ensures turns { (steps ear_next self.old (take result bytes.now)).1 ≡ turns_in_run (ear_inside self.old) (take result bytes.now) }
+    {
+        match self {
+            Ear::Full(decoder) => decoder.feed_run(bytes),
+            Ear::Master(ear) => ear.feed_run(bytes),
+            Ear::Slave(ear) => ear.feed_run(bytes),
+        }
+    }
+
+    /// Whether an item is under way.
+    pub(crate) fn inside(&self) -> bool
+        ensures { result ≡ ear_inside self.now }
+    {
+        match self {
+            Ear::Full(decoder) => decoder.inside(),
+            Ear::Master(ear) => ear.inside(),
+            Ear::Slave(ear) => ear.inside(),
         }
     }
 

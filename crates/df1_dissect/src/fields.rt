@@ -4,48 +4,49 @@ ghost use Rattle.arrayvec.specs.ArrayVec.{array_vec_len};
 ghost use Rattle.df1_dissect.specs.Lines.{envelope_text, fields_text, message_text};
 
 use crate::command::message_name;
-use crate::line::{Line, append, append_bytes, append_code};
+use crate::line::{append, append_bytes, append_code};
+use arrayvec::ArrayVec;
 use df1_base::{MAX_BODY, MAX_DATA, MIN_BODY};
 use pccc_envelope::{Envelope, read_envelope};
 
 /// Adds the fields of a body. A body too short for an envelope is added as it is.
 #[tactic(auto, unfolding(crate::specs::Lines::fields_text))]
-pub(crate) fn append_fields(line: &mut Line, body: &[u8])
-    requires size { array_vec_len line.old ≤ 64 }
+pub(crate) fn append_fields<const N: usize>(text: &mut ArrayVec<u8, N>, body: &[u8])
+    requires room { array_vec_len text.old + 600 ≤ N }
     requires body { length body.now ≤ MAX_BODY }
-    ensures text { line.new.items ≡ line.old.items ++ fields_text body.now }
-    ensures size { array_vec_len line.new ≤ array_vec_len line.old + 600 }
+    ensures text { text.new.items ≡ text.old.items ++ fields_text body.now }
+    ensures size { array_vec_len text.new ≤ array_vec_len text.old + 600 }
 {
     match read_envelope(body) {
-        Some(envelope) => append_message(line, envelope, &body[MIN_BODY..]),
-        None => append_bytes(line, body),
+        Some(envelope) => append_message(text, envelope, &body[MIN_BODY..]),
+        None => append_bytes(text, body),
     }
 }
 
 /// Adds the fields of a message, of which `rest` follows TNS.
-fn append_message(line: &mut Line, envelope: Envelope, rest: &[u8])
-    requires size { array_vec_len line.old ≤ 64 }
+fn append_message<const N: usize>(text: &mut ArrayVec<u8, N>, envelope: Envelope, rest: &[u8])
+    requires room { array_vec_len text.old + 600 ≤ N }
     requires rest { length rest.now ≤ MAX_DATA }
-    ensures text { line.new.items ≡ line.old.items ++ message_text envelope rest.now }
-    ensures size { array_vec_len line.new ≤ array_vec_len line.old + 600 }
+    ensures text { text.new.items ≡ text.old.items ++ message_text envelope rest.now }
+    ensures size { array_vec_len text.new ≤ array_vec_len text.old + 600 }
 {
-    append_envelope(line, envelope);
-    append(line, message_name(envelope.cmd, rest).as_bytes());
-    append(line, b" ");
-    append_bytes(line, rest);
+    append_envelope(text, envelope);
+    append(text, message_name(envelope.cmd, rest).as_bytes());
+    append(text, b" ");
+    append_bytes(text, rest);
 }
 
 /// Adds the fields of an envelope.
-fn append_envelope(line: &mut Line, envelope: Envelope)
-    requires { array_vec_len line.old ≤ 64 }
-    ensures text { line.new.items ≡ line.old.items ++ envelope_text envelope }
-    ensures size { array_vec_len line.new ≤ array_vec_len line.old + 40 }
+fn append_envelope<const N: usize>(text: &mut ArrayVec<u8, N>, envelope: Envelope)
+    requires { array_vec_len text.old + 40 ≤ N }
+    ensures text { text.new.items ≡ text.old.items ++ envelope_text envelope }
+    ensures size { array_vec_len text.new ≤ array_vec_len text.old + 40 }
 {
-    append_code(line, b"dst=", envelope.dst);
-    append_code(line, b" src=", envelope.src);
-    append_code(line, b" cmd=", envelope.cmd);
-    append_code(line, b" sts=", envelope.sts);
-    append_code(line, b" tns=", (envelope.tns / 256) as u8);
-    append_code(line, b"", (envelope.tns % 256) as u8);
-    append(line, b" ");
+    append_code(text, b"dst=", envelope.dst);
+    append_code(text, b" src=", envelope.src);
+    append_code(text, b" cmd=", envelope.cmd);
+    append_code(text, b" sts=", envelope.sts);
+    append_code(text, b" tns=", (envelope.tns / 256) as u8);
+    append_code(text, b"", (envelope.tns % 256) as u8);
+    append(text, b" ");
 }

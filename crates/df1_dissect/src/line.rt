@@ -1,4 +1,4 @@
-//! The lines of a dissection. A line is collected whole, and goes to a sink at once.
+//! The lines of a dissection. A line is added to text that has room for one, of at most 700 bytes.
 //!
 //! | Kind | Line, after the offsets of its first and last byte |
 //! |---|---|
@@ -28,133 +28,129 @@ use df1_base::MAX_BODY;
 /// Room for a line, in bytes: two digits for each byte of a body, the offsets and the fields' names.
 pub(crate) const ROOM: usize = 700;
 
-/// A line, or its beginning.
-pub(crate) type Line = ArrayVec<u8, ROOM>;
-
 /// The digits, by their values.
 static DIGITS: [u8; 16] = *b"0123456789ABCDEF";
 
-/// The line of a thing with a body of at most 250 bytes.
-pub(crate) fn line_of(thing: Thing, body: &[u8]) -> Line
-    requires { length body.now ≤ MAX_BODY }
-    ensures { result.items ≡ line_text (with_body thing body.now) }
+/// Adds the line of a thing with a body of at most 250 bytes.
+pub(crate) fn append_line<const N: usize>(text: &mut ArrayVec<u8, N>, thing: Thing, body: &[u8])
+    requires room { array_vec_len text.old + 700 ≤ N }
+    requires body { length body.now ≤ MAX_BODY }
+    ensures { text.new.items ≡ text.old.items ++ line_text (with_body thing body.now) }
 {
-    let mut line = offsets(thing.first, thing.last);
-    append_kind(&mut line, thing.kind, body);
-    append(&mut line, b"\n");
-    line
+    append_offsets(text, thing.first, thing.last);
+    append_kind(text, thing.kind, body);
+    append(text, b"\n");
 }
 
-/// The line of an item that is unfinished.
-pub(crate) fn open_line(first: u64, last: u64) -> Line
-    ensures { result.items ≡ open_line first last }
+/// Adds the line of an item that is unfinished.
+pub(crate) fn append_open_line<const N: usize>(text: &mut ArrayVec<u8, N>, first: u64, last: u64)
+    requires { array_vec_len text.old + 700 ≤ N }
+    ensures { text.new.items ≡ text.old.items ++ open_line first last }
 {
-    let mut line = offsets(first, last);
-    append(&mut line, b"open\n");
-    line
+    append_offsets(text, first, last);
+    append(text, b"open\n");
 }
 
-/// The beginning of a line.
-fn offsets(first: u64, last: u64) -> Line
-    ensures text { result.items ≡ offsets_text first last }
-    ensures size { array_vec_len result ≤ 42 }
+/// Adds the beginning of a line.
+fn append_offsets<const N: usize>(text: &mut ArrayVec<u8, N>, first: u64, last: u64)
+    requires { array_vec_len text.old + 42 ≤ N }
+    ensures text { text.new.items ≡ text.old.items ++ offsets_text first last }
+    ensures size { array_vec_len text.new ≤ array_vec_len text.old + 42 }
 {
-    let mut line = ArrayVec::new();
     let mut digits = itoa::Buffer::new();
-    append(&mut line, digits.format(first).as_bytes());
-    append(&mut line, b" ");
-    append(&mut line, digits.format(last).as_bytes());
-    append(&mut line, b" ");
-    line
+    append(text, digits.format(first).as_bytes());
+    append(text, b" ");
+    append(text, digits.format(last).as_bytes());
+    append(text, b" ");
 }
 
 /// Adds what is told of a thing of this kind.
 #[tactic(auto, unfolding(crate::specs::Lines::kind_text))]
-fn append_kind(line: &mut Line, kind: Kind, body: &[u8])
-    requires size { array_vec_len line.old ≤ 42 }
+fn append_kind<const N: usize>(text: &mut ArrayVec<u8, N>, kind: Kind, body: &[u8])
+    requires room { array_vec_len text.old + 650 ≤ N }
     requires body { length body.now ≤ MAX_BODY }
-    ensures text { line.new.items ≡ line.old.items ++ kind_text kind body.now }
-    ensures size { array_vec_len line.new < ROOM }
+    ensures text { text.new.items ≡ text.old.items ++ kind_text kind body.now }
+    ensures size { array_vec_len text.new ≤ array_vec_len text.old + 640 }
 {
     match kind {
         Kind::Good => {
-            append(line, b"good ");
-            append_fields(line, body);
+            append(text, b"good ");
+            append_fields(text, body);
         }
         Kind::Message(station) => {
-            append_code(line, b"message ", station);
-            append(line, b" ");
-            append_fields(line, body);
+            append_code(text, b"message ", station);
+            append(text, b" ");
+            append_fields(text, body);
         }
-        Kind::Short => append_body(line, b"short ", body),
-        Kind::BadCheck => append_body(line, b"bad-check ", body),
-        Kind::Long => append(line, b"long"),
-        Kind::Broken(code) => append_code(line, b"broken ", code),
-        Kind::Restart => append(line, b"restart"),
-        Kind::Damaged => append(line, b"damaged"),
-        Kind::DamagedFor(station) => append_code(line, b"damaged ", station),
-        Kind::Poll(station) => append_code(line, b"poll ", station),
-        Kind::BadPoll => append(line, b"bad-poll"),
-        Kind::Ack => append(line, b"ack"),
-        Kind::Nak => append(line, b"nak"),
-        Kind::Reset => append(line, b"reset"),
-        Kind::Enq => append(line, b"enq"),
-        Kind::Eot => append(line, b"eot"),
-        Kind::Stray(byte) => append_code(line, b"stray ", byte),
-        Kind::StrayPair(code) => append_code(line, b"stray-pair ", code),
+        Kind::Short => append_body(text, b"short ", body),
+        Kind::BadCheck => append_body(text, b"bad-check ", body),
+        Kind::Long => append(text, b"long"),
+        Kind::Broken(code) => append_code(text, b"broken ", code),
+        Kind::Restart => append(text, b"restart"),
+        Kind::Damaged => append(text, b"damaged"),
+        Kind::DamagedFor(station) => append_code(text, b"damaged ", station),
+        Kind::Poll(station) => append_code(text, b"poll ", station),
+        Kind::BadPoll => append(text, b"bad-poll"),
+        Kind::Ack => append(text, b"ack"),
+        Kind::Nak => append(text, b"nak"),
+        Kind::Reset => append(text, b"reset"),
+        Kind::Enq => append(text, b"enq"),
+        Kind::Eot => append(text, b"eot"),
+        Kind::Stray(byte) => append_code(text, b"stray ", byte),
+        Kind::StrayPair(code) => append_code(text, b"stray-pair ", code),
     }
 }
 
 /// Adds a word and the digits of a byte.
-pub(crate) fn append_code(line: &mut Line, word: &[u8], byte: u8)
-    requires { array_vec_len line.old + length word.now + 2 ≤ ROOM }
-    ensures text { line.new.items ≡ line.old.items ++ word.now ++ byte_digits byte }
-    ensures size { array_vec_len line.new ≡ array_vec_len line.old + length word.now + 2 }
+pub(crate) fn append_code<const N: usize>(text: &mut ArrayVec<u8, N>, word: &[u8], byte: u8)
+    requires { array_vec_len text.old + length word.now + 2 ≤ N }
+    ensures text { text.new.items ≡ text.old.items ++ word.now ++ byte_digits byte }
+    ensures size { array_vec_len text.new ≡ array_vec_len text.old + length word.now + 2 }
 {
-    append(line, word);
-    line.push(DIGITS[usize::from(byte / 16)]);
-    line.push(DIGITS[usize::from(byte % 16)]);
+    append(text, word);
+    text.push(DIGITS[usize::from(byte / 16)]);
+    text.push(DIGITS[usize::from(byte % 16)]);
 }
 
 /// Adds a word and a body.
-fn append_body(line: &mut Line, word: &[u8], body: &[u8])
-    requires size { array_vec_len line.old + length word.now ≤ 64 }
+fn append_body<const N: usize>(text: &mut ArrayVec<u8, N>, word: &[u8], body: &[u8])
+    requires room { array_vec_len text.old + length word.now + 501 ≤ N }
     requires body { length body.now ≤ MAX_BODY }
-    ensures text { line.new.items ≡ line.old.items ++ word.now ++ bytes_text body.now }
-    ensures size { array_vec_len line.new ≤ array_vec_len line.old + length word.now + 501 }
+    ensures text { text.new.items ≡ text.old.items ++ word.now ++ bytes_text body.now }
+    ensures size { array_vec_len text.new ≤ array_vec_len text.old + length word.now + 501 }
 {
-    append(line, word);
-    append_bytes(line, body);
+    append(text, word);
+    append_bytes(text, body);
 }
 
 /// Adds bytes in hexadecimal, or a dash where there are none.
-pub(crate) fn append_bytes(line: &mut Line, bytes: &[u8])
-    requires { array_vec_len line.old + 2 * length bytes.now < ROOM }
-    ensures text { line.new.items ≡ line.old.items ++ bytes_text bytes.now }
-    ensures size { array_vec_len line.new ≤ array_vec_len line.old + 2 * length bytes.now + 1 }
+pub(crate) fn append_bytes<const N: usize>(text: &mut ArrayVec<u8, N>, bytes: &[u8])
+    requires { array_vec_len text.old + 2 * length bytes.now < N }
+    ensures text { text.new.items ≡ text.old.items ++ bytes_text bytes.now }
+    ensures size { array_vec_len text.new ≤ array_vec_len text.old + 2 * length bytes.now + 1 }
 {
     if bytes.is_empty() {
-        append(line, b"-");
+        append(text, b"-");
     } else {
-        append_hex(line, bytes);
+        append_hex(text, bytes);
     }
 }
 
 /// Adds bytes in hexadecimal.
-fn append_hex(line: &mut Line, bytes: &[u8])
-    requires { array_vec_len line.old + 2 * length bytes.now < ROOM }
-    ensures text { line.new.items ≡ line.old.items ++ encode_upper bytes.now }
-    ensures size { array_vec_len line.new ≡ array_vec_len line.old + 2 * length bytes.now }
+fn append_hex<const N: usize>(text: &mut ArrayVec<u8, N>, bytes: &[u8])
+    requires { array_vec_len text.old + 2 * length bytes.now < N }
+    ensures text { text.new.items ≡ text.old.items ++ encode_upper bytes.now }
+    ensures size { array_vec_len text.new ≡ array_vec_len text.old + 2 * length bytes.now }
 {
     for byte in bytes {
-        append_code(line, b"", *byte);
+        append_code(text, b"", *byte);
     }
 }
 
-/// Adds bytes to a line that has room for them.
-pub(crate) fn append(line: &mut Line, bytes: &[u8])
-    requires { array_vec_len line.old + length bytes.now ≤ ROOM }
-    ensures { line.new.items ≡ line.old.items ++ bytes.now }
+/// Adds bytes.
+pub(crate) fn append<const N: usize>(text: &mut ArrayVec<u8, N>, bytes: &[u8])
+    requires { array_vec_len text.old + length bytes.now ≤ N }
+    ensures { text.new.items ≡ text.old.items ++ bytes.now }
 {
-    line.try_extend_from_slice(bytes).unwrap();
+    text.try_extend_from_slice(bytes).unwrap();
 }

@@ -1,5 +1,5 @@
-//! The reader of a capture: bytes go in one by one, and it says what ends at each, and counts.
-ghost use Rattle.std.specs.Prelude.{◌≡◌, ◌≤◌, ◌<◌, ◌-◌, ℕ, List, [], ◌++◌, ◌∷◌, length};
+//! The reader of a capture: bytes go in one by one, and it says what ends at each, or many at a time, and it counts.
+ghost use Rattle.std.specs.Prelude.{◌≡◌, ◌≤◌, ◌<◌, ◌-◌, ℕ, List, [], ◌+◌, ◌++◌, ◌∷◌, length, take};
 ghost use Rattle.df1_check.specs.declared.Check.{Check as CheckKind};
 ghost use Rattle.df1_frame.specs.Line.{ReadOff};
 ghost use Rattle.df1_dissect.specs.declared.ear.Side.{Side as Captured};
@@ -7,6 +7,7 @@ ghost use Rattle.df1_dissect.specs.Hearing.{lent_by};
 ghost use Rattle.df1_dissect.specs.Telling.{Told};
 ghost use Rattle.df1_dissect.specs.Reading.{StandsFor, Tells, bad_among, grammar_of, unfinished};
 ghost use Rattle.df1_dissect.specs.Step.{bad_with, heard_with, next, start_after, telling_at, thing_of};
+ghost use Rattle.df1_dissect.specs.Runs.{after};
 
 use crate::ear::{Ear, Side, Turn};
 use crate::kind::Kind;
@@ -25,8 +26,9 @@ pub struct Thing {
     pub kind: Kind,
 }
 
-/// Takes the bytes of a capture one by one, at most 268,435,456, and tells what ends at each. Each call takes constant
-/// time, but that a message's begin blanks what was held of the body before.
+/// Takes the bytes of a capture in their order, at most 268,435,456: one by one, and it tells what ends at each, or many at
+/// a time. It counts what has a line. Each byte takes constant time, but that a message's begin blanks what was held of the
+/// body before.
 #[derive(Drop)]
 pub struct Reader {
     ear: Ear,
@@ -63,7 +65,8 @@ impl Reader {
     }
 
     /// Takes a byte, after fewer than 268,435,456, and says what has a line and ends at it: None exactly where nothing
-    /// does.
+    /// does. It is inlined, with what it calls for each byte, since an answer would else be handed on through memory at each.
+    #[inline(always)]
     pub fn hear(&mut self, b: u8) -> Option<Thing>
         requires { self.old.fed < 268435456 }
         ensures stands { (side : Captured) (check : CheckKind) (bytes : List ℕ) → StandsFor side check bytes self.old
@@ -81,6 +84,44 @@ impl Reader {
         self.heard = heard_with(self.heard, thing);
         self.bad = bad_with(self.bad, thing);
         thing
+    }
+
+    /// Takes bytes in their order, all of them among the first 268,435,456.
+    pub fn hear_all(&mut self, bytes: &[u8])
+        requires { self.old.fed + length bytes.now ≤ 268435456 }
+        ensures stands { (side : Captured) (check : CheckKind) (before : List ℕ) → StandsFor side check before self.old
+            → StandsFor side check (before ++ bytes.now) self.new }
+        ensures value { self.new ≡ after self.old bytes.now }
+        ensures fed { self.new.fed ≡ self.old.fed + length bytes.now }
+    {
+        let mut at = 0;
+        while at < bytes.len() {
+            at += self.hear_some(&bytes[at..]);
+        }
+    }
+
+    /// Takes a run, or the first byte where there is none, of bytes of which there is at least one; says how many it took.
+    fn hear_some(&mut self, bytes: &[u8]) -> usize
+        requires some { 0 < length bytes.now }
+        requires few { self.old.fed + length bytes.now ≤ 268435456 }
+        ensures some { 0 < result }
+        ensures most { result ≤ length bytes.now }
+        ensures value { self.new ≡ after self.old (take result bytes.now) }
+    {
+        let inside = self.ear.inside();
+        let count = self.ear.hear_run(bytes);
+        if count == 0 {
+            self.hear(bytes[0]);
+            return 1;
+        }
+        let more = count as u64;
+        self.fed += more;
+        if !inside {
+            self.start = self.fed;
+            self.heard += more;
+            self.bad += more;
+        }
+        count
     }
 
     /// The body of the message whose thing was told at the last byte, where its body is told; empty after every other byte.

@@ -4,6 +4,7 @@ use crate::{Dissector, Reader, Side};
 use df1_base::BytesOut;
 use df1_check::{Check, bcc};
 use std::alloc::{AllocError, Global};
+use std::process::Abort;
 use std::test::Fail;
 
 /// The most bytes of a capture.
@@ -131,6 +132,67 @@ fn each_capture_has_its_text_and_its_counts(rt: HostRuntime) -> Result<(), Fail>
         assert_eq!(rt; reader.heard(), heard);
         assert_eq!(rt; reader.bad(), bad);
         assert_eq!(rt; reader.left(), left);
+    }
+    Ok(())
+}
+
+/// Hears a piece.
+fn hear_piece(rt: &impl Abort, reader: &mut Reader, piece: &[u8]) {
+    assert!(rt; reader.fed() <= 1000);
+    assert!(rt; piece.len() <= 1000);
+    reader.hear_all(piece);
+}
+
+/// Hears a capture in two pieces with an empty one between, and compares how many things are heard, are bad, and bytes left.
+fn hear_in_pieces(
+    rt: &impl Abort,
+    reader: &mut Reader,
+    first: &[u8],
+    second: &[u8],
+    counts: (u64, u64, u64),
+) {
+    hear_piece(rt, reader, first);
+    hear_piece(rt, reader, &[]);
+    hear_piece(rt, reader, second);
+    let (heard, bad, left) = counts;
+    assert_eq!(rt; reader.heard(), heard);
+    assert_eq!(rt; reader.bad(), bad);
+    assert_eq!(rt; reader.left(), left);
+}
+
+#[test]
+fn a_capture_has_the_same_counts_wherever_it_is_cut(rt: HostRuntime) {
+    for capture in &[FULL, MASTER, SLAVE, OPEN_FRAME, OPEN_MESSAGE, CYCLIC] {
+        let bytes = capture.bytes;
+        for cut in 0..bytes.len() {
+            let mut reader = Reader::new(capture.side, capture.check);
+            hear_in_pieces(
+                &rt,
+                &mut reader,
+                &bytes[..cut],
+                &bytes[cut..],
+                capture.counts,
+            );
+        }
+    }
+}
+
+#[test]
+fn a_body_of_two_pieces_has_room_up_to_250_bytes(rt: HostRuntime) -> Result<(), Fail> {
+    let alloc = rt.alloc();
+    for (first, second, bad) in [
+        (200usize, 50usize, 0u64),
+        (200, 51, 1),
+        (250, 1, 1),
+        (1, 250, 1),
+    ] {
+        let mut front = Vec::from_slice(alloc, b"\x10\x02")?;
+        front.resize(first.saturating_add(2), 0)?;
+        let mut rest = Vec::new(alloc);
+        rest.resize(second, 0)?;
+        rest.extend_from_slice(b"\x10\x03\x00")?;
+        let mut reader = Reader::new(Side::Full, Check::Bcc);
+        hear_in_pieces(&rt, &mut reader, &front, &rest, (1, bad, 0));
     }
     Ok(())
 }

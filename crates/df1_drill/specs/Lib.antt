@@ -1,3 +1,2 @@
 pub mod Drill
-pub mod Growing
 pub mod Tally

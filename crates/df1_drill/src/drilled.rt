@@ -4,7 +4,7 @@ ghost use Rattle.arrayvec.specs.ArrayVec.{array_vec_len};
 ghost use Rattle.line_report.specs.Report.{word_digits};
 ghost use Rattle.df1_drill.specs.Tally.{drilled, line_of};
 
-use crate::grown::Grown;
+use crate::report_text::text_of;
 use crate::script::{MOST_ROUNDS, drill_script};
 use crate::tally::{answered, damaged, enquiries, executed, issued, repeats};
 use arrayvec::ArrayVec;
@@ -46,7 +46,7 @@ pub fn drill(alloc: Global, seed: u32, count: u32) -> Result<Drilled, NoMemory>
 {
     let script = drill_script(alloc, seed, count)?;
     let record = replay(alloc, &script)?;
-    let report = Grown::of_report(alloc, &record)?;
+    let report = text_of(alloc, &record)?;
     let lines = record.lines.as_slice();
     Ok(Drilled {
         issued: issued(script.events.as_slice()),

@@ -3,7 +3,7 @@
 
 mod course;
 mod drilled;
-mod grown;
+mod report_text;
 mod script;
 mod tally;
 

@@ -2,8 +2,8 @@
 
 ghost use Rattle.script_parts.specs.HalfPlayable.{CanBePlayed};
 
-use crate::grown::Grown;
-use crate::{MOST_ROUNDS, drill, drill_script};
+use crate::{MOST_ROUNDS, drill, drill_script, report_text};
+use df1_base::Collected;
 use df1_check::crc;
 use line_replay::{read_script, replay};
 use line_report::pair;
@@ -40,17 +40,17 @@ fn put_round(text: &mut Vec<u8>, turn: u64, round: u32) -> Result<(), AllocError
 }
 
 /// The report of the run that a text says.
-fn report_of(alloc: Global, text: &[u8]) -> Result<Grown, Fail> {
+fn report_of(alloc: Global, text: &[u8]) -> Result<Collected, Fail> {
     let script = read_script(alloc, text)?;
     printed(alloc, &script)
 }
 
 /// The report of a script's run.
-fn printed(alloc: Global, script: &Script) -> Result<Grown, Fail>
+fn printed(alloc: Global, script: &Script) -> Result<Collected, Fail>
     requires { CanBePlayed script.now }
 {
     let record = replay(alloc, script)?;
-    Ok(Grown::of_report(alloc, &record)?)
+    Ok(report_text::text_of(alloc, &record)?)
 }
 
 /// Drills, each with its line up to the CRC of the report.

@@ -3,3 +3,4 @@ pub mod SpellingLemmas
 pub mod GatheredLemmas
 pub mod GrammarLemmas
 pub mod FrameLemmas
+pub mod RunLemmas

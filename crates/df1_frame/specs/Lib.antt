@@ -7,3 +7,4 @@ pub mod Standing
 pub mod Step
 pub mod View
 pub mod Framing
+pub mod Runs

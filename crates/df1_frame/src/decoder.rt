@@ -1,18 +1,21 @@
 //! A decoder of a full-duplex line: bytes go in one by one, and at each it says what is heard.
 
-ghost use Rattle.std.specs.Prelude.{◌≡◌, ◌≤◌, ℕ, List, [], ◌∷◌, ◌++◌, length, Option, Some};
+ghost use Rattle.std.specs.Prelude.{◌≡◌, ◌≤◌, ℕ, List, [], ◌∷◌, ◌++◌, length, take, Option, Some};
 ghost use Rattle.df1_check.specs.declared.Check.{Check as CheckKind};
 ghost use Rattle.df1_frame.specs.declared.heard.Heard.{Heard as Told};
+ghost use Rattle.df1_frame.specs.declared.heard.Heard.TheVariants as heard;
 ghost use Rattle.df1_frame.specs.Line.{ReadOff, answers, last_heard};
 ghost use Rattle.df1_frame.specs.Grammar.{full_duplex};
 ghost use Rattle.df1_frame.specs.Gathered.{verdict};
 ghost use Rattle.df1_frame.specs.Standing.{Outside, AfterDle, Inside, InsideDle, AtCheck, decoding, held as held_of, held_at, lent, lent_at, is_inside, has_begun};
 ghost use Rattle.df1_frame.specs.Step.{left_by, next, outside_next, step};
+ghost use Rattle.df1_frame.specs.Runs.{heard_in_run, run_len, steps};
 ghost use Rattle.df1_frame.specs.View.{standing_of};
 
 use crate::Heard;
 use crate::gathered::Gathered;
 use crate::heard::{response, stray_pair};
+use crate::plain::plain_len;
 use df1_base::{DLE, ETX, STX};
 use df1_check::Check;
 use std::marker::Model;
@@ -38,7 +41,7 @@ enum Place {
 
 /// Takes a line's bytes one by one, and says what is heard at each. It has room for a body of N bytes.
 ///
-/// Each call takes constant time, but that a frame's begin blanks what was held of the body before.
+/// Each byte takes constant time, but that a frame's begin blanks what was held of the body before.
 #[derive(Drop)]
 pub struct Decoder<const N: usize> {
     check: Check,
@@ -70,7 +73,9 @@ impl<const N: usize> Decoder<N> {
         }
     }
 
-    /// Takes a byte, and says what is heard at it: None exactly where nothing is.
+    /// Takes a byte, and says what is heard at it: None exactly where nothing is. It is inlined, since a caller that looks at
+    /// each byte would else get each answer through memory.
+    #[inline(always)]
     pub fn feed(&mut self, b: u8) -> Option<Heard>
         ensures stands { (check : CheckKind) (bytes : List ℕ) → ReadOff (full_duplex check N) bytes (decoding check N) self.old
             → ReadOff (full_duplex check N) (bytes ++ b ∷ []) (decoding check N) self.new }
@@ -85,6 +90,34 @@ impl<const N: usize> Decoder<N> {
         self.advance(b)
     }
 
+    /// Takes the bytes before the first DLE where it stands in a frame's body or outside a frame, and none elsewhere, and
+    /// says how many. In a body nothing is heard at them; outside each is heard as Stray.
+    pub fn feed_run(&mut self, bytes: &[u8]) -> usize
+        ensures count { result ≡ run_len self.old.standing bytes.now }
+        ensures stands { (check : CheckKind) (before : List ℕ) → ReadOff (full_duplex check N) before (decoding check N) self.old
+            → ReadOff (full_duplex check N) (before ++ take result bytes.now) (decoding check N) self.new }
+        ensures value { self.new ≡ (steps (next N) self.old (take result bytes.now)).0 }
+        ensures heard { (steps (next N) self.old (take result bytes.now)).1 ≡ heard_in_run heard.Stray (is_inside self.old.standing) (take result bytes.now) }
+    {
+        match self.place {
+            Place::Inside => {
+                let count = plain_len(bytes);
+                self.gathered.gather_all(&bytes[..count]);
+                count
+            }
+            Place::Outside => plain_len(bytes),
+            Place::Ended => {
+                let count = plain_len(bytes);
+                if count > 0 {
+                    self.place = Place::Outside;
+                }
+                count
+            }
+            _ => 0,
+        }
+    }
+
+    #[inline(always)]
     fn advance(&mut self, b: u8) -> Option<Heard>
         ensures value { self.new ≡ (next N self.old b).0 }
         ensures answer { result ≡ (next N self.old b).1 }
@@ -141,6 +174,7 @@ impl<const N: usize> Decoder<N> {
 }
 
 /// What a byte leads to, and what is heard at it.
+#[inline(always)]
 fn step<const N: usize>(
     place: Place,
     gathered: &mut Gathered<N>,

@@ -1,7 +1,8 @@
 //! What is gathered of a frame's body while it comes.
 
 ghost use Rattle.std.specs.Prelude.{◌≡◌, ◌≤◌, length};
-ghost use Rattle.df1_check.specs.Checks.{check_value};
+ghost use Rattle.std.specs.List.{fold};
+ghost use Rattle.df1_check.specs.Checks.{check_value, take_byte};
 ghost use Rattle.df1_frame.specs.Spelling.{check_bytes, same};
 ghost use Rattle.df1_frame.specs.Gathered.{nothing_gathered, gather, cover as covering, close as closed, verdict as verdict_of};
 
@@ -61,6 +62,20 @@ impl<const N: usize> Gathered<N> {
         }
     }
 
+    /// Takes bytes of the body, in order.
+    pub fn gather_all(&mut self, bytes: &[u8])
+        ensures { self.new ≡ fold (gather N) self.old bytes.now }
+    {
+        step_all(&mut self.running, bytes);
+        let room = self.bytes.remaining_capacity();
+        if bytes.len() <= room {
+            self.bytes.try_extend_from_slice(bytes).unwrap();
+        } else {
+            self.bytes.try_extend_from_slice(&bytes[..room]).unwrap();
+            self.long = true;
+        }
+    }
+
     /// Takes a byte that the check covers and that is none of the body.
     pub fn cover(&mut self, b: u8)
         ensures { self.new ≡ covering self.old b }
@@ -106,6 +121,15 @@ impl<const N: usize> Gathered<N> {
         } else {
             Heard::Good
         }
+    }
+}
+
+/// The check takes bytes, in order.
+fn step_all(running: &mut Running, bytes: &[u8])
+    ensures { running.new ≡ fold take_byte running.old bytes.now }
+{
+    for b in bytes {
+        running.step(*b);
     }
 }
 

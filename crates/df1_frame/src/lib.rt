@@ -11,12 +11,14 @@ mod framer;
 mod gathered;
 mod heard;
 mod laws;
+mod plain;
 
 pub use decoder::Decoder;
 pub use framer::{Framer, Unit, check_bytes};
 pub use gathered::Gathered;
 pub use heard::Heard;
 pub use laws::{frame_spells, heard_stays, one_split, round_trip, whole_frame, worked_frames};
+pub use plain::plain_len;
 
 /// A second code that is read as NAK, and never sent.
 pub const SHORT_NAK: u8 = 0x0F;

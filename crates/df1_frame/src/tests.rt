@@ -90,6 +90,48 @@ fn hears_the_sizes_of_bodies(rt: HostRuntime) {
     assert!(rt; frame_of_zeros(&rt, 251) == Some(Heard::Long));
 }
 
+#[test]
+fn takes_the_bytes_before_a_dle_at_once(rt: HostRuntime) {
+    let mut decoder = Decoder::<250>::new(Check::Bcc);
+    assert!(rt; decoder.feed_run(&[0x41, 0x42]) == 2);
+    assert!(rt; decoder.feed_run(&[]) == 0);
+    hear(&rt, &mut decoder, &[0x10], &[]);
+    assert!(rt; decoder.feed_run(&[0x02]) == 0);
+    hear(&rt, &mut decoder, &[0x02], &[]);
+    assert!(rt; decoder.feed_run(&[0x08, 0x09, 0x06]) == 3);
+    assert!(rt; decoder.feed_run(&[0x00, 0x02, 0x04, 0x03, 0x10, 0x03]) == 4);
+    assert!(rt; decoder.feed_run(&[0x10, 0x03]) == 0);
+    assert!(rt; decoder.held() == 7);
+    hear(&rt, &mut decoder, &[0x10], &[]);
+    assert!(rt; decoder.feed_run(&[0x03, 0xE0]) == 0);
+    hear(&rt, &mut decoder, &[0x03, 0xE0], &[(2, Heard::Good)]);
+    assert!(rt; decoder.feed_run(&[0x10]) == 0);
+    assert!(rt; decoder.body() == [0x08, 0x09, 0x06, 0x00, 0x02, 0x04, 0x03].as_slice());
+    assert!(rt; decoder.feed_run(&[0x41, 0x10]) == 1);
+    assert!(rt; decoder.body().is_empty());
+}
+
+// Feeds a frame of zero bytes in two runs of these lengths, and answers what is heard at its last byte.
+fn frame_of_runs(rt: &impl Abort, first: usize, second: usize) -> Option<Heard> {
+    let zeros = [0x00; 250];
+    assert!(rt; first <= 250);
+    assert!(rt; second <= 250);
+    let mut decoder = Decoder::<250>::new(Check::Bcc);
+    hear(rt, &mut decoder, &[0x10, 0x02], &[]);
+    assert!(rt; decoder.feed_run(&zeros[..first]) == first);
+    assert!(rt; decoder.feed_run(&zeros[..second]) == second);
+    hear(rt, &mut decoder, &[0x10, 0x03], &[]);
+    decoder.feed(0x00)
+}
+
+#[test]
+fn hears_the_sizes_of_bodies_in_two_runs(rt: HostRuntime) {
+    assert!(rt; frame_of_runs(&rt, 0, 5) == Some(Heard::Short));
+    assert!(rt; frame_of_runs(&rt, 200, 50) == Some(Heard::Good));
+    assert!(rt; frame_of_runs(&rt, 200, 51) == Some(Heard::Long));
+    assert!(rt; frame_of_runs(&rt, 250, 1) == Some(Heard::Long));
+}
+
 // Takes the units of a body's frame, and compares their bytes.
 fn give(rt: &impl Abort, body: &[u8], check: Check, wanted: &[u8]) {
     assert!(rt; body.len() <= 250);

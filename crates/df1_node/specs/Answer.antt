@@ -5,7 +5,7 @@ use Rattle.df1_base.specs.declared.code.Code.{Code}
 use Rattle.df1_base.specs.declared.code.Code.TheVariants.{Done, Sts, Ext}
 use Rattle.pccc_envelope.specs.Envelope.{spelling, envelope_of, reply_form}
 use Rattle.data_files.specs.Effect.{Effect, refused}
-use Rattle.data_files.specs.Tables.{DataTables}
+use Rattle.data_files.specs.Tables.{DataTables, with_word}
 use Rattle.slc_commands.specs.Meaning.{meaning as slc_meaning}
 use Rattle.slc_commands.specs.Order as slc
 use Rattle.plc_commands.specs.Meaning.{meaning as plc_meaning}
@@ -26,6 +26,10 @@ abbrev pub station_code : Coded DataTables → Coded StationState
 station_code tables =
     code_by (DataTables × (Option ℕ × List ℕ)) (coded× tables (coded× (coded_option coded_ℕ) (coded_list coded_ℕ)))
     (λ s. (s.tables, (s.compat, s.block))) (λ p. record { tables = p.0; compat = p.1.0; block = p.1.1 }) (λ _. refl)
+
+-- the station with another word at a place
+abbrev pub with_station_word : StationState → ℕ → ℕ → ℕ → StationState
+with_station_word station number index value = record station { tables = with_word station.tables number index value }
 
 -- what a command asks for: an order of the logical commands, or of the others
 pub data Asked : Type 0 where

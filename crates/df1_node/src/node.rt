@@ -1,8 +1,9 @@
 //! The node: what stands behind an end. It executes the commands that come and replies to each, and issues commands of
 //! its own and takes their replies.
-ghost use Rattle.std.specs.Prelude.{◌≡◌, ◌+◌, ◌≤◌, [], length, IfOk, IfErr, OnOk, OnErr, Err, MatchOption, IsTrue};
+ghost use Rattle.std.specs.Prelude.{◌≡◌, ◌+◌, ◌≤◌, [], length, IfOk, IfErr, OnOk, OnErr, Err, MatchOption, IsTrue, if◌then◌else◌};
 ghost use Rattle.df1_node.specs.Initiator.{issue_fault};
-ghost use Rattle.df1_node.specs.Node.{NodeState, after_node_issue};
+ghost use Rattle.data_files.specs.Tables.{has_word};
+ghost use Rattle.df1_node.specs.Node.{NodeState, after_node_issue, with_node_word};
 ghost use Rattle.df1_node.specs.declared.handed.Handed.TheVariants.{Nothing};
 
 use crate::handed::Handed;
@@ -87,6 +88,15 @@ impl Node {
         ensures { result.now ≡ self.now.station.tables }
     {
         self.station.tables()
+    }
+
+    /// Sets the word of this index in the file of this number, as a program in the controller would. False, with nothing
+    /// changed, exactly where there is no such file or word.
+    pub fn set_word(&mut self, number: u16, index: u32, value: u16) -> bool
+        ensures known { result ≡ has_word self.old.station.tables.specs number index }
+        ensures after { self.new ≡ (if result then with_node_word self.old number index value else self.old) }
+    {
+        self.station.set_word(number, index, value)
     }
 
     /// The initiator.

@@ -2,11 +2,11 @@
 //!
 //! A reply carries its command's envelope with DST and SRC changed over, bit 6 of CMD set and STS; where STS is F0 a
 //! byte EXT STS follows; then the data (manual topics: message packets, status codes).
-ghost use Rattle.std.specs.Prelude.{◌≡◌, ◌+◌, ◌≤◌, ◌++◌, false, length, IsTrue};
+ghost use Rattle.std.specs.Prelude.{◌≡◌, ◌+◌, ◌≤◌, ◌++◌, false, length, IsTrue, if◌then◌else◌};
 ghost use Rattle.df1_base.specs.Host.{IsBody};
 ghost use Rattle.pccc_envelope.specs.Envelope.{is_reply, reply_form, spelling};
-ghost use Rattle.data_files.specs.Tables.{fits_compat};
-ghost use Rattle.df1_node.specs.Answer.{StationState, after_answer, extension_of, reply_to, status_of};
+ghost use Rattle.data_files.specs.Tables.{fits_compat, has_word};
+ghost use Rattle.df1_node.specs.Answer.{StationState, after_answer, extension_of, reply_to, status_of, with_station_word};
 
 use crate::Tables;
 use crate::commands::execute;
@@ -63,6 +63,15 @@ impl Station {
         ensures { result.now ≡ self.now.tables }
     {
         &self.tables
+    }
+
+    /// Sets the word of this index in the file of this number, as `Tables::set` does. False, with nothing changed, exactly
+    /// where there is no such file or word.
+    pub fn set_word(&mut self, number: u16, index: u32, value: u16) -> bool
+        ensures known { result ≡ has_word self.old.tables.specs number index }
+        ensures after { self.new ≡ (if result then with_station_word self.old number index value else self.old) }
+    {
+        self.tables.set(number, index, value)
     }
 
     /// Executes the command and replaces `into` by the body of the reply. The body has 6 to 250 bytes, and bit 6 of its

@@ -1,7 +1,7 @@
 //! Worked exchanges.
-use crate::{Initiator, IssueFault, Node, NodeSetup, Outcome, Station, Tables};
+use crate::{FileSpec, Initiator, IssueFault, Node, NodeSetup, Outcome, Station, Tables};
 use arrayvec::ArrayVec;
-use df1_base::{Did, Fate, Host, News};
+use df1_base::{Did, Fate, FileType, Host, News};
 use std::test::Fail;
 
 #[test]
@@ -55,5 +55,36 @@ fn a_reply_answers_its_command_once(rt: HostRuntime) -> Result<(), Fail> {
     assert_eq!(rt; node.initiator().outcome(1), Some(Outcome::Answered));
     assert_eq!(rt; node.initiator().reply(1), REPLY);
     assert_eq!(rt; node.initiator().outcome(2), None);
+    Ok(())
+}
+
+/// A file and an index, whether there is such a word in an integer file 7 of 2 words, and its two words after 5 was set there.
+const SET_WORDS: [(u16, u32, bool, [u16; 2]); 5] = [
+    (7, 0, true, [5, 0]),
+    (7, 1, true, [0, 5]),
+    (7, 2, false, [0, 0]),
+    (7, u32::MAX, false, [0, 0]),
+    (8, 0, false, [0, 0]),
+];
+
+#[test]
+fn a_word_is_set_where_there_is_one(rt: HostRuntime) -> Result<(), Fail> {
+    let integers = FileSpec {
+        number: 7,
+        kind: FileType::Integer,
+        count: 2,
+    };
+    let setup = NodeSetup {
+        node: 0,
+        tns: 1,
+        reply_ticks: 33,
+        room: 2,
+    };
+    for (file, index, known, words) in &SET_WORDS {
+        let tables = Tables::new(rt.alloc(), &[integers])?;
+        let mut node = Node::new(rt.alloc(), setup, Station::new(tables, None, b""))?;
+        assert_eq!(rt; node.set_word(*file, *index, 5), *known);
+        assert_eq!(rt; node.tables().flat(), words.as_slice());
+    }
     Ok(())
 }

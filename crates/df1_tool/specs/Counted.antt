@@ -1,6 +1,6 @@
 -- What a run of `check` shows: its status, what it read and wrote, and its note.
 use Rattle.std.specs.Prelude.{◌≡◌, ◌≢◌, ◌⊎◌, ◌<◌, ◌≤◌, ℕ, Bool, List, ◌++◌, length, codes, decimal, Option, Some, Result, Ok, Err, nat_lt, ◌||◌, if◌then◌else◌}
-use Rattle.df1_base.specs.Outside.{Rose, Put, WrotePart}
+use Rattle.df1_base.specs.Outside.{Rose, Put, WroteLess}
 use Rattle.df1_base.specs.Signals.{input_limit}
 use Rattle.df1_check.specs.declared.Check.{Check}
 use Rattle.df1_frame.specs.Line.{ReadOff}
@@ -48,7 +48,7 @@ pub record IsCounted (of : Side) (check : Check) (left left' held held' : Option
   pub put : Put held held' (counts_line heard bad begun)
   pub faulty_is : faulty ≡ is_faulty bad begun
 
--- it was read to its end, and a first part of the line of its counts is written
+-- it was read to its end, and a first part of the line of its counts is written, and not all
 pub record IsCountedInPart (of : Side) (check : Check) (left left' held held' : Option (List ℕ)) : Type 0 where
   pub bytes : List ℕ
   pub heard : ℕ
@@ -56,7 +56,7 @@ pub record IsCountedInPart (of : Side) (check : Check) (left left' held held' : 
   pub begun : ℕ
   pub input : IsWhole left left' bytes
   pub counts : Counts of check bytes heard bad begun
-  pub part : WrotePart held held' (counts_line heard bad begun)
+  pub part : WroteLess held held' (counts_line heard bad begun)
 
 -- how a count ended
 abbrev pub CountEnd : (of : Side) (check : Check) (left left' : Option (List ℕ)) (faults faults' : ℕ) → Reading → Result (Unit {0}) CaptureFault → Type 0
@@ -78,7 +78,7 @@ ToldCounts of check bytes held held' faults faults' (Ok faulty) =
     ((heard : ℕ) × (bad : ℕ) × (begun : ℕ) × Counts of check bytes heard bad begun × Put held held' (counts_line heard bad begun) × (faulty ≡ is_faulty bad begun)) × (faults' ≡ faults)
 ToldCounts of check bytes held held' faults faults' (Err fault.Input) = ⊥
 ToldCounts of check bytes held held' faults faults' (Err fault.Output) =
-    ((heard : ℕ) × (bad : ℕ) × (begun : ℕ) × Counts of check bytes heard bad begun × WrotePart held held' (counts_line heard bad begun)) × Rose faults faults'
+    ((heard : ℕ) × (bad : ℕ) × (begun : ℕ) × Counts of check bytes heard bad begun × WroteLess held held' (counts_line heard bad begun)) × Rose faults faults'
 ToldCounts of check bytes held held' faults faults' (Err fault.TooLong) = ⊥
 
 -- how a check ended
@@ -98,7 +98,8 @@ CheckEnd of check left left' input_faults input_faults' held held' out_faults ou
 --
 -- 0: the input was read to its end, the line of its counts is written, and nothing is a fault of the line or unfinished.
 -- 1: the same, but something is.
--- 4: the input has failed, and nothing is written. 5: the output has failed: a part of the line is written.
+-- 4: the input has failed, and nothing is written. 5: the output has failed: a part of the line is written,
+-- and not all.
 -- 8: 268,435,456 bytes were taken and another is there, and nothing is written.
 pub record CheckRun (of : Side) (check : Check) (before after : Streams) (status : ℕ) : Type 0 where
   pub statuses : (status ≡ 0) ⊎ (status ≡ 1) ⊎ (status ≡ 4) ⊎ (status ≡ 5) ⊎ (status ≡ 8)

@@ -1,5 +1,4 @@
 pub mod Captures
-pub mod Collecting
 pub mod Counted
 pub mod Dissected
 pub mod Drilling

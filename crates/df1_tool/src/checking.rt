@@ -82,23 +82,11 @@ fn count_piece(reader: &mut Reader, piece: &[u8]) -> Result<(), CaptureFault>
     ensures few { OnOk result (reader.new.fed ≤ 268435456) }
 {
     let heard = within_limit(piece, reader.fed());
-    hear_all(reader, heard);
+    reader.hear_all(heard);
     if heard.len() < piece.len() {
         Err(CaptureFault::TooLong)
     } else {
         Ok(())
-    }
-}
-
-/// Hears bytes.
-fn hear_all(reader: &mut Reader, heard: &[u8])
-    requires { reader.old.fed + length heard.now ≤ 268435456 }
-    ensures stands { (side : Captured) (check : CheckKind) (bytes : List ℕ) → StandsFor side check bytes reader.old
-        → StandsFor side check (bytes ++ heard.now) reader.new }
-    ensures fed { reader.new.fed ≡ reader.old.fed + length heard.now }
-{
-    for byte in heard {
-        reader.hear(*byte);
     }
 }
 

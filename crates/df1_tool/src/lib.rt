@@ -3,7 +3,6 @@
 
 mod capture;
 mod checking;
-mod collected;
 mod dissecting;
 #[cfg(test)]
 mod dissecting_tests;

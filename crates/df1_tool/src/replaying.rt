@@ -10,9 +10,8 @@ ghost use Rattle.std.specs.Option.{ForSome};
 ghost use Rattle.df1_tool.specs.Outcome.{Answered, BrokenOff, CutOff, IsFromPiece, IsNoted, Refused, TellsRefusal, Written};
 ghost use Rattle.df1_tool.specs.declared.trouble.Trouble.{Trouble as Ending};
 
-use crate::collected::Collected;
 use crate::trouble::{Trouble, tell};
-use df1_base::{Failed, Sink, Source, write_all};
+use df1_base::{Collected, Failed, Sink, Source, write_all};
 use line_replay::{Replayer, StreamFault};
 use line_script::{LINE, SCRIPT};
 use std::alloc::Global;

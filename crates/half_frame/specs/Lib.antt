@@ -10,3 +10,4 @@ pub mod MasterGrammar
 pub mod MasterStanding
 pub mod MasterStep
 pub mod MasterView
+pub mod Runs

@@ -1,12 +1,15 @@
 //! The master's ear: the slaves' bytes go in one by one, and at each it says what the master hears.
 
-ghost use Rattle.std.specs.Prelude.{◌≡◌, ◌≤◌, ℕ, List, [], ◌∷◌, ◌++◌, length, Option};
+ghost use Rattle.std.specs.Prelude.{◌≡◌, ◌≤◌, ℕ, List, [], ◌∷◌, ◌++◌, length, take, Option};
 ghost use Rattle.df1_check.specs.declared.Check.{Check as CheckKind};
 ghost use Rattle.df1_frame.specs.Line.{ReadOff, answers, last_heard};
 ghost use Rattle.half_frame.specs.declared.heard.MasterHeard.{MasterHeard as Told};
+ghost use Rattle.half_frame.specs.declared.heard.MasterHeard.TheVariants as heard;
 ghost use Rattle.half_frame.specs.MasterGrammar.{master_hears};
 ghost use Rattle.half_frame.specs.MasterStanding.{Outside, listening, held as held_of, held_at, lent, lent_at, is_inside, has_begun};
 ghost use Rattle.half_frame.specs.MasterStep.{begun_by, next, outside_next, pair_next, step, text_next};
+ghost use Rattle.df1_frame.specs.Runs.{heard_in_run, steps};
+ghost use Rattle.half_frame.specs.Runs.{master_run_len};
 ghost use Rattle.half_frame.specs.TextStep.{text_step};
 ghost use Rattle.half_frame.specs.TextView.{within_of};
 ghost use Rattle.half_frame.specs.MasterView.{standing_of};
@@ -16,7 +19,7 @@ use crate::text::{Place as TextPlace, Progress};
 use crate::{MasterHeard, text};
 use df1_base::{DLE, STX};
 use df1_check::Check;
-use df1_frame::Gathered;
+use df1_frame::{Gathered, plain_len};
 use std::marker::Model;
 
 /// Where in an item the bytes so far end.
@@ -34,7 +37,7 @@ enum Place {
 
 /// Takes the slaves' bytes one by one, and says what the master hears at each. It has room for a body of N bytes.
 ///
-/// Each call takes constant time, but that a text's begin blanks what was held of the body before.
+/// Each byte takes constant time, but that a text's begin blanks what was held of the body before.
 #[derive(Drop)]
 pub struct MasterEar<const N: usize> {
     check: Check,
@@ -66,7 +69,9 @@ impl<const N: usize> MasterEar<N> {
         }
     }
 
-    /// Takes a byte, and says what is heard at it: None exactly where nothing is.
+    /// Takes a byte, and says what is heard at it: None exactly where nothing is. It is inlined, since a caller that looks at
+    /// each byte would else get each answer through memory.
+    #[inline(always)]
     pub fn feed(&mut self, b: u8) -> Option<MasterHeard>
         ensures stands { (check : CheckKind) (bytes : List ℕ) → ReadOff (master_hears check N) bytes (listening check N) self.old
             → ReadOff (master_hears check N) (bytes ++ b ∷ []) (listening check N) self.new }
@@ -81,6 +86,34 @@ impl<const N: usize> MasterEar<N> {
         self.advance(b)
     }
 
+    /// Takes the bytes before the first DLE where it stands in a body or outside, and none elsewhere, and says how many. In a
+    /// body nothing is heard at them; outside each is heard as Stray.
+    pub fn feed_run(&mut self, bytes: &[u8]) -> usize
+        ensures count { result ≡ master_run_len self.old.standing bytes.now }
+        ensures stands { (check : CheckKind) (before : List ℕ) → ReadOff (master_hears check N) before (listening check N) self.old
+            → ReadOff (master_hears check N) (before ++ take result bytes.now) (listening check N) self.new }
+        ensures value { self.new ≡ (steps (next N) self.old (take result bytes.now)).0 }
+        ensures heard { (steps (next N) self.old (take result bytes.now)).1 ≡ heard_in_run heard.Stray (is_inside self.old.standing) (take result bytes.now) }
+    {
+        match self.place {
+            Place::InText(TextPlace::Inside) => {
+                let count = plain_len(bytes);
+                self.gathered.gather_all(&bytes[..count]);
+                count
+            }
+            Place::Outside => plain_len(bytes),
+            Place::Ended => {
+                let count = plain_len(bytes);
+                if count > 0 {
+                    self.place = Place::Outside;
+                }
+                count
+            }
+            _ => 0,
+        }
+    }
+
+    #[inline(always)]
     fn advance(&mut self, b: u8) -> Option<MasterHeard>
         ensures value { self.new ≡ (next N self.old b).0 }
         ensures answer { result ≡ (next N self.old b).1 }
@@ -136,6 +169,7 @@ impl<const N: usize> MasterEar<N> {
 }
 
 /// What a byte leads to, and what is heard at it.
+#[inline(always)]
 fn step<const N: usize>(
     place: Place,
     gathered: &mut Gathered<N>,

@@ -1,15 +1,18 @@
 //! A slave's ear: the master's bytes go in one by one, and at each it says what the slave hears.
 
-ghost use Rattle.std.specs.Prelude.{◌≡◌, ◌≤◌, ℕ, List, [], ◌∷◌, ◌++◌, length, false, Option};
+ghost use Rattle.std.specs.Prelude.{◌≡◌, ◌≤◌, ℕ, List, [], ◌∷◌, ◌++◌, length, take, false, Option};
 ghost use Rattle.df1_check.specs.declared.Check.{Check as CheckKind};
 ghost use Rattle.df1_check.specs.Checks.{taken};
 ghost use Rattle.df1_frame.specs.Line.{ReadOff, answers, last_heard};
 ghost use Rattle.df1_frame.specs.Gathered.{Gathered as SoFar};
 ghost use Rattle.half_frame.specs.declared.heard.SlaveHeard.{SlaveHeard as Told};
+ghost use Rattle.half_frame.specs.declared.heard.SlaveHeard.TheVariants as heard;
 ghost use Rattle.half_frame.specs.Spelling.{station_head};
 ghost use Rattle.half_frame.specs.SlaveGrammar.{slave_hears};
 ghost use Rattle.half_frame.specs.SlaveStanding.{Outside, listening, held as held_of, held_at, lent, lent_at, is_inside, has_begun};
 ghost use Rattle.half_frame.specs.SlaveStep.{begun_by, header_next, next, outside_next, pair_next, station_next, step, text_next};
+ghost use Rattle.df1_frame.specs.Runs.{heard_in_run, steps};
+ghost use Rattle.half_frame.specs.Runs.{slave_run_len};
 ghost use Rattle.half_frame.specs.TextStep.{text_step};
 ghost use Rattle.half_frame.specs.TextView.{within_of};
 ghost use Rattle.half_frame.specs.SlaveView.{standing_of};
@@ -19,7 +22,7 @@ use crate::text::{Place as TextPlace, Progress};
 use crate::{SOH, SlaveHeard, text};
 use df1_base::{DLE, ENQ, STX};
 use df1_check::Check;
-use df1_frame::Gathered;
+use df1_frame::{Gathered, plain_len};
 use std::marker::Model;
 
 /// Where in an item the bytes so far end.
@@ -47,7 +50,7 @@ enum Place {
 
 /// Takes the master's bytes one by one, and says what a slave hears at each. It has room for a body of N bytes.
 ///
-/// Each call takes constant time, but that a text's begin blanks what was held of the body before.
+/// Each byte takes constant time, but that a text's begin blanks what was held of the body before.
 #[derive(Drop)]
 pub struct SlaveEar<const N: usize> {
     check: Check,
@@ -79,7 +82,9 @@ impl<const N: usize> SlaveEar<N> {
         }
     }
 
-    /// Takes a byte, and says what is heard at it: None exactly where nothing is.
+    /// Takes a byte, and says what is heard at it: None exactly where nothing is. It is inlined, since a caller that looks at
+    /// each byte would else get each answer through memory.
+    #[inline(always)]
     pub fn feed(&mut self, b: u8) -> Option<SlaveHeard>
         ensures stands { (check : CheckKind) (bytes : List ℕ) → ReadOff (slave_hears check N) bytes (listening check N) self.old
             → ReadOff (slave_hears check N) (bytes ++ b ∷ []) (listening check N) self.new }
@@ -94,6 +99,34 @@ impl<const N: usize> SlaveEar<N> {
         self.advance(b)
     }
 
+    /// Takes the bytes before the first DLE where it stands in a body or outside, and none elsewhere, and says how many. In a
+    /// body nothing is heard at them; outside each is heard as Stray.
+    pub fn feed_run(&mut self, bytes: &[u8]) -> usize
+        ensures count { result ≡ slave_run_len self.old.standing bytes.now }
+        ensures stands { (check : CheckKind) (before : List ℕ) → ReadOff (slave_hears check N) before (listening check N) self.old
+            → ReadOff (slave_hears check N) (before ++ take result bytes.now) (listening check N) self.new }
+        ensures value { self.new ≡ (steps (next N) self.old (take result bytes.now)).0 }
+        ensures heard { (steps (next N) self.old (take result bytes.now)).1 ≡ heard_in_run heard.Stray (is_inside self.old.standing) (take result bytes.now) }
+    {
+        match self.place {
+            Place::InText(_, TextPlace::Inside) => {
+                let count = plain_len(bytes);
+                self.gathered.gather_all(&bytes[..count]);
+                count
+            }
+            Place::Outside => plain_len(bytes),
+            Place::Ended => {
+                let count = plain_len(bytes);
+                if count > 0 {
+                    self.place = Place::Outside;
+                }
+                count
+            }
+            _ => 0,
+        }
+    }
+
+    #[inline(always)]
     fn advance(&mut self, b: u8) -> Option<SlaveHeard>
         ensures value { self.new ≡ (next N self.old b).0 }
         ensures answer { result ≡ (next N self.old b).1 }
@@ -149,6 +182,7 @@ impl<const N: usize> SlaveEar<N> {
 }
 
 /// What a byte leads to, and what is heard at it.
+#[inline(always)]
 fn step<const N: usize>(
     place: Place,
     gathered: &mut Gathered<N>,

@@ -169,6 +169,34 @@ fn both_hear_the_sizes_of_bodies(rt: HostRuntime) {
     assert!(rt; messages_of_zeros(&rt, 251) == wrong);
 }
 
+#[test]
+fn both_take_the_bytes_before_a_dle_at_once(rt: HostRuntime) {
+    let mut slave = SlaveEar::<250>::new(Check::Bcc);
+    assert!(rt; slave.feed_run(&[0x41, 0x42, 0x10]) == 2);
+    let header = [(5, SlaveHeard::Header(3))];
+    slave_hears(&rt, &mut slave, &[0x10, 0x01, 0x03, 0x10, 0x02], &header);
+    assert!(rt; slave.feed_run(&[0x03, 0x00, 0x06, 0x00, 0x01, 0x00]) == 6);
+    assert!(rt; slave.feed_run(&[0x10, 0x03]) == 0);
+    assert!(rt; slave.held() == 6);
+    slave_hears(&rt, &mut slave, &[0x10], &[]);
+    assert!(rt; slave.feed_run(&[0x03]) == 0);
+    let addressed = [(2, SlaveHeard::Addressed(3))];
+    slave_hears(&rt, &mut slave, &[0x03, 0xF3], &addressed);
+    assert!(rt; slave.feed_run(&[0x41]) == 1);
+    assert!(rt; slave.body().is_empty());
+    let mut master = MasterEar::<250>::new(Check::Bcc);
+    assert!(rt; master.feed_run(&[0x41, 0x42, 0x10]) == 2);
+    master_hears(&rt, &mut master, &[0x10, 0x02], &[]);
+    assert!(rt; master.feed_run(&[0x00, 0x03, 0x4F]) == 3);
+    assert!(rt; master.feed_run(&[0x00, 0x01, 0x00, 0x10]) == 3);
+    let good = [(3, MasterHeard::Good)];
+    master_hears(&rt, &mut master, &[0x10, 0x03, 0xAD], &good);
+    assert!(rt; master.feed_run(&[]) == 0);
+    assert!(rt; master.body() == [0x00, 0x03, 0x4F, 0x00, 0x01, 0x00].as_slice());
+    assert!(rt; master.feed_run(&[0x41]) == 1);
+    assert!(rt; master.body().is_empty());
+}
+
 // Takes the bytes of a framer, and compares them.
 fn gives(rt: &impl Abort, framer: HalfFramer, wanted: &[u8]) {
     let mut framer = framer;

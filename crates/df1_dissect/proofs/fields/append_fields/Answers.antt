@@ -7,7 +7,7 @@ use Rattle.df1_dissect.proofs.fields.append_fields.Goals as goal
 
 pub returns-in-Some-clause-text : goal.returns-in-Some-clause-text
 unfolding fields_text
-returns-in-Some-clause-text c =
+returns-in-Some-clause-text g c =
     let body = c.args.body.now in
     let long : 6 ≤ length body = elim (cases_lt (length body) 6) [ inl lt ↦ absurd (true≢false (c.in-Some.ensures.none.1 lt)) | inr le ↦ le ] in
     rw (c.append_message.ensures.text, c.in-Some.ensures.fields, le-ltb (length body) 6 long, take_rest body 6) refl

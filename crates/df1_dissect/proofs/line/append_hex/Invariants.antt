@@ -5,7 +5,7 @@ use Rattle.hex.specs.Hex.{encode_upper}
 use Rattle.df1_dissect.proofs.line.append_hex.Given as goal
 
 abbrev pub invariant-loop-byte : goal.invariant-loop-byte
-invariant-loop-byte l = record {
-  text : l.line.items ≡ l.initial.line.items ++ encode_upper (take l.byte-index l.bytes);
-  size : array_vec_len l.line ≡ array_vec_len l.initial.line + 2 * l.byte-index;
+invariant-loop-byte g l = record {
+  text : l.text.items ≡ l.initial.text.items ++ encode_upper (take l.byte-index l.bytes);
+  size : array_vec_len l.text ≡ array_vec_len l.initial.text + 2 * l.byte-index;
 }

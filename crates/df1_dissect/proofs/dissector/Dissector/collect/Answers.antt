@@ -18,5 +18,5 @@ returns-clause-added c =
     let ear : lent_by c.hear.new.self.ear ≡ lent_by (next v b).0.ear = ap (λ (r : Reading). lent_by r.ear) (c.hear.ensures.value ∙ ap (λ (r : Reading). (next r b).0) c.self.view_is) in
     elim c.match-hear.branch [
       | in-None w ↦ rw (w.lines-is, lines-none v b (answer ∙ w.in-None.is)) (sym (append-nil _))
-      | in-Some w ↦ rw (w.lines-is, lines-some v b w.in-Some.thing (answer ∙ w.in-Some.is)) (rw (w.body.ensures.value ∙ ear) at w.add_thing.ensures)
+      | in-Some w ↦ rw (w.lines-is, lines-some v b w.in-Some.thing (answer ∙ w.in-Some.is)) (rw (w.body.ensures.value ∙ ear) at w.append_line.ensures)
     ]

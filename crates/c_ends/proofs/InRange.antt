@@ -1,0 +1,71 @@
+-- What is in range where nothing is out of range. Assumes nothing.
+use Rattle.std.proofs.Common.{◌≡◌, ◌≤◌, ℕ, Bool, true, false, cond, List, [], ◌∷◌, length, refl, arith}
+use Rattle.std.specs.Prelude.{Option, Some, None, ◌==◌, ◌||◌, nat_lt}
+use Rattle.std.specs.Option.{option_map}
+use Rattle.data_files.specs.Tables.{faults, fits_compat}
+use Rattle.data_files.specs.declared.make_fault.MakeFault.{MakeFault}
+use Rattle.c_ends.specs.declared.code.Code.{Code}
+use Rattle.c_ends.specs.declared.code.Code.TheVariants as code
+use Rattle.c_ends.specs.declared.parts.NodeParts.{NodeParts}
+use Rattle.c_ends.specs.declared.parts.FileParts.{FileParts}
+use Rattle.c_ends.specs.declared.parts.WordParts.{WordParts}
+use Rattle.c_ends.specs.Parts.{first_of, node_fault, ticks_fault, room_fault, count_fault, type_fault, each_fault, compat_fault, word_fault, block_fault, compat_of, make_code, specs_of}
+
+pub first_of-none : (fault : Option Code) (faults : List (Option Code)) → first_of (fault ∷ faults) ≡ None → (fault ≡ None) × (first_of faults ≡ None)
+first_of-none None faults e = (refl, e)
+first_of-none (Some answer) faults e = cc
+
+-- a test that finds nothing failed
+pub test-none : (test : Bool) (answer : Code) → cond test (Some answer) None ≡ None → test ≡ false
+test-none true answer e = cc
+test-none false answer e = refl
+
+pub map-none : (fault : Option MakeFault) → option_map make_code fault ≡ None → fault ≡ None
+map-none None e = refl
+map-none (Some fault) e = cc
+
+pub fits-none : (fits : Bool) (answer : Code) → cond fits None (Some answer) ≡ None → fits ≡ true
+fits-none true answer e = refl
+fits-none false answer e = cc
+
+pub not_zero : (n : ℕ) → (n == 0) ≡ false → 1 ≤ n
+not_zero n e = grind arith
+
+pub within : (n low high : ℕ) → (nat_lt n low || nat_lt high n) ≡ false → (low ≤ n) × (n ≤ high)
+within n low high e = grind arith
+
+pub at_most : (n high : ℕ) → nat_lt high n ≡ false → n ≤ high
+at_most n high e = grind arith
+
+pub record InRange (node : NodeParts) (files : List FileParts) (block : List ℕ) : Type 0 where
+  pub reply_ticks : 1 ≤ node.reply_ticks
+  pub room : (2 ≤ node.room) × (node.room ≤ 64)
+  pub sound : faults (specs_of files) ≡ None
+  pub compat : fits_compat (specs_of files) (compat_of node) ≡ true
+  pub short : length block ≤ 244
+
+pub in_range : (node : NodeParts) (files : List FileParts) (words : List WordParts) (block : List ℕ)
+    → node_fault node files words block ≡ None → InRange node files block
+in_range node files words block e =
+    let after_words : List (Option Code) = block_fault block ∷ [] in
+    let after_compat : List (Option Code) = word_fault files words ∷ after_words in
+    let after_each : List (Option Code) = compat_fault node files ∷ after_compat in
+    let after_types : List (Option Code) = each_fault files ∷ after_each in
+    let after_count : List (Option Code) = type_fault files ∷ after_types in
+    let after_room : List (Option Code) = count_fault files ∷ after_count in
+    let after_ticks : List (Option Code) = room_fault node ∷ after_room in
+    let ticks = first_of-none (ticks_fault node) after_ticks e in
+    let room = first_of-none (room_fault node) after_room ticks.1 in
+    let count = first_of-none (count_fault files) after_count room.1 in
+    let types = first_of-none (type_fault files) after_types count.1 in
+    let each = first_of-none (each_fault files) after_each types.1 in
+    let compat = first_of-none (compat_fault node files) after_compat each.1 in
+    let known = first_of-none (word_fault files words) after_words compat.1 in
+    let short = first_of-none (block_fault block) [] known.1 in
+    record {
+      reply_ticks = not_zero node.reply_ticks (test-none (node.reply_ticks == 0) code.BadReplyTicks ticks.0);
+      room = within node.room 2 64 (test-none (nat_lt node.room 2 || nat_lt 64 node.room) code.BadRoom room.0);
+      sound = map-none (faults (specs_of files)) each.0;
+      compat = fits-none (fits_compat (specs_of files) (compat_of node)) code.BadCompat compat.0;
+      short = at_most (length block) 244 (test-none (nat_lt 244 (length block)) code.LongBlock short.0);
+    }

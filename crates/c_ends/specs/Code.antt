@@ -1,0 +1,73 @@
+-- The answers of the calls: their numbers and their texts.
+use Rattle.std.specs.Prelude.{ℕ, ◌==◌, Option, List, [], ◌∷◌, find, codes}
+use Rattle.c_ends.specs.declared.code.Code.{Code}
+use Rattle.c_ends.specs.declared.code.Code.TheVariants as code
+
+abbrev pub code_number : Code → ℕ
+code_number code.Done = 0
+code_number code.NoHandle = 1
+code_number code.NoMemory = 2
+code_number code.NoRoom = 3
+code_number code.BadAckTicks = 4
+code_number code.BadPollTicks = 5
+code_number code.BadMaxSends = 6
+code_number code.BadStation = 7
+code_number code.TooManyStations = 8
+code_number code.StationTwice = 9
+code_number code.BadReplyTicks = 10
+code_number code.BadRoom = 11
+code_number code.TooManyFiles = 12
+code_number code.BadType = 13
+code_number code.EmptyFile = 14
+code_number code.LargeFile = 15
+code_number code.FileTwice = 16
+code_number code.NoWord = 17
+code_number code.BadCompat = 18
+code_number code.LongBlock = 19
+code_number code.LongBody = 20
+code_number code.NoPayload = 21
+code_number code.LongPayload = 22
+code_number code.NotCommand = 23
+code_number code.Spent = 24
+code_number code.NoCommand = 25
+code_number code.NotAnswered = 26
+code_number code.NoFile = 27
+
+-- all codes, by their numbers
+abbrev pub all_codes : List Code
+all_codes =
+    code.Done ∷ code.NoHandle ∷ code.NoMemory ∷ code.NoRoom ∷ code.BadAckTicks ∷ code.BadPollTicks ∷ code.BadMaxSends ∷ code.BadStation ∷ code.TooManyStations ∷ code.StationTwice ∷ code.BadReplyTicks ∷ code.BadRoom ∷ code.TooManyFiles ∷ code.BadType ∷ code.EmptyFile ∷ code.LargeFile ∷ code.FileTwice ∷ code.NoWord ∷ code.BadCompat ∷ code.LongBlock ∷ code.LongBody ∷ code.NoPayload ∷ code.LongPayload ∷ code.NotCommand ∷ code.Spent ∷ code.NoCommand ∷ code.NotAnswered ∷ code.NoFile ∷ []
+
+-- the code of a number, if it is one's
+abbrev pub code_of : ℕ → Option Code
+code_of number = find (λ code. code_number code == number) all_codes
+
+abbrev pub code_text : Code → List ℕ
+code_text code.Done = codes "the call did what it is for"
+code_text code.NoHandle = codes "the handle holds nothing that the call is for"
+code_text code.NoMemory = codes "malloc gave no memory"
+code_text code.NoRoom = codes "the buffer is too small"
+code_text code.BadAckTicks = codes "ack_ticks is 0"
+code_text code.BadPollTicks = codes "poll_ticks is 0"
+code_text code.BadMaxSends = codes "max_sends is 0"
+code_text code.BadStation = codes "a station's number is 16 or 255"
+code_text code.TooManyStations = codes "over 32 stations"
+code_text code.StationTwice = codes "a station is listed twice"
+code_text code.BadReplyTicks = codes "reply_ticks is 0"
+code_text code.BadRoom = codes "room is not 2 to 64"
+code_text code.TooManyFiles = codes "over 256 data files"
+code_text code.BadType = codes "a file's type is none of df1_file_type"
+code_text code.EmptyFile = codes "a file has no elements"
+code_text code.LargeFile = codes "a file has over 1,000 elements"
+code_text code.FileTwice = codes "two files have one number"
+code_text code.NoWord = codes "there is no such file or word"
+code_text code.BadCompat = codes "compat names no Bit or Integer file of the end"
+code_text code.LongBlock = codes "a block of over 244 bytes"
+code_text code.LongBody = codes "a body of over 250 bytes"
+code_text code.NoPayload = codes "a payload of no bytes"
+code_text code.LongPayload = codes "a payload of over 245 bytes"
+code_text code.NotCommand = codes "bit 6 of CMD is set, so the payload is that of a reply"
+code_text code.Spent = codes "65,535 commands were issued already"
+code_text code.NoCommand = codes "no command of this number was issued"
+code_text code.NotAnswered = codes "no reply to it was accepted"
+code_text code.NoFile = codes "there is no file at this place"

@@ -1,0 +1,4 @@
+pub mod Code
+pub mod Held
+pub mod Links
+pub mod Parts

@@ -1,0 +1,98 @@
+-- An end of a link before anything happened to it, and which part of it is out of range.
+use Rattle.std.specs.Prelude.{ℕ, ◌==◌, ◌||◌, Bool, List, [], ◌∷◌, ◌++◌, length, nat_lt, Option, None, Some, if◌then◌else◌}
+use Rattle.std.specs.Option.{option_or}
+use Rattle.std.specs.List.{list_any}
+use Rattle.df1_check.specs.declared.Check.{Check as CheckKind}
+use Rattle.df1_check.specs.declared.Check.TheVariants as check
+use Rattle.duplex_end.specs.declared.Setup.{Setup}
+use Rattle.duplex_end.specs.End.{new_end}
+use Rattle.half_master.specs.declared.MasterSetup.{MasterSetup}
+use Rattle.half_master.specs.Master.{new_master}
+use Rattle.half_slave.specs.declared.SlaveSetup.{SlaveSetup}
+use Rattle.half_slave.specs.Slave.{new_slave}
+use Rattle.c_ends.specs.declared.code.Code.{Code}
+use Rattle.c_ends.specs.declared.code.Code.TheVariants as code
+use Rattle.c_ends.specs.declared.held.Held.{Held}
+use Rattle.c_ends.specs.declared.held.Held.TheVariants as held
+use Rattle.c_ends.specs.declared.parts.DuplexLink.{DuplexLink}
+use Rattle.c_ends.specs.declared.parts.MasterLink.{MasterLink}
+use Rattle.c_ends.specs.declared.parts.SlaveLink.{SlaveLink}
+use Rattle.c_ends.specs.declared.parts.NodeParts.{NodeParts}
+use Rattle.c_ends.specs.declared.parts.FileParts.{FileParts}
+use Rattle.c_ends.specs.declared.parts.WordParts.{WordParts}
+use Rattle.c_ends.specs.Parts.{first_of, node_fault, first_node}
+
+abbrev pub check_of : Bool → CheckKind
+check_of crc = if crc then check.Crc else check.Bcc
+
+-- ---- which part is out of range
+
+abbrev pub ack_ticks_fault : ℕ → Option Code
+ack_ticks_fault ticks = if ticks == 0 then Some code.BadAckTicks else None
+
+abbrev pub poll_ticks_fault : ℕ → Option Code
+poll_ticks_fault ticks = if ticks == 0 then Some code.BadPollTicks else None
+
+abbrev pub sends_fault : ℕ → Option Code
+sends_fault sends = if sends == 0 then Some code.BadMaxSends else None
+
+abbrev pub number_fault : ℕ → Option Code
+number_fault number = if number == 16 || number == 255 then Some code.BadStation else None
+
+-- a station that follows others
+abbrev pub twice_fault : List ℕ → ℕ → Option Code
+twice_fault before number = if list_any (λ other. number == other) before then Some code.StationTwice else None
+
+-- the first that is bad or listed twice, of stations that follow others
+abbrev pub station_fault : List ℕ → List ℕ → Option Code
+station_fault before [] = None
+station_fault before (number ∷ numbers) =
+    option_or (option_or (number_fault number) (twice_fault before number)) (station_fault (before ++ number ∷ []) numbers)
+
+abbrev pub many_fault : List ℕ → Option Code
+many_fault stations = if nat_lt 32 (length stations) then Some code.TooManyStations else None
+
+-- the first of these
+abbrev pub duplex_fault : DuplexLink → NodeParts → List FileParts → List WordParts → List ℕ → Option Code
+duplex_fault link node files words block = first_of (
+    ack_ticks_fault link.ack_ticks ∷
+    node_fault node files words block ∷ [])
+
+abbrev pub master_fault : MasterLink → List ℕ → NodeParts → List FileParts → List WordParts → List ℕ → Option Code
+master_fault link stations node files words block = first_of (
+    ack_ticks_fault link.ack_ticks ∷
+    poll_ticks_fault link.poll_ticks ∷
+    many_fault stations ∷
+    station_fault [] stations ∷
+    node_fault node files words block ∷ [])
+
+abbrev pub slave_fault : SlaveLink → NodeParts → List FileParts → List WordParts → List ℕ → Option Code
+slave_fault link node files words block = first_of (
+    sends_fault link.max_sends ∷
+    number_fault node.address ∷
+    node_fault node files words block ∷ [])
+
+-- ---- the ends
+
+abbrev pub duplex_setup : DuplexLink → Setup
+duplex_setup link = record {
+  check = check_of link.crc;
+  embed = link.embed;
+  limits = record { ack_ticks = link.ack_ticks; max_naks = link.max_naks; max_enqs = link.max_enqs };
+}
+
+abbrev pub first_duplex : DuplexLink → NodeParts → List FileParts → List WordParts → List ℕ → Held
+first_duplex link node files words block = held.Duplex (new_end (duplex_setup link) (first_node node files words block))
+
+abbrev pub master_setup : MasterLink → MasterSetup
+master_setup link = record { check = check_of link.crc; ack_ticks = link.ack_ticks; max_resends = link.max_resends; poll_ticks = link.poll_ticks }
+
+abbrev pub first_master : MasterLink → List ℕ → NodeParts → List FileParts → List WordParts → List ℕ → Held
+first_master link stations node files words block = held.Master (new_master (master_setup link) stations (first_node node files words block))
+
+-- the number of a slave's station is the address of its node
+abbrev pub slave_setup : SlaveLink → NodeParts → SlaveSetup
+slave_setup link node = record { station = node.address; check = check_of link.crc; max_sends = link.max_sends }
+
+abbrev pub first_slave : SlaveLink → NodeParts → List FileParts → List WordParts → List ℕ → Held
+first_slave link node files words block = held.Slave (new_slave (slave_setup link node) (first_node node files words block))

@@ -1,0 +1,150 @@
+//! The answers of the calls: their numbers and their texts.
+
+ghost use Rattle.std.specs.Prelude.{◌≡◌, ◌≤◌, length};
+ghost use Rattle.c_ends.specs.Code.{code_number, code_of, code_text};
+
+/// What a call answers.
+#[derive(Clone, Copy, Debug, PartialEq, Eq)]
+pub enum Code {
+    /// The call did what it is for.
+    Done = 0,
+    /// The handle holds nothing that the call is for.
+    NoHandle = 1,
+    /// `malloc` gave none.
+    NoMemory = 2,
+    /// The buffer is too small.
+    NoRoom = 3,
+    /// `ack_ticks` is 0.
+    BadAckTicks = 4,
+    /// `poll_ticks` is 0.
+    BadPollTicks = 5,
+    /// `max_sends` is 0.
+    BadMaxSends = 6,
+    /// A station's number is 16 or 255.
+    BadStation = 7,
+    /// Over 32 stations.
+    TooManyStations = 8,
+    /// A station is listed twice.
+    StationTwice = 9,
+    /// `reply_ticks` is 0.
+    BadReplyTicks = 10,
+    /// `room` is not 2 to 64.
+    BadRoom = 11,
+    /// Over 256 data files.
+    TooManyFiles = 12,
+    /// A file's type is none of `df1_file_type`.
+    BadType = 13,
+    /// A file has no elements.
+    EmptyFile = 14,
+    /// A file has over 1,000 elements.
+    LargeFile = 15,
+    /// Two files have one number.
+    FileTwice = 16,
+    /// There is no such file or word.
+    NoWord = 17,
+    /// `compat` names no Bit or Integer file of the end.
+    BadCompat = 18,
+    /// A block of over 244 bytes.
+    LongBlock = 19,
+    /// A body of over 250 bytes.
+    LongBody = 20,
+    /// A payload of no bytes.
+    NoPayload = 21,
+    /// A payload of over 245 bytes.
+    LongPayload = 22,
+    /// Bit 6 of CMD is set, so the payload is that of a reply.
+    NotCommand = 23,
+    /// 65,535 commands were issued already.
+    Spent = 24,
+    /// No command of this number was issued.
+    NoCommand = 25,
+    /// No reply to it was accepted.
+    NotAnswered = 26,
+    /// There is no file at this place.
+    NoFile = 27,
+}
+
+/// All codes, by their numbers.
+const CODES: [Code; 28] = [
+    Code::Done,
+    Code::NoHandle,
+    Code::NoMemory,
+    Code::NoRoom,
+    Code::BadAckTicks,
+    Code::BadPollTicks,
+    Code::BadMaxSends,
+    Code::BadStation,
+    Code::TooManyStations,
+    Code::StationTwice,
+    Code::BadReplyTicks,
+    Code::BadRoom,
+    Code::TooManyFiles,
+    Code::BadType,
+    Code::EmptyFile,
+    Code::LargeFile,
+    Code::FileTwice,
+    Code::NoWord,
+    Code::BadCompat,
+    Code::LongBlock,
+    Code::LongBody,
+    Code::NoPayload,
+    Code::LongPayload,
+    Code::NotCommand,
+    Code::Spent,
+    Code::NoCommand,
+    Code::NotAnswered,
+    Code::NoFile,
+];
+
+impl Code {
+    /// The number of a code.
+    pub fn number(self) -> u32
+        ensures { result ≡ code_number self }
+    {
+        self as u32
+    }
+
+    /// The code of a number, and None exactly where it is no code's.
+    pub fn of_number(number: u32) -> Option<Code>
+        ensures { result ≡ code_of number }
+    {
+        CODES.iter().copied().find(|code| code.number() == number)
+    }
+
+    /// The text of a code, at most 79 bytes.
+    pub fn text(self) -> &'static str
+        ensures text { result.now ≡ code_text self }
+        ensures short { length result.now ≤ 79 }
+    {
+        match self {
+            Code::Done => "the call did what it is for",
+            Code::NoHandle => "the handle holds nothing that the call is for",
+            Code::NoMemory => "malloc gave no memory",
+            Code::NoRoom => "the buffer is too small",
+            Code::BadAckTicks => "ack_ticks is 0",
+            Code::BadPollTicks => "poll_ticks is 0",
+            Code::BadMaxSends => "max_sends is 0",
+            Code::BadStation => "a station's number is 16 or 255",
+            Code::TooManyStations => "over 32 stations",
+            Code::StationTwice => "a station is listed twice",
+            Code::BadReplyTicks => "reply_ticks is 0",
+            Code::BadRoom => "room is not 2 to 64",
+            Code::TooManyFiles => "over 256 data files",
+            Code::BadType => "a file's type is none of df1_file_type",
+            Code::EmptyFile => "a file has no elements",
+            Code::LargeFile => "a file has over 1,000 elements",
+            Code::FileTwice => "two files have one number",
+            Code::NoWord => "there is no such file or word",
+            Code::BadCompat => "compat names no Bit or Integer file of the end",
+            Code::LongBlock => "a block of over 244 bytes",
+            Code::LongBody => "a body of over 250 bytes",
+            Code::NoPayload => "a payload of no bytes",
+            Code::LongPayload => "a payload of over 245 bytes",
+            Code::NotCommand => "bit 6 of CMD is set, so the payload is that of a reply",
+            Code::Spent => "65,535 commands were issued already",
+            Code::NoCommand => "no command of this number was issued",
+            Code::NotAnswered => "no reply to it was accepted",
+            Code::NoFile => "there is no file at this place",
+        }
+    }
+}

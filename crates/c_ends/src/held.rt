@@ -1,0 +1,35 @@
+//! What a handle may hold.
+
+use df1_frame::Decoder;
+use df1_node::Node;
+use duplex_end::End;
+use half_master::Master;
+use half_slave::Slave;
+
+/// What a handle holds: a decoder, or an end of a link over a node.
+#[derive(Drop)]
+pub enum Held {
+    /// A decoder of a full-duplex line.
+    Decoder(Decoder<250>),
+    /// An end of a full-duplex link.
+    Duplex(End<Node>),
+    /// The master of a half-duplex link.
+    Master(Master<Node>),
+    /// A slave of a half-duplex link.
+    Slave(Slave<Node>),
+}
+
+impl Held {
+    ghost use Rattle.std.specs.Prelude.{◌≡◌};
+    ghost use Rattle.c_ends.specs.Held.{is_end};
+
+    /// Whether it is an end of a link.
+    pub fn is_end(&self) -> bool
+        ensures { result ≡ is_end self.now }
+    {
+        match self {
+            Held::Decoder(_) => false,
+            Held::Duplex(_) | Held::Master(_) | Held::Slave(_) => true,
+        }
+    }
+}

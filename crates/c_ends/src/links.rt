@@ -1,0 +1,275 @@
+//! The links of ends, as C gives them, and the ends that are made of them. Where several parts are out of range, the first
+//! of them counts: the link's members in their order, a master's stations, the number of a slave, then what stands behind
+//! the end.
+
+ghost use Rattle.std.specs.Prelude.{◌≡◌, ◌==◌, [], Err, IfErr, IfOk, MatchOption};
+ghost use Rattle.std.specs.Option.{option_or};
+ghost use Rattle.std.specs.List.{list_any};
+ghost use Rattle.c_ends.specs.Links.{ack_ticks_fault, check_of, duplex_fault, duplex_setup, first_duplex, first_master, first_slave, many_fault, master_fault, master_setup, number_fault, poll_ticks_fault, sends_fault, slave_fault, slave_setup, station_fault, twice_fault};
+
+use crate::code::Code;
+use crate::held::Held;
+use crate::node::{node_fault, node_of};
+use crate::parts::{DuplexLink, FileParts, MasterLink, NodeParts, SlaveLink, WordParts};
+use df1_check::Check;
+use duplex_end::{End, Setup};
+use duplex_sender::Limits;
+use half_master::{Master, MasterSetup};
+use half_slave::{Slave, SlaveSetup};
+use std::alloc::Global;
+
+/// The most stations of a master.
+const MAX_STATIONS: usize = 32;
+
+/// A full-duplex end to which nothing happened yet, of its link, what stands behind it, its data files, the first values of
+/// their words, and the block of a diagnostic status. An error is the code of the first part that is out of range; with all
+/// of them in range it is `NoMemory`.
+pub fn duplex_of(
+    alloc: Global,
+    link: &DuplexLink,
+    node: &NodeParts,
+    files: &[FileParts],
+    words: &[WordParts],
+    block: &[u8],
+) -> Result<Held, Code>
+    ensures ok { IfOk result (λ held. held ≡ first_duplex link.now node.now files.now words.now block.now) }
+    ensures fault { MatchOption (duplex_fault link.now node.now files.now words.now block.now) (IfErr result (λ code. code ≡ Code.NoMemory)) (λ fault. result ≡ Err fault) }
+{
+    if let Some(fault) = duplex_fault(link, node, files, words, block) {
+        return Err(fault);
+    }
+    match node_of(alloc, node, files, words, block) {
+        Ok(node) => Ok(Held::Duplex(End::new(duplex_setup(link), node))),
+        Err(_) => Err(Code::NoMemory),
+    }
+}
+
+/// A master to which nothing happened yet, of its link, the numbers of its stations, and what a full-duplex end is made of.
+/// An error is the code of the first part that is out of range; with all of them in range it is `NoMemory`.
+pub fn master_of(
+    alloc: Global,
+    link: &MasterLink,
+    stations: &[u8],
+    node: &NodeParts,
+    files: &[FileParts],
+    words: &[WordParts],
+    block: &[u8],
+) -> Result<Held, Code>
+    ensures ok { IfOk result (λ held. held ≡ first_master link.now stations.now node.now files.now words.now block.now) }
+    ensures fault { MatchOption (master_fault link.now stations.now node.now files.now words.now block.now) (IfErr result (λ code. code ≡ Code.NoMemory)) (λ fault. result ≡ Err fault) }
+{
+    if let Some(fault) = master_fault(link, stations, node, files, words, block) {
+        return Err(fault);
+    }
+    match node_of(alloc, node, files, words, block) {
+        Ok(node) => Ok(Held::Master(Master::new(master_setup(link), stations, node))),
+        Err(_) => Err(Code::NoMemory),
+    }
+}
+
+/// A slave to which nothing happened yet, of its link and what a full-duplex end is made of. Its number is the address of
+/// its node. An error is the code of the first part that is out of range; with all of them in range it is `NoMemory`.
+pub fn slave_of(
+    alloc: Global,
+    link: &SlaveLink,
+    node: &NodeParts,
+    files: &[FileParts],
+    words: &[WordParts],
+    block: &[u8],
+) -> Result<Held, Code>
+    ensures ok { IfOk result (λ held. held ≡ first_slave link.now node.now files.now words.now block.now) }
+    ensures fault { MatchOption (slave_fault link.now node.now files.now words.now block.now) (IfErr result (λ code. code ≡ Code.NoMemory)) (λ fault. result ≡ Err fault) }
+{
+    if let Some(fault) = slave_fault(link, node, files, words, block) {
+        return Err(fault);
+    }
+    let setup = slave_setup(link, node);
+    match node_of(alloc, node, files, words, block) {
+        Ok(node) => Ok(Held::Slave(Slave::new(setup, node))),
+        Err(_) => Err(Code::NoMemory),
+    }
+}
+
+/// What is out of range of a full-duplex end.
+fn duplex_fault(
+    link: &DuplexLink,
+    node: &NodeParts,
+    files: &[FileParts],
+    words: &[WordParts],
+    block: &[u8],
+) -> Option<Code>
+    ensures { result ≡ duplex_fault link.now node.now files.now words.now block.now }
+{
+    ack_ticks_fault(link.ack_ticks).or_else(|| node_fault(node, files, words, block))
+}
+
+/// What is out of range of a master.
+fn master_fault(
+    link: &MasterLink,
+    stations: &[u8],
+    node: &NodeParts,
+    files: &[FileParts],
+    words: &[WordParts],
+    block: &[u8],
+) -> Option<Code>
+    ensures { result ≡ master_fault link.now stations.now node.now files.now words.now block.now }
+{
+    ack_ticks_fault(link.ack_ticks)
+        .or_else(|| poll_ticks_fault(link.poll_ticks))
+        .or_else(|| many_fault(stations))
+        .or_else(|| station_fault(stations))
+        .or_else(|| node_fault(node, files, words, block))
+}
+
+/// What is out of range of a slave.
+fn slave_fault(
+    link: &SlaveLink,
+    node: &NodeParts,
+    files: &[FileParts],
+    words: &[WordParts],
+    block: &[u8],
+) -> Option<Code>
+    ensures { result ≡ slave_fault link.now node.now files.now words.now block.now }
+{
+    sends_fault(link.max_sends)
+        .or_else(|| number_fault(node.address))
+        .or_else(|| node_fault(node, files, words, block))
+}
+
+/// The check of a link: the CRC where it is wanted, else the BCC.
+pub fn check_of(crc: bool) -> Check
+    ensures { result ≡ check_of crc }
+{
+    if crc { Check::Crc } else { Check::Bcc }
+}
+
+/// How a full-duplex end is set up.
+fn duplex_setup(link: &DuplexLink) -> Setup
+    ensures { result ≡ duplex_setup link.now }
+{
+    Setup {
+        check: check_of(link.crc),
+        embed: link.embed,
+        limits: Limits {
+            ack_ticks: link.ack_ticks,
+            max_naks: link.max_naks,
+            max_enqs: link.max_enqs,
+        },
+    }
+}
+
+/// How a master is set up.
+fn master_setup(link: &MasterLink) -> MasterSetup
+    ensures { result ≡ master_setup link.now }
+{
+    MasterSetup {
+        check: check_of(link.crc),
+        ack_ticks: link.ack_ticks,
+        max_resends: link.max_resends,
+        poll_ticks: link.poll_ticks,
+    }
+}
+
+/// How a slave is set up.
+fn slave_setup(link: &SlaveLink, node: &NodeParts) -> SlaveSetup
+    ensures { result ≡ slave_setup link.now node.now }
+{
+    SlaveSetup {
+        station: node.address,
+        check: check_of(link.crc),
+        max_sends: link.max_sends,
+    }
+}
+
+/// A wait for a response of no ticks.
+fn ack_ticks_fault(ticks: u32) -> Option<Code>
+    ensures { result ≡ ack_ticks_fault ticks }
+{
+    if ticks == 0 {
+        Some(Code::BadAckTicks)
+    } else {
+        None
+    }
+}
+
+/// A wait after a poll of no ticks.
+fn poll_ticks_fault(ticks: u32) -> Option<Code>
+    ensures { result ≡ poll_ticks_fault ticks }
+{
+    if ticks == 0 {
+        Some(Code::BadPollTicks)
+    } else {
+        None
+    }
+}
+
+/// A message that is never given.
+fn sends_fault(sends: u32) -> Option<Code>
+    ensures { result ≡ sends_fault sends }
+{
+    if sends == 0 {
+        Some(Code::BadMaxSends)
+    } else {
+        None
+    }
+}
+
+/// A number that no station may have.
+fn number_fault(number: u8) -> Option<Code>
+    ensures { result ≡ number_fault number }
+{
+    if number == 16 || number == 255 {
+        Some(Code::BadStation)
+    } else {
+        None
+    }
+}
+
+/// A station that is among those before it.
+fn twice_fault(before: &[u8], number: u8) -> Option<Code>
+    ensures { result ≡ twice_fault before.now number }
+{
+    if is_among(before, number) {
+        Some(Code::StationTwice)
+    } else {
+        None
+    }
+}
+
+/// Whether it is one of these numbers.
+fn is_among(numbers: &[u8], number: u8) -> bool
+    ensures { result ≡ list_any (λ other. number == other) numbers.now }
+{
+    numbers.iter().any(|other| number == *other)
+}
+
+/// More stations than a master may have.
+fn many_fault(stations: &[u8]) -> Option<Code>
+    ensures { result ≡ many_fault stations.now }
+{
+    if stations.len() > MAX_STATIONS {
+        Some(Code::TooManyStations)
+    } else {
+        None
+    }
+}
+
+/// The first station that is bad or listed twice.
+fn station_fault(stations: &[u8]) -> Option<Code>
+    ensures { result ≡ station_fault [] stations.now }
+{
+    for (place, number) in stations.iter().enumerate() {
+        let fault = fault_after(&stations[..place], *number);
+        if fault.is_some() {
+            return fault;
+        }
+    }
+    None
+}
+
+/// What is wrong with a station that follows others.
+fn fault_after(before: &[u8], number: u8) -> Option<Code>
+    ensures { result ≡ option_or (number_fault number) (twice_fault before.now number) }
+{
+    number_fault(number).or_else(|| twice_fault(before, number))
+}

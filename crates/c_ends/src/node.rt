@@ -1,0 +1,117 @@
+//! What stands behind an end, as C gives it.
+
+ghost use Rattle.std.specs.Prelude.{◌≡◌, None, Some, IfOk};
+ghost use Rattle.data_files.specs.Tables.{fits_compat};
+ghost use Rattle.c_ends.specs.Parts.{block_fault, compat_fault, compat_of, first_node, node_fault, room_fault, specs_of, ticks_fault};
+
+use crate::code::Code;
+use crate::files::{count_fault, each_fault, file_in, tables_of, type_fault, word_fault};
+use crate::parts::{FileParts, NodeParts, WordParts};
+use df1_base::{MAX_DATA, NoMemory};
+use df1_node::{Node, NodeSetup, Station};
+use std::alloc::Global;
+
+/// What is out of range of what stands behind an end.
+pub(crate) fn node_fault(
+    node: &NodeParts,
+    files: &[FileParts],
+    words: &[WordParts],
+    block: &[u8],
+) -> Option<Code>
+    ensures { result ≡ node_fault node.now files.now words.now block.now }
+{
+    ticks_fault(node)
+        .or_else(|| room_fault(node))
+        .or_else(|| count_fault(files))
+        .or_else(|| type_fault(files))
+        .or_else(|| each_fault(files))
+        .or_else(|| compat_fault(node, files))
+        .or_else(|| word_fault(files, words))
+        .or_else(|| block_fault(block))
+}
+
+/// A reply that may take no ticks.
+fn ticks_fault(node: &NodeParts) -> Option<Code>
+    ensures { result ≡ ticks_fault node.now }
+{
+    if node.reply_ticks == 0 {
+        Some(Code::BadReplyTicks)
+    } else {
+        None
+    }
+}
+
+/// Room for under 2 or over 64 replies.
+fn room_fault(node: &NodeParts) -> Option<Code>
+    ensures { result ≡ room_fault node.now }
+{
+    if node.room < 2 || node.room > 64 {
+        Some(Code::BadRoom)
+    } else {
+        None
+    }
+}
+
+/// A compatibility file that is no Bit or Integer file.
+fn compat_fault(node: &NodeParts, files: &[FileParts]) -> Option<Code>
+    ensures { result ≡ compat_fault node.now files.now }
+{
+    match compat_of(node) {
+        Some(number) if !holds_words(files, number) => Some(Code::BadCompat),
+        Some(_) | None => None,
+    }
+}
+
+/// Whether there is such a file, and it holds bits or integers.
+fn holds_words(files: &[FileParts], number: u16) -> bool
+    ensures { result ≡ fits_compat (specs_of files.now) (Some number) }
+{
+    match file_in(files, number) {
+        Some(spec) => spec.holds_words(),
+        None => false,
+    }
+}
+
+/// The number of the compatibility file.
+fn compat_of(node: &NodeParts) -> Option<u16>
+    ensures { result ≡ compat_of node.now }
+{
+    if node.has_compat {
+        Some(node.compat)
+    } else {
+        None
+    }
+}
+
+/// A block that is too long.
+fn block_fault(block: &[u8]) -> Option<Code>
+    ensures { result ≡ block_fault block.now }
+{
+    if block.len() > MAX_DATA {
+        Some(Code::LongBlock)
+    } else {
+        None
+    }
+}
+
+/// The node of an end, with no command issued. An error is want of memory.
+pub(crate) fn node_of(
+    alloc: Global,
+    node: &NodeParts,
+    files: &[FileParts],
+    words: &[WordParts],
+    block: &[u8],
+) -> Result<Node, NoMemory>
+    requires { node_fault node.now files.now words.now block.now ≡ None }
+    ensures { IfOk result (λ made. made ≡ first_node node.now files.now words.now block.now) }
+{
+    let tables = tables_of(alloc, files, words)?;
+    let station = Station::new(tables, compat_of(node), block);
+    let setup = NodeSetup {
+        node: node.address,
+        tns: node.tns,
+        reply_ticks: node.reply_ticks,
+        room: node.room as usize,
+    };
+    Node::new(alloc, setup, station)
+}

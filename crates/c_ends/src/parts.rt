@@ -1,0 +1,83 @@
+//! What an end is made of, as C gives it.
+
+/// A full-duplex link.
+#[repr(C)]
+#[derive(Clone, Copy)]
+pub struct DuplexLink {
+    /// CRC, and not BCC, ends its frames.
+    pub crc: bool,
+    /// Whether responses may stand inside the frames that the end gives.
+    pub embed: bool,
+    /// The ticks without a response until it asks with an ENQ, at least 1.
+    pub ack_ticks: u32,
+    /// How many NAKs one message may have.
+    pub max_naks: u32,
+    /// How many ENQs one message may cost.
+    pub max_enqs: u32,
+}
+
+/// The link of a half-duplex master.
+#[repr(C)]
+#[derive(Clone, Copy)]
+pub struct MasterLink {
+    /// CRC, and not BCC, ends its messages.
+    pub crc: bool,
+    /// The ticks of a wait for ACK, at least 1.
+    pub ack_ticks: u32,
+    /// How often a message is given again.
+    pub max_resends: u32,
+    /// The ticks of a wait after a poll, at least 1.
+    pub poll_ticks: u32,
+}
+
+/// The link of a half-duplex slave. Its station number is the address of its node, neither 16 nor 255.
+#[repr(C)]
+#[derive(Clone, Copy)]
+pub struct SlaveLink {
+    /// CRC, and not BCC, ends its messages.
+    pub crc: bool,
+    /// How often a message is given, at least once.
+    pub max_sends: u32,
+}
+
+/// What stands behind an end.
+#[repr(C)]
+#[derive(Clone, Copy)]
+pub struct NodeParts {
+    /// SRC of its commands.
+    pub address: u8,
+    /// TNS of its first command.
+    pub tns: u16,
+    /// The ticks, at least 1, that a reply may take.
+    pub reply_ticks: u32,
+    /// How many replies may wait: 2 to 64.
+    pub room: u32,
+    /// Whether there is a file for the basic reads and writes.
+    pub has_compat: bool,
+    /// Its number.
+    pub compat: u16,
+}
+
+/// A data file.
+#[repr(C)]
+#[derive(Clone, Copy)]
+pub struct FileParts {
+    /// Its number.
+    pub number: u16,
+    /// Its type byte.
+    pub kind: u8,
+    /// How many elements it has: 1 to 1,000.
+    pub elements: u16,
+}
+
+/// A word of a data file and its value.
+#[repr(C)]
+#[derive(Clone, Copy)]
+pub struct WordParts {
+    /// The number of the file.
+    pub file: u16,
+    /// The word, from 0.
+    pub index: u32,
+    /// Its value.
+    pub value: u16,
+}

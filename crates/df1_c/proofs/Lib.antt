@@ -1,0 +1,3 @@
+mod Heap
+pub mod Making
+mod Pointed

@@ -1,0 +1,11 @@
+pub mod Behind
+pub mod Commands
+pub mod Copied
+pub mod Decoders
+pub mod Ends
+pub mod Held
+pub mod Owned
+pub mod Rows
+pub mod Spelled
+pub mod Told
+pub mod Words

@@ -1,0 +1,39 @@
+-- What C is told of the data files of a node, and how it sets their words.
+use Rattle.std.specs.Prelude.{ℕ, ◌-◌, ◌^◌, Bool, length, min, is_some, slice_get, if◌then◌else◌}
+use Rattle.std.specs.declared.option.Option.{Option}
+use Rattle.std.specs.Option.{option_map}
+use Rattle.data_files.specs.declared.file_spec.FileSpec.{FileSpec}
+use Rattle.data_files.specs.Place.{type_byte}
+use Rattle.data_files.specs.Tables.{has_word, word_at}
+use Rattle.df1_node.specs.Node.{NodeState, with_node_word}
+use Rattle.c_ends.specs.declared.code.Code.{Code}
+use Rattle.c_ends.specs.declared.code.Code.TheVariants as code
+use Rattle.c_ends.specs.declared.parts.FileParts.{FileParts}
+
+-- there is such a word
+abbrev pub is_word : NodeState → ℕ → ℕ → Bool
+is_word node file index = has_word node.station.tables.specs file index
+
+abbrev pub word_code : NodeState → ℕ → ℕ → Code
+word_code node file index = if is_word node file index then code.Done else code.NoWord
+
+abbrev pub word_told : NodeState → ℕ → ℕ → Option ℕ
+word_told node file index = word_at node.station.tables file index
+
+-- another word, where there is one
+abbrev pub word_set : ℕ → ℕ → ℕ → NodeState → NodeState
+word_set file index value node = if is_word node file index then with_node_word node file index value else node
+
+-- how many files there are, as far as a u32 counts
+abbrev pub file_count : NodeState → ℕ
+file_count node = min (length node.station.tables.specs) (2 ^ 32 - 1)
+
+abbrev pub file_parts : FileSpec → FileParts
+file_parts spec = record { number = spec.number; kind = type_byte spec.kind; elements = spec.count }
+
+-- the file at a place
+abbrev pub file_at : NodeState → ℕ → Option FileParts
+file_at node place = option_map file_parts (slice_get node.station.tables.specs place)
+
+abbrev pub file_code : NodeState → ℕ → Code
+file_code node place = if is_some (file_at node place) then code.Done else code.NoFile

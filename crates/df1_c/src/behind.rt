@@ -1,0 +1,20 @@
+//! The node behind an end that a handle holds.
+
+ghost use Rattle.std.specs.Prelude.{◌≡◌};
+ghost use Rattle.std.specs.Option.{option_copied};
+ghost use Rattle.df1_c.specs.Behind.{node_in};
+
+use c_ends::Held;
+use df1_node::Node;
+
+/// The node behind an end; a decoder has none.
+pub(crate) fn node_of(held: &Held) -> Option<&Node>
+    ensures { option_copied result ≡ node_in held.now }
+{
+    match held {
+        Held::Decoder(_) => None,
+        Held::Duplex(end) => Some(end.host()),
+        Held::Master(end) => Some(end.host()),
+        Held::Slave(end) => Some(end.host()),
+    }
+}

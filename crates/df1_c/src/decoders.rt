@@ -1,0 +1,153 @@
+//! A decoder behind a handle: made, the bytes that it hears, the body that it lends, and letting it go.
+
+ghost use Rattle.std.specs.Prelude.{◌≡◌, ◌≤◌, length, Some};
+ghost use Rattle.std.specs.Option.{option_map, unwrap_or};
+ghost use Rattle.c_ends.specs.Code.{code_number};
+ghost use Rattle.df1_c.specs.Copied.{copied};
+ghost use Rattle.df1_c.specs.Held.{IsMake, holding, taken_fault, told_of};
+ghost use Rattle.df1_c.specs.Decoders.{after_fed, decoder_code, decoder_freed, heard_in, hearing_told, is_decoder, lent_code, lent_in, new_decoder};
+
+use crate::copying::copy;
+use crate::seat::Seat;
+use c_ends::{Code, Held, check_of};
+use df1_frame::{Decoder, Heard};
+use std::alloc::Global;
+use std::mem::ManuallyDrop;
+
+/// What is heard at a byte.
+#[repr(C)]
+#[derive(Clone, Copy)]
+pub struct Hearing {
+    pub heard: u32,
+    /// The byte that `heard` names, or 0.
+    pub byte: u8,
+}
+
+/// Fills an empty handle with a decoder that has heard nothing.
+#[tactic(auto, unfolding(crate::specs::Held::value_in))]
+#[unsafe(no_mangle)]
+pub extern "C" fn df1_decoder_make(alloc: Global, crc: bool, decoder: &mut Seat) -> u32
+    ensures { IsMake (taken_fault (holding decoder.old)) (new_decoder crc) result (holding decoder.old) (holding decoder.new) }
+{
+    if !decoder.is_empty() {
+        return Code::NoHandle.number();
+    }
+    let made = Held::Decoder(Decoder::new(check_of(crc)));
+    decoder.fill(alloc, Ok(made)).number()
+}
+
+/// Lets a decoder go, with its memory.
+#[tactic(auto, unfolding(crate::specs::Held::value_in))]
+#[unsafe(no_mangle)]
+pub extern "C" fn df1_decoder_free(alloc: Global, decoder: &mut Seat) -> u32
+    ensures code { result ≡ code_number (decoder_code (holding decoder.old)) }
+    ensures after { holding decoder.new ≡ decoder_freed (holding decoder.old) }
+{
+    let Some(held) = decoder.take(alloc) else {
+        return Code::NoHandle.number();
+    };
+    if !is_decoder(&held) {
+        *decoder = Seat::of(held);
+        return Code::NoHandle.number();
+    }
+    let _gone = ManuallyDrop::into_inner(Box::into_inner(held));
+    Code::Done.number()
+}
+
+fn is_decoder(held: &Held) -> bool
+    ensures { result ≡ is_decoder held.now }
+{
+    match held {
+        Held::Decoder(_) => true,
+        Held::Duplex(_) | Held::Master(_) | Held::Slave(_) => false,
+    }
+}
+
+/// Hears a byte, and tells what is heard at it.
+#[tactic(auto, unfolding(crate::specs::Held::value_in))]
+#[unsafe(no_mangle)]
+pub extern "C" fn df1_decoder_byte(
+    alloc: Global,
+    decoder: &mut Seat,
+    byte: u8,
+    hearing: &mut Hearing,
+) -> u32
+    ensures code { result ≡ code_number (decoder_code (holding decoder.old)) }
+    ensures after { holding decoder.new ≡ option_map (λ held. after_fed held byte) (holding decoder.old) }
+    ensures told { hearing.new ≡ told_of (holding decoder.old) (λ held. heard_in held byte) hearing.old }
+{
+    let Some(mut held) = decoder.take(alloc) else {
+        return Code::NoHandle.number();
+    };
+    let code = feed(&mut held, byte, hearing);
+    *decoder = Seat::of(held);
+    code.number()
+}
+
+fn feed(held: &mut Held, byte: u8, hearing: &mut Hearing) -> Code
+    ensures code { result ≡ decoder_code (Some held.old) }
+    ensures after { held.new ≡ after_fed held.old byte }
+    ensures told { hearing.new ≡ unwrap_or (heard_in held.old byte) hearing.old }
+{
+    match held {
+        Held::Decoder(decoder) => {
+            *hearing = hearing_of(decoder.feed(byte));
+            Code::Done
+        }
+        Held::Duplex(_) | Held::Master(_) | Held::Slave(_) => Code::NoHandle,
+    }
+}
+
+/// What is heard as C sees it.
+fn hearing_of(heard: Option<Heard>) -> Hearing
+    ensures { result ≡ hearing_told heard }
+{
+    let (heard, byte) = match heard {
+        None => (0, 0),
+        Some(Heard::Good) => (1, 0),
+        Some(Heard::Short) => (2, 0),
+        Some(Heard::BadCheck) => (3, 0),
+        Some(Heard::Long) => (4, 0),
+        Some(Heard::Broken(byte)) => (5, byte),
+        Some(Heard::Restart) => (6, 0),
+        Some(Heard::Ack) => (7, 0),
+        Some(Heard::Nak) => (8, 0),
+        Some(Heard::Enq) => (9, 0),
+        Some(Heard::Stray(byte)) => (10, byte),
+        Some(Heard::StrayPair(byte)) => (11, byte),
+    };
+    Hearing { heard, byte }
+}
+
+/// Copies the body of the frame that ended at the latest byte.
+#[tactic(auto, unfolding(crate::specs::Held::value_in))]
+#[unsafe(no_mangle)]
+pub extern "C" fn df1_decoder_body(
+    alloc: Global,
+    decoder: &mut Seat,
+    into: &mut [u8],
+    count: &mut usize,
+) -> u32
+    ensures code { result ≡ code_number (lent_code (holding decoder.old) (length into.old)) }
+    ensures same { holding decoder.new ≡ holding decoder.old }
+    ensures bytes { into.new ≡ told_of (holding decoder.old) (λ held. option_map (copied into.old) (lent_in held)) into.old }
+    ensures count { count.new ≡ told_of (holding decoder.old) (λ held. option_map length (lent_in held)) count.old }
+{
+    let Some(held) = decoder.take(alloc) else {
+        return Code::NoHandle.number();
+    };
+    let code = copy_lent(&held, into, count);
+    *decoder = Seat::of(held);
+    code.number()
+}
+
+fn copy_lent(held: &Held, into: &mut [u8], count: &mut usize) -> Code
+    ensures code { result ≡ lent_code (Some held.now) (length into.old) }
+    ensures bytes { into.new ≡ unwrap_or (option_map (copied into.old) (lent_in held.now)) into.old }
+    ensures count { count.new ≡ unwrap_or (option_map length (lent_in held.now)) count.old }
+{
+    match held {
+        Held::Decoder(decoder) => copy(decoder.body(), into, count),
+        Held::Duplex(_) | Held::Master(_) | Held::Slave(_) => Code::NoHandle,
+    }
+}

@@ -1,0 +1,137 @@
+/* Serves a full-duplex end with one Integer file, N7, on a serial device or a pseudo-terminal: serve DEVICE. It ends when the
+ * device does. */
+#define _POSIX_C_SOURCE 200809L
+#include <errno.h>
+#include <fcntl.h>
+#include <poll.h>
+#include <stdio.h>
+#include <termios.h>
+#include <time.h>
+#include <unistd.h>
+
+#include "df1.h"
+
+/* The line, and the end: what examples/served.toml says of its file 7, and for the rest what a plan that doesn't tell it has. */
+#define SPEED B19200
+#define TICK_MILLISECONDS 100
+static const df1_duplex full_duplex = {false, false, 10, 3, 3}; /* BCC, nothing embedded; ack_ticks, max_naks, max_enqs */
+static const df1_node node = {1, 1, 100, 2, false, 0};          /* address, tns, reply_ticks, room; no compat */
+static const df1_file files[] = {{7, DF1_INTEGER, 16}};
+static const df1_word words[] = {{7, 0, 0x1234}};
+
+static long long now(void)
+{
+    struct timespec time;
+
+    clock_gettime(CLOCK_MONOTONIC, &time);
+    return time.tv_sec * 1000LL + time.tv_nsec / 1000000;
+}
+
+/* Makes a device raw: bytes go through it as they are. */
+static bool make_raw(int device)
+{
+    struct termios line;
+
+    if (tcgetattr(device, &line) != 0)
+        return false;
+    line.c_iflag = 0;
+    line.c_oflag = 0;
+    line.c_lflag = 0;
+    line.c_cflag = CS8 | CREAD | CLOCAL;
+    line.c_cc[VMIN] = 1;
+    line.c_cc[VTIME] = 0;
+    cfsetispeed(&line, SPEED);
+    cfsetospeed(&line, SPEED);
+    return tcsetattr(device, TCSANOW, &line) == 0;
+}
+
+/* Writes all that the end has to give, and answers whether that went well. */
+static bool give(df1_end *end, int device)
+{
+    df1_out out;
+
+    while (df1_end_take(end, &out) == DF1_DONE && out.there) {
+        ssize_t wrote;
+
+        do
+            wrote = write(device, &out.byte, 1);
+        while (wrote < 0 && errno == EINTR);
+        if (wrote != 1)
+            return false;
+    }
+    return true;
+}
+
+/* Hears what the device has, and answers whether it goes on. */
+static bool hear(df1_end *end, int device)
+{
+    uint8_t bytes[256];
+    df1_step step;
+    ssize_t at, count = read(device, bytes, sizeof bytes);
+
+    if (count < 0 && errno == EINTR)
+        return true;
+    for (at = 0; at < count; at++) {
+        if (df1_end_byte(end, bytes[at], &step) != DF1_DONE || !give(end, device))
+            return false;
+        if (step.did == DF1_EXECUTED)
+            fprintf(stderr, "a command was executed\n");
+    }
+    return count > 0;
+}
+
+/* Time has passed to the end, which tells whether all is well. */
+static bool tick(df1_end *end, int device)
+{
+    uint32_t gone[16];
+    df1_turn turn;
+
+    if (df1_end_tick(end, &turn, gone, 16) != DF1_DONE)
+        return false;
+    if (turn.turn == DF1_TURN_FAILED)
+        fprintf(stderr, "a message was given up\n");
+    return give(end, device);
+}
+
+static void serve(df1_end *end, int device)
+{
+    struct pollfd wait = {device, POLLIN, 0};
+    long long next = now() + TICK_MILLISECONDS;
+    bool goes_on = true;
+
+    while (goes_on) {
+        long long left = next - now();
+
+        if (left <= 0) {
+            next += TICK_MILLISECONDS;
+            goes_on = tick(end, device);
+        } else if (poll(&wait, 1, (int)left) > 0) {
+            goes_on = hear(end, device);
+        }
+    }
+}
+
+int main(int argc, char **argv)
+{
+    static const uint8_t block[1] = {0};
+    df1_end end = DF1_NOTHING;
+    int device;
+
+    if (argc != 2) {
+        fprintf(stderr, "serve DEVICE\n");
+        return 2;
+    }
+    device = open(argv[1], O_RDWR | O_NOCTTY);
+    if (device < 0 || !make_raw(device)) {
+        perror(argv[1]);
+        return 1;
+    }
+    if (df1_duplex_make(&full_duplex, &node, files, 1, words, 1, block, 0, &end) != DF1_DONE) {
+        fprintf(stderr, "no end was made\n");
+        return 1;
+    }
+    serve(&end, device);
+    df1_end_free(&end);
+    close(device);
+    return 0;
+}

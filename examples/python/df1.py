@@ -1,0 +1,216 @@
+"""The library of df1 in Python, by ctypes: a Library is libdf1.so and df1.h of a folder, an End and a Decoder are handles of it.
+df1.h says what each call does. A code other than DF1_DONE is raised as Refused."""
+import ctypes
+import re
+from ctypes import POINTER, byref, c_bool, c_char_p, c_size_t, c_void_p
+from ctypes import c_uint8 as u8, c_uint16 as u16, c_uint32 as u32
+
+
+class Handle(ctypes.Structure):
+    """A df1_decoder or a df1_end; it is empty at first."""
+    _fields_ = [("at", c_void_p), ("holds", c_bool)]
+
+
+class Hearing(ctypes.Structure):
+    _fields_ = [("heard", u32), ("byte", u8)]
+
+
+class Duplex(ctypes.Structure):
+    _fields_ = [("crc", c_bool), ("embed", c_bool), ("ack_ticks", u32), ("max_naks", u32), ("max_enqs", u32)]
+
+
+class Master(ctypes.Structure):
+    _fields_ = [("crc", c_bool), ("ack_ticks", u32), ("max_resends", u32), ("poll_ticks", u32)]
+
+
+class Slave(ctypes.Structure):
+    _fields_ = [("crc", c_bool), ("max_sends", u32)]
+
+
+class Node(ctypes.Structure):
+    _fields_ = [("address", u8), ("tns", u16), ("reply_ticks", u32), ("room", u32), ("has_compat", c_bool), ("compat", u16)]
+
+
+class File(ctypes.Structure):
+    _fields_ = [("number", u16), ("type", u8), ("elements", u16)]
+
+
+class Word(ctypes.Structure):
+    _fields_ = [("file", u16), ("index", u32), ("value", u16)]
+
+
+class Step(ctypes.Structure):
+    _fields_ = [("act", u32), ("did", u32), ("did_command", u32), ("news", u32), ("news_command", u32), ("whole", c_bool)]
+
+
+class Turn(ctypes.Structure):
+    _fields_ = [("turn", u32), ("news", u32), ("news_command", u32), ("gone_count", u32)]
+
+
+class Out(ctypes.Structure):
+    _fields_ = [("there", c_bool), ("byte", u8)]
+
+
+handle, length = POINTER(Handle), POINTER(c_size_t)
+behind = [POINTER(Node), POINTER(File), c_size_t, POINTER(Word), c_size_t, c_char_p, c_size_t, handle]
+parameters = {
+    "df1_bcc": [c_char_p, c_size_t],
+    "df1_crc": [c_char_p, c_size_t],
+    "df1_spell": [c_bool, c_char_p, c_size_t, c_char_p, c_size_t, length],
+    "df1_code_text": [u32, c_char_p, c_size_t, length],
+    "df1_decoder_make": [c_bool, handle],
+    "df1_decoder_free": [handle],
+    "df1_decoder_byte": [handle, u8, POINTER(Hearing)],
+    "df1_decoder_body": [handle, c_char_p, c_size_t, length],
+    "df1_duplex_make": [POINTER(Duplex), *behind],
+    "df1_master_make": [POINTER(Master), c_char_p, c_size_t, *behind],
+    "df1_slave_make": [POINTER(Slave), *behind],
+    "df1_end_free": [handle],
+    "df1_end_byte": [handle, u8, POINTER(Step)],
+    "df1_end_body": [handle, c_char_p, c_size_t, length],
+    "df1_end_tick": [handle, POINTER(Turn), POINTER(u32), c_size_t],
+    "df1_end_take": [handle, POINTER(Out)],
+    "df1_end_quiet": [handle, POINTER(c_bool)],
+    "df1_end_issue": [handle, u8, c_char_p, c_size_t, POINTER(u32)],
+    "df1_end_outcome": [handle, u32, POINTER(u32)],
+    "df1_end_reply": [handle, u32, c_char_p, c_size_t, length],
+    "df1_end_word": [handle, u16, u32, POINTER(u16)],
+    "df1_end_set_word": [handle, u16, u32, u16],
+    "df1_end_files": [handle, POINTER(u32)],
+    "df1_end_file": [handle, u32, POINTER(File)],
+}
+
+
+class Refused(Exception):
+    """A call answered `code`, another one than DF1_DONE."""
+
+    def __init__(self, call, code, text):
+        super().__init__(f"{call}: {text}")
+        self.code = code
+
+
+class Library:
+    """libdf1.so and df1.h of a folder. Its members are the calls, and the numbers that the header names, as DF1_DONE."""
+
+    def __init__(self, folder):
+        shared = ctypes.CDLL(f"{folder}/libdf1.so")
+        with open(f"{folder}/df1.h", encoding="ascii") as header:
+            for name, number in re.findall(r"\b(DF1_\w+) = (\w+)", header.read()):
+                setattr(self, name, int(number, 0))
+        for name, types in parameters.items():
+            call = getattr(shared, name)
+            call.argtypes = types
+            call.restype = {"df1_bcc": u8, "df1_crc": u16}.get(name, u32)
+            setattr(self, name, call)
+
+    def text(self, code):
+        into, count = ctypes.create_string_buffer(80), c_size_t()
+        self.df1_code_text(code, into, 80, byref(count))
+        return into.value.decode()
+
+    def do(self, call, *words):
+        """A call that has to answer DF1_DONE."""
+        code = getattr(self, call)(*words)
+        if code != self.DF1_DONE:
+            raise Refused(call, code, self.text(code))
+
+    def bytes(self, call, *words, room=506):
+        """The bytes that a call writes into a room."""
+        into, count = ctypes.create_string_buffer(room), c_size_t()
+        self.do(call, *words, into, room, byref(count))
+        return into.raw[: count.value]
+
+
+class Decoder:
+    def __init__(self, library, crc):
+        self.library, self.handle = library, Handle()
+        library.do("df1_decoder_make", crc, self.handle)
+
+    def free(self):
+        self.library.do("df1_decoder_free", self.handle)
+
+    def byte(self, byte):
+        hearing = Hearing()
+        self.library.do("df1_decoder_byte", self.handle, byte, hearing)
+        return hearing
+
+    def body(self):
+        return self.library.bytes("df1_decoder_body", self.handle)
+
+
+class End:
+    """An end by its link: a Duplex, a Master with `stations`, or a Slave. Files and words are Files and Words."""
+
+    def __init__(self, library, link, node, files=(), words=(), block=b"", stations=b""):
+        self.library, self.handle = library, Handle()
+        listed = (stations, len(stations)) if isinstance(link, Master) else ()
+        call = f"df1_{type(link).__name__.lower()}_make"
+        library.do(call, link, *listed, node, (File * len(files))(*files), len(files), (Word * len(words))(*words), len(words),
+                   block, len(block), self.handle)
+
+    def free(self):
+        self.library.do("df1_end_free", self.handle)
+
+    def byte(self, byte):
+        step = Step()
+        self.library.do("df1_end_byte", self.handle, byte, step)
+        return step
+
+    def body(self):
+        return self.library.bytes("df1_end_body", self.handle)
+
+    def tick(self):
+        """What the tick did, and the numbers of the commands that it left unanswered."""
+        turn, gone = Turn(), (u32 * 16)()
+        self.library.do("df1_end_tick", self.handle, turn, gone, 16)
+        return turn, gone[: turn.gone_count]
+
+    def take(self):
+        """The next byte, or None where there is none."""
+        out = Out()
+        self.library.do("df1_end_take", self.handle, out)
+        return out.byte if out.there else None
+
+    def quiet(self):
+        quiet = c_bool()
+        self.library.do("df1_end_quiet", self.handle, quiet)
+        return quiet.value
+
+    def given(self):
+        """All bytes that the end has to give."""
+        given = bytearray()
+        while not self.quiet():
+            byte = self.take()
+            if byte is not None:
+                given.append(byte)
+        return bytes(given)
+
+    def issue(self, dst, payload):
+        number = u32()
+        self.library.do("df1_end_issue", self.handle, dst, payload, len(payload), number)
+        return number.value
+
+    def outcome(self, number):
+        outcome = u32()
+        self.library.do("df1_end_outcome", self.handle, number, outcome)
+        return outcome.value
+
+    def reply(self, number):
+        return self.library.bytes("df1_end_reply", self.handle, number)
+
+    def word(self, file, index):
+        value = u16()
+        self.library.do("df1_end_word", self.handle, file, index, value)
+        return value.value
+
+    def set_word(self, file, index, value):
+        self.library.do("df1_end_set_word", self.handle, file, index, value)
+
+    def files(self):
+        """The data files, in their order."""
+        count, files = u32(), []
+        self.library.do("df1_end_files", self.handle, count)
+        for place in range(count.value):
+            files.append(File())
+            self.library.do("df1_end_file", self.handle, place, files[place])
+        return files

@@ -1,0 +1,332 @@
+/* df1: the proved parts of a DF1 link (Allen-Bradley PLC-5 and SLC), for C and C++.
+ *
+ * Handles: a df1_end is one end of a link, a df1_decoder hears a full-duplex line without one. A handle is a plain struct of
+ * yours that starts as DF1_NOTHING, `= DF1_NOTHING;`, which is all zeros. A call whose name ends in _make fills it, a call
+ * whose name ends in _free empties it; in between it goes to the other calls by its address. Its members are for the library
+ * alone. What a call does with a handle that was copied, once one of the two copies was changed, isn't defined, freeing twice
+ * through a copy among it; an empty handle, and one of another kind, is answered DF1_NO_HANDLE.
+ * Codes: each call that can be refused answers a df1_code, DF1_DONE where it did what it is for. With another one neither the
+ * handle nor what pointers lead to is changed, but that `*length` says how many bytes are there with DF1_NO_ROOM.
+ * Threads: a call keeps no state besides the handle, so calls on two handles may run at a time. A handle belongs to one thread,
+ * the one that filled it.
+ * Memory: what a call is handed it reads and writes only while it runs; it keeps no pointer. A handle takes its memory from
+ * malloc: the calls whose names end in _make and df1_end_issue take some, and say where there is none.
+ * Time is the caller's: one call of df1_end_tick is one tick, as long as you like.
+ * Outside: no call blocks, prints, reads a clock or ends the program.
+ * Pointers: none may be null, one of no bytes neither. A caller who breaks this, or tells a length beyond what he owns, has no
+ * promise at all.
+ */
+#ifndef DF1_H
+#define DF1_H
+
+#include <stddef.h>
+#include <stdint.h>
+#ifndef __cplusplus
+#include <stdbool.h>
+#endif
+
+#ifdef __cplusplus
+extern "C" {
+#endif
+
+/* Answers of the calls, with their texts. */
+enum df1_code {
+    DF1_DONE = 0,              /* the call did what it is for */
+    DF1_NO_HANDLE = 1,         /* the handle holds nothing that the call is for */
+    DF1_NO_MEMORY = 2,         /* malloc gave no memory */
+    DF1_NO_ROOM = 3,           /* the buffer is too small */
+    DF1_BAD_ACK_TICKS = 4,     /* ack_ticks is 0 */
+    DF1_BAD_POLL_TICKS = 5,    /* poll_ticks is 0 */
+    DF1_BAD_MAX_SENDS = 6,     /* max_sends is 0 */
+    DF1_BAD_STATION = 7,       /* a station's number is 16 or 255 */
+    DF1_TOO_MANY_STATIONS = 8, /* over 32 stations */
+    DF1_STATION_TWICE = 9,     /* a station is listed twice */
+    DF1_BAD_REPLY_TICKS = 10,  /* reply_ticks is 0 */
+    DF1_BAD_ROOM = 11,         /* room is not 2 to 64 */
+    DF1_TOO_MANY_FILES = 12,   /* over 256 data files */
+    DF1_BAD_TYPE = 13,         /* a file's type is none of df1_file_type */
+    DF1_EMPTY_FILE = 14,       /* a file has no elements */
+    DF1_LARGE_FILE = 15,       /* a file has over 1,000 elements */
+    DF1_FILE_TWICE = 16,       /* two files have one number */
+    DF1_NO_WORD = 17,          /* there is no such file or word */
+    DF1_BAD_COMPAT = 18,       /* compat names no Bit or Integer file of the end */
+    DF1_LONG_BLOCK = 19,       /* a block of over 244 bytes */
+    DF1_LONG_BODY = 20,        /* a body of over 250 bytes */
+    DF1_NO_PAYLOAD = 21,       /* a payload of no bytes */
+    DF1_LONG_PAYLOAD = 22,     /* a payload of over 245 bytes */
+    DF1_NOT_COMMAND = 23,      /* bit 6 of CMD is set, so the payload is that of a reply */
+    DF1_SPENT = 24,            /* 65,535 commands were issued already */
+    DF1_NO_COMMAND = 25,       /* no command of this number was issued */
+    DF1_NOT_ANSWERED = 26,     /* no reply to it was accepted */
+    DF1_NO_FILE = 27           /* there is no file at this place */
+};
+
+/* ---- Checks and frames ---- */
+
+/* The BCC of `length` bytes at `bytes`: the two's complement of their 8-bit sum, 0 for none. It ends a frame whose body they
+ * are, each DLE counted once. */
+uint8_t df1_bcc(const uint8_t *bytes, size_t length);
+
+/* The CRC-16 of `length` bytes at `bytes`, 0 for none: the polynomial x^16 + x^15 + x^2 + 1, reflected, from a register of 0.
+ * It ends a frame whose body they are with the byte ETX (03) after it. On the line its low byte goes first. */
+uint16_t df1_crc(const uint8_t *bytes, size_t length);
+
+/* Spells the full-duplex frame of a body of at most 250 bytes into the `room` bytes at `into`: DLE STX, the body with each DLE
+ * doubled, DLE ETX, and the BCC or, where `crc` is set, the CRC. `*length` is how many bytes the frame has, at most 506.
+ * DF1_LONG_BODY, DF1_NO_ROOM. */
+uint32_t df1_spell(bool crc, const uint8_t *body, size_t body_length, uint8_t *into, size_t room, size_t *length);
+
+/* The text of a code, as "the handle holds nothing that the call is for", with a zero byte at its end, into the `room` bytes at
+ * `into`. `*length` is how many bytes the text has with that zero, at most 80; a number that is no code has the text
+ * "no code of df1". DF1_NO_ROOM. */
+uint32_t df1_code_text(uint32_t code, char *into, size_t room, size_t *length);
+
+/* What a decoder holds nothing of, and what it is. */
+typedef struct df1_decoder {
+    void *at;
+    bool holds;
+} df1_decoder;
+
+/* An end of a link: a full-duplex end, the master of a half-duplex link, or a slave of one. */
+typedef struct df1_end {
+    void *at;
+    bool holds;
+} df1_end;
+
+#define DF1_NOTHING {NULL, false}
+
+/* What is heard at a byte of a full-duplex line. */
+enum df1_heard {
+    DF1_HEARD_NOTHING = 0,     /* nothing is heard at this byte */
+    DF1_HEARD_GOOD = 1,        /* a frame with the right check and a body of 6 to 250 bytes */
+    DF1_HEARD_SHORT = 2,       /* a frame with the right check and a body of under 6 bytes */
+    DF1_HEARD_BAD_CHECK = 3,   /* a frame with a wrong check and a body of at most 250 bytes */
+    DF1_HEARD_LONG = 4,        /* a frame with a longer body */
+    DF1_HEARD_BROKEN = 5,      /* a frame that was broken off by DLE and `byte` */
+    DF1_HEARD_RESTART = 6,     /* a frame that was cut off by the DLE STX of the next */
+    DF1_HEARD_ACK = 7,         /* DLE ACK */
+    DF1_HEARD_NAK = 8,         /* DLE NAK */
+    DF1_HEARD_ENQ = 9,         /* DLE ENQ, outside a frame */
+    DF1_HEARD_STRAY = 10,      /* `byte`, outside a frame */
+    DF1_HEARD_STRAY_PAIR = 11  /* DLE and `byte`, outside a frame */
+};
+
+typedef struct df1_hearing {
+    uint32_t heard; /* enum df1_heard */
+    uint8_t byte;   /* 0 where `heard` names none */
+} df1_hearing;
+
+/* Fills an empty handle with a decoder that has heard nothing, of a line with CRCs where `crc` is set, else with BCCs.
+ * DF1_NO_MEMORY; DF1_NO_HANDLE for a handle that isn't empty. */
+uint32_t df1_decoder_make(bool crc, df1_decoder *decoder);
+
+/* Lets the decoder and its memory go. The handle is empty then. DF1_NO_HANDLE. */
+uint32_t df1_decoder_free(df1_decoder *decoder);
+
+/* The decoder hears a byte. DF1_NO_HANDLE. */
+uint32_t df1_decoder_byte(df1_decoder *decoder, uint8_t byte, df1_hearing *hearing);
+
+/* The body of the frame that ended at the latest byte, at most 250 bytes, be it good, too short or with a wrong check, into the
+ * `room` bytes at `into`. `*length` is how many bytes it has: 0 after every other byte. DF1_NO_HANDLE, DF1_NO_ROOM. */
+uint32_t df1_decoder_body(df1_decoder *decoder, uint8_t *into, size_t room, size_t *length);
+
+/* ---- How an end is set up ---- */
+
+/* A full-duplex link. */
+typedef struct df1_duplex {
+    bool crc;           /* CRC, and not BCC, ends its frames */
+    bool embed;         /* responses may stand inside the frames that the end gives */
+    uint32_t ack_ticks; /* ticks without a response until it asks with an ENQ: at least 1 */
+    uint32_t max_naks;  /* how many NAKs one message may have before it is given up */
+    uint32_t max_enqs;  /* how many ENQs one message may cost before it is given up */
+} df1_duplex;
+
+/* The link of a half-duplex master. */
+typedef struct df1_master {
+    bool crc;             /* CRC, and not BCC, ends its messages */
+    uint32_t ack_ticks;   /* the ticks of a wait for ACK: at least 1 */
+    uint32_t max_resends; /* how often a message is given again before it is given up */
+    uint32_t poll_ticks;  /* the ticks of a wait after a poll: at least 1 */
+} df1_master;
+
+/* The link of a half-duplex slave. Its station number is the address of its node, neither 16 nor 255. */
+typedef struct df1_slave {
+    bool crc;           /* CRC, and not BCC, ends its messages */
+    uint32_t max_sends; /* how often a message is given before it is given up: at least 1 */
+} df1_slave;
+
+/* What stands behind an end: it executes the commands that come, and issues some. */
+typedef struct df1_node {
+    uint8_t address;      /* SRC of its commands, DST of theirs */
+    uint16_t tns;         /* the transaction number of its first command; each further command has the next */
+    uint32_t reply_ticks; /* ticks without a reply until a command is unanswered: at least 1 */
+    uint32_t room;        /* how many replies may wait to be given: 2 to 64 */
+    bool has_compat;      /* whether there is a file for the basic reads and writes */
+    uint16_t compat;      /* its number: a Bit or Integer file */
+} df1_node;
+
+/* The types of data files, by their type bytes. */
+enum df1_file_type {
+    DF1_STATUS = 0x84,
+    DF1_BIT = 0x85,
+    DF1_TIMER = 0x86,
+    DF1_COUNTER = 0x87,
+    DF1_CONTROL = 0x88,
+    DF1_INTEGER = 0x89,
+    DF1_FLOAT = 0x8A
+};
+
+/* A data file. Elements of timers, counters and controls have three words, those of floats two, all others one. */
+typedef struct df1_file {
+    uint16_t number;
+    uint8_t type;      /* enum df1_file_type */
+    uint16_t elements; /* 1 to 1,000 */
+} df1_file;
+
+/* A word of a data file and its value. The words of a file count from 0. */
+typedef struct df1_word {
+    uint16_t file;
+    uint32_t index;
+    uint16_t value;
+} df1_word;
+
+/* What an end has besides its link and its node, all by pointers and lengths: `files`, at most 256; `words`, their first values
+ * (all others are 0; of two for one word the later counts); `block`, the data of the reply to a diagnostic status command, at
+ * most 244 bytes.
+ *
+ * Each call fills an empty handle with an end to which nothing happened yet. Where several parts are out of range the code
+ * names the first of: the handle (DF1_NO_HANDLE where it isn't empty), the link's members in their order, for a master its
+ * stations (DF1_TOO_MANY_STATIONS, then the first that is bad or listed twice), for a slave its number, the node's reply_ticks
+ * and room, the files (DF1_TOO_MANY_FILES, then the first of the wrong type, then the first that is empty, large, or there
+ * twice), compat, the words (DF1_NO_WORD), the block. DF1_NO_MEMORY comes with all of them in range. */
+uint32_t df1_duplex_make(const df1_duplex *link, const df1_node *node, const df1_file *files, size_t file_count,
+                         const df1_word *words, size_t word_count, const uint8_t *block, size_t block_length, df1_end *end);
+uint32_t df1_master_make(const df1_master *link, const uint8_t *stations, size_t station_count, const df1_node *node,
+                         const df1_file *files, size_t file_count, const df1_word *words, size_t word_count,
+                         const uint8_t *block, size_t block_length, df1_end *end);
+uint32_t df1_slave_make(const df1_slave *link, const df1_node *node, const df1_file *files, size_t file_count,
+                        const df1_word *words, size_t word_count, const uint8_t *block, size_t block_length, df1_end *end);
+
+/* Lets the end and its memory go. The handle is empty then. DF1_NO_HANDLE. */
+uint32_t df1_end_free(df1_end *end);
+
+/* ---- Bytes and ticks ---- */
+
+/* What an end made of a byte. */
+enum df1_act {
+    DF1_ACT_NOTHING = 0,  /* none of these */
+    DF1_ACT_ACCEPT = 1,   /* a message was accepted */
+    DF1_ACT_REPEAT = 2,   /* a message came again, and is acknowledged again */
+    DF1_ACT_REFUSE = 3,   /* there was no room for a message */
+    DF1_ACT_DAMAGED = 4,  /* a frame was damaged */
+    DF1_ACT_FORGOT = 5,   /* a frame was given up for a new one */
+    DF1_ACT_PEER_ACK = 6, /* DLE ACK */
+    DF1_ACT_PEER_NAK = 7, /* DLE NAK */
+    DF1_ACT_PEER_ENQ = 8  /* DLE ENQ */
+};
+
+/* What was done with an accepted message. */
+enum df1_did {
+    DF1_NOT_ACCEPTED = 0, /* the act isn't DF1_ACT_ACCEPT */
+    DF1_EXECUTED = 1,     /* a command was executed, and its reply waits */
+    DF1_ANSWERED = 2,     /* the reply to command `did_command` */
+    DF1_STRAY = 3         /* a reply to no command that is out */
+};
+
+/* What became known of a message that the end gave. */
+enum df1_news {
+    DF1_NO_NEWS = 0,
+    DF1_NEWS_UNDELIVERED = 1, /* command `news_command` was given up */
+    DF1_NEWS_DROPPED = 2      /* a reply was given up */
+};
+
+/* What a byte did. */
+typedef struct df1_step {
+    uint32_t act;          /* enum df1_act */
+    uint32_t did;          /* enum df1_did */
+    uint32_t did_command;  /* 0 where `did` names none */
+    uint32_t news;         /* enum df1_news */
+    uint32_t news_command; /* 0 where `news` names none */
+    bool whole;            /* a good frame was heard, whatever the act */
+} df1_step;
+
+/* What a tick did besides commands that it left unanswered. */
+enum df1_turn_kind {
+    DF1_TURN_STILL = 0, /* nothing that is told */
+    DF1_TURN_ASK = 1,   /* the end asks for a response, by an ENQ */
+    DF1_TURN_FAILED = 2 /* it gave a message up; `news` tells what that was */
+};
+
+typedef struct df1_turn {
+    uint32_t turn;         /* enum df1_turn_kind */
+    uint32_t news;         /* enum df1_news */
+    uint32_t news_command; /* 0 where `news` names none */
+    uint32_t gone_count;   /* how many commands it left unanswered, at most 16 */
+} df1_turn;
+
+/* A byte that goes out. */
+typedef struct df1_out {
+    bool there;   /* whether there is one */
+    uint8_t byte; /* 0 where there is none */
+} df1_out;
+
+/* The end hears a byte of the line. DF1_NO_HANDLE. */
+uint32_t df1_end_byte(df1_end *end, uint8_t byte, df1_step *step);
+
+/* The body of the frame that ended at the latest byte, at most 250 bytes, DST first, into the `room` bytes at `into`: of a
+ * full-duplex frame be it good, too short or with a wrong check, of a half-duplex message where it is good. `*length` is how many
+ * bytes it has: 0 after every other byte. DF1_NO_HANDLE, DF1_NO_ROOM. */
+uint32_t df1_end_body(df1_end *end, uint8_t *into, size_t room, size_t *length);
+
+/* A tick has passed: the numbers of the commands that it left unanswered go to the front of the `room` numbers at `gone`, which
+ * are at least 16. A slave counts no ticks, and tells DF1_TURN_STILL. DF1_NO_HANDLE, and DF1_NO_ROOM where `room` is under 16. */
+uint32_t df1_end_tick(df1_end *end, df1_turn *turn, uint32_t *gone, size_t room);
+
+/* The end gives the next byte for the line, if there is one. After each byte and each tick take until the end is quiet. A master
+ * gives none where it passes over a message to a station that it doesn't have, and may have more to give then. DF1_NO_HANDLE. */
+uint32_t df1_end_take(df1_end *end, df1_out *out);
+
+/* Whether the end has nothing to give, so that df1_end_take gives none. DF1_NO_HANDLE. */
+uint32_t df1_end_quiet(df1_end *end, bool *quiet);
+
+/* ---- Commands that the end issues ---- */
+
+/* What became of a command. */
+enum df1_outcome {
+    DF1_WAITING = 1,     /* it was not handed out yet */
+    DF1_OUT = 2,         /* it was handed out, and nothing became of it yet */
+    DF1_REPLIED = 3,     /* its reply was accepted */
+    DF1_UNDELIVERED = 4, /* it was given up on its way */
+    DF1_UNANSWERED = 5   /* no reply came in time */
+};
+
+/* Issues a command to the node `dst`. The payload, 1 to 245 bytes, is CMD and what follows TNS. `*number` is then the command's
+ * number, from 1. DF1_NO_HANDLE, DF1_NO_PAYLOAD, DF1_LONG_PAYLOAD, DF1_NOT_COMMAND, DF1_SPENT, DF1_NO_MEMORY. */
+uint32_t df1_end_issue(df1_end *end, uint8_t dst, const uint8_t *payload, size_t length, uint32_t *number);
+
+/* What became of command `number`: a df1_outcome. DF1_NO_HANDLE, DF1_NO_COMMAND. */
+uint32_t df1_end_outcome(df1_end *end, uint32_t number, uint32_t *outcome);
+
+/* The accepted reply to command `number`, 6 to 250 bytes, DST first, into the `room` bytes at `into`. DF1_NO_HANDLE,
+ * DF1_NO_COMMAND, DF1_NOT_ANSWERED, DF1_NO_ROOM. */
+uint32_t df1_end_reply(df1_end *end, uint32_t number, uint8_t *into, size_t room, size_t *length);
+
+/* ---- Data files ---- */
+
+/* The value of a word. DF1_NO_HANDLE, DF1_NO_WORD. */
+uint32_t df1_end_word(df1_end *end, uint16_t file, uint32_t index, uint16_t *value);
+
+/* Sets a word, as a program in the controller would. DF1_NO_HANDLE, DF1_NO_WORD. */
+uint32_t df1_end_set_word(df1_end *end, uint16_t file, uint32_t index, uint16_t value);
+
+/* How many data files the end has. DF1_NO_HANDLE. */
+uint32_t df1_end_files(df1_end *end, uint32_t *count);
+
+/* The data file at this place, from 0, in the order in which they were given. DF1_NO_HANDLE, DF1_NO_FILE. */
+uint32_t df1_end_file(df1_end *end, uint32_t place, df1_file *file);
+
+#ifdef __cplusplus
+}
+#endif
+
+#endif
