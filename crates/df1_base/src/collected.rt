@@ -5,7 +5,7 @@ use crate::{Failed, Sink};
 use std::alloc::Global;
 use std::marker::Model;
 
-/// Bytes in memory: each write takes all of its bytes. A growth that is refused is a fault, and takes none.
+/// Bytes in memory, for as long as it grows. A growth that is refused is a fault.
 #[derive(Drop)]
 pub struct Collected {
     bytes: Vec<u8>,

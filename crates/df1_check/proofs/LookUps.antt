@@ -1,5 +1,5 @@
 -- One look-up in the table of the CRC is eight shifts.
-use Rattle.std.proofs.Common.{◌≡◌, ◌<◌, ◌^◌, ℕ, ◌+◌, ◌*◌, ◌/◌, ◌%◌, ◌==◌, List, map, if◌then◌else◌, cond, true, false, refl, sym, ap, ◌∙◌, get_or, slice_get, Some, length, arith, bit_xor, Bool}
+use Rattle.std.proofs.Common.{◌≡◌, ◌<◌, ℕ, ◌*◌, ◌/◌, ◌%◌, ◌==◌, map, cond, true, false, refl, sym, ap, ◌∙◌, get_or, slice_get, Some, arith, bit_xor, Bool}
 use Rattle.std.specs.Int.Bits.{xor_assoc, xor_zero_r}
 use Rattle.std.specs.List.{range_with_len}
 use Rattle.std.proofs.lemmas.Nat.{xor_comm, xor_mod, xor_shr}
