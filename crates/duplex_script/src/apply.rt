@@ -1,6 +1,8 @@
 //! What a statement with nothing wrong changes, and the event that it is.
-ghost use Rattle.std.specs.Prelude.{◌≡◌, IfOk, OnOk, None, true, false};
-ghost use Rattle.duplex_script.specs.Drafts.{with_statement as the_draft, settled, sets_up as the_setup_test, event_of as the_event, address_of as the_address, lane_from, times_event as the_times};
+ghost use Rattle.std.specs.Prelude.{◌≡◌, IfOk, OnOk, Ok, None, Some, true, false};
+ghost use Rattle.duplex_script.specs.Drafts.{after_statement, with_statement as the_draft, settled, sets_up as the_setup_test, event_of as the_event, address_of as the_address, lane_from, times_event as the_times};
+ghost use Rattle.line_statement.specs.declared.statement.Side.{Side as End};
+ghost use Rattle.line_statement.specs.declared.statement.Verb.{Verb as Happening};
 
 use crate::DuplexReader;
 use crate::first_flaw::steps_of;
@@ -24,6 +26,21 @@ impl DuplexReader {
             self.settle(&statement);
             Ok(self.event_of(statement))
         }
+    }
+
+    /// Takes a statement that says what happens `n` times at an end or at its queue, as `take` takes it: its event is
+    /// `times_event`. False comes where the sum of events would pass its most, and then nothing is changed.
+    pub fn take_times(&mut self, n: u32) -> bool
+        ensures taken { result ≡ true → (side : End) (verb : Happening) → after_statement self.old (Statement.Times side verb (Some n)) ≡ Ok (self.new, Some (the_times side verb n)) }
+        ensures left { result ≡ false → self.new ≡ self.old }
+    {
+        let steps = n as usize;
+        if steps > self.events_left {
+            return false;
+        }
+        self.stage = Stage::Events;
+        self.events_left -= steps;
+        true
     }
 
     /// Takes a statement that is a line of an end.
@@ -125,8 +142,8 @@ fn sets_up(statement: &Statement) -> bool
     matches!(statement, Statement::Setup { .. })
 }
 
-/// What happens `n` times at an end, or at its queue.
-fn times_event(side: Side, verb: Verb, n: u32) -> Event
+/// The event that happens `n` times at an end, or at its queue.
+pub fn times_event(side: Side, verb: Verb, n: u32) -> Event
     ensures { result ≡ the_times side verb n }
 {
     match verb {

@@ -6,4 +6,5 @@ mod apply;
 mod first_flaw;
 mod reader;
 
+pub use apply::times_event;
 pub use reader::DuplexReader;

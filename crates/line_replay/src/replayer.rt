@@ -176,6 +176,26 @@ impl Replayer {
         ensures later { K.faults sink.old ≤ K.faults sink.new }
         ensures cause { IsErrOf result StreamFault.SinkFailed → Rose (K.faults sink.old) (K.faults sink.new) }
     {
+        match self.text.feed_step(line) {
+            Some(step) => self.play(&step.event(), sink),
+            None => self.feed_words(line, sink),
+        }
+    }
+
+    /// Takes the next bytes of the script, among which no line feed is, and then a line feed, as `feed` takes them one by one: by
+    /// the words of the line. It isn't inlined, since a step would pay for the room that this one takes on the stack.
+    #[inline(never)]
+    fn feed_words<K: Sink>(&mut self, line: &[u8], sink: &mut K) -> Result<(), StreamFault>
+        requires replay { IsReplay self.old }
+        requires line { HasNoFeed line.now }
+        ensures ok { (text : List ℕ) → IsReplayOf text self.old → OnOk result (IsReplayOf ((text ++ line.now) ++ 10 ∷ []) self.new × ShowsMore (shown text) (shown ((text ++ line.now) ++ 10 ∷ [])) (K.held sink.old) (K.held sink.new)) }
+        ensures refused { (text : List ℕ) → IsReplayOf text self.old → IfErr result (IsRefusedHere ((text ++ line.now) ++ 10 ∷ []) (shown text)) }
+        ensures front { (text : List ℕ) → IsReplayOf text self.old → (more : List ℕ) → OnErr result (ShowsFront (shown text) (told ((text ++ line.now) ++ 10 ∷ more)) (K.held sink.old) (K.held sink.new)) }
+        ensures silent { IfErr result (λ fault. fault ≢ Stopped.SinkFailed → sink.new ≡ sink.old) }
+        ensures calm { OnOk result (K.faults sink.new ≡ K.faults sink.old) }
+        ensures later { K.faults sink.old ≤ K.faults sink.new }
+        ensures cause { IsErrOf result StreamFault.SinkFailed → Rose (K.faults sink.old) (K.faults sink.new) }
+    {
         match self.text.feed_line(line) {
             Ok(None) => Ok(()),
             Ok(Some(event)) => self.play(&event, sink),

@@ -8,3 +8,4 @@ pub mod Fed
 pub mod Setup
 pub mod Shown
 pub mod Runs
+mod Steps

@@ -6,6 +6,7 @@
 mod fault;
 mod laws;
 mod reader;
+mod step;
 mod text_reader;
 mod whole_text;
 
@@ -17,6 +18,7 @@ pub use reader::{LINE, Reader, SCRIPT};
 pub use script_parts::{
     Bytes, EndPlan, Ends, Event, Events, Items, Lane, Script, Specs, Who, WordOf, Words,
 };
+pub use step::Step;
 pub use text_reader::TextReader;
 pub use whole_text::read_script;
 

@@ -1,12 +1,17 @@
 //! Reads a script line by line: each by the limits of the text and of lines, by what its words say, and by what the
 //! lines before it said.
-ghost use Rattle.std.specs.Prelude.{◌≡◌, [], ◌∷◌, ◌+◌, MatchResult, IfOk, Ok, Err, List, map, min, length, if◌then◌else◌};
+ghost use Rattle.std.specs.Prelude.{◌≡◌, [], ◌∷◌, ◌+◌, MatchOption, MatchResult, IfOk, Ok, Err, Some, List, map, min, length, true, false, if◌then◌else◌};
 ghost use Rattle.end_drafts.specs.Flaws.{IsFlawed};
 ghost use Rattle.line_script.specs.Readers.{after_statement, begins_half as the_half_test, fresh, in_mode, stage_of as the_stage};
 ghost use Rattle.line_script.specs.Lines.{after_line, cause_of as the_cause, with_cause, after_words, finished, reaches_limit as the_limit_test, script_with, content as the_content, is_ended as the_end_test, is_passed_over as the_passed, line_fault as the_line_fault, text_line};
 ghost use Rattle.line_script.specs.Refusal.{IsFaulty};
+ghost use Rattle.duplex_script.specs.Drafts.{times_event};
 ghost use Rattle.end_drafts.specs.declared.flaw.Flaw.{Flaw as TheFlaw};
+ghost use Rattle.line_statement.specs.declared.statement.Side.{Side as End};
+ghost use Rattle.line_statement.specs.declared.statement.Statement.{Statement as Form};
+ghost use Rattle.line_statement.specs.declared.statement.Verb.{Verb as Happening};
 
+use crate::step::{Step, step_of};
 use crate::{Cause, Event, Events, LineFault, Script};
 use df1_base::NoMemory;
 use duplex_script::DuplexReader;
@@ -58,6 +63,35 @@ impl Reader {
             return Err(LineFault::Faulty(Cause::Long));
         }
         self.read_words(alloc, &first_words(content(line, is_ended)))
+    }
+
+    /// Takes the next line, which a line feed ends, as `read` reads it, if it is a step that may follow the lines so far; its
+    /// event is that of the step. None says nothing of the line, and then nothing is changed.
+    pub(crate) fn take_step(&mut self, start: usize, line: &[u8]) -> Option<Step>
+        ensures { MatchOption result (self.new ≡ self.old)
+            (λ step. after_line self.old (text_line start line.now true) ≡ Ok (self.new, Some (times_event step.side step.verb step.n))) }
+    {
+        if reaches_limit(start, line, true) || line.len() > LINE || self.is_ended() {
+            return None;
+        }
+        let step = step_of(content(line, true))?;
+        if self.take_times(step.n) {
+            Some(step)
+        } else {
+            None
+        }
+    }
+
+    /// Takes a statement that says what happens `n` times at an end or at its queue, if it may follow the lines so far. False
+    /// says nothing of it, and then nothing is changed.
+    fn take_times(&mut self, n: u32) -> bool
+        ensures taken { result ≡ true → (side : End) (verb : Happening) → after_statement self.old (Form.Times side verb (Some n)) ≡ Ok (self.new, Some (times_event side verb n)) }
+        ensures left { result ≡ false → self.new ≡ self.old }
+    {
+        match self {
+            Reader::Full(duplex) => duplex.take_times(n),
+            Reader::Half(_) => false,
+        }
     }
 
     /// Reads the first words of the next line.

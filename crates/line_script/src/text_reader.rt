@@ -1,6 +1,7 @@
 //! Reading a script byte by byte: a line is read when its line feed comes, and the last one at the end of the text.
-ghost use Rattle.std.specs.Prelude.{◌≡◌, ◌<◌, ◌≤◌, ◌+◌, ◌^◌, ◌∷◌, ◌++◌, ℕ, List, [], IfOk, MatchResult, OnOk, Ok, false, true, length, if◌then◌else◌};
-ghost use Rattle.std.specs.Option.{option_to_list};
+ghost use Rattle.std.specs.Prelude.{◌≡◌, ◌<◌, ◌≤◌, ◌+◌, ◌^◌, ◌∷◌, ◌++◌, ℕ, List, [], IfOk, MatchResult, OnOk, Ok, None, false, true, length, if◌then◌else◌};
+ghost use Rattle.std.specs.Option.{ForSome, option_to_list};
+ghost use Rattle.duplex_script.specs.Drafts.{times_event};
 ghost use Rattle.line_script.specs.declared.fault.ScriptFault.{ScriptFault as TheFault};
 ghost use Rattle.line_script.specs.declared.fault.LineFault.{LineFault as Faulted};
 ghost use Rattle.script_parts.specs.declared.script.Event.{Event as OneEvent};
@@ -11,6 +12,7 @@ ghost use Rattle.line_script.specs.ScriptText.{script_of};
 ghost use Rattle.line_script.specs.Unfinished.{unfinished};
 
 use crate::reader::{LINE, Reader, SCRIPT};
+use crate::step::Step;
 use crate::whole_text::at;
 use crate::{Cause, Event, Script, ScriptFault};
 use arrayvec::ArrayVec;
@@ -104,6 +106,23 @@ impl TextReader {
             Ok(()) => self.feed(b'\n'),
             Err(fault) => Err(fault),
         }
+    }
+
+    /// Takes the next bytes of the text, among which no line feed is, and then a line feed, as `feed` takes them one by one, if
+    /// no line is begun and they are a step that may follow. None says nothing of them, and then nothing is changed.
+    pub fn feed_step(&mut self, line: &[u8]) -> Option<Step>
+        requires { HasNoFeed line.now }
+        ensures left { result ≡ None → self.new ≡ self.old }
+        ensures stands { (text : List ℕ) (events : List OneEvent) → StandsFor text events self.old →
+            ForSome result (λ step. StandsFor ((text ++ line.now) ++ 10 ∷ []) (events ++ times_event step.side step.verb step.n ∷ []) self.new) }
+    {
+        if !self.line.is_empty() {
+            return None;
+        }
+        let step = self.reader.take_step(self.start, line)?;
+        self.start += line.len() + 1;
+        self.number += 1;
+        Some(step)
     }
 
     /// Takes the next bytes of the text, among which no line feed is, as `feed` takes them one by one.
