@@ -8,7 +8,7 @@ mod record;
 mod short;
 
 pub use digits::pair;
-pub use printing::{print, print_lines, put_line};
+pub use printing::{print, print_lines, put_line, put_sent};
 pub use record::{Line, Lines, Record};
 
 #[cfg(test)]

@@ -15,14 +15,14 @@
 //! | `deceived N` | the last line |
 //!
 //! WHO is `a`, `b`, `m` or the station's decimal number. Hexadecimal digits are upper case.
-ghost use Rattle.std.specs.Prelude.{◌≡◌, ◌≤◌, ◌+◌, ◌++◌, codes, decimal, length, OnOk, OnErr};
+ghost use Rattle.std.specs.Prelude.{◌≡◌, ◌≤◌, ◌+◌, ◌++◌, ◌∷◌, [], codes, decimal, length, OnOk, OnErr};
 ghost use Rattle.arrayvec.specs.ArrayVec.{array_vec_len};
 ghost use Rattle.std.specs.List.{flat_map};
 ghost use Rattle.df1_base.specs.Outside.{Rose, Put, WrotePart};
 ghost use Rattle.hex.specs.Hex.{encode_upper};
 ghost use Rattle.line_report.specs.Report.{report, line_text, who_text, word_text};
 
-use crate::digits::{append_pairs, put_hex};
+use crate::digits::{append_pairs, pair, put_hex};
 use crate::short::{ROOM, Short, append, append_number, append_said, deceived_line, word_line};
 use crate::{Line, Record};
 use arrayvec::ArrayVec;
@@ -67,7 +67,7 @@ pub fn put_line<K: Sink>(sink: &mut K, line: &Line) -> Result<(), Failed>
     ensures cause { OnErr result (Rose (K.faults sink.old) (K.faults sink.new)) }
 {
     match line {
-        Line::Sent { who, bytes } => put_bytes(sink, *who, b" sent ", bytes.as_slice()),
+        Line::Sent { who, bytes } => put_sent(sink, *who, bytes.as_slice()),
         Line::Exec { who, body } => put_bytes(sink, *who, b" exec ", body.as_slice()),
         Line::Answered { who, n, body } => put_answer(sink, *who, *n, body.as_slice()),
         Line::Undelivered { who, n } => put_number(sink, *who, b" undelivered ", *n),
@@ -79,6 +79,35 @@ pub fn put_line<K: Sink>(sink: &mut K, line: &Line) -> Result<(), Failed>
         Line::Enquiry { who } => put_said(sink, *who, b" enquiry\n"),
         Line::Dropped { who } => put_said(sink, *who, b" dropped\n"),
     }
+}
+
+/// Writes the line of bytes that an end gave at one event. `Failed` comes where the sink failed; then it holds a first part of the
+/// line.
+pub fn put_sent<K: Sink>(sink: &mut K, who: Who, bytes: &[u8]) -> Result<(), Failed>
+    ensures ok { OnOk result (Put (K.held sink.old) (K.held sink.new) (line_text (Line.Sent who bytes.now))) }
+    ensures part { WrotePart (K.held sink.old) (K.held sink.new) (line_text (Line.Sent who bytes.now)) }
+    ensures calm { OnOk result (K.faults sink.new ≡ K.faults sink.old) }
+    ensures later { K.faults sink.old ≤ K.faults sink.new }
+    ensures cause { OnErr result (Rose (K.faults sink.old) (K.faults sink.new)) }
+{
+    match (who, bytes) {
+        (Who::A, [byte]) => put_byte(sink, b'a', *byte),
+        (Who::B, [byte]) => put_byte(sink, b'b', *byte),
+        _ => put_bytes(sink, who, b" sent ", bytes),
+    }
+}
+
+/// Writes the line of one byte that an end gave, by the letter of the end: these are the commonest lines of all.
+fn put_byte<K: Sink>(sink: &mut K, end: u8, byte: u8) -> Result<(), Failed>
+    ensures ok { OnOk result (Put (K.held sink.old) (K.held sink.new) (end ∷ codes " sent " ++ encode_upper (byte ∷ []) ++ codes "\n")) }
+    ensures part { WrotePart (K.held sink.old) (K.held sink.new) (end ∷ codes " sent " ++ encode_upper (byte ∷ []) ++ codes "\n") }
+    ensures calm { OnOk result (K.faults sink.new ≡ K.faults sink.old) }
+    ensures later { K.faults sink.old ≤ K.faults sink.new }
+    ensures cause { OnErr result (Rose (K.faults sink.old) (K.faults sink.new)) }
+{
+    let [high, low] = pair(byte);
+    let line = [end, b' ', b's', b'e', b'n', b't', b' ', high, low, b'\n'];
+    write_all(sink, &line)
 }
 
 /// Writes a line that says something of an end, and ends in bytes. It isn't inlined, and nor are the others that have
