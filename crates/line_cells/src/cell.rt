@@ -1,8 +1,8 @@
 //! The cells of a queue: a byte on its way, with what is known of where it comes from. A cell takes 24 bytes: few bytes end
 //! a transmission, and what is known of its end stands apart.
 
-ghost use Rattle.std.specs.Prelude.{◌≡◌, IfOk, None, option_map};
-ghost use Rattle.line_cells.specs.Cells.{bare, cell_of, ending_of};
+ghost use Rattle.std.specs.Prelude.{◌≡◌, IfOk, None, Some};
+ghost use Rattle.line_cells.specs.Cells.{bare, cell_of};
 ghost use Rattle.line_cells.specs.Deception.{is_sent as is_body_sent};
 ghost use Rattle.line_cells.specs.Marks.{body_of_marks, ending_of_marks};
 
@@ -60,14 +60,19 @@ impl Cell {
         }
     }
 
-    /// A byte that an end gave while it sent this body, which is copied for the last byte of a transmission alone.
+    /// A byte that an end gave while it sent this body, which is copied for the last byte of a transmission alone. It is inlined,
+    /// since a cell that is handed over in memory costs more than all else here.
+    #[inline(always)]
     pub fn given(alloc: Global, out: &Out, sending: &[u8]) -> Result<Cell, NoMemory>
         ensures { IfOk result (λ cell. cell ≡ cell_of sending.now out.now) }
     {
-        Ok(Cell {
-            byte: out.byte,
-            marks: marks_of(alloc, out.last_of, out.body_of, sending)?,
-        })
+        match out.last_of {
+            None => Ok(Cell {
+                byte: out.byte,
+                marks: unit_of(out.body_of),
+            }),
+            Some(number) => last_cell(alloc, out, number, sending),
+        }
     }
 
     /// Whether a transmission ends there whose body is this one.
@@ -81,25 +86,23 @@ impl Cell {
     }
 }
 
-/// What is known of a byte that ends a transmission of this body, and is a unit of one, where these have numbers.
-fn marks_of(
-    alloc: Global,
-    last_of: Option<u64>,
-    body_of: Option<u64>,
-    sending: &[u8],
-) -> Result<Marks, NoMemory>
-    ensures { IfOk result (λ marks. (ending_of_marks marks ≡ option_map (ending_of sending.now) last_of) × (body_of_marks marks ≡ body_of)) }
+/// The last byte of a transmission of this number and body.
+#[inline(never)]
+fn last_cell(alloc: Global, out: &Out, number: u64, sending: &[u8]) -> Result<Cell, NoMemory>
+    requires { out.now.last_of ≡ Some number }
+    ensures { IfOk result (λ cell. cell ≡ cell_of sending.now out.now) }
 {
-    let Some(number) = last_of else {
-        return Ok(unit_of(body_of));
-    };
+    let body_of = out.body_of;
     let body = Bytes::copy_of(alloc, sending)?;
     let ended = Ended {
         number,
         body,
         body_of,
     };
-    Ok(Marks::End(Box::new(alloc, ended)?))
+    Ok(Cell {
+        byte: out.byte,
+        marks: Marks::End(Box::new(alloc, ended)?),
+    })
 }
 
 /// What is known of a byte that ends no transmission.
