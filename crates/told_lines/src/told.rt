@@ -1,6 +1,7 @@
 //! The lines that tell what an end and its host made of a byte, of a fate and of a tick.
 
-ghost use Rattle.std.specs.Prelude.{◌≡◌, ◌++◌, OnOk};
+ghost use Rattle.std.specs.Prelude.{◌≡◌, ◌≢◌, ◌++◌, ℕ, List, Option, OnOk};
+ghost use Rattle.df1_base.specs.declared.host.Did.{Did as Told};
 ghost use Rattle.told_lines.specs.NodeLines.{act_lines, did_lines, gone_lines, news_lines, turn_lines};
 
 use df1_base::{Act, Did, News, NoMemory, Turn};
@@ -8,7 +9,8 @@ use line_report::{Line, Lines};
 use line_statement::{Bytes, Who};
 use std::alloc::Global;
 
-/// Tells an act: the body is that of the message that was heard.
+/// Tells an act: the body is that of the message that was heard. It is inlined, since at most bytes there is nothing to tell.
+#[inline(always)]
 pub fn tell_act(
     alloc: Global,
     who: Who,
@@ -20,10 +22,23 @@ pub fn tell_act(
     ensures { OnOk result (lines.new ≡ lines.old ++ act_lines who act did body.now) }
 {
     match act {
+        Act::Forgot | Act::PeerAck | Act::PeerNak | Act::PeerEnq | Act::Nothing => Ok(()),
         Act::Accept => tell_did(alloc, who, did, body, lines),
+        Act::Repeat | Act::Refuse | Act::Damaged => tell_refusal(who, act, lines),
+    }
+}
+
+/// Tells an act at which a message came that isn't accepted.
+#[inline(never)]
+fn tell_refusal(who: Who, act: Act, lines: &mut Lines) -> Result<(), NoMemory>
+    requires { act ≢ Act.Accept }
+    ensures { (did : Option Told) (body : List ℕ) → OnOk result (lines.new ≡ lines.old ++ act_lines who act did body) }
+{
+    match act {
         Act::Repeat => lines.push(Line::Repeat { who }),
         Act::Refuse => lines.push(Line::Full { who }),
         Act::Damaged => lines.push(Line::Damaged { who }),
+        Act::Accept => unreachable!(),
         Act::Forgot | Act::PeerAck | Act::PeerNak | Act::PeerEnq | Act::Nothing => Ok(()),
     }
 }
