@@ -1,25 +1,24 @@
 //! Events at one end of the line, or with the bytes from it.
 
-ghost use Rattle.std.specs.Prelude.{◌≡◌, ◌+◌, ◌≤◌, ◌<◌, ◌++◌, OnOk, IfOk, IsOk, IsTrue, map, length, replicate};
+ghost use Rattle.std.specs.Prelude.{◌≡◌, ◌+◌, ◌≤◌, ◌<◌, ◌++◌, [], OnOk, IsOk, IsTrue, map, length, replicate};
 ghost use Rattle.duplex_line.specs.Acts.{Deed, Take, Deliver, Lose, Foreign, Tick, SideState, after_deeds, line_state, lines_over, given_over, tick_lines, after_tick};
-ghost use Rattle.duplex_line.specs.Run.{other, sent_lines, deeds_of, deed_lines};
+ghost use Rattle.duplex_line.specs.Run.{other, deeds_of, deed_lines};
+ghost use Rattle.duplex_line.specs.Told.{with_sent};
 ghost use Rattle.duplex_line.specs.Plays.{IsUnspent, most_events, takes_no_memory};
 ghost use Rattle.duplex_line.specs.Steps.{near_over, near_lines_over};
 ghost use Rattle.script_parts.specs.Playable.{IsPossible, count_of};
 
 use crate::reported::{Reported, arrive};
+use crate::sent::Sent;
 use crate::side::Side;
 use arrayvec::ArrayVec;
 use df1_base::NoMemory;
 use line_cells::Cell;
-use line_report::{Line, Lines};
+use line_report::Lines;
 use line_statement::{Bytes, Who};
 use script_parts::Event;
 use std::alloc::Global;
 use told_lines::{tell_gone, tell_turn};
-
-/// For how many bytes of one event memory is asked for at once.
-const ROOM: usize = 32;
 
 /// The end at the other end of the line.
 fn other(who: Who) -> Who
@@ -32,7 +31,8 @@ fn other(who: Who) -> Who
     }
 }
 
-/// Does an event at the end `near`, or with the bytes from it.
+/// Does an event at the end `near`, or with the bytes from it. The lines are those that are told and then that of the bytes
+/// which were given last.
 pub(crate) fn deal(
     alloc: Global,
     event: &Event,
@@ -40,21 +40,28 @@ pub(crate) fn deal(
     near: &mut Side,
     far: &mut Side,
     reported: &mut Reported,
+    sent: &mut Sent,
 ) -> Result<(), NoMemory>
     requires possible { IsPossible event.now }
     requires unspent { IsUnspent near.old event.now }
     requires few { reported.old.deceived + count_of event.now ≤ most_events }
     ensures state { OnOk result (line_state near.new far.new reported.new.deceived
         ≡ after_deeds (line_state near.old far.old reported.old.deceived) (deeds_of event.now)) }
-    ensures lines { OnOk result (reported.new.lines
-        ≡ reported.old.lines ++ deed_lines who (line_state near.old far.old reported.old.deceived) (deeds_of event.now)) }
+    ensures lines { OnOk result (with_sent reported.new.lines sent.new
+        ≡ with_sent reported.old.lines sent.old ++ deed_lines who (line_state near.old far.old reported.old.deceived) (deeds_of event.now)) }
     ensures few { reported.new.deceived ≤ reported.old.deceived + count_of event.now }
     ensures calm { IsTrue (takes_no_memory event.now) → IsOk result }
 {
     match event {
         Event::Issue { dst, payload, .. } => near.issue(*dst, payload.as_slice()),
-        Event::Take { n, .. } => give(alloc, who, near, *n, &mut reported.lines),
-        Event::Deliver { n, .. } => deliver(alloc, other(who), near, far, *n, reported),
+        Event::Take { n, .. } => {
+            sent.settle(alloc, &mut reported.lines)?;
+            give(alloc, who, near, *n, sent)
+        }
+        Event::Deliver { n, .. } => {
+            sent.settle(alloc, &mut reported.lines)?;
+            deliver(alloc, other(who), near, far, *n, reported)
+        }
         Event::Lose { n, .. } => {
             lose(near, *n);
             Ok(())
@@ -63,36 +70,39 @@ pub(crate) fn deal(
             near.alter(*mask);
             Ok(())
         }
-        Event::Foreign { bytes, .. } => intrude(alloc, other(who), far, bytes.as_slice(), reported),
-        Event::Tick { n, .. } => pass(who, near, *n, &mut reported.lines),
+        Event::Foreign { bytes, .. } => {
+            sent.settle(alloc, &mut reported.lines)?;
+            intrude(alloc, other(who), far, bytes.as_slice(), reported)
+        }
+        Event::Tick { n, .. } => {
+            sent.settle(alloc, &mut reported.lines)?;
+            pass(who, near, *n, &mut reported.lines)
+        }
     }
 }
 
-/// Takes up to `n` bytes, and tells them where there is one.
-fn give(alloc: Global, who: Who, near: &mut Side, n: u32, lines: &mut Lines) -> Result<(), NoMemory>
+/// Takes up to `n` bytes, and keeps them, where none are kept.
+fn give(alloc: Global, who: Who, near: &mut Side, n: u32, sent: &mut Sent) -> Result<(), NoMemory>
+    requires { sent.old.bytes ≡ [] }
     ensures near { OnOk result (near.new ≡ near_over near.old (replicate n Take)) }
-    ensures lines { OnOk result (lines.new ≡ lines.old ++ sent_lines who (given_over near.old (replicate n Take))) }
+    ensures sent { OnOk result (sent.new ≡ record { who = who; bytes = given_over near.old (replicate n Take) }) }
 {
-    let bytes = take_all(alloc, near, n)?;
-    if bytes.as_slice().is_empty() {
-        return Ok(());
-    }
-    lines.push(Line::Sent { who, bytes })
+    sent.who = who;
+    take_all(alloc, near, n, &mut sent.bytes)
 }
 
-/// Takes up to `n` bytes, and answers them.
-fn take_all(alloc: Global, near: &mut Side, n: u32) -> Result<Bytes, NoMemory>
+/// Takes up to `n` bytes, which stand behind those that are there.
+fn take_all(alloc: Global, near: &mut Side, n: u32, bytes: &mut Bytes) -> Result<(), NoMemory>
     ensures near { OnOk result (near.new ≡ near_over near.old (replicate n Take)) }
-    ensures bytes { IfOk result (λ bytes. bytes ≡ given_over near.old (replicate n Take)) }
+    ensures bytes { OnOk result (bytes.new ≡ bytes.old ++ given_over near.old (replicate n Take)) }
 {
-    let mut bytes = Bytes::with_room(alloc, ROOM.min(n as usize))?;
     for _ in 0..n {
         let Some(byte) = near.take(alloc)? else {
-            return Ok(bytes);
+            return Ok(());
         };
         bytes.push(byte)?;
     }
-    Ok(bytes)
+    Ok(())
 }
 
 /// Up to `n` bytes of the queue arrive at the other end.
@@ -131,7 +141,8 @@ fn lose(near: &mut Side, n: u32)
     }
 }
 
-/// Foreign bytes arrive at the other end.
+/// Foreign bytes arrive at the other end. It isn't inlined, and nor is `pass`: a take and a delivery would pay for their room.
+#[inline(never)]
 fn intrude(
     alloc: Global,
     to: Who,
@@ -154,6 +165,7 @@ fn intrude(
 }
 
 /// `n` units of time pass.
+#[inline(never)]
 fn pass(who: Who, near: &mut Side, n: u32, lines: &mut Lines) -> Result<(), NoMemory>
     ensures near { OnOk result (near.new ≡ near_over near.old (replicate n Tick)) }
     ensures lines { OnOk result (lines.new ≡ lines.old ++ near_lines_over who near.old (replicate n Tick)) }

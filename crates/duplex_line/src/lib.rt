@@ -18,6 +18,7 @@
 mod deal;
 pub mod laws;
 mod reported;
+mod sent;
 mod side;
 mod world;
 

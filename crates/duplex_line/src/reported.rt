@@ -19,6 +19,7 @@ pub(crate) struct Reported {
 }
 
 /// A byte arrives at an end: first the line of the act is told, then the news.
+#[inline(always)]
 pub(crate) fn arrive(
     alloc: Global,
     who: Who,

@@ -10,6 +10,7 @@ ghost use Rattle.duplex_line.specs.Plays.{IsNext, begun, played, printed, takes_
 
 use crate::deal::deal;
 use crate::reported::Reported;
+use crate::sent::Sent;
 use crate::side::{Side, side_of};
 use df1_base::{Failed, NoMemory, Sink};
 use line_report::{Lines, Record, print_lines};
@@ -26,6 +27,7 @@ pub struct World {
     a: Side,
     b: Side,
     reported: Reported,
+    sent: Sent,
     events: u32,
 }
 
@@ -35,12 +37,13 @@ impl Model for World {
     ghost use Rattle.df1_node.specs.contracts.node.Node as node_row;
     ghost use Rattle.duplex_line.specs.Acts.{line_state};
     ghost use Rattle.duplex_line.specs.Plays.{Played};
+    ghost use Rattle.duplex_line.specs.Told.{with_sent};
 
     ghost Value = { Played };
 
     ghost coded = { Prim.hlevel (codes, node_row.the_row.coded) };
 
-    ghost view = { λ w. record { state = line_state w.a w.b w.reported.deceived; lines = w.reported.lines; events = w.events } };
+    ghost view = { λ w. record { state = line_state w.a w.b w.reported.deceived; lines = with_sent w.reported.lines w.sent; events = w.events } };
 
     ghost invariant = { λ w. w.reported.deceived ≤ w.events };
 }
@@ -62,6 +65,7 @@ impl World {
                 lines: Lines::new(alloc),
                 deceived: 0,
             },
+            sent: Sent::new(alloc),
             events: 0,
         })
     }
@@ -84,6 +88,7 @@ impl World {
                 &mut self.a,
                 &mut self.b,
                 &mut self.reported,
+                &mut self.sent,
             ),
             Who::B => deal(
                 alloc,
@@ -92,6 +97,7 @@ impl World {
                 &mut self.b,
                 &mut self.a,
                 &mut self.reported,
+                &mut self.sent,
             ),
             Who::M | Who::S(_) => unreachable!(),
         }
@@ -109,7 +115,7 @@ impl World {
     {
         print_lines(self.reported.lines.as_slice(), sink)?;
         self.reported.lines.clear();
-        Ok(())
+        self.sent.print(sink)
     }
 
     /// The record of what happened: the lines, the words that aren't 0, and how often an end was deceived.
@@ -117,7 +123,13 @@ impl World {
         ensures { IfOk result (λ r. r ≡ record_from self.state self.lines) }
     {
         let words = self.words()?;
-        let World { reported, .. } = self;
+        let World {
+            alloc,
+            mut reported,
+            mut sent,
+            ..
+        } = self;
+        sent.settle(alloc, &mut reported.lines)?;
         Ok(Record {
             lines: reported.lines,
             words,

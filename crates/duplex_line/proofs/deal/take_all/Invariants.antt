@@ -8,5 +8,5 @@ use Rattle.duplex_line.proofs.deal.take_all.Given as goal
 abbrev pub invariant-loop : goal.invariant-loop
 invariant-loop l = record {
   near : near_over l.near (replicate (l.n - l.counter) Take) ≡ near_over l.fn.near (replicate l.n Take);
-  bytes : l.bytes ++ given_over l.near (replicate (l.n - l.counter) Take) ≡ given_over l.fn.near (replicate l.n Take);
+  bytes : l.bytes ++ given_over l.near (replicate (l.n - l.counter) Take) ≡ l.fn.bytes ++ given_over l.fn.near (replicate l.n Take);
 }

@@ -1,0 +1,64 @@
+-- The line of the bytes that an end gave last, behind the others.
+use Rattle.std.proofs.Common.{◌≡◌, ◌∙◌, ℕ, ◌<◌, List, [], ◌∷◌, ◌++◌, Option, length, refl, ap, subst, sym, append-nil, arith}
+use Rattle.std.specs.List.{flat_map}
+use Rattle.std.proofs.KnownBytes.{Appends-trans}
+use Rattle.std.proofs.lemmas.Grind.{flat_map-append}
+use Rattle.df1_base.specs.Outside.{Put, WrotePart}
+use Rattle.df1_base.proofs.Laws.{part_of_more}
+use Rattle.line_statement.specs.declared.who.Who.{Who}
+use Rattle.line_report.specs.declared.record.Line.{Line}
+use Rattle.line_report.specs.declared.record.Line.TheVariants as line
+use Rattle.line_report.specs.Report.{line_text}
+use Rattle.line_report.proofs.Writing.{part_behind}
+use Rattle.duplex_line.specs.declared.sent.Sent.{Sent}
+use Rattle.duplex_line.specs.Run.{sent_lines}
+use Rattle.duplex_line.specs.Told.{with_sent}
+
+pub empty : (bytes : List ℕ) → length bytes ≡ 0 → bytes ≡ []
+empty [] none = refl
+empty (byte ∷ bytes) none = absurd (omega (arith, none))
+
+-- there is none where no byte is kept
+pub none-sent : (who : Who) (bytes : List ℕ) → bytes ≡ [] → sent_lines who bytes ≡ []
+none-sent who bytes none = ap (λ (given : List ℕ). sent_lines who given) none
+
+pub with-none : (lines : List Line) (sent : Sent) → sent.bytes ≡ [] → with_sent lines sent ≡ lines
+with-none lines sent none = ap (λ (more : List Line). lines ++ more) (none-sent sent.who sent.bytes none) ∙ append-nil lines
+
+-- and else one
+pub one-sent : (who : Who) (bytes : List ℕ) → 0 < length bytes → sent_lines who bytes ≡ line.Sent who bytes ∷ []
+one-sent who [] some = absurd (omega (arith, some))
+one-sent who (byte ∷ bytes) some = refl
+
+-- lines behind those that stood, once no byte is kept
+pub behind : (old lines new more : List Line) (sent : Sent) → lines ≡ old → sent.bytes ≡ [] → new ≡ lines ++ more → with_sent new sent ≡ old ++ more
+behind old lines new more sent is none e = with-none new sent none ∙ e ∙ ap (λ (l : List Line). l ++ more) is
+
+-- the line of bytes that are given behind those that stood
+pub given : (old lines : List Line) (who : Who) (bytes : List ℕ) (sent : Sent) → lines ≡ old → sent ≡ record { who = who; bytes = bytes } → with_sent lines sent ≡ old ++ sent_lines who bytes
+given old lines who bytes sent is e = ap (λ (s : Sent). with_sent lines s) e ∙ ap (λ (l : List Line). l ++ sent_lines who bytes) is
+
+-- ---- what a sink has taken
+
+pub no-text : (who : Who) (bytes : List ℕ) → length bytes ≡ 0 → flat_map line_text (sent_lines who bytes) ≡ []
+no-text who [] none = refl
+no-text who (byte ∷ bytes) none = absurd (omega (arith, none))
+
+pub one-text : (who : Who) (bytes : List ℕ) → 0 < length bytes → flat_map line_text (sent_lines who bytes) ≡ line_text (line.Sent who bytes)
+one-text who [] some = absurd (omega (arith, some))
+one-text who (byte ∷ bytes) some = append-nil (line_text (line.Sent who (byte ∷ bytes)))
+
+text-of : (lines : List Line) (sent : Sent) → flat_map line_text (with_sent lines sent) ≡ flat_map line_text lines ++ flat_map line_text (sent_lines sent.who sent.bytes)
+text-of lines sent = flat_map-append line_text lines (sent_lines sent.who sent.bytes)
+
+pub all-put : (a b c : Option (List ℕ)) (lines : List Line) (sent : Sent) → Put a b (flat_map line_text lines) → Put b c (flat_map line_text (sent_lines sent.who sent.bytes)) → Put a c (flat_map line_text (with_sent lines sent))
+all-put a b c lines sent first second =
+    subst (Put a c) (sym (text-of lines sent)) (Appends-trans a b c (flat_map line_text lines) (flat_map line_text (sent_lines sent.who sent.bytes)) first second)
+
+pub part-of-lines : (a b : Option (List ℕ)) (lines : List Line) (sent : Sent) → WrotePart a b (flat_map line_text lines) → WrotePart a b (flat_map line_text (with_sent lines sent))
+part-of-lines a b lines sent part =
+    subst (WrotePart a b) (sym (text-of lines sent)) (part_of_more a b (flat_map line_text lines) (flat_map line_text (sent_lines sent.who sent.bytes)) part)
+
+pub part-of-sent : (a b c : Option (List ℕ)) (lines : List Line) (sent : Sent) → Put a b (flat_map line_text lines) → WrotePart b c (flat_map line_text (sent_lines sent.who sent.bytes)) → WrotePart a c (flat_map line_text (with_sent lines sent))
+part-of-sent a b c lines sent first part =
+    subst (WrotePart a c) (sym (text-of lines sent)) (part_behind a b c (flat_map line_text lines) (flat_map line_text (sent_lines sent.who sent.bytes)) first part)

@@ -1,0 +1,9 @@
+-- The lines of the report, with that of the bytes which an end gave last.
+use Rattle.std.specs.Prelude.{List, ◌++◌}
+use Rattle.line_report.specs.declared.record.Line.{Line}
+use Rattle.duplex_line.specs.Run.{sent_lines}
+use Rattle.duplex_line.specs.declared.sent.Sent.{Sent}
+
+-- the lines that stand, and then that of the bytes which are kept
+abbrev pub with_sent : List Line → Sent → List Line
+with_sent lines sent = lines ++ sent_lines sent.who sent.bytes
