@@ -83,7 +83,9 @@ impl HalfWorld {
 
     /// Does an event: one that may happen at the master, at a station or between them; the master issues at most 65,535
     /// commands, and the sum of the events, with this one, is at most 5,000,000. Takes, deliveries and losses end at the
-    /// first that has nothing to do. Losing and altering take no memory.
+    /// first that has nothing to do. Losing and altering take no memory. It isn't inlined, since a caller that has either kind
+    /// of line would pay for its room on the other.
+    #[inline(never)]
     pub fn step(&mut self, event: &Event) -> Result<(), NoMemory>
         requires { IsNext self.old event.now }
         ensures ok { OnOk result (self.new ≡ played self.old event.now) }
