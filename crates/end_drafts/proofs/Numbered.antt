@@ -1,10 +1,8 @@
--- A map of the first files of their numbers, with one file more.
+-- A table of the first files of their numbers, with one file more.
 use Rattle.std.proofs.Common.{◌≡◌, ℕ, Bool, true, false, cond, List, [], ◌∷◌, ◌++◌, find, Option, Some, None, is_some, ◌==◌, ◌||◌, refl, ◌∙◌, sym, ap}
 use Rattle.std.specs.List.{list_any}
 use Rattle.std.specs.Option.{option_or, unwrap_or}
-use Rattle.std.specs.Ordering.{nat_cmp}
-use Rattle.std.specs.Cmp.{unsigned_tied}
-use Rattle.std.specs.BTreeMap.{BTreeMap, Updates, is_at}
+use Rattle.std.specs.Prelude.{slice_index_or}
 use Rattle.std.proofs.lemmas.Bool.{eqb-true}
 use Rattle.std.proofs.lemmas.List.Folds.{find-append}
 use Rattle.data_files.specs.declared.file_spec.FileSpec.{FileSpec}
@@ -22,12 +20,12 @@ one_more : (b : Bool) (s first : FileSpec) (o : Option FileSpec) → (b ≡ true
 one_more true s first o is = ap Some (is refl) ∙ first_or o s
 one_more false s first o is = sym (or-None o)
 
-pub numbers_with : (m n : BTreeMap ℕ FileSpec) (files : List FileSpec) (s first : FileSpec) → AreNumbers m files → Updates nat_cmp m n s.number (Some first) → first ≡ unwrap_or (find (λ x. x.number == s.number) files) s → AreNumbers n (files ++ s ∷ [])
-numbers_with m n files s first are h is = record {
+pub numbers_with : (m n : List (Option FileSpec)) (files : List FileSpec) (s first : FileSpec) → AreNumbers m files → ((i : ℕ) → slice_index_or n i None ≡ cond (s.number == i) (Some first) (slice_index_or m i None))
+    → first ≡ unwrap_or (find (λ x. x.number == s.number) files) s → AreNumbers n (files ++ s ∷ [])
+numbers_with m n files s first are more is = record {
   same = λ number.
-      h.0 number
-      ∙ ap (cond (is_at (nat_cmp s.number) number) (Some first)) (are.same number)
-      ∙ ap (λ b. cond b (Some first) (find (λ x. x.number == number) files)) (unsigned_tied s.number number)
+      more number
+      ∙ ap (cond (s.number == number) (Some first)) (are.same number)
       ∙ one_more (s.number == number) s first (find (λ x. x.number == number) files) (λ same. is ∙ ap (λ k. unwrap_or (find (λ x. x.number == k) files) s) (eqb-true s.number number same))
       ∙ sym (find-append (λ x. x.number == number) files (s ∷ []));
 }

@@ -1,8 +1,6 @@
 -- Numbers of files, and places of words: the number of a file and the index of a word in it.
-use Rattle.std.specs.Prelude.{◌≡◌, ℕ, Bool, false, List, [], find, slice_index_or, ◌==◌, ◌&&◌, ◌||◌}
+use Rattle.std.specs.Prelude.{◌≡◌, ℕ, Bool, false, List, [], Option, None, find, slice_index_or, ◌==◌, ◌&&◌, ◌||◌}
 use Rattle.std.specs.List.{list_any}
-use Rattle.std.specs.Ordering.{nat_cmp}
-use Rattle.std.specs.BTreeMap.{BTreeMap, get}
 use Rattle.data_files.specs.declared.file_spec.FileSpec.{FileSpec}
 use Rattle.script_parts.specs.declared.script.WordOf.{WordOf}
 
@@ -26,6 +24,6 @@ pub record HasMore (before after : List (List Bool)) (file index : ℕ) : Type 0
 pub record ArePlaces (rows : List (List Bool)) (words : List WordOf) : Type 0 where
   pub same : (file index : ℕ) → is_marked rows file index ≡ list_any (is_at file index) words
 
--- a map has the first file of each number and no others
-pub record AreNumbers (numbers : BTreeMap ℕ FileSpec) (files : List FileSpec) : Type 0 where
-  pub same : (number : ℕ) → get nat_cmp numbers number ≡ find (λ spec. spec.number == number) files
+-- a table has the first file of each number at that place and no others
+pub record AreNumbers (numbers : List (Option FileSpec)) (files : List FileSpec) : Type 0 where
+  pub same : (number : ℕ) → slice_index_or numbers number None ≡ find (λ spec. spec.number == number) files

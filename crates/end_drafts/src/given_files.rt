@@ -1,5 +1,5 @@
 //! Data files, in the order in which they were declared, and which numbers they have.
-ghost use Rattle.std.specs.Prelude.{◌≡◌, ◌==◌, [], ◌∷◌, ◌++◌, IfOk, OnOk, OnErr, find, length};
+ghost use Rattle.std.specs.Prelude.{◌≡◌, ◌<◌, ◌^◌, ◌==◌, [], ◌∷◌, ◌++◌, ℕ, None, Some, IfOk, OnOk, OnErr, find, length, slice_index_or, if◌then◌else◌};
 ghost use Rattle.std.specs.List.{list_any};
 
 use data_files::FileSpec;
@@ -7,14 +7,13 @@ use df1_base::NoMemory;
 use line_statement::Items;
 use script_parts::Specs;
 use std::alloc::Global;
-use std::collections::BTreeMap;
 use std::marker::Model;
 
-/// Data files of one end, which contracts see as a list; a look-up of a number doesn't go over the list.
+/// Data files of one end, which contracts see as a list; a look-up of a number goes to its place in a table.
 #[derive(Drop)]
 pub struct GivenFiles {
     files: Vec<FileSpec>,
-    numbers: BTreeMap<u16, FileSpec>,
+    numbers: Vec<Option<FileSpec>>,
 }
 
 impl Model for GivenFiles {
@@ -27,7 +26,7 @@ impl Model for GivenFiles {
 
     ghost view = { λ g. g.files.items };
 
-    ghost invariant = { λ g. AreNumbers g.numbers g.files.items };
+    ghost invariant = { λ g. AreNumbers g.numbers.items g.files.items };
 }
 
 impl GivenFiles {
@@ -37,7 +36,7 @@ impl GivenFiles {
     {
         GivenFiles {
             files: Vec::new(alloc),
-            numbers: BTreeMap::new(alloc),
+            numbers: Vec::new(alloc),
         }
     }
 
@@ -52,14 +51,14 @@ impl GivenFiles {
     pub fn file(&self, number: u16) -> Option<FileSpec>
         ensures { result ≡ find (λ spec. spec.number == number) self.now }
     {
-        self.numbers.get(&number).copied()
+        first_at(&self.numbers, usize::from(number))
     }
 
     /// Whether a file has this number.
     pub fn has(&self, number: u16) -> bool
         ensures { result ≡ list_any (λ spec. spec.number == number) self.now }
     {
-        self.numbers.contains_key(&number)
+        self.file(number).is_some()
     }
 
     /// Puts a file at the end. Where there is no memory for it, the files are unchanged.
@@ -69,11 +68,11 @@ impl GivenFiles {
     {
         let first = self.file(spec.number).unwrap_or(spec);
         self.files.push(spec)?;
-        match self.numbers.insert(spec.number, first) {
-            Ok(_) => Ok(()),
-            Err(refused) => {
+        match put(&mut self.numbers, usize::from(spec.number), first) {
+            Ok(()) => Ok(()),
+            Err(fault) => {
                 self.files.pop();
-                Err(refused.into())
+                Err(fault)
             }
         }
     }
@@ -84,4 +83,27 @@ impl GivenFiles {
     {
         Items::copy_of(alloc, &self.files)
     }
+}
+
+/// The file that stands at a number of a table, if one does.
+fn first_at(numbers: &[Option<FileSpec>], number: usize) -> Option<FileSpec>
+    ensures { result ≡ slice_index_or numbers.now number None }
+{
+    match numbers.get(number) {
+        Some(first) => *first,
+        None => None,
+    }
+}
+
+/// Puts a file at a number of a table.
+fn put(numbers: &mut Vec<Option<FileSpec>>, number: usize, first: FileSpec) -> Result<(), NoMemory>
+    requires { number < 2 ^ 32 }
+    ensures ok { OnOk result ((i : ℕ) → slice_index_or numbers.new.items i None ≡ (if number == i then Some first else slice_index_or numbers.old.items i None)) }
+    ensures err { OnErr result (numbers.new.items ≡ numbers.old.items) }
+{
+    if numbers.len() <= number {
+        numbers.resize(number + 1, None)?;
+    }
+    numbers[number] = Some(first);
+    Ok(())
 }
