@@ -1,3 +1,5 @@
+pub mod Arriving
+pub mod Faults
 mod Heap
 pub mod Making
 mod Pointed

@@ -1,12 +1,29 @@
--- What a call that makes an end does, by what its parts made. Assumes nothing.
-use Rattle.std.proofs.Common.{◌≡◌, ◌⊎◌, ℕ, true, Option, Some, None, Result, Ok, Err, refl, sym, ap, subst, ◌∙◌, inl, inr}
-use Rattle.std.specs.Prelude.{is_none, IfOk, IfErr, MatchOption, MatchResult}
+-- What a call that makes an end does, by what its parts made, and the bytes that the end stands for. Assumes nothing.
+use Rattle.std.proofs.Common.{◌≡◌, ◌⊎◌, ℕ, Bool, true, List, [], Option, Some, None, Result, Ok, Err, refl, sym, ap, subst, ◌∙◌, inl, inr}
+use Rattle.std.specs.Prelude.{◌==◌, is_none, IfOk, IfErr, MatchOption, MatchResult}
 use Rattle.std.specs.Option.{option_or}
+use Rattle.df1_frame.specs.Grammar.{full_duplex}
+use Rattle.df1_frame.proofs.LineLemmas.{stands-start}
+use Rattle.df1_frame.proofs.GrammarLemmas.{machine, works}
+use Rattle.duplex_end.proofs.Arriving as duplex
+use Rattle.half_master.proofs.EarLemmas as master
+use Rattle.half_slave.proofs.Arriving as slave
 use Rattle.c_ends.specs.declared.code.Code.{Code}
 use Rattle.c_ends.specs.declared.code.Code.TheVariants as code
 use Rattle.c_ends.specs.declared.held.Held.{Held}
+use Rattle.c_ends.specs.declared.parts.DuplexLink.{DuplexLink}
+use Rattle.c_ends.specs.declared.parts.MasterLink.{MasterLink}
+use Rattle.c_ends.specs.declared.parts.SlaveLink.{SlaveLink}
+use Rattle.c_ends.specs.declared.parts.NodeParts.{NodeParts}
+use Rattle.c_ends.specs.declared.parts.FileParts.{FileParts}
+use Rattle.c_ends.specs.declared.parts.WordParts.{WordParts}
 use Rattle.c_ends.specs.Code.{code_number}
+use Rattle.c_ends.specs.Links.{check_of, duplex_fault, first_duplex, duplex_setup, master_fault, first_master, master_setup, slave_fault, first_slave, slave_setup}
+use Rattle.c_ends.specs.Parts.{first_node}
+use Rattle.df1_c.specs.Arrived.{IsDecoderFor, IsEndFor}
+use Rattle.df1_c.specs.Decoders.{new_decoder}
 use Rattle.df1_c.specs.Held.{IsMake, taken_fault}
+use Rattle.df1_c.proofs.Faults.{NeverDone, first-or, duplex-never, master-never, slave-never, taken-never}
 
 pub none_of : (o : Option Held) → is_none o ≡ true → o ≡ None
 none_of None e = refl
@@ -44,3 +61,44 @@ made_end fault first made answer number old new empty same why is told =
     subst (λ (n : ℕ). IsMake (option_or (taken_fault old) fault) first n old new) (sym told)
     (subst (λ (o : Option Held). IsMake (option_or (taken_fault o) fault) first (code_number answer) o new) (sym empty)
     (made_empty fault first made answer new same why is))
+
+-- ---- the bytes that it stands for
+
+-- what is told as done was made
+done-made : (fault : Option Code) (first : Held) (number : ℕ) (old new : Option Held)
+    → NeverDone fault → IsMake fault first number old new → number ≡ code_number code.Done → new ≡ Some first
+done-made None first number old new never (inl done) is = done.1
+done-made None first number old new never (inr none) is = cc
+done-made (Some fault) first number old new never refused is =
+    let told : code_number fault ≡ 0 = sym refused.0 ∙ is in
+    cc (ap (λ (n : ℕ). n == 0) told, never)
+
+pub decoder-stands : (crc : Bool) (number : ℕ) (old new : Option Held) → IsMake (taken_fault old) (new_decoder crc) number old new
+    → number ≡ code_number code.Done → IsDecoderFor (check_of crc) [] new
+decoder-stands crc number old new make is =
+    let made = done-made (taken_fault old) (new_decoder crc) number old new (taken-never old) make is in
+    subst (λ (o : Option Held). IsDecoderFor (check_of crc) [] o) (sym made) (stands-start (full_duplex (check_of crc) 250) (machine (check_of crc) 250) (works (check_of crc) 250))
+
+pub duplex-stands : (link : DuplexLink) (node : NodeParts) (files : List FileParts) (words : List WordParts) (block : List ℕ) (number : ℕ) (old new : Option Held)
+    → IsMake (option_or (taken_fault old) (duplex_fault link node files words block)) (first_duplex link node files words block) number old new
+    → number ≡ code_number code.Done → IsEndFor (check_of link.crc) [] new
+duplex-stands link node files words block number old new make is =
+    let fault = duplex_fault link node files words block in
+    let made = done-made (option_or (taken_fault old) fault) (first_duplex link node files words block) number old new (first-or (taken_fault old) fault (taken-never old) (duplex-never link node files words block)) make is in
+    subst (λ (o : Option Held). IsEndFor (check_of link.crc) [] o) (sym made) (duplex.stands-new (duplex_setup link) (first_node node files words block))
+
+pub master-stands : (link : MasterLink) (stations : List ℕ) (node : NodeParts) (files : List FileParts) (words : List WordParts) (block : List ℕ) (number : ℕ) (old new : Option Held)
+    → IsMake (option_or (taken_fault old) (master_fault link stations node files words block)) (first_master link stations node files words block) number old new
+    → number ≡ code_number code.Done → IsEndFor (check_of link.crc) [] new
+master-stands link stations node files words block number old new make is =
+    let fault = master_fault link stations node files words block in
+    let made = done-made (option_or (taken_fault old) fault) (first_master link stations node files words block) number old new (first-or (taken_fault old) fault (taken-never old) (master-never link stations node files words block)) make is in
+    subst (λ (o : Option Held). IsEndFor (check_of link.crc) [] o) (sym made) (master.stands-new (master_setup link) stations (first_node node files words block))
+
+pub slave-stands : (link : SlaveLink) (node : NodeParts) (files : List FileParts) (words : List WordParts) (block : List ℕ) (number : ℕ) (old new : Option Held)
+    → IsMake (option_or (taken_fault old) (slave_fault link node files words block)) (first_slave link node files words block) number old new
+    → number ≡ code_number code.Done → IsEndFor (check_of link.crc) [] new
+slave-stands link node files words block number old new make is =
+    let fault = slave_fault link node files words block in
+    let made = done-made (option_or (taken_fault old) fault) (first_slave link node files words block) number old new (first-or (taken_fault old) fault (taken-never old) (slave-never link node files words block)) make is in
+    subst (λ (o : Option Held). IsEndFor (check_of link.crc) [] o) (sym made) (slave.stands-new (slave_setup link node) (first_node node files words block))

@@ -1,10 +1,8 @@
 -- What a call does to an end that a handle holds, and what it tells. Of a decoder it tells nothing, and changes nothing.
 use Rattle.std.specs.Prelude.{ℕ, Bool, List, [], length, nat_lt, is_none, if◌then◌else◌, Option, Some, None}
 use Rattle.std.specs.Option.{option_and_then}
-use Rattle.df1_base.specs.declared.host.Host.{Ghosts}
 use Rattle.df1_base.specs.declared.link.Turn.TheVariants as turn
-use Rattle.df1_node.specs.Node.{NodeState, has_room, did_accept, after_accept, next_body, after_next, is_out, news_told, after_told, gone_unanswered, after_clear, holds_bodies}
-use Rattle.df1_node.specs.Node as node
+use Rattle.df1_node.specs.contracts.node.NodeHost.TheImpl.{ghosts as node_host}
 use Rattle.duplex_receiver.specs.Receiver.{body_at}
 use Rattle.duplex_end.specs.End.{end_after_byte, step_at_byte, end_after_tick, turn_at_tick, gone_at_tick, end_after_take, out_at_take}
 use Rattle.half_master.specs.Master as master
@@ -20,36 +18,19 @@ use Rattle.df1_c.specs.declared.told.OutTold.{OutTold}
 use Rattle.df1_c.specs.Copied.{room_code}
 use Rattle.df1_c.specs.Told.{step_told, turn_told, out_told}
 
--- a node as the host of an end
-abbrev pub as_host : Ghosts NodeState
-as_host = record {
-  room_for = has_room;
-  did = did_accept;
-  after_accept = after_accept;
-  next_body = next_body;
-  after_next = after_next;
-  is_out = is_out;
-  news = news_told;
-  after_told = after_told;
-  unanswered = gone_unanswered;
-  after_tick = node.after_tick;
-  after_clear = after_clear;
-  holds_bodies = holds_bodies;
-}
-
 -- ---- a byte that is heard
 
 abbrev pub after_byte : Held → ℕ → Held
 after_byte (held.Decoder decoder) byte = held.Decoder decoder
-after_byte (held.Duplex end) byte = held.Duplex (end_after_byte as_host end byte)
-after_byte (held.Master end) byte = held.Master (master.master_after_byte as_host end byte)
-after_byte (held.Slave end) byte = held.Slave (slave.slave_after_byte as_host end byte)
+after_byte (held.Duplex end) byte = held.Duplex (end_after_byte node_host end byte)
+after_byte (held.Master end) byte = held.Master (master.master_after_byte node_host end byte)
+after_byte (held.Slave end) byte = held.Slave (slave.slave_after_byte node_host end byte)
 
 abbrev pub step_of : Held → ℕ → Option StepTold
 step_of (held.Decoder decoder) byte = None
-step_of (held.Duplex end) byte = Some (step_told (step_at_byte as_host end byte))
-step_of (held.Master end) byte = Some (step_told (master.step_at_byte as_host end byte))
-step_of (held.Slave end) byte = Some (step_told (slave.step_at_byte as_host end byte))
+step_of (held.Duplex end) byte = Some (step_told (step_at_byte node_host end byte))
+step_of (held.Master end) byte = Some (step_told (master.step_at_byte node_host end byte))
+step_of (held.Slave end) byte = Some (step_told (slave.step_at_byte node_host end byte))
 
 -- the body of the frame that ended at the last byte
 abbrev pub body_of : Held → Option (List ℕ)
@@ -66,21 +47,21 @@ body_code held room = elim (option_and_then body_of held) [ None ↦ code.NoHand
 
 abbrev pub after_tick : Held → Held
 after_tick (held.Decoder decoder) = held.Decoder decoder
-after_tick (held.Duplex end) = held.Duplex (end_after_tick as_host end)
-after_tick (held.Master end) = held.Master (master.master_after_tick as_host end)
+after_tick (held.Duplex end) = held.Duplex (end_after_tick node_host end)
+after_tick (held.Master end) = held.Master (master.master_after_tick node_host end)
 after_tick (held.Slave end) = held.Slave end
 
 -- the commands that it left unanswered
 abbrev pub gone_of : Held → Option (List ℕ)
 gone_of (held.Decoder decoder) = None
-gone_of (held.Duplex end) = Some (gone_at_tick as_host end)
-gone_of (held.Master end) = Some (master.gone_at_tick as_host end)
+gone_of (held.Duplex end) = Some (gone_at_tick node_host end)
+gone_of (held.Master end) = Some (master.gone_at_tick node_host end)
 gone_of (held.Slave end) = Some []
 
 abbrev pub turn_of : Held → Option TurnTold
 turn_of (held.Decoder decoder) = None
-turn_of (held.Duplex end) = Some (turn_told (turn_at_tick as_host end) (length (gone_at_tick as_host end)))
-turn_of (held.Master end) = Some (turn_told (master.turn_at_tick as_host end) (length (master.gone_at_tick as_host end)))
+turn_of (held.Duplex end) = Some (turn_told (turn_at_tick node_host end) (length (gone_at_tick node_host end)))
+turn_of (held.Master end) = Some (turn_told (master.turn_at_tick node_host end) (length (master.gone_at_tick node_host end)))
 turn_of (held.Slave end) = Some (turn_told turn.Still 0)
 
 -- the code of a tick, with room for so many commands
@@ -96,19 +77,19 @@ with_room room told = if nat_lt room 16 then None else told
 
 abbrev pub after_take : Held → Held
 after_take (held.Decoder decoder) = held.Decoder decoder
-after_take (held.Duplex end) = held.Duplex (end_after_take as_host end)
-after_take (held.Master end) = held.Master (master.master_after_take as_host end)
+after_take (held.Duplex end) = held.Duplex (end_after_take node_host end)
+after_take (held.Master end) = held.Master (master.master_after_take node_host end)
 after_take (held.Slave end) = held.Slave (slave.slave_after_take end)
 
 abbrev pub out_of : Held → Option OutTold
 out_of (held.Decoder decoder) = None
-out_of (held.Duplex end) = Some (out_told (out_at_take as_host end))
-out_of (held.Master end) = Some (out_told (master.out_at_take as_host end))
+out_of (held.Duplex end) = Some (out_told (out_at_take node_host end))
+out_of (held.Master end) = Some (out_told (master.out_at_take node_host end))
 out_of (held.Slave end) = Some (out_told (slave.out_at_take end))
 
 -- nothing is to be given
 abbrev pub quiet_of : Held → Option Bool
 quiet_of (held.Decoder decoder) = None
-quiet_of (held.Duplex end) = Some (is_none (out_at_take as_host end))
-quiet_of (held.Master end) = Some (master.is_quiet as_host end)
+quiet_of (held.Duplex end) = Some (is_none (out_at_take node_host end))
+quiet_of (held.Master end) = Some (master.is_quiet node_host end)
 quiet_of (held.Slave end) = Some (is_none (slave.out_at_take end))

@@ -1,3 +1,4 @@
+pub mod Arrived
 pub mod Behind
 pub mod Commands
 pub mod Copied

@@ -1,10 +1,12 @@
 //! The commands that an end behind a handle issues: issuing one, what became of it, and its reply.
 
-ghost use Rattle.std.specs.Prelude.{◌≡◌, length, Some};
+ghost use Rattle.std.specs.Prelude.{◌≡◌, ℕ, List, length, Some};
 ghost use Rattle.std.specs.Option.{option_map};
+ghost use Rattle.df1_check.specs.declared.Check.{Check as CheckKind};
 ghost use Rattle.df1_node.specs.Initiator.{outcome_of};
 ghost use Rattle.df1_node.specs.Node.{after_node_issue};
 ghost use Rattle.c_ends.specs.Code.{code_number};
+ghost use Rattle.df1_c.specs.Arrived.{IsEndFor};
 ghost use Rattle.df1_c.specs.Copied.{copied};
 ghost use Rattle.df1_c.specs.Held.{holding};
 ghost use Rattle.df1_c.specs.Behind.{code_at, told_at, with_change};
@@ -27,7 +29,8 @@ pub extern "C" fn df1_end_issue(
     payload: &[u8],
     number: &mut u32,
 ) -> u32
-    ensures { IsIssue (refusal (holding end.old) payload.now) (option_map (with_change (λ node. after_node_issue node dst payload.now)) (holding end.old)) (told_at (holding end.old) (λ node. Some (next_number node)) number.old) result (holding end.old) (holding end.new) number.old number.new }
+    ensures issued { IsIssue (refusal (holding end.old) payload.now) (option_map (with_change (λ node. after_node_issue node dst payload.now)) (holding end.old)) (told_at (holding end.old) (λ node. Some (next_number node)) number.old) result (holding end.old) (holding end.new) number.old number.new }
+    ensures stands { (check : CheckKind) (bytes : List ℕ) → IsEndFor check bytes (holding end.old) → IsEndFor check bytes (holding end.new) }
 {
     let Some(mut held) = end.take(alloc) else {
         return Code::NoHandle.number();

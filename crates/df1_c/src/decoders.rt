@@ -1,8 +1,11 @@
 //! A decoder behind a handle: made, the bytes that it hears, the body that it lends, and letting it go.
 
-ghost use Rattle.std.specs.Prelude.{◌≡◌, ◌≤◌, length, Some};
+ghost use Rattle.std.specs.Prelude.{◌≡◌, ◌∷◌, ◌++◌, [], ℕ, List, length, Some};
 ghost use Rattle.std.specs.Option.{option_map, unwrap_or};
+ghost use Rattle.df1_check.specs.declared.Check.{Check as CheckKind};
 ghost use Rattle.c_ends.specs.Code.{code_number};
+ghost use Rattle.c_ends.specs.Links.{check_of};
+ghost use Rattle.df1_c.specs.Arrived.{Copies, IsBodyOf, IsDecoderFor, IsHearing};
 ghost use Rattle.df1_c.specs.Copied.{copied};
 ghost use Rattle.df1_c.specs.Held.{IsMake, holding, taken_fault, told_of};
 ghost use Rattle.df1_c.specs.Decoders.{after_fed, decoder_code, decoder_freed, heard_in, hearing_told, is_decoder, lent_code, lent_in, new_decoder};
@@ -27,7 +30,8 @@ pub struct Hearing {
 #[tactic(auto, unfolding(crate::specs::Held::value_in))]
 #[unsafe(no_mangle)]
 pub extern "C" fn df1_decoder_make(alloc: Global, crc: bool, decoder: &mut Seat) -> u32
-    ensures { IsMake (taken_fault (holding decoder.old)) (new_decoder crc) result (holding decoder.old) (holding decoder.new) }
+    ensures made { IsMake (taken_fault (holding decoder.old)) (new_decoder crc) result (holding decoder.old) (holding decoder.new) }
+    ensures stands { result ≡ code_number Code.Done → IsDecoderFor (check_of crc) [] (holding decoder.new) }
 {
     if !decoder.is_empty() {
         return Code::NoHandle.number();
@@ -75,6 +79,8 @@ pub extern "C" fn df1_decoder_byte(
     ensures code { result ≡ code_number (decoder_code (holding decoder.old)) }
     ensures after { holding decoder.new ≡ option_map (λ held. after_fed held byte) (holding decoder.old) }
     ensures told { hearing.new ≡ told_of (holding decoder.old) (λ held. heard_in held byte) hearing.old }
+    ensures stands { (check : CheckKind) (bytes : List ℕ) → IsDecoderFor check bytes (holding decoder.old) → IsDecoderFor check (bytes ++ byte ∷ []) (holding decoder.new) }
+    ensures heard { (check : CheckKind) (bytes : List ℕ) → IsDecoderFor check bytes (holding decoder.old) → IsHearing check (bytes ++ byte ∷ []) hearing.new }
 {
     let Some(mut held) = decoder.take(alloc) else {
         return Code::NoHandle.number();
@@ -132,6 +138,7 @@ pub extern "C" fn df1_decoder_body(
     ensures same { holding decoder.new ≡ holding decoder.old }
     ensures bytes { into.new ≡ told_of (holding decoder.old) (λ held. option_map (copied into.old) (lent_in held)) into.old }
     ensures count { count.new ≡ told_of (holding decoder.old) (λ held. option_map length (lent_in held)) count.old }
+    ensures lent { (check : CheckKind) (bytes : List ℕ) → IsDecoderFor check bytes (holding decoder.old) → Copies (IsBodyOf check bytes (holding decoder.old)) result into.old into.new count.new }
 {
     let Some(held) = decoder.take(alloc) else {
         return Code::NoHandle.number();

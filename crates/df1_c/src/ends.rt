@@ -1,8 +1,10 @@
 //! An end behind a handle: bytes that it hears, ticks, bytes that it gives, and letting it go.
 
-ghost use Rattle.std.specs.Prelude.{◌≡◌, length, nat_lt, if◌then◌else◌, Some, None};
+ghost use Rattle.std.specs.Prelude.{◌≡◌, ◌↔◌, ◌∷◌, ◌++◌, [], ℕ, List, IsTrue, length, nat_lt, if◌then◌else◌, Some, None};
 ghost use Rattle.std.specs.Option.{option_map, unwrap_or};
+ghost use Rattle.df1_check.specs.declared.Check.{Check as CheckKind};
 ghost use Rattle.c_ends.specs.Code.{code_number};
+ghost use Rattle.df1_c.specs.Arrived.{Copies, HearsWhole, IsBodyOf, IsEndFor};
 ghost use Rattle.df1_c.specs.Copied.{copied};
 ghost use Rattle.df1_c.specs.Held.{end_code, freed, holding, told_of};
 ghost use Rattle.df1_c.specs.Told.{out_told, step_told, turn_told};
@@ -45,6 +47,8 @@ pub extern "C" fn df1_end_byte(alloc: Global, end: &mut Seat, byte: u8, step: &m
     ensures code { result ≡ code_number (end_code (holding end.old)) }
     ensures after { holding end.new ≡ option_map (λ held. after_byte held byte) (holding end.old) }
     ensures told { step.new ≡ told_of (holding end.old) (λ held. step_in held byte) step.old }
+    ensures stands { (check : CheckKind) (bytes : List ℕ) → IsEndFor check bytes (holding end.old) → IsEndFor check (bytes ++ byte ∷ []) (holding end.new) }
+    ensures whole { (check : CheckKind) (bytes : List ℕ) → IsEndFor check bytes (holding end.old) → IsTrue step.new.whole ↔ HearsWhole check (bytes ++ byte ∷ []) (holding end.old) }
 {
     let Some(mut held) = end.take(alloc) else {
         return Code::NoHandle.number();
@@ -93,6 +97,7 @@ pub extern "C" fn df1_end_body(
     ensures same { holding end.new ≡ holding end.old }
     ensures bytes { into.new ≡ told_of (holding end.old) (λ held. option_map (copied into.old) (body_of held)) into.old }
     ensures count { count.new ≡ told_of (holding end.old) (λ held. option_map length (body_of held)) count.old }
+    ensures lent { (check : CheckKind) (bytes : List ℕ) → IsEndFor check bytes (holding end.old) → Copies (IsBodyOf check bytes (holding end.old)) result into.old into.new count.new }
 {
     let Some(held) = end.take(alloc) else {
         return Code::NoHandle.number();
@@ -137,6 +142,7 @@ pub extern "C" fn df1_end_tick(
     ensures after { holding end.new ≡ (if nat_lt (length gone.old) 16 then holding end.old else option_map after_tick (holding end.old)) }
     ensures told { turn.new ≡ told_of (holding end.old) (λ held. with_room (length gone.old) (turn_in held)) turn.old }
     ensures gone { gone.new ≡ told_of (holding end.old) (λ held. with_room (length gone.old) (option_map (copied gone.old) (gone_of held))) gone.old }
+    ensures stands { (check : CheckKind) (bytes : List ℕ) → IsEndFor check bytes (holding end.old) → IsEndFor check bytes (holding end.new) }
 {
     let Some(mut held) = end.take(alloc) else {
         return Code::NoHandle.number();
@@ -190,6 +196,7 @@ pub extern "C" fn df1_end_take(alloc: Global, end: &mut Seat, out: &mut OutTold)
     ensures code { result ≡ code_number (end_code (holding end.old)) }
     ensures after { holding end.new ≡ option_map after_take (holding end.old) }
     ensures told { out.new ≡ told_of (holding end.old) out_in out.old }
+    ensures stands { (check : CheckKind) (bytes : List ℕ) → IsEndFor check bytes (holding end.old) → IsEndFor check bytes (holding end.new) }
 {
     let Some(mut held) = end.take(alloc) else {
         return Code::NoHandle.number();

@@ -1,7 +1,10 @@
 //! Ends that are made.
 
+ghost use Rattle.std.specs.Prelude.{◌≡◌, []};
 ghost use Rattle.std.specs.Option.{option_or};
-ghost use Rattle.c_ends.specs.Links.{duplex_fault, first_duplex, first_master, first_slave, master_fault, slave_fault};
+ghost use Rattle.c_ends.specs.Code.{code_number};
+ghost use Rattle.c_ends.specs.Links.{check_of, duplex_fault, first_duplex, first_master, first_slave, master_fault, slave_fault};
+ghost use Rattle.df1_c.specs.Arrived.{IsEndFor};
 ghost use Rattle.df1_c.specs.Held.{IsMake, holding, taken_fault};
 
 use crate::seat::Seat;
@@ -22,7 +25,8 @@ pub extern "C" fn df1_duplex_make(
     block: &[u8],
     end: &mut Seat,
 ) -> u32
-    ensures { IsMake (option_or (taken_fault (holding end.old)) (duplex_fault link.now node.now files.now words.now block.now)) (first_duplex link.now node.now files.now words.now block.now) result (holding end.old) (holding end.new) }
+    ensures made { IsMake (option_or (taken_fault (holding end.old)) (duplex_fault link.now node.now files.now words.now block.now)) (first_duplex link.now node.now files.now words.now block.now) result (holding end.old) (holding end.new) }
+    ensures stands { result ≡ code_number Code.Done → IsEndFor (check_of link.now.crc) [] (holding end.new) }
 {
     if !end.is_empty() {
         return Code::NoHandle.number();
@@ -43,7 +47,8 @@ pub extern "C" fn df1_master_make(
     block: &[u8],
     end: &mut Seat,
 ) -> u32
-    ensures { IsMake (option_or (taken_fault (holding end.old)) (master_fault link.now stations.now node.now files.now words.now block.now)) (first_master link.now stations.now node.now files.now words.now block.now) result (holding end.old) (holding end.new) }
+    ensures made { IsMake (option_or (taken_fault (holding end.old)) (master_fault link.now stations.now node.now files.now words.now block.now)) (first_master link.now stations.now node.now files.now words.now block.now) result (holding end.old) (holding end.new) }
+    ensures stands { result ≡ code_number Code.Done → IsEndFor (check_of link.now.crc) [] (holding end.new) }
 {
     if !end.is_empty() {
         return Code::NoHandle.number();
@@ -63,7 +68,8 @@ pub extern "C" fn df1_slave_make(
     block: &[u8],
     end: &mut Seat,
 ) -> u32
-    ensures { IsMake (option_or (taken_fault (holding end.old)) (slave_fault link.now node.now files.now words.now block.now)) (first_slave link.now node.now files.now words.now block.now) result (holding end.old) (holding end.new) }
+    ensures made { IsMake (option_or (taken_fault (holding end.old)) (slave_fault link.now node.now files.now words.now block.now)) (first_slave link.now node.now files.now words.now block.now) result (holding end.old) (holding end.new) }
+    ensures stands { result ≡ code_number Code.Done → IsEndFor (check_of link.now.crc) [] (holding end.new) }
 {
     if !end.is_empty() {
         return Code::NoHandle.number();

@@ -1,8 +1,10 @@
 //! The data files of an end behind a handle, and their words.
 
-ghost use Rattle.std.specs.Prelude.{◌≡◌, Some};
+ghost use Rattle.std.specs.Prelude.{◌≡◌, ℕ, List, Some};
 ghost use Rattle.std.specs.Option.{option_map};
+ghost use Rattle.df1_check.specs.declared.Check.{Check as CheckKind};
 ghost use Rattle.c_ends.specs.Code.{code_number};
+ghost use Rattle.df1_c.specs.Arrived.{IsEndFor};
 ghost use Rattle.df1_c.specs.Held.{end_code, holding};
 ghost use Rattle.df1_c.specs.Behind.{code_at, told_at, with_change};
 ghost use Rattle.df1_c.specs.Words.{file_at, file_code, file_count, file_parts, word_code, word_set, word_told};
@@ -61,6 +63,7 @@ pub extern "C" fn df1_end_set_word(
 ) -> u32
     ensures code { result ≡ code_number (code_at (holding end.old) (λ node. word_code node file index)) }
     ensures after { holding end.new ≡ option_map (with_change (word_set file index value)) (holding end.old) }
+    ensures stands { (check : CheckKind) (bytes : List ℕ) → IsEndFor check bytes (holding end.old) → IsEndFor check bytes (holding end.new) }
 {
     let Some(mut held) = end.take(alloc) else {
         return Code::NoHandle.number();
