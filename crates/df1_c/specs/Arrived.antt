@@ -52,7 +52,7 @@ HearsWhole check bytes (Some (held.Duplex end)) = duplex.HearsWhole check bytes
 HearsWhole check bytes (Some (held.Master end)) = master.HearsWhole check bytes
 HearsWhole check bytes (Some (held.Slave end)) = (station : ℕ) × slave.HearsMessage check bytes station
 
--- ---- the body of the frame or message that ended at the last of these bytes; empty where none did
+-- ---- the body that is lent at the last of these bytes: that of a frame with room for it or of a whole message that ended there, else none
 
 abbrev pub IsBodyOf : Check → List ℕ → Option Held → List ℕ → Type 0
 IsBodyOf check bytes None body = ⊥
