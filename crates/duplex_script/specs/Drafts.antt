@@ -18,6 +18,7 @@ use Rattle.script_parts.specs.declared.script.Event.{Event}
 use Rattle.script_parts.specs.declared.script.Event.TheVariants as event
 use Rattle.line_statement.specs.declared.statement.Side.{Side}
 use Rattle.line_statement.specs.declared.statement.Side.TheVariants.{A, B}
+use Rattle.line_statement.specs.declared.setup_line.SetupLine.TheVariants.{Word}
 use Rattle.line_statement.specs.declared.statement.EndName.TheVariants.{Known}
 use Rattle.line_statement.specs.declared.statement.Verb.{Verb}
 use Rattle.line_statement.specs.declared.statement.Verb.TheVariants.{Take, Tick, Deliver, Lose}
@@ -129,6 +130,10 @@ times_event side Take n = event.Take (who_of side) n
 times_event side Tick n = event.Tick (who_of side) n
 times_event side Deliver n = event.Deliver (lane_from side) n
 times_event side Lose n = event.Lose (lane_from side) n
+
+-- the statement that gives the first value of a word of a file of an end
+abbrev pub word_given : Side → ℕ → ℕ → ℕ → Statement
+word_given side file index value = Setup (Known side) (Word (Some file) index value)
 
 -- the event that a statement is
 abbrev pub event_of : DuplexReader → Statement → Option Event

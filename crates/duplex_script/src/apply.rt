@@ -1,6 +1,8 @@
 //! What a statement with nothing wrong changes, and the event that it is.
-ghost use Rattle.std.specs.Prelude.{◌≡◌, IfOk, OnOk, Ok, None, Some, true, false};
-ghost use Rattle.duplex_script.specs.Drafts.{after_statement, with_statement as the_draft, settled, sets_up as the_setup_test, event_of as the_event, address_of as the_address, lane_from, times_event as the_times};
+ghost use Rattle.std.specs.Prelude.{◌≡◌, IfOk, MatchResult, OnOk, Ok, Err, None, Some, true, false};
+ghost use Rattle.end_drafts.specs.declared.flaw.Flaw.{Flaw as TheFlaw};
+ghost use Rattle.end_drafts.specs.Flaws.{IsFlawed};
+ghost use Rattle.duplex_script.specs.Drafts.{after_statement, with_statement as the_draft, settled, sets_up as the_setup_test, event_of as the_event, address_of as the_address, lane_from, times_event as the_times, word_given};
 ghost use Rattle.line_statement.specs.declared.statement.Side.{Side as End};
 ghost use Rattle.line_statement.specs.declared.statement.Verb.{Verb as Happening};
 
@@ -8,9 +10,9 @@ use crate::DuplexReader;
 use crate::first_flaw::steps_of;
 use crate::reader::{NODE_OF_A, NODE_OF_B};
 use df1_base::NoMemory;
-use end_drafts::Stage;
+use end_drafts::{Flaw, Stage, StatementFault};
 use line_statement::{EndName, SetupLine, Side, Statement, Verb};
-use script_parts::{Event, Lane};
+use script_parts::{Event, Lane, WordOf};
 
 impl DuplexReader {
     /// Takes a statement, and answers its event, if it is one.
@@ -29,9 +31,10 @@ impl DuplexReader {
     }
 
     /// Takes a statement that says what happens `n` times at an end or at its queue, as `take` takes it: its event is
-    /// `times_event`. False comes where the sum of events would pass its most, and then nothing is changed.
+    /// `times_event`. False comes exactly where the sum of events would pass its most, and then nothing is changed.
     pub fn take_times(&mut self, n: u32) -> bool
         ensures taken { result ≡ true → (side : End) (verb : Happening) → after_statement self.old (Statement.Times side verb (Some n)) ≡ Ok (self.new, Some (the_times side verb n)) }
+        ensures refused { result ≡ false → (side : End) (verb : Happening) → after_statement self.old (Statement.Times side verb (Some n)) ≡ Err TheFlaw.Events }
         ensures left { result ≡ false → self.new ≡ self.old }
     {
         let steps = n as usize;
@@ -41,6 +44,35 @@ impl DuplexReader {
         self.stage = Stage::Events;
         self.events_left -= steps;
         true
+    }
+
+    /// Takes a statement that gives the first value of a word, as `take` takes it; it is no event.
+    pub fn take_word(
+        &mut self,
+        side: Side,
+        file: u16,
+        index: u32,
+        value: u16,
+    ) -> Result<(), StatementFault>
+        ensures refused { (flaw : TheFlaw) → after_statement self.old (word_given side file index value) ≡ Err flaw → result ≡ Err (StatementFault.Flawed flaw) }
+        ensures value { MatchResult result (λ _. after_statement self.old (word_given side file index value) ≡ Ok (self.new, None))
+            (λ fault. IsFlawed fault (after_statement self.old (word_given side file index value))) }
+    {
+        if self.stage.is_set_up() {
+            return Err(StatementFault::Flawed(Flaw::Place));
+        }
+        let word = WordOf {
+            who: side.who(),
+            file,
+            index,
+            value,
+        };
+        match side {
+            Side::A => self.a.take_word(word)?,
+            Side::B => self.b.take_word(word)?,
+        }
+        self.stage = Stage::Settings;
+        Ok(())
     }
 
     /// Takes a statement that is a line of an end.

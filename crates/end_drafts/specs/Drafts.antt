@@ -1,5 +1,5 @@
 -- What the lines so far say of one end, what may be wrong with a further line of it, and the plan that they make.
-use Rattle.std.specs.Prelude.{ℕ, Bool, true, false, not, [], ◌∷◌, ◌++◌, length, find, Option, Some, None, is_some, is_none, unwrap_or, nat_le, ◌==◌, ◌||◌}
+use Rattle.std.specs.Prelude.{ℕ, Bool, true, false, not, [], ◌∷◌, ◌++◌, length, find, Option, Some, None, Result, is_some, is_none, unwrap_or, nat_le, ◌==◌, ◌||◌}
 use Rattle.std.specs.List.{list_any}
 use Rattle.std.specs.Option.{option_map_or}
 use Rattle.data_files.specs.declared.file_spec.FileSpec.{FileSpec}
@@ -11,10 +11,14 @@ use Rattle.line_statement.specs.declared.setup_line.Setting.TheVariants.{Embed, 
 use Rattle.line_statement.specs.declared.setup_line.SetupLine.{SetupLine}
 use Rattle.line_statement.specs.declared.setup_line.SetupLine.TheVariants.{Set, Compat, Block, File, Word}
 use Rattle.script_parts.specs.declared.script.EndPlan.{EndPlan}
+use Rattle.script_parts.specs.declared.script.WordOf.{WordOf}
 use Rattle.end_drafts.specs.declared.end_draft.EndDraft.{EndDraft}
 use Rattle.end_drafts.specs.declared.role.Role.{Role}
 use Rattle.end_drafts.specs.declared.role.Role.TheVariants.{Duplex, Master, Station}
 use Rattle.end_drafts.specs.declared.settings.Settings.{Settings}
+use Rattle.end_drafts.specs.declared.flaw.Flaw.{Flaw}
+use Rattle.end_drafts.specs.declared.flaw.Flaw.TheVariants as flaw
+use Rattle.end_drafts.specs.Flaws.{first_of, unless_wrong}
 use Rattle.end_drafts.specs.Places.{is_at}
 
 -- ---- keys
@@ -142,6 +146,14 @@ repeats end (File (Some spec)) = list_any (λ other. other.number == spec.number
 repeats end (Word None index value) = false
 repeats end (Word (Some file) index value) = list_any (is_at file index) end.words
 
+-- what is wrong with a line of an end, wherever it stands
+abbrev pub line_flaw : Role → EndDraft → SetupLine → Option Flaw
+line_flaw role end line = first_of (
+    (lacks role end line, flaw.Missing)
+    ∷ (exceeds end line, flaw.Value)
+    ∷ (repeats end line, flaw.Twice)
+    ∷ [])
+
 -- ---- what a line changes
 
 abbrev pub with_line : Who → EndDraft → SetupLine → EndDraft
@@ -151,6 +163,11 @@ with_line who end (Block (Some bytes)) = record end { block = Some bytes }
 with_line who end (File (Some spec)) = record end { files = end.files ++ spec ∷ [] }
 with_line who end (Word (Some file) index value) = record end { words = end.words ++ record { who = who; file = file; index = index; value = value } ∷ [] }
 with_line who end line = end
+
+-- an end after a line that gives the first value of a word
+abbrev pub after_word : EndDraft → WordOf → Result EndDraft Flaw
+after_word end word =
+    unless_wrong (line_flaw Duplex end (Word (Some word.file) word.index word.value)) (with_line word.who end (Word (Some word.file) word.index word.value))
 
 -- ---- the plan
 

@@ -1,7 +1,10 @@
 //! What the lines so far say of one end, and what may be wrong with a further line of it.
-ghost use Rattle.std.specs.Prelude.{◌≡◌, ◌-◌, [], IfOk, OnOk, unwrap_or};
-ghost use Rattle.end_drafts.specs.Drafts.{fresh_end, node_of as the_node, plan_of as the_plan, declared as the_declared, lacks as the_lacks, exceeds as the_exceeds, repeats as the_repeats, with_line};
+ghost use Rattle.std.specs.Prelude.{◌≡◌, ◌-◌, [], Ok, Err, IfOk, MatchResult, OnOk, unwrap_or};
+ghost use Rattle.end_drafts.specs.declared.flaw.Flaw.{Flaw as TheFlaw};
+ghost use Rattle.end_drafts.specs.Drafts.{after_word, fresh_end, node_of as the_node, plan_of as the_plan, declared as the_declared, lacks as the_lacks, exceeds as the_exceeds, repeats as the_repeats, with_line};
+ghost use Rattle.end_drafts.specs.Flaws.{IsFlawed};
 
+use crate::flaw::{Flaw, StatementFault};
 use crate::given_files::GivenFiles;
 use crate::given_words::GivenWords;
 use crate::role::Role;
@@ -131,6 +134,25 @@ impl EndDraft {
             _ => {}
         }
         Ok(())
+    }
+
+    /// Takes a line that gives the first value of a word, as `take` takes it, if nothing is wrong with it. Else the first flaw
+    /// is told: `Missing` where no line declares the file, `Value` where the file hasn't the word, `Twice` where an earlier line
+    /// gave the word. One that is refused takes no memory.
+    pub fn take_word(&mut self, word: WordOf) -> Result<(), StatementFault>
+        ensures refused { (flaw : TheFlaw) → after_word self.old word ≡ Err flaw → result ≡ Err (StatementFault.Flawed flaw) }
+        ensures value { MatchResult result (λ _. after_word self.old word ≡ Ok self.new) (λ fault. IsFlawed fault (after_word self.old word)) }
+    {
+        let Some(spec) = self.files.file(word.file) else {
+            return Err(StatementFault::Flawed(Flaw::Missing));
+        };
+        if spec.words() <= word.index {
+            return Err(StatementFault::Flawed(Flaw::Value));
+        }
+        if self.words.has(word.file, word.index) {
+            return Err(StatementFault::Flawed(Flaw::Twice));
+        }
+        Ok(self.words.push(word)?)
     }
 
     /// Counts a command of the end.
