@@ -9,3 +9,5 @@ pub mod Setup
 pub mod Shown
 pub mod Runs
 mod Steps
+mod StepLines
+mod GivenWords

@@ -5,7 +5,7 @@ use Rattle.std.specs.Char.{is_ascii_digit}
 use Rattle.std.specs.List.{list_all, slice_split, onto_first}
 use Rattle.std.specs.Str.{bytes_eq}
 use Rattle.std.proofs.lemmas.Grind.{common_steps}
-use Rattle.line_statement.specs.Statements.{end_of, event_with, operand_event, side_event, station_line, statement_of, times_line, two_words}
+use Rattle.line_statement.specs.Statements.{end_of, event_with, operand_event, side_event, station_line, statement_of, times_line, two_words, verb_of}
 use Rattle.line_statement.specs.Words.{is_blank, is_number, number_of, within, words}
 use Rattle.line_statement.specs.declared.statement.EndName.{EndName}
 use Rattle.line_statement.specs.declared.statement.EndName.TheVariants.{Known}
@@ -22,7 +22,7 @@ both_fail false b = refl
 in_bounds : (n : ℕ) → 1 ≤ n → n ≤ 99 → within 1 4000000 (Some n) ≡ Some n
 in_bounds n least most = grind (arith, common_steps)
 
-digit_in_word : (d : ℕ) → is_ascii_digit d ≡ true → is_blank d ≡ false
+pub digit_in_word : (d : ℕ) → is_ascii_digit d ≡ true → is_blank d ≡ false
 digit_in_word d is = grind (arith, common_steps)
 
 -- digits are one word
@@ -34,7 +34,7 @@ digits_are_one (d ∷ word) all =
     rw (digit_in_word d first) (ap (onto_first d) (digits_are_one word rest))
 
 -- a number is digits, at least one
-number_is_digits : (word : List ℕ) (n : ℕ) → number_of word ≡ Some n → is_number word ≡ true
+pub number_is_digits : (word : List ℕ) (n : ℕ) → number_of word ≡ Some n → is_number word ≡ true
 unfolding number_of
 number_is_digits word n is = elim (is_number word) as (λ b. is_number word ≡ b → cond b (Some (Rattle.std.specs.Str.Parse.digits_value 10 word)) None ≡ Some n → is_number word ≡ true) [
   | true ↦ λ e is. e
@@ -66,6 +66,15 @@ two_bytes e v operand side verb n known letter counted least most =
     ∙ ap (times_line side (Some verb)) counted
     ∙ ap (λ (m : Option ℕ). Some (Times side verb m)) (in_bounds n least most)
 
+-- ---- the letter of a verb
+
+-- a verb of a step is by one of four letters
+pub letter_of : (v : ℕ) (verb : Verb) → verb_of v ≡ Some verb → (is_blank v ≡ false) × (eqb v 105 ≡ false) × (eqb v 99 ≡ false) × (eqb v 110 ≡ false)
+letter_of v verb is = (grind (arith, common_steps), grind (arith, common_steps), grind (arith, common_steps), grind (arith, common_steps))
+
+by_letter : (v : ℕ) (verb : Verb) → verb_of v ≡ Some verb → (side : Side) (operand : List ℕ) → side_event side v operand ≡ times_line side (Some verb) (number_of operand)
+by_letter v verb is side operand = let other = letter_of v verb is in rw (other.1, other.2, other.3) (ap (λ (w : Option Verb). times_line side w (number_of operand)) is)
+
 -- what a step says
 step_says : (e v : ℕ) (operand : List ℕ) (side : Side) (verb : Verb) (n : ℕ)
     → end_of (e ∷ []) ≡ Some (Known side) → is_blank e ≡ false → eqb e 35 ≡ false
@@ -87,10 +96,9 @@ front (a ∷ b ∷ c ∷ rest) some third = ap (λ x. a ∷ b ∷ x ∷ rest) th
 pub is_step : (line operand : List ℕ) (side : Side) (verb : Verb) (n : ℕ)
     → 3 ≤ length line → slice_index_or line 2 0 ≡ 32 → operand ≡ drop 3 line
     → end_of (slice_index_or line 0 0 ∷ []) ≡ Some (Known side) → is_blank (slice_index_or line 0 0) ≡ false → eqb (slice_index_or line 0 0) 35 ≡ false
-    → is_blank (slice_index_or line 1 0) ≡ false → ((s : Side) (o : List ℕ) → side_event s (slice_index_or line 1 0) o ≡ times_line s (Some verb) (number_of o))
-    → number_of operand ≡ Some n → 1 ≤ n → n ≤ 99
+    → verb_of (slice_index_or line 1 0) ≡ Some verb → number_of operand ≡ Some n → 1 ≤ n → n ≤ 99
     → (is_passed_over (words line) ≡ false) × (statement_of (words line) ≡ Some (Times side verb (Some n)))
-is_step line operand side verb n some third rest known end comment blank letter counted least most =
+is_step line operand side verb n some third rest known end comment letter counted least most =
     let bytes = front line some third ∙ ap (λ o. slice_index_or line 0 0 ∷ slice_index_or line 1 0 ∷ 32 ∷ o) (sym rest) in
     subst (λ (l : List ℕ). (is_passed_over (words l) ≡ false) × (statement_of (words l) ≡ Some (Times side verb (Some n)))) (sym bytes)
-    (step_says (slice_index_or line 0 0) (slice_index_or line 1 0) operand side verb n known end comment blank letter counted least most)
+    (step_says (slice_index_or line 0 0) (slice_index_or line 1 0) operand side verb n known end comment (letter_of (slice_index_or line 1 0) verb letter).0 (by_letter (slice_index_or line 1 0) verb letter) counted least most)

@@ -89,12 +89,13 @@ abbrev pub after_form : Reader → Option Statement → Result (Reader × Option
 after_form d None = Err cause.Form
 after_form d (Some statement) = with_cause (after_statement d statement)
 
+-- what a line says after the lines before it, of which none may be `end`
+abbrev pub after_said : Reader → Option Statement → Result (Reader × Option Event) Cause
+after_said d said = if is_ended (stage_of d) then Err cause.After else after_form d said
+
 -- the words of a line after the lines before it: what is known then and its event, or the first cause that fits
 abbrev pub after_words : Reader → List (List ℕ) → Result (Reader × Option Event) Cause
-after_words d line =
-    if is_passed_over line then Ok (d, None)
-    else if is_ended (stage_of d) then Err cause.After
-    else after_form d (statement_of line)
+after_words d line = if is_passed_over line then Ok (d, None) else after_said d (statement_of line)
 
 -- a line after the lines before it
 abbrev pub after_line : Reader → TextLine → Result (Reader × Option Event) Cause

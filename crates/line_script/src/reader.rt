@@ -1,16 +1,19 @@
 //! Reads a script line by line: each by the limits of the text and of lines, by what its words say, and by what the
 //! lines before it said.
-ghost use Rattle.std.specs.Prelude.{◌≡◌, [], ◌∷◌, ◌+◌, MatchOption, MatchResult, IfOk, Ok, Err, Some, List, map, min, length, true, false, if◌then◌else◌};
+ghost use Rattle.std.specs.Prelude.{◌≡◌, ◌≤◌, [], ◌∷◌, ◌+◌, MatchOption, MatchResult, IfOk, IsErr, Ok, Err, None, Some, List, map, min, length, true, false, if◌then◌else◌};
 ghost use Rattle.end_drafts.specs.Flaws.{IsFlawed};
 ghost use Rattle.line_script.specs.Readers.{after_statement, begins_half as the_half_test, fresh, in_mode, stage_of as the_stage};
-ghost use Rattle.line_script.specs.Lines.{after_line, cause_of as the_cause, with_cause, after_words, finished, reaches_limit as the_limit_test, script_with, content as the_content, is_ended as the_end_test, is_passed_over as the_passed, line_fault as the_line_fault, text_line};
+ghost use Rattle.line_script.specs.Lines.{after_line, after_said, cause_of as the_cause, with_cause, after_words, finished, reaches_limit as the_limit_test, script_with, content as the_content, is_ended as the_end_test, is_passed_over as the_passed, line_fault as the_line_fault, text_line};
 ghost use Rattle.line_script.specs.Refusal.{IsFaulty};
-ghost use Rattle.duplex_script.specs.Drafts.{times_event};
+ghost use Rattle.line_script.specs.Steps.{step_before};
+ghost use Rattle.line_script.specs.declared.step.Step.{Step as OneStep};
+ghost use Rattle.duplex_script.specs.Drafts.{times_event, word_given};
 ghost use Rattle.end_drafts.specs.declared.flaw.Flaw.{Flaw as TheFlaw};
 ghost use Rattle.line_statement.specs.declared.statement.Side.{Side as End};
 ghost use Rattle.line_statement.specs.declared.statement.Statement.{Statement as Form};
 ghost use Rattle.line_statement.specs.declared.statement.Verb.{Verb as Happening};
 
+use crate::given_word::{GivenWord, given_word};
 use crate::step::{Step, step_of};
 use crate::{Cause, Event, Events, LineFault, Script};
 use df1_base::NoMemory;
@@ -62,19 +65,26 @@ impl Reader {
         if line.len() > LINE {
             return Err(LineFault::Faulty(Cause::Long));
         }
-        self.read_words(alloc, &first_words(content(line, is_ended)))
+        let said = content(line, is_ended);
+        match given_word(said) {
+            Some(word) => self.read_given(alloc, word),
+            None => self.read_words(alloc, &first_words(said)),
+        }
     }
 
     /// Takes the next line, which a line feed ends, as `read` reads it, if it is a step that may follow the lines so far; its
-    /// event is that of the step. None says nothing of the line, and then nothing is changed.
+    /// event is that of the step. None comes exactly where it is no step, or is refused, and then nothing is changed.
+    #[inline(always)]
     pub(crate) fn take_step(&mut self, start: usize, line: &[u8]) -> Option<Step>
-        ensures { MatchOption result (self.new ≡ self.old)
-            (λ step. after_line self.old (text_line start line.now true) ≡ Ok (self.new, Some (times_event step.side step.verb step.n))) }
+        requires { start ≤ 16777216 }
+        ensures step { MatchOption result (self.new ≡ self.old)
+            (λ step. (step_before line.now ≡ Some step) × (after_line self.old (text_line start line.now true) ≡ Ok (self.new, Some (times_event step.side step.verb step.n)))) }
+        ensures refused { result ≡ None → (step : OneStep) → step_before line.now ≡ Some step → IsErr (after_line self.old (text_line start line.now true)) }
     {
+        let step = step_of(content(line, true))?;
         if reaches_limit(start, line, true) || line.len() > LINE || self.is_ended() {
             return None;
         }
-        let step = step_of(content(line, true))?;
         if self.take_times(step.n) {
             Some(step)
         } else {
@@ -82,10 +92,12 @@ impl Reader {
         }
     }
 
-    /// Takes a statement that says what happens `n` times at an end or at its queue, if it may follow the lines so far. False
-    /// says nothing of it, and then nothing is changed.
+    /// Takes a statement that says what happens `n` times at an end or at its queue, if it may follow the lines so far, none of which
+    /// was `end`. False comes exactly where it is refused, and then nothing is changed.
     fn take_times(&mut self, n: u32) -> bool
+        requires { the_end_test (the_stage self.old) ≡ false }
         ensures taken { result ≡ true → (side : End) (verb : Happening) → after_statement self.old (Form.Times side verb (Some n)) ≡ Ok (self.new, Some (times_event side verb n)) }
+        ensures refused { result ≡ false → (side : End) (verb : Happening) → IsErr (after_statement self.old (Form.Times side verb (Some n))) }
         ensures left { result ≡ false → self.new ≡ self.old }
     {
         match self {
@@ -94,7 +106,27 @@ impl Reader {
         }
     }
 
-    /// Reads the first words of the next line.
+    /// Reads a line that gives the first value of a word of a full-duplex end.
+    fn read_given(&mut self, alloc: Global, word: GivenWord) -> Result<Option<Event>, LineFault>
+        ensures { MatchResult result (λ event. after_said self.old (Some (word_given word.side word.file word.index word.value)) ≡ Ok (self.new, event))
+            (λ fault. IsFaulty fault (after_said self.old (Some (word_given word.side word.file word.index word.value)))) }
+    {
+        if self.is_ended() {
+            return Err(LineFault::Faulty(Cause::After));
+        }
+        match self {
+            Reader::Full(duplex) => {
+                match duplex.take_word(word.side, word.file, word.index, word.value) {
+                    Ok(()) => Ok(None),
+                    Err(fault) => Err(line_fault(fault)),
+                }
+            }
+            Reader::Half(_) => self.take(alloc, word.statement()),
+        }
+    }
+
+    /// Reads the first words of the next line. It isn't inlined, since a line that gives a word would pay for its room.
+    #[inline(never)]
     fn read_words(&mut self, alloc: Global, words: &[&[u8]]) -> Result<Option<Event>, LineFault>
         ensures { MatchResult result (λ event. after_words self.old (map (λ x. x.now) words.now) ≡ Ok (self.new, event))
             (λ fault. IsFaulty fault (after_words self.old (map (λ x. x.now) words.now))) }

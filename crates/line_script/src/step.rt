@@ -1,18 +1,18 @@
 //! Steps, the commonest lines of a full-duplex script, known without a look at the other forms: an end and the letter of a verb,
 //! a blank, and one or two digits that say how often.
-ghost use Rattle.std.specs.Prelude.{◌≡◌, ◌==◌, ◌≤◌, ◌∷◌, [], Some, List, ℕ, false};
+ghost use Rattle.std.specs.Prelude.{◌≡◌, ◌==◌, ◌≤◌, ◌∷◌, [], Some, List, ℕ, false, option_map};
 ghost use Rattle.std.specs.Option.{ForSome};
 ghost use Rattle.duplex_script.specs.Drafts.{times_event as the_times};
-ghost use Rattle.line_statement.specs.Statements.{end_of as the_end, side_event, times_line, statement_of as the_statement};
+ghost use Rattle.line_statement.specs.Statements.{end_of as the_end, statement_of as the_statement};
 ghost use Rattle.line_statement.specs.Words.{is_blank, number_of, words};
 ghost use Rattle.line_script.specs.Lines.{is_passed_over};
+ghost use Rattle.line_script.specs.Steps.{count_in, short_line as the_short_line, side_in, step_in};
 ghost use Rattle.line_statement.specs.declared.statement.EndName.{EndName as Name};
 ghost use Rattle.line_statement.specs.declared.statement.Statement.{Statement as Form};
-ghost use Rattle.line_statement.specs.declared.statement.Side.{Side as End};
 
 use crate::Event;
 use duplex_script::times_event;
-use line_statement::{Side, Verb};
+use line_statement::{Side, Verb, verb_of};
 
 /// What happens a number of times, 1 to 99, at an end of a full-duplex link, or at its queue.
 #[derive(Clone, Copy, Debug, PartialEq, Eq)]
@@ -31,24 +31,40 @@ impl Step {
     }
 }
 
-/// The step that a line is. None says nothing of the line.
+/// The bytes before the first line feed that stands where that of a step may: behind four, five or six bytes.
+#[inline(always)]
+pub(crate) fn short_line(bytes: &[u8]) -> Option<&[u8]>
+    ensures { option_map (λ line. line.now) result ≡ the_short_line bytes.now }
+{
+    match bytes {
+        [_, _, _, _, b'\n', ..] => Some(&bytes[..4]),
+        [_, _, _, _, _, b'\n', ..] => Some(&bytes[..5]),
+        [_, _, _, _, _, _, b'\n', ..] => Some(&bytes[..6]),
+        _ => None,
+    }
+}
+
+/// The step that a line is. It is inlined, and so is all that feeds a step: a script is mostly steps.
+#[inline(always)]
 pub(crate) fn step_of(line: &[u8]) -> Option<Step>
-    ensures { ForSome result (λ step. (is_passed_over (words line.now) ≡ false)
+    ensures value { result ≡ step_in line.now }
+    ensures says { ForSome result (λ step. (is_passed_over (words line.now) ≡ false)
         × (the_statement (words line.now) ≡ Some (Form.Times step.side step.verb (Some step.n)))) }
 {
     match line {
-        [end, letter, b' ', operand @ ..] => Some(Step {
+        [end, letter, b' ', digits @ ..] => Some(Step {
             side: side_of(*end)?,
             verb: verb_of(*letter)?,
-            n: count_of(operand)?,
+            n: count_of(digits)?,
         }),
         _ => None,
     }
 }
 
 /// The end of a full-duplex link that a letter names.
-fn side_of(letter: u8) -> Option<Side>
-    ensures { ForSome result (λ side. (the_end (letter ∷ []) ≡ Some (Name.Known side)) × (is_blank letter ≡ false) × ((letter == 35) ≡ false)) }
+pub(crate) fn side_of(letter: u8) -> Option<Side>
+    ensures value { result ≡ side_in (the_end (letter ∷ [])) }
+    ensures letter { ForSome result (λ side. (the_end (letter ∷ []) ≡ Some (Name.Known side)) × (is_blank letter ≡ false) × ((letter == 35) ≡ false)) }
 {
     match letter {
         b'a' => Some(Side::A),
@@ -57,24 +73,11 @@ fn side_of(letter: u8) -> Option<Side>
     }
 }
 
-/// What happens a number of times, by its letter.
-fn verb_of(letter: u8) -> Option<Verb>
-    ensures { ForSome result (λ verb. (is_blank letter ≡ false)
-        × ((side : End) (operand : List ℕ) → side_event side letter operand ≡ times_line side (Some verb) (number_of operand))) }
-{
-    match letter {
-        b'k' => Some(Verb::Take),
-        b't' => Some(Verb::Tick),
-        b'd' => Some(Verb::Deliver),
-        b'x' => Some(Verb::Lose),
-        _ => None,
-    }
-}
-
-/// A number of one or two digits that isn't 0. None says nothing of the word.
+/// A number of one or two digits of which the first isn't 0: 1 to 99.
 #[tactic(auto, unfolding(line_statement::specs::Words::number_of))]
 fn count_of(word: &[u8]) -> Option<u32>
-    ensures { ForSome result (λ n. (number_of word.now ≡ Some n) × (1 ≤ n) × (n ≤ 99)) }
+    ensures value { result ≡ count_in word.now }
+    ensures number { ForSome result (λ n. (number_of word.now ≡ Some n) × (1 ≤ n) × (n ≤ 99)) }
 {
     match word {
         [ones @ b'1'..=b'9'] => Some(u32::from(ones - b'0')),

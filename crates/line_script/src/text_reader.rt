@@ -1,5 +1,5 @@
 //! Reading a script byte by byte: a line is read when its line feed comes, and the last one at the end of the text.
-ghost use Rattle.std.specs.Prelude.{◌≡◌, ◌<◌, ◌≤◌, ◌+◌, ◌^◌, ◌∷◌, ◌++◌, ℕ, List, [], IfOk, MatchResult, OnOk, Ok, None, false, true, length, if◌then◌else◌};
+ghost use Rattle.std.specs.Prelude.{◌≡◌, ◌<◌, ◌≤◌, ◌+◌, ◌^◌, ◌∷◌, ◌++◌, ℕ, List, [], IfOk, IsErr, MatchResult, OnOk, Ok, None, Some, false, true, length, take, if◌then◌else◌};
 ghost use Rattle.std.specs.Option.{ForSome, option_to_list};
 ghost use Rattle.duplex_script.specs.Drafts.{times_event};
 ghost use Rattle.line_script.specs.declared.fault.ScriptFault.{ScriptFault as TheFault};
@@ -9,10 +9,12 @@ ghost use Rattle.line_script.specs.Fed.{EndsFor, HasNoFeed, IsRefusedAtEnd, IsRe
 ghost use Rattle.line_script.specs.Lines.{after_line, script_with, text_line};
 ghost use Rattle.line_script.specs.Refusal.{IsFaulty, fault_at};
 ghost use Rattle.line_script.specs.ScriptText.{script_of};
+ghost use Rattle.line_script.specs.Steps.{step_before};
 ghost use Rattle.line_script.specs.Unfinished.{unfinished};
+ghost use Rattle.line_script.specs.declared.step.Step.{Step as OneStep};
 
 use crate::reader::{LINE, Reader, SCRIPT};
-use crate::step::Step;
+use crate::step::{Step, short_line};
 use crate::whole_text::at;
 use crate::{Cause, Event, Script, ScriptFault};
 use arrayvec::ArrayVec;
@@ -108,21 +110,27 @@ impl TextReader {
         }
     }
 
-    /// Takes the next bytes of the text, among which no line feed is, and then a line feed, as `feed` takes them one by one, if
-    /// no line is begun and they are a step that may follow. None says nothing of them, and then nothing is changed.
-    pub fn feed_step(&mut self, line: &[u8]) -> Option<Step>
-        requires { HasNoFeed line.now }
+    /// Takes the first line of the next bytes, its line feed included, as `feed` takes its bytes one by one, where no line is begun
+    /// and it is a step that may follow: a step, and how many bytes its line has. None comes exactly where a line is begun, where
+    /// the bytes begin with no step and a line feed behind it, and where that step is refused; then nothing is taken.
+    #[inline(always)]
+    pub fn feed_step(&mut self, bytes: &[u8]) -> Option<(Step, usize)>
         ensures left { result ≡ None → self.new ≡ self.old }
+        ensures refused { result ≡ None → self.old.line ≡ [] → (line more : List ℕ) (step : OneStep) → bytes.now ≡ line ++ 10 ∷ more → step_before line ≡ Some step
+            → IsErr (after_line self.old.reader (text_line self.old.start line true)) }
+        ensures fits { ForSome result (λ taken. (1 ≤ taken.1) × (taken.1 ≤ length bytes.now)) }
         ensures stands { (text : List ℕ) (events : List OneEvent) → StandsFor text events self.old →
-            ForSome result (λ step. StandsFor ((text ++ line.now) ++ 10 ∷ []) (events ++ times_event step.side step.verb step.n ∷ []) self.new) }
+            ForSome result (λ taken. StandsFor (text ++ take taken.1 bytes.now) (events ++ times_event taken.0.side taken.0.verb taken.0.n ∷ []) self.new) }
     {
         if !self.line.is_empty() {
             return None;
         }
+        let line = short_line(bytes)?;
         let step = self.reader.take_step(self.start, line)?;
-        self.start += line.len() + 1;
+        let taken = line.len() + 1;
+        self.start += taken;
         self.number += 1;
-        Some(step)
+        Some((step, taken))
     }
 
     /// Takes the next bytes of the text, among which no line feed is, as `feed` takes them one by one.

@@ -124,8 +124,9 @@ fn side_event(
     }
 }
 
-/// What happens a number of times, by its letter.
-fn verb_of(letter: u8) -> Option<Verb>
+/// What happens a number of times at an end of a full-duplex link, or at its queue, by its letter: `k` takes, `t` ticks, `d`
+/// delivers, `x` loses.
+pub fn verb_of(letter: u8) -> Option<Verb>
     ensures { result ≡ the_verb letter }
 {
     match letter {

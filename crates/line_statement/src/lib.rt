@@ -22,12 +22,13 @@ mod statement;
 mod who;
 mod words;
 
+pub use event_line::verb_of;
 pub use half_event::{HalfEvent, Way};
 pub use items::{Bytes, Items};
 pub use setup_line::{Setting, SetupLine};
 pub use statement::{EVENTS, EndName, Side, Statement, Verb, statement_of};
 pub use who::Who;
-pub use words::{FirstWords, first_words};
+pub use words::{FirstWords, first_words, number_of, register_of};
 
 #[cfg(test)]
 mod tests;

@@ -71,7 +71,7 @@ fn is_blank(byte: u8) -> bool
 
 /// The number that a word of 1 to 9 decimal digits is. Leading zeros are digits like others.
 #[tactic(auto, unfolding(crate::specs::Words::number_of))]
-pub(crate) fn number_of(word: &[u8]) -> Option<u32>
+pub fn number_of(word: &[u8]) -> Option<u32>
     ensures { result ≡ number_of word.now }
 {
     if word.is_empty() || word.len() > DIGITS {
@@ -143,7 +143,7 @@ fn byte_in(bytes: &[u8]) -> Option<u8>
 }
 
 /// The word of a data file that four hexadecimal digits spell, its high byte first.
-pub(crate) fn register_of(word: &[u8]) -> Option<u16>
+pub fn register_of(word: &[u8]) -> Option<u16>
     ensures { result ≡ the_register word.now }
 {
     let bytes = <[u8; 2] as FromHex>::from_hex(word).ok()?;

@@ -1,4 +1,4 @@
-use Rattle.std.proofs.Common.{◌≡◌, ◌≤◌, false, Some, Option, length, rules, refl, ap, subst, unwrap_or, slice_index_or}
+use Rattle.std.proofs.Common.{◌≡◌, ◌≤◌, false, Some, Option, length, rules, refl, ap, subst, sym, unwrap_or, slice_index_or}
 use Rattle.std.proofs.lemmas.List.{take_rest}
 use Rattle.line_statement.specs.Statements.{statement_of}
 use Rattle.line_statement.specs.Words.{words}
@@ -8,18 +8,17 @@ use Rattle.line_script.specs.declared.step.Step.{Step}
 use Rattle.line_script.proofs.Steps.{is_step}
 use Rattle.line_script.proofs.step.step_of.Goals as goal
 
-pub returns-in_ok-count_of-in-32 : goal.returns-in_ok-count_of-in-32
-returns-in_ok-count_of-in-32 c =
+pub returns-in_ok-count_of-in-32-clause-says : goal.returns-in_ok-count_of-in-32-clause-says
+returns-in_ok-count_of-in-32-clause-says c =
     let line = c.args.line.now in
     let side = c.in_ok-side_of-in-32.field-0 in
     let verb = c.in_ok-verb_of-in-32.field-0 in
     let n = c.in_ok-count_of-in-32.field-0 in
     let some : 3 ≤ length line = search rules in
     let blank : slice_index_or line 2 0 ≡ 32 = search rules in
-    let end = c.in_ok-side_of-in-32.ensures side refl in
-    let letter = c.in_ok-verb_of-in-32.ensures verb refl in
-    let count = c.in_ok-count_of-in-32.ensures n refl in
+    let end = c.in_ok-side_of-in-32.ensures.letter side refl in
+    let count = c.in_ok-count_of-in-32.ensures.number n refl in
     let known : (is_passed_over (words line) ≡ false) × (statement_of (words line) ≡ Some (Times side verb (Some n))) =
-    is_step line _ side verb n some blank (take_rest line 3) end.0 end.1 end.2 letter.0 letter.1 count.0 count.1 count.2 in
+    is_step line _ side verb n some blank (take_rest line 3) end.0 end.1 end.2 (sym c.in_ok-verb_of-in-32.ensures) count.0 count.1 count.2 in
     let step : Step = record { side = side; verb = verb; n = n } in
     λ x is. subst (λ (s : Step). (is_passed_over (words line) ≡ false) × (statement_of (words line) ≡ Some (Times s.side s.verb (Some s.n)))) (ap (λ (o : Option Step). unwrap_or o step) is) known

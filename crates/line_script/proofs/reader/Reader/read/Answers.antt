@@ -15,12 +15,12 @@ read_by_six d [] = refl
 read_by_six d (word ∷ line) =
     ap (λ (s : Option Statement). cond (is_passed_over (word ∷ line)) (Ok (d, None)) (cond (is_ended (stage_of d)) (Err cause.After) (after_form d s))) (first_six (word ∷ line))
 
-pub returns : goal.returns
-returns c =
+pub returns-in-None : goal.returns-in-None
+returns-in-None c =
     let d = c.args.self.now in
     let line = text_line c.args.start c.args.line.now c.args.is_ended in
     let near : reaches_limit line ≡ false = sym c.reaches_limit.ensures ∙ c.if-reaches_limit.false in
     let short : is_long line ≡ false = le-ltb 1024 (length c.args.line.now) c.if-line-gt-LINE.false in
-    let given = ap (map (λ (x : Bor (List ℕ)). x.now)) c.deref.ensures.0 ∙ c.first_words.ensures ∙ ap (λ (l : List ℕ). take 6 (words l)) c.content.ensures in
+    let given = ap (map (λ (x : Bor (List ℕ)). x.now)) c.deref.ensures.0 ∙ c.first_words.ensures ∙ ap (λ (l : List ℕ). take 6 (words l)) c.content-said.ensures in
     let same : after_line d line ≡ after_words d (map (λ (x : Bor (List ℕ)). x.now) c.deref.result.now) = rw (near, short) (sym (ap (after_words d) given ∙ read_by_six d (words (content line)))) in
     rw same c.read_words.ensures

@@ -1,18 +1,39 @@
-use Rattle.std.proofs.Common.{◌≡◌, ◌∙◌, ◌+◌, ◌++◌, ◌∷◌, [], Ok, Option, Some, ap, eqb, length, refl, rules, subst, sym, true, unwrap_or}
+use Rattle.std.proofs.Common.{◌≡◌, ◌∙◌, ◌+◌, ◌++◌, ◌∷◌, [], ℕ, List, Ok, Option, Some, None, ap, append_assoc, eqb, length, refl, rules, subst, sym, take, true, unwrap_or}
+use Rattle.std.specs.Prelude.{IsErr}
 use Rattle.duplex_script.specs.Drafts.{times_event}
 use Rattle.line_script.specs.Fed.{Fed, StandsFor}
+use Rattle.line_script.specs.Lines.{after_line, text_line}
+use Rattle.line_script.specs.Steps.{short_line}
 use Rattle.line_script.specs.declared.step.Step.{Step}
 use Rattle.line_script.proofs.Runs.{is-empty, line-read-whole}
+use Rattle.line_script.proofs.StepLines.{short_cut, step_line}
 use Rattle.line_script.proofs.text_reader.TextReader.feed_step.Goals as goal
+
+pub returns-in_err-line-clause-refused : goal.returns-in_err-line-clause-refused
+returns-in_err-line-clause-refused c none empty line more step bytes is =
+    let found : Some line ≡ None = sym ((step_line line step is).1 more) ∙ ap short_line (sym bytes) ∙ sym c.in_err-line.ensures in cc
+
+pub returns-in_err-step-clause-refused : goal.returns-in_err-step-clause-refused
+returns-in_err-step-clause-refused c none empty line more step bytes is =
+    let read = c.in_ok-line.line.now in
+    let found : Some line ≡ Some read = sym ((step_line line step is).1 more) ∙ ap short_line (sym bytes) ∙ sym c.in_ok-line.ensures in
+    let same : line ≡ read = ap (λ o. unwrap_or o line) found in
+    subst (λ (r : Fed). IsErr (after_line r.reader (text_line r.start line true))) c.self.view_is
+    (subst (λ (l : List ℕ). IsErr (after_line c.self.inside.reader (text_line c.self.inside.start l true))) (sym same)
+    (c.in_err-step.ensures.refused refl step (ap (λ l. Rattle.line_script.specs.Steps.step_before l) (sym same) ∙ is)))
 
 pub returns-clause-stands : goal.returns-clause-stands
 returns-clause-stands c text events h x is =
     let inside = c.self.inside in
-    let line = c.args.line.now in
+    let bytes = c.args.bytes.now in
+    let line = c.in_ok-line.line.now in
     let step = c.in_ok-step.step in
     let r : Fed = record { reader = inside.reader; line = inside.line.items; number = inside.number; start = inside.start } in
     let new : Fed = record { reader = c.take_step.new.self; line = inside.line.items; number = inside.number + 1; start = inside.start + (length line + 1) } in
     let none : eqb (length inside.line.items) 0 ≡ true = search rules in
     let empty = is-empty inside.line.items none in
-    let read = line-read-whole text line events r new (Ok (Some (times_event step.side step.verb step.n))) c.requires (subst (StandsFor text events) (sym c.self.view_is) h) empty (c.in_ok-step.ensures, empty, refl, refl) in
-    subst (λ (s : Step). StandsFor ((text ++ line) ++ 10 ∷ []) (events ++ times_event s.side s.verb s.n ∷ []) new) (ap (λ (o : Option Step). unwrap_or o step) is) read
+    let taken = c.in_ok-step.ensures.step in
+    let read = line-read-whole text line events r new (Ok (Some (times_event step.side step.verb step.n))) (step_line line step taken.0).0 (subst (StandsFor text events) (sym c.self.view_is) h) empty (taken.1, empty, refl, refl) in
+    let front : text ++ take (length line + 1) bytes ≡ (text ++ line) ++ 10 ∷ [] = ap (λ t. text ++ t) (short_cut bytes line (sym c.in_ok-line.ensures)) ∙ sym (append_assoc text line (10 ∷ [])) in
+    let stands : StandsFor (text ++ take (length line + 1) bytes) (events ++ times_event step.side step.verb step.n ∷ []) new = subst (λ t. StandsFor t (events ++ times_event step.side step.verb step.n ∷ []) new) (sym front) read in
+    subst (λ (t : Step × ℕ). StandsFor (text ++ take t.1 bytes) (events ++ times_event t.0.side t.0.verb t.0.n ∷ []) new) (ap (λ (o : Option (Step × ℕ)). unwrap_or o (step, length line + 1)) is) stands
