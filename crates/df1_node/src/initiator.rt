@@ -16,7 +16,7 @@ use crate::{IssueFault, Outcome};
 use arrayvec::ArrayVec;
 use df1_base::{MAX_PAYLOAD, REPLY};
 use pccc_envelope::{Envelope, read_envelope, write_envelope};
-use std::alloc::Global;
+use std::alloc::{AllocError, Global};
 use std::marker::Model;
 
 /// The most commands of an initiator.
@@ -25,6 +25,7 @@ const MAX_COMMANDS: usize = 65535;
 /// An initiator and its commands, which are numbered from 1.
 #[derive(Drop)]
 pub struct Initiator {
+    alloc: Global,
     node: u8,
     tns: u16,
     reply_ticks: u32,
@@ -51,6 +52,7 @@ impl Initiator {
         ensures { result ≡ record { node = node; tns = tns; reply_ticks = reply_ticks; issued = [] } }
     {
         Initiator {
+            alloc,
             node,
             tns,
             reply_ticks,
@@ -79,8 +81,9 @@ impl Initiator {
             sts: 0,
             tns: self.tns.wrapping_add(count as u16),
         };
+        let body = command_body(self.alloc, &envelope, &payload[1..])?;
         self.issued.push(Command {
-            body: command_body(&envelope, &payload[1..]),
+            body,
             state: State::Waiting,
             reply: ArrayVec::new(),
         })?;
@@ -252,15 +255,15 @@ fn command_at(issued: &[Command], place: usize) -> Option<&Command>
 }
 
 /// The body of a command: its envelope, and what follows.
-fn command_body(envelope: &Envelope, rest: &[u8]) -> ArrayVec<u8, 250>
+fn command_body(alloc: Global, envelope: &Envelope, rest: &[u8]) -> Result<Vec<u8>, AllocError>
     requires { length rest.now ≤ 244 }
-    ensures body { result.items ≡ spelling envelope.now ++ rest.now }
-    ensures size { IsBody result.items }
+    ensures body { IfOk result (λ body. body.items ≡ spelling envelope.now ++ rest.now) }
+    ensures size { IfOk result (λ body. IsBody body.items) }
 {
-    let mut body = ArrayVec::new();
+    let mut body: ArrayVec<u8, 250> = ArrayVec::new();
     write_envelope(envelope, &mut body);
     body.try_extend_from_slice(rest).unwrap();
-    body
+    Vec::from_slice(alloc, &body)
 }
 
 /// Whether bit 6 of a CMD is set.

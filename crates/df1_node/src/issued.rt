@@ -46,7 +46,7 @@ impl State {
 /// A command, with room for its reply.
 #[derive(Drop)]
 pub(crate) struct Command {
-    pub body: ArrayVec<u8, 250>,
+    pub body: Vec<u8>,
     pub state: State,
     pub reply: ArrayVec<u8, 250>,
 }

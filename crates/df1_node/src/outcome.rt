@@ -1,5 +1,5 @@
 //! What becomes of a command, and why one is not issued.
-use std::alloc::AllocFailed;
+use std::alloc::{AllocError, AllocFailed};
 use thiserror::Error;
 
 /// What became of a command.
@@ -44,6 +44,17 @@ impl<T: Drop> From<AllocFailed<T>> for IssueFault {
     ghost from_gives = { λ _ e. e ≡ NoMemory };
 
     fn from(_: AllocFailed<T>) -> Self {
+        IssueFault::NoMemory
+    }
+}
+
+impl From<AllocError> for IssueFault {
+    ghost use Rattle.std.specs.Prelude.{◌≡◌};
+    ghost use Rattle.df1_node.specs.declared.outcome.IssueFault.TheVariants.{NoMemory};
+
+    ghost from_gives = { λ _ e. e ≡ NoMemory };
+
+    fn from(_: AllocError) -> Self {
         IssueFault::NoMemory
     }
 }
