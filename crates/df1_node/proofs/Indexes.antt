@@ -1,14 +1,17 @@
 -- What the places kept beside the commands tell of all commands.
-use Rattle.std.proofs.Common.{◌≡◌, ◌<◌, ◌≤◌, ℕ, suc, zero, ◌+◌, ◌-◌, ◌∙◌, Bool, Option, true, false, ◌&&◌, ◌||◌, cond, List, [], ◌∷◌, ◌++◌, length, Some, None, refl, sym, ap, subst, arith, get_or, set, find, slice_get, nat_lt, ◌==◌, position, is_some, MatchOption, add-zero, length-append, length-set}
+use Rattle.std.proofs.Common.{◌≡◌, ◌<◌, ◌≤◌, ℕ, suc, zero, ◌+◌, ◌-◌, ◌*◌, ◌∙◌, Bool, Option, true, false, ◌&&◌, ◌||◌, cond, List, [], ◌∷◌, ◌++◌, length, Some, None, refl, sym, ap, subst, arith, get_or, set, find, slice_get, nat_lt, ◌==◌, position, is_some, MatchOption, add-zero, length-append, length-set}
 use Rattle.std.specs.Option.{option_map, option_map_or}
 use Rattle.std.specs.List.{All, list_any}
-use Rattle.std.proofs.lemmas.List.{map_push}
-use Rattle.std.proofs.lemmas.List.Elements.{All-append, All-set}
+use Rattle.std.proofs.lemmas.List.{map_push, length_push}
+use Rattle.std.proofs.lemmas.List.Elements.{All-push, All-set}
 use Rattle.std.proofs.lemmas.Bool.Decides.{nat_tests}
 use Rattle.std.proofs.lemmas.Bool.{eqb-true}
 use Rattle.df1_node.specs.declared.issued.Command.{Command}
-use Rattle.df1_node.specs.Initiator.{InitiatorState, command, Standing, Waiting, Out, Answered, Undelivered, Unanswered, Issued, is_waiting, is_out, restated, after_hand_out, after_reply, after_give_up, next_place, next_command, is_reply_to, answered_place, is_out_at, ticked, is_last_tick, unanswered_from, all_ticked, cleared, all_cleared}
-use Rattle.df1_node.specs.Commands.{Indexed, is_place, AreCommands, issued_of, all_issued}
+use Rattle.df1_node.specs.declared.issued.State.{State}
+use Rattle.df1_node.specs.declared.issued.State.TheVariants as stands
+use Rattle.df1_node.specs.Initiator.{InitiatorState, Standing, Waiting, Out, Answered, Undelivered, Unanswered, Issued, is_waiting, is_out, restated, after_hand_out, after_reply, after_give_up, next_place, next_command, is_reply_to, answered_place, is_out_at, ticked, is_last_tick, unanswered_from, all_ticked, cleared, all_cleared}
+use Rattle.df1_node.specs.Commands.{Indexed, is_place, AreCommands, issued_of, all_issued, part_of, standing_of, open_count, IsKept, IsStateKept}
+use Rattle.df1_node.proofs.Kept.{part_behind, part_new, IsPart-new, all_issued-more, all_kept-more, open_push}
 use Rattle.df1_base.specs.Host.{IsBody}
 use Rattle.df1_node.specs.HostLaws.{position-cons}
 
@@ -272,20 +275,15 @@ cleared_all (c ∷ cs) (suc n) (Some (suc o)) i past = ap (λ x. x ∷ all_clear
 
 -- ---- the commands as they are kept
 
-pub restated-set : (xs : List Command) (p : ℕ) (r k : Command) (s : Standing) → r ≡ get_or xs p r → issued_of k ≡ record (issued_of r) { standing = s } → all_issued (set xs p k) ≡ restated (all_issued xs) p s
-restated-set [] p r k s e is = refl
-restated-set (x ∷ xs) zero r k s e is = ap (λ c. c ∷ all_issued xs) (is ∙ ap (λ y. record (issued_of y) { standing = s }) e)
-restated-set (x ∷ xs) (suc p) r k s e is = ap (λ cs. issued_of x ∷ cs) (restated-set xs p r k s e is)
+pub restated-set : (bytes : List ℕ) (xs : List Command) (p : ℕ) (r k : Command) (s : Standing) → r ≡ get_or xs p r → issued_of bytes k ≡ record (issued_of bytes r) { standing = s } → all_issued bytes (set xs p k) ≡ restated (all_issued bytes xs) p s
+restated-set bytes [] p r k s e is = refl
+restated-set bytes (x ∷ xs) zero r k s e is = ap (λ c. c ∷ all_issued bytes xs) (is ∙ ap (λ y. record (issued_of bytes y) { standing = s }) e)
+restated-set bytes (x ∷ xs) (suc p) r k s e is = ap (λ cs. issued_of bytes x ∷ cs) (restated-set bytes xs p r k s e is)
 
-pub slice_get-issued : (xs : List Command) (p : ℕ) → option_map issued_of (slice_get xs p) ≡ slice_get (all_issued xs) p
-slice_get-issued [] p = refl
-slice_get-issued (x ∷ xs) zero = refl
-slice_get-issued (x ∷ xs) (suc p) = slice_get-issued xs p
-
-pub get_or-issued : (xs : List Command) (p : ℕ) (r : Command) → r ≡ get_or xs p r → issued_of r ≡ get_or (all_issued xs) p (issued_of r)
-get_or-issued [] p r e = refl
-get_or-issued (x ∷ xs) zero r e = ap issued_of e
-get_or-issued (x ∷ xs) (suc p) r e = get_or-issued xs p r e
+pub get_or-issued : (bytes : List ℕ) (xs : List Command) (p : ℕ) (r : Command) → r ≡ get_or xs p r → issued_of bytes r ≡ get_or (all_issued bytes xs) p (issued_of bytes r)
+get_or-issued bytes [] p r e = refl
+get_or-issued bytes (x ∷ xs) zero r e = ap (issued_of bytes) e
+get_or-issued bytes (x ∷ xs) (suc p) r e = get_or-issued bytes xs p r e
 
 found_waiting : (cs : List Issued) (n : ℕ) (r : Issued) → Indexed cs n None → n < length cs → r ≡ get_or cs n r → find (λ c. is_waiting c.standing) cs ≡ Some r
 found_waiting [] n r i within e = absurd (omega arith)
@@ -343,40 +341,92 @@ ready_is cs n out i free =
 pub hands_at : (s : InitiatorState) (n : ℕ) → next_place s.issued ≡ Some n → record s { issued = restated s.issued n (Out s.reply_ticks) } ≡ after_hand_out s
 hands_at s n e = ap (λ o. record s { issued = option_map_or (λ place. restated s.issued place (Out s.reply_ticks)) o s.issued }) (sym e)
 
-pub command-at : (s : InitiatorState) (n p : ℕ) → 1 ≤ n → p ≡ n - 1 → slice_get s.issued p ≡ command s n
-command-at s zero p some e = absurd (omega arith)
-command-at s (suc m) p some e = ap (slice_get s.issued) (let f : p ≡ m = omega arith in f)
-
 -- ---- the commands after a step are such as an initiator may have
 
-single : {X : Type 0} (P : X → Type 0) (x : X) → P x → All P (x ∷ [])
-single P x h zero d within = h
-single P x h (suc k) d within = absurd (omega arith)
+pub length-issued : (bytes : List ℕ) (xs : List Command) → length (all_issued bytes xs) ≡ length xs
+length-issued bytes [] = refl
+length-issued bytes (x ∷ xs) = ap suc (length-issued bytes xs)
 
-pub are-push : (xs : List Command) (n : ℕ) (out : Option ℕ) (k : Command) → AreCommands xs n out → is_waiting (issued_of k).standing ≡ true → IsBody k.body.items → length xs < 65535 → AreCommands (xs ++ k ∷ []) n out
-are-push xs n out k are waits body few =
+pub next_within : (bytes : List ℕ) (room : ℕ) (xs : List Command) (n : ℕ) (out : Option ℕ) → AreCommands bytes room xs n out → n ≤ length xs
+next_within bytes room xs n out are = subst (λ l. n ≤ l) (length-issued bytes xs) (Indexed-length (all_issued bytes xs) n out are.indexed)
+
+pub kept_here : (bytes : List ℕ) (room : ℕ) (xs : List Command) (n : ℕ) (out : Option ℕ) (p : ℕ) (r : Command) → AreCommands bytes room xs n out → r ≡ get_or xs p r → p < length xs → IsKept bytes r
+kept_here bytes room xs n out p r are e within = subst (IsKept bytes) (sym e) (are.kept p r within)
+
+-- a command more, whose body is added to the bytes
+pub are-push : (bytes more : List ℕ) (room room' : ℕ) (xs : List Command) (n : ℕ) (out : Option ℕ) → AreCommands bytes room xs n out → IsBody more → length xs < 65535 →
+    length bytes + 250 * (open_count (length xs) n out + 2) ≤ room' → AreCommands (bytes ++ more) room' (xs ++ record { body = part_behind bytes more; state = stands.Waiting } ∷ []) n out
+are-push bytes more room room' xs n out are body few fits =
+    let k : Command = record { body = part_behind bytes more; state = stands.Waiting } in
+    let is_more : length (bytes ++ more) ≡ length bytes + length more = length-append bytes more in
+    let is_suc : length (xs ++ k ∷ []) ≡ suc (length xs) = length_push xs k ∙ (let f : length xs + 1 ≡ suc (length xs) = omega arith in f) in
+    let opens : open_count (length (xs ++ k ∷ [])) n out ≡ open_count (length xs) n out + 1 = ap (λ l. open_count l n out) is_suc ∙ open_push (length xs) n out (next_within bytes room xs n out are) in
+    let size : length more ≤ 250 = body.1 in
+    let short : length bytes + 250 * open_count (length xs) n out ≤ 500 * length xs = are.short in
     record {
-      indexed = subst (λ cs. Indexed cs n out) (sym (map_push issued_of xs k)) (Indexed-push (all_issued xs) n out (issued_of k) are.indexed waits);
-      bodies = All-append (λ c. IsBody c.body.items) xs (k ∷ []) are.bodies (single (λ c. IsBody c.body.items) k body);
-      few = subst (λ m. m ≤ 65535) (sym (length-append xs (k ∷ []))) (omega arith);
+      indexed =
+          subst (λ cs. Indexed cs n out) (sym (map_push (issued_of (bytes ++ more)) xs k))
+          (Indexed-push (all_issued (bytes ++ more) xs) n out (issued_of (bytes ++ more) k) (subst (λ cs. Indexed cs n out) (sym (all_issued-more bytes more xs are.kept)) are.indexed) refl);
+      kept = All-push (IsKept (bytes ++ more)) xs k (all_kept-more bytes more xs are.kept) (record { body = IsPart-new bytes more body; state = tt });
+      few = omega arith;
+      fits = omega arith;
+      short = omega arith;
     }
+
+pub issued_push : (bytes more : List ℕ) (xs : List Command) → All (IsKept bytes) xs →
+    all_issued (bytes ++ more) (xs ++ record { body = part_behind bytes more; state = stands.Waiting } ∷ []) ≡ all_issued bytes xs ++ record { body = more; standing = Waiting } ∷ []
+issued_push bytes more xs is =
+    let pushed : List ℕ → Issued = λ b. record { body = b; standing = Waiting } in
+    map_push (issued_of (bytes ++ more)) xs (record { body = part_behind bytes more; state = stands.Waiting })
+    ∙ ap (λ cs. cs ++ issued_of (bytes ++ more) (record { body = part_behind bytes more; state = stands.Waiting }) ∷ []) (all_issued-more bytes more xs is)
+    ∙ ap (λ b. all_issued bytes xs ++ pushed b ∷ []) (part_new bytes more)
 
 -- a command that is kept in another state
-pub are-set : (xs : List Command) (n m : ℕ) (out later : Option ℕ) (p : ℕ) (r k : Command) (s : Standing) → AreCommands xs n out → r ≡ get_or xs p r → p < length xs → issued_of k ≡ record (issued_of r) { standing = s } →
-    Indexed (restated (all_issued xs) p s) m later → AreCommands (set xs p k) m later
-are-set xs n m out later p r k s are e within is indexed =
+pub are-set : (bytes : List ℕ) (room : ℕ) (xs : List Command) (n m : ℕ) (out later : Option ℕ) (p : ℕ) (r : Command) (s : State) → AreCommands bytes room xs n out → r ≡ get_or xs p r → p < length xs → IsStateKept bytes s →
+    Indexed (restated (all_issued bytes xs) p (standing_of bytes s)) m later → open_count (length xs) m later ≤ open_count (length xs) n out → AreCommands bytes room (set xs p (record r { state = s })) m later
+are-set bytes room xs n m out later p r s are e within is indexed fewer =
+    let k : Command = record r { state = s } in
+    let same : length (set xs p k) ≡ length xs = length-set xs p k in
+    let opens : open_count (length (set xs p k)) m later ≡ open_count (length xs) m later = ap (λ l. open_count l m later) same in
+    let few : length xs ≤ 65535 = are.few in
+    let fits : length bytes + 250 * open_count (length xs) n out ≤ room = are.fits in
+    let short : length bytes + 250 * open_count (length xs) n out ≤ 500 * length xs = are.short in
     record {
-      indexed = subst (λ cs. Indexed cs m later) (sym (restated-set xs p r k s e is)) indexed;
-      bodies = All-set (λ c. IsBody c.body.items) xs p k (subst (λ c. IsBody c) (sym (ap (λ c. c.body) is)) (subst (λ c. IsBody c.body.items) (sym e) (are.bodies p r within))) are.bodies;
-      few = subst (λ l. l ≤ 65535) (sym (length-set xs p k)) are.few;
+      indexed = subst (λ cs. Indexed cs m later) (sym (restated-set bytes xs p r k (standing_of bytes s) e refl)) indexed;
+      kept = All-set (IsKept bytes) xs p k (record { body = (kept_here bytes room xs n out p r are e within).body; state = is }) are.kept;
+      few = omega arith;
+      fits = omega arith;
+      short = omega arith;
     }
 
-pub issued_body : (xs : List Command) (n : ℕ) (out : Option ℕ) (p : ℕ) (r : Command) → AreCommands xs n out → r ≡ get_or xs p r → p < length xs → IsBody r.body.items
-issued_body xs n out p r are e within = subst (λ c. IsBody c.body.items) (sym e) (are.bodies p r within)
+pub issued_answered : (bytes more : List ℕ) (xs : List Command) (p : ℕ) (r : Command) → All (IsKept bytes) xs → r ≡ get_or xs p r →
+    all_issued (bytes ++ more) (set xs p (record r { state = stands.Answered (part_behind bytes more) })) ≡ restated (all_issued bytes xs) p (Answered more)
+issued_answered bytes more xs p r is e =
+    let answer : List ℕ → Issued = λ reply. record { body = part_of (bytes ++ more) r.body; standing = Answered reply } in
+    restated-set (bytes ++ more) xs p r (record r { state = stands.Answered (part_behind bytes more) }) (Answered more) e (ap answer (part_new bytes more))
+    ∙ ap (λ cs. restated cs p (Answered more)) (all_issued-more bytes more xs is)
 
-pub length-issued : (xs : List Command) → length (all_issued xs) ≡ length xs
-length-issued [] = refl
-length-issued (x ∷ xs) = ap suc (length-issued xs)
+-- the command that is out is answered, and the reply is added to the bytes
+pub are-answered : (bytes more : List ℕ) (room room' : ℕ) (xs : List Command) (n p : ℕ) (r : Command) → AreCommands bytes room xs n (Some p) → IsBody more → r ≡ get_or xs p r → p < length xs → room ≤ room' →
+    AreCommands (bytes ++ more) room' (set xs p (record r { state = stands.Answered (part_behind bytes more) })) n None
+are-answered bytes more room room' xs n p r are body e within wider =
+    let k : Command = record r { state = stands.Answered (part_behind bytes more) } in
+    let is_more : length (bytes ++ more) ≡ length bytes + length more = length-append bytes more in
+    let same : length (set xs p k) ≡ length xs = length-set xs p k in
+    let opens : open_count (length (set xs p k)) n None ≡ length xs - n = ap (λ l. l - n) same in
+    let few : length xs ≤ 65535 = are.few in
+    let size : length more ≤ 250 = body.1 in
+    let fits : length bytes + 250 * (length xs - n + 1) ≤ room = are.fits in
+    let short : length bytes + 250 * (length xs - n + 1) ≤ 500 * length xs = are.short in
+    record {
+      indexed =
+          subst (λ cs. Indexed cs n None) (sym (issued_answered bytes more xs p r are.kept e))
+          (Indexed-settled (all_issued bytes xs) n p (Answered more) are.indexed refl refl);
+      kept = All-set (IsKept (bytes ++ more)) xs p k (record { body = (subst (IsKept (bytes ++ more)) (sym e) (all_kept-more bytes more xs are.kept p r within)).body; state = IsPart-new bytes more body }) (all_kept-more bytes more xs are.kept);
+      few = omega arith;
+      fits = omega arith;
+      short = omega arith;
+    }
 
 pub at_None : (P : Type 0) (Q : List ℕ → Type 0) (o : Option (List ℕ)) → o ≡ None → P → MatchOption o P Q
 at_None P Q o e p = subst (λ x. MatchOption x P Q) (sym e) p
@@ -431,8 +481,8 @@ ticked_last (Answered r) t l = cc
 ticked_last Undelivered t l = cc
 ticked_last Unanswered t l = cc
 
-pub within_items : (xs : List Command) (n : ℕ) (out : Option ℕ) (p : ℕ) → AreCommands xs n out → out ≡ Some p → p < length xs
-within_items xs n out p are some = subst (λ l. p < l) (length-issued xs) (out_within (all_issued xs) n p (subst (Indexed (all_issued xs) n) some are.indexed))
+pub within_items : (bytes : List ℕ) (room : ℕ) (xs : List Command) (n : ℕ) (out : Option ℕ) (p : ℕ) → AreCommands bytes room xs n out → out ≡ Some p → p < length xs
+within_items bytes room xs n out p are some = subst (λ l. p < l) (length-issued bytes xs) (out_within (all_issued bytes xs) n p (subst (Indexed (all_issued bytes xs) n) some are.indexed))
 
 pub all_ticked-none : (cs : List Issued) (n : ℕ) (out : Option ℕ) → Indexed cs n out → out ≡ None → all_ticked cs ≡ cs
 all_ticked-none cs n out i none = ticked_none cs n (subst (Indexed cs n) none i)

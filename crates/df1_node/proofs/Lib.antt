@@ -1,2 +1,3 @@
 pub mod Final
 pub mod Indexes
+pub mod Kept

@@ -2,19 +2,20 @@
 //! what became of each (manual topic: message packets, transaction numbers).
 //!
 //! The place of the command that is out, and the place from which on the commands wait, are kept beside the commands,
-//! so no step looks at all of them.
-ghost use Rattle.std.specs.Prelude.{◌≡◌, ◌+◌, ◌≤◌, ◌<◌, [], ◌++◌, ◌∷◌, length, All, IfOk, IfErr, OnOk, OnErr, Err, IfSome, MatchOption, is_some, nat_lt, slice_get, ◌==◌, IfNone, IsSome, IsTrue, if◌then◌else◌};
-ghost use Rattle.std.specs.Option.{option_copied, option_map};
+//! so no step looks at all of them. The bytes of bodies and replies are kept in one row, each behind those before, and
+//! with each command room is made for the reply to it.
+ghost use Rattle.std.specs.Prelude.{◌≡◌, ◌+◌, ◌*◌, ◌≤◌, ◌<◌, [], ◌++◌, ◌∷◌, length, All, IfOk, IfErr, OnOk, OnErr, Err, IfSome, MatchOption, is_some, ◌==◌, IfNone, IsSome, IsTrue, if◌then◌else◌, vec_len, vec_capacity};
 ghost use Rattle.std.specs.Int.{bit_at};
 ghost use Rattle.df1_base.specs.Host.{IsBody};
 ghost use Rattle.pccc_envelope.specs.Envelope.{is_reply, spelling};
-ghost use Rattle.df1_node.specs.Initiator.{InitiatorState, after_give_up, after_hand_out, after_issue, after_reply, all_cleared, all_ticked, answered_place, is_out_at, unanswered_from, issue_fault, next_issued, outcome_of, reply_of, next_command, next_place, command};
-ghost use Rattle.df1_node.specs.Commands.{is_place, issued_of};
+ghost use Rattle.df1_node.specs.Initiator.{InitiatorState, after_give_up, after_hand_out, after_issue, after_reply, all_cleared, all_ticked, answered_place, is_out_at, unanswered_from, issue_fault, next_issued, outcome_of, reply_of, next_command, next_place};
+ghost use Rattle.df1_node.specs.Commands.{is_place, kept_at, open_count};
 
-use crate::issued::{Command, State};
+use crate::issued::{Command, State, is_answered_by};
+use crate::part::append;
 use crate::{IssueFault, Outcome};
 use arrayvec::ArrayVec;
-use df1_base::{MAX_PAYLOAD, REPLY};
+use df1_base::{MAX_BODY, MAX_PAYLOAD, REPLY};
 use pccc_envelope::{Envelope, read_envelope, write_envelope};
 use std::alloc::{AllocError, Global};
 use std::marker::Model;
@@ -25,10 +26,10 @@ const MAX_COMMANDS: usize = 65535;
 /// An initiator and its commands, which are numbered from 1.
 #[derive(Drop)]
 pub struct Initiator {
-    alloc: Global,
     node: u8,
     tns: u16,
     reply_ticks: u32,
+    bytes: Vec<u8>,
     issued: Vec<Command>,
     next: usize,
     out: Option<usize>,
@@ -37,12 +38,13 @@ pub struct Initiator {
 impl Model for Initiator {
     ghost use Rattle.df1_node.specs.Initiator.{InitiatorState};
     ghost use Rattle.df1_node.specs.Commands.{all_issued, AreCommands};
+    ghost use Rattle.std.specs.Prelude.{vec_capacity};
 
     ghost Value = { InitiatorState };
 
-    ghost view = { λ s. record { node = s.node; tns = s.tns; reply_ticks = s.reply_ticks; issued = all_issued s.issued.items } };
+    ghost view = { λ s. record { node = s.node; tns = s.tns; reply_ticks = s.reply_ticks; issued = all_issued s.bytes.items s.issued.items } };
 
-    ghost invariant = { λ s. AreCommands s.issued.items s.next s.out };
+    ghost invariant = { λ s. AreCommands s.bytes.items (vec_capacity s.bytes) s.issued.items s.next s.out };
 }
 
 impl Initiator {
@@ -52,10 +54,10 @@ impl Initiator {
         ensures { result ≡ record { node = node; tns = tns; reply_ticks = reply_ticks; issued = [] } }
     {
         Initiator {
-            alloc,
             node,
             tns,
             reply_ticks,
+            bytes: Vec::new(alloc),
             issued: Vec::new(alloc),
             next: 0,
             out: None,
@@ -81,12 +83,13 @@ impl Initiator {
             sts: 0,
             tns: self.tns.wrapping_add(count as u16),
         };
-        let body = command_body(self.alloc, &envelope, &payload[1..])?;
-        self.issued.push(Command {
+        let others = open_commands(count, self.next, self.out);
+        make_room(&mut self.bytes, &mut self.issued, others)?;
+        let body = append(&mut self.bytes, &command_body(&envelope, &payload[1..]));
+        self.issued.push_reserved(Command {
             body,
             state: State::Waiting,
-            reply: ArrayVec::new(),
-        })?;
+        });
         Ok(count as u32 + 1)
     }
 
@@ -95,7 +98,7 @@ impl Initiator {
         ensures outcome { result ≡ outcome_of self.now n }
         ensures few { IsSome result → n ≤ 65535 }
     {
-        Some(self.command(n)?.outcome())
+        Some(command(&self.issued, n)?.state.outcome())
     }
 
     /// The accepted reply to command `n`, empty unless it is answered: at most 250 bytes.
@@ -103,8 +106,8 @@ impl Initiator {
         ensures reply { result.now ≡ reply_of self.now n }
         ensures size { length result.now ≤ 250 }
     {
-        match self.command(n) {
-            Some(command) => command.accepted(),
+        match command(&self.issued, n) {
+            Some(command) => command.state.accepted(&self.bytes),
             None => &[],
         }
     }
@@ -137,7 +140,8 @@ impl Initiator {
         }
         let command = &mut self.issued[place];
         into.clear();
-        into.try_extend_from_slice(&command.body).unwrap();
+        into.try_extend_from_slice(command.body.of(&self.bytes))
+            .unwrap();
         command.state = State::Out(self.reply_ticks);
         self.next = place + 1;
         self.out = Some(place);
@@ -152,13 +156,12 @@ impl Initiator {
         ensures after { self.new ≡ after_reply self.old reply.now }
     {
         let place = self.out?;
-        if !self.issued[place].is_answered_by(reply) {
+        if !is_answered_by(self.issued[place].body.of(&self.bytes), reply) {
             return None;
         }
+        let part = append(&mut self.bytes, reply);
         let command = &mut self.issued[place];
-        command.reply.clear();
-        command.reply.try_extend_from_slice(reply).unwrap();
-        command.state = State::Answered;
+        command.state = State::Answered(part);
         self.out = None;
         Some(place)
     }
@@ -207,15 +210,6 @@ impl Initiator {
         }
     }
 
-    /// Command `n`, from 1.
-    fn command(&self, n: u32) -> Option<&Command>
-        ensures found { option_map issued_of (option_copied result) ≡ command self.now n }
-        ensures few { IsSome result → n ≤ 65535 }
-    {
-        let place = n.checked_sub(1)?;
-        command_at(&self.issued, place as usize)
-    }
-
     /// Why a payload is not issued.
     fn fault_of(&self, payload: &[u8]) -> Option<IssueFault>
         ensures fault { result ≡ issue_fault self.now payload.now }
@@ -246,24 +240,53 @@ fn is_at(out: Option<usize>, place: usize) -> bool
     }
 }
 
-/// The command at a place.
-fn command_at(issued: &[Command], place: usize) -> Option<&Command>
-    ensures found { option_copied result ≡ slice_get issued.now place }
-    ensures within { IsSome result → place < length issued.now }
+/// Command `n`, from 1.
+fn command(issued: &[Command], n: u32) -> Option<Command>
+    ensures found { result ≡ kept_at issued.now n }
+    ensures within { IsSome result → n ≤ length issued.now }
 {
-    issued.get(place)
+    let place = n.checked_sub(1)?;
+    issued.get(place as usize).copied()
+}
+
+/// How many of so many commands may still be answered, where those from `next` on wait and `out` is the place of the one that
+/// is out.
+fn open_commands(count: usize, next: usize, out: Option<usize>) -> usize
+    requires next { next ≤ count }
+    requires few { count < 65535 }
+    ensures { result ≡ open_count count next out }
+{
+    let waiting = count - next;
+    if out.is_some() { waiting + 1 } else { waiting }
+}
+
+/// Makes room for one command more, for its body, and for the replies to it and to so many others.
+fn make_room(
+    bytes: &mut Vec<u8>,
+    issued: &mut Vec<Command>,
+    others: usize,
+) -> Result<(), AllocError>
+    requires { others ≤ 65535 }
+    ensures bytes { bytes.new.items ≡ bytes.old.items }
+    ensures issued { issued.new.items ≡ issued.old.items }
+    ensures capacity { vec_capacity bytes.old ≤ vec_capacity bytes.new }
+    ensures room { OnOk result (length bytes.new.items + 250 * (others + 2) ≤ vec_capacity bytes.new) }
+    ensures place { OnOk result (vec_len issued.new < vec_capacity issued.new) }
+{
+    issued.reserve(1)?;
+    bytes.reserve(MAX_BODY * (others + 2))
 }
 
 /// The body of a command: its envelope, and what follows.
-fn command_body(alloc: Global, envelope: &Envelope, rest: &[u8]) -> Result<Vec<u8>, AllocError>
+fn command_body(envelope: &Envelope, rest: &[u8]) -> ArrayVec<u8, 250>
     requires { length rest.now ≤ 244 }
-    ensures body { IfOk result (λ body. body.items ≡ spelling envelope.now ++ rest.now) }
-    ensures size { IfOk result (λ body. IsBody body.items) }
+    ensures body { result.items ≡ spelling envelope.now ++ rest.now }
+    ensures size { IsBody result.items }
 {
-    let mut body: ArrayVec<u8, 250> = ArrayVec::new();
+    let mut body = ArrayVec::new();
     write_envelope(envelope, &mut body);
     body.try_extend_from_slice(rest).unwrap();
-    Vec::from_slice(alloc, &body)
+    body
 }
 
 /// Whether bit 6 of a CMD is set.

@@ -11,6 +11,7 @@ mod issued;
 pub mod laws;
 mod node;
 mod outcome;
+mod part;
 mod station;
 #[cfg(test)]
 mod tests;

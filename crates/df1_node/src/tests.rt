@@ -58,6 +58,36 @@ fn a_reply_answers_its_command_once(rt: HostRuntime) -> Result<(), Fail> {
     Ok(())
 }
 
+/// Replies to commands 1 and 2.
+const REPLIES: [&[u8]; 2] = [REPLY, b"\x00\x01\x46\x00\x02\x00"];
+
+#[test]
+fn each_reply_stays_as_it_came(rt: HostRuntime) -> Result<(), Fail> {
+    let mut initiator = Initiator::new(rt.alloc(), 0, 1, 1);
+    let mut body = ArrayVec::new();
+    let mut gone = ArrayVec::new();
+    for n in 1..=3u32 {
+        assert_eq!(rt; initiator.issue(1, b"\x06\x00\x55"), Ok(n));
+    }
+    for (place, reply) in REPLIES.iter().enumerate() {
+        assert_eq!(rt; initiator.hand_out(&mut body), Some(place));
+        assert_eq!(rt; initiator.take_reply(reply), Some(place));
+    }
+    assert_eq!(rt; initiator.hand_out(&mut body), Some(2));
+    assert_eq!(rt;
+        body.as_slice(),
+        b"\x01\x00\x06\x00\x03\x00\x00\x55".as_slice()
+    );
+    initiator.tick(&mut gone);
+    assert_eq!(rt; gone.as_slice(), [3].as_slice());
+    assert_eq!(rt; initiator.issue(1, b"\x06\x00"), Ok(4));
+    assert_eq!(rt; initiator.reply(1), REPLIES[0]);
+    assert_eq!(rt; initiator.reply(2), REPLIES[1]);
+    assert_eq!(rt; initiator.reply(3), b"".as_slice());
+    assert_eq!(rt; initiator.reply(4), b"".as_slice());
+    Ok(())
+}
+
 /// A file and an index, whether there is such a word in an integer file 7 of 2 words, and its two words after 5 was set there.
 const SET_WORDS: [(u16, u32, bool, [u16; 2]); 5] = [
     (7, 0, true, [5, 0]),
