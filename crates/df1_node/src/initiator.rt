@@ -29,6 +29,7 @@ pub struct Initiator {
     node: u8,
     tns: u16,
     reply_ticks: u32,
+    /// The bodies and replies, in the order in which they came, with room for those replies that may still come.
     bytes: Vec<u8>,
     issued: Vec<Command>,
     next: usize,
