@@ -154,37 +154,63 @@ impl Replayer {
         ensures cause { IsErrOf result StreamFault.SinkFailed → Rose (K.faults sink.old) (K.faults sink.new) }
     {
         let mut rest = bytes;
-        while let Some((line, more)) = next_line(rest) {
-            match self.feed_line(line, sink) {
-                Ok(()) => {}
+        loop {
+            match self.feed_front(rest, sink) {
+                Ok(0) => return self.feed_run(rest),
+                Ok(taken) => rest = &rest[taken..],
                 Err(fault) => return Err(fault),
             }
-            rest = more;
         }
-        self.feed_run(rest)
     }
 
-    /// Takes the next bytes of the script, among which no line feed is, and then a line feed, as `feed` takes them one by one.
-    fn feed_line<K: Sink>(&mut self, line: &[u8], sink: &mut K) -> Result<(), StreamFault>
-        requires replay { IsReplay self.old }
-        requires line { HasNoFeed line.now }
-        ensures ok { (text : List ℕ) → IsReplayOf text self.old → OnOk result (IsReplayOf ((text ++ line.now) ++ 10 ∷ []) self.new × ShowsMore (shown text) (shown ((text ++ line.now) ++ 10 ∷ [])) (K.held sink.old) (K.held sink.new)) }
-        ensures refused { (text : List ℕ) → IsReplayOf text self.old → IfErr result (IsRefusedHere ((text ++ line.now) ++ 10 ∷ []) (shown text)) }
-        ensures front { (text : List ℕ) → IsReplayOf text self.old → (more : List ℕ) → OnErr result (ShowsFront (shown text) (told ((text ++ line.now) ++ 10 ∷ more)) (K.held sink.old) (K.held sink.new)) }
+    /// Takes the first line of the next bytes, its line feed included, and answers how many bytes it has: 0 exactly where no line
+    /// feed is among the bytes, and then none is taken.
+    #[inline(always)]
+    fn feed_front<K: Sink>(&mut self, bytes: &[u8], sink: &mut K) -> Result<usize, StreamFault>
+        requires { IsReplay self.old }
+        ensures fits { IfOk result (λ taken. taken ≤ length bytes.now) }
+        ensures none { IfOk result (λ taken. taken ≡ 0 → HasNoFeed bytes.now) }
+        ensures ok { (text : List ℕ) → IsReplayOf text self.old → IfOk result (λ taken. IsReplayOf (text ++ take taken bytes.now) self.new × ShowsMore (shown text) (shown (text ++ take taken bytes.now)) (K.held sink.old) (K.held sink.new)) }
+        ensures refused { (text : List ℕ) → IsReplayOf text self.old → IfErr result (IsRefusedHere (text ++ bytes.now) (shown text)) }
+        ensures front { (text : List ℕ) → IsReplayOf text self.old → OnErr result (ShowsFront (shown text) (told (text ++ bytes.now)) (K.held sink.old) (K.held sink.new)) }
         ensures silent { IfErr result (λ fault. fault ≢ Stopped.SinkFailed → sink.new ≡ sink.old) }
         ensures calm { OnOk result (K.faults sink.new ≡ K.faults sink.old) }
         ensures later { K.faults sink.old ≤ K.faults sink.new }
         ensures cause { IsErrOf result StreamFault.SinkFailed → Rose (K.faults sink.old) (K.faults sink.new) }
     {
-        match self.text.feed_step(line) {
-            Some(step) => self.play(&step.event(), sink),
-            None => self.feed_words(line, sink),
+        match self.text.feed_step(bytes) {
+            Some((step, taken)) => match self.play(&step.event(), sink) {
+                Ok(()) => Ok(taken),
+                Err(fault) => Err(fault),
+            },
+            None => self.feed_first(bytes, sink),
         }
     }
 
-    /// Takes the next bytes of the script, among which no line feed is, and then a line feed, as `feed` takes them one by one: by
-    /// the words of the line. It isn't inlined, since a step would pay for the room that this one takes on the stack.
+    /// The same, by the words of the line. It isn't inlined, since a step would pay for the room that this one takes on the stack.
     #[inline(never)]
+    fn feed_first<K: Sink>(&mut self, bytes: &[u8], sink: &mut K) -> Result<usize, StreamFault>
+        requires { IsReplay self.old }
+        ensures fits { IfOk result (λ taken. taken ≤ length bytes.now) }
+        ensures none { IfOk result (λ taken. taken ≡ 0 → HasNoFeed bytes.now) }
+        ensures ok { (text : List ℕ) → IsReplayOf text self.old → IfOk result (λ taken. IsReplayOf (text ++ take taken bytes.now) self.new × ShowsMore (shown text) (shown (text ++ take taken bytes.now)) (K.held sink.old) (K.held sink.new)) }
+        ensures refused { (text : List ℕ) → IsReplayOf text self.old → IfErr result (IsRefusedHere (text ++ bytes.now) (shown text)) }
+        ensures front { (text : List ℕ) → IsReplayOf text self.old → OnErr result (ShowsFront (shown text) (told (text ++ bytes.now)) (K.held sink.old) (K.held sink.new)) }
+        ensures silent { IfErr result (λ fault. fault ≢ Stopped.SinkFailed → sink.new ≡ sink.old) }
+        ensures calm { OnOk result (K.faults sink.new ≡ K.faults sink.old) }
+        ensures later { K.faults sink.old ≤ K.faults sink.new }
+        ensures cause { IsErrOf result StreamFault.SinkFailed → Rose (K.faults sink.old) (K.faults sink.new) }
+    {
+        let Some(end) = line_end(bytes) else {
+            return Ok(0);
+        };
+        match self.feed_words(&bytes[..end], sink) {
+            Ok(()) => Ok(end + 1),
+            Err(fault) => Err(fault),
+        }
+    }
+
+    /// Takes the next bytes of the script, among which no line feed is, and then a line feed, as `feed` takes them one by one.
     fn feed_words<K: Sink>(&mut self, line: &[u8], sink: &mut K) -> Result<(), StreamFault>
         requires replay { IsReplay self.old }
         requires line { HasNoFeed line.now }
@@ -291,7 +317,9 @@ impl Replayer {
         }
     }
 
-    /// Lets an event happen, and writes the report's lines of it.
+    /// Lets an event happen, and writes the report's lines of it. It is inlined, and so is all below it that a step needs: an event
+    /// that is handed over in memory costs more than most do.
+    #[inline(always)]
     fn play<K: Sink>(&mut self, event: &Event, sink: &mut K) -> Result<(), StreamFault>
         requires { IsDue self.old event.now }
         ensures ok { (events : List OneEvent) → IsWorldOf (script_with self.old.text.reader events) self.old.world → OnOk result
@@ -340,6 +368,7 @@ impl Replayer {
 }
 
 /// Lets an event happen on a world, and writes the report's lines that stand then.
+#[inline(always)]
 fn play_on<K: Sink>(world: &mut World, event: &Event, sink: &mut K) -> Result<(), StreamFault>
     requires { IsNext world.old event.now }
     ensures ok { OnOk result ((world.new ≡ printed (played world.old event.now)) × Put (K.held sink.old) (K.held sink.new) (flat_map line_text (lines_in (played world.old event.now)))) }
@@ -368,16 +397,6 @@ fn print_rest<K: Sink>(world: World, sink: &mut K) -> Result<(), StreamFault>
     let record = world.finish()?;
     print(&record, sink)?;
     Ok(())
-}
-
-/// The line that some bytes begin with, if a line feed ends one, and what follows it.
-fn next_line(bytes: &[u8]) -> Option<(&[u8], &[u8])>
-    ensures { MatchOption result (HasNoFeed bytes.now) (λ cut. (bytes.now ≡ cut.0.now ++ 10 ∷ cut.1.now) × HasNoFeed cut.0.now) }
-{
-    match line_end(bytes) {
-        Some(end) => Some((&bytes[..end], &bytes[end + 1..])),
-        None => None,
-    }
 }
 
 /// Where the first line feed stands.

@@ -1,7 +1,7 @@
 use Rattle.std.proofs.Common.{◌≡◌, ◌∙◌, ◌+◌, ◌++◌, ◌∷◌, [], ℕ, List, Ok, Option, Some, None, ap, append_assoc, eqb, length, refl, rules, subst, sym, take, true, unwrap_or}
 use Rattle.std.specs.Prelude.{IsErr}
 use Rattle.duplex_script.specs.Drafts.{times_event}
-use Rattle.line_script.specs.Fed.{Fed, StandsFor}
+use Rattle.line_script.specs.Fed.{Fed, HasNoFeed, StandsFor}
 use Rattle.line_script.specs.Lines.{after_line, text_line}
 use Rattle.line_script.specs.Steps.{short_line}
 use Rattle.line_script.specs.declared.step.Step.{Step}
@@ -37,3 +37,11 @@ returns-clause-stands c text events h x is =
     let front : text ++ take (length line + 1) bytes ≡ (text ++ line) ++ 10 ∷ [] = ap (λ t. text ++ t) (short_cut bytes line (sym c.in_ok-line.ensures)) ∙ sym (append_assoc text line (10 ∷ [])) in
     let stands : StandsFor (text ++ take (length line + 1) bytes) (events ++ times_event step.side step.verb step.n ∷ []) new = subst (λ t. StandsFor t (events ++ times_event step.side step.verb step.n ∷ []) new) (sym front) read in
     subst (λ (t : Step × ℕ). StandsFor (text ++ take t.1 bytes) (events ++ times_event t.0.side t.0.verb t.0.n ∷ []) new) (ap (λ (o : Option (Step × ℕ)). unwrap_or o (step, length line + 1)) is) stands
+
+pub returns-clause-line : goal.returns-clause-line
+returns-clause-line c x is =
+    let bytes = c.args.bytes.now in
+    let line = c.in_ok-line.line.now in
+    let step = c.in_ok-step.step in
+    let cut : (l : List ℕ) × (take (length line + 1) bytes ≡ l ++ 10 ∷ []) × HasNoFeed l = (line, short_cut bytes line (sym c.in_ok-line.ensures), (step_line line step c.in_ok-step.ensures.step.0).0) in
+    subst (λ (t : Step × ℕ). (l : List ℕ) × (take t.1 bytes ≡ l ++ 10 ∷ []) × HasNoFeed l) (ap (λ (o : Option (Step × ℕ)). unwrap_or o (step, length line + 1)) is) cut
