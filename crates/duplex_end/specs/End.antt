@@ -19,7 +19,7 @@ use Rattle.duplex_sender.specs.declared.Phase.TheVariants as phase
 use Rattle.duplex_sender.specs.declared.SendTurn.{SendTurn}
 use Rattle.duplex_sender.specs.declared.SendTurn.TheVariants as sends
 use Rattle.duplex_sender.specs.Sender.{SenderState, idle, phase_of, body_of, load, sent_last, on_ack, ack_fate, on_nak, nak_fate, on_tick, tick_turn}
-use Rattle.duplex_receiver.specs.Receiver.{ReceiverState, hearing, act_at, after_byte, body_at, is_good, response_for, Offers, Forgets, Again, Silent}
+use Rattle.duplex_receiver.specs.Receiver.{ReceiverState, hearing, act_at, after_byte, body_at, is_good, is_whole, response_for, Offers, Forgets, Again, Silent}
 use Rattle.embedded_response.specs.Giving.{Giving, Choice, nothing, offer, forget, answer_enq, ask, unask, begin, order, first_there, chosen, given, take}
 use Rattle.duplex_end.specs.declared.Setup.{Setup}
 
@@ -101,6 +101,34 @@ abbrev pub news_of : {H : Type 0} → Ghosts H → Option Fate → H → News
 news_of m None host = news.Nothing
 news_of m (Some what) host = m.news host what
 
+-- ---- an act
+
+-- the host after an act, before a fate is told
+abbrev pub host_at_act : {H : Type 0} → Ghosts H → EndState H → Act → H
+host_at_act m e what = host_after m what e.host (body_at e.receiver)
+
+-- the end after an act of its receiver: first the act's effect, then the fate is told
+abbrev pub answered : {H : Type 0} → Ghosts H → EndState H → Act → EndState H
+answered m e what =
+    let sender = sender_after what e.sender in
+    record {
+      receiver = e.receiver;
+      sender = sender;
+      mouth = dropped (phase_of e.sender) (phase_of sender) (responded what e.mouth);
+      sending = e.sending;
+      host = host_told m (fate_at what e.sender) (host_at_act m e what);
+    }
+
+-- what is told of an act
+abbrev pub answer_of : {H : Type 0} → Ghosts H → EndState H → Act → Step
+answer_of m e what = record {
+  act = what;
+  did = did_at m what e.host (body_at e.receiver);
+  news = news_of m (fate_at what e.sender) (host_at_act m e what);
+  whole = is_whole what;
+  station = 0;
+}
+
 -- ---- a byte
 
 -- the act at a byte
@@ -111,34 +139,22 @@ act_of_byte m e b = act_at (m.room_for e.host) 250 e.receiver b
 abbrev pub receiver_after : {H : Type 0} → Ghosts H → EndState H → ℕ → ReceiverState
 receiver_after m e b = after_byte (m.room_for e.host) 250 e.receiver b
 
+-- the end whose receiver has taken a byte, before the act's effect
+abbrev pub with_byte : {H : Type 0} → Ghosts H → EndState H → ℕ → EndState H
+with_byte m e b = record e { receiver = receiver_after m e b }
+
 -- the host after the act, before a fate is told
 abbrev pub host_at_byte : {H : Type 0} → Ghosts H → EndState H → ℕ → H
-host_at_byte m e b = host_after m (act_of_byte m e b) e.host (body_at (receiver_after m e b))
+host_at_byte m e b = host_at_act m (with_byte m e b) (act_of_byte m e b)
 
--- the end after a byte: first the act's effect, then the fate is told
+-- the end after a byte
 abbrev pub end_after_byte : {H : Type 0} → Ghosts H → EndState H → ℕ → EndState H
-end_after_byte m e b =
-    let what = act_of_byte m e b in
-    let sender = sender_after what e.sender in
-    record {
-      receiver = receiver_after m e b;
-      sender = sender;
-      mouth = dropped (phase_of e.sender) (phase_of sender) (responded what e.mouth);
-      sending = e.sending;
-      host = host_told m (fate_at what e.sender) (host_at_byte m e b);
-    }
+end_after_byte m e b = answered m (with_byte m e b) (act_of_byte m e b)
 
--- what is told of a byte
+-- what is told of a byte: a whole frame is one that is heard as good
 abbrev pub step_at_byte : {H : Type 0} → Ghosts H → EndState H → ℕ → Step
 step_at_byte m e b =
-    let what = act_of_byte m e b in
-    record {
-      act = what;
-      did = did_at m what e.host (body_at (receiver_after m e b));
-      news = news_of m (fate_at what e.sender) (host_at_byte m e b);
-      whole = is_good (hearing (m.room_for e.host) 250 e.receiver b).heard;
-      station = 0;
-    }
+    record (answer_of m (with_byte m e b) (act_of_byte m e b)) { whole = is_good (hearing (m.room_for e.host) 250 e.receiver b).heard }
 
 -- ---- a tick
 

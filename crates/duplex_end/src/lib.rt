@@ -24,13 +24,14 @@
 
 ghost use Rattle.std.specs.Prelude.{◌≡◌, ◌≤◌, ◌+◌, ◌↔◌, ◌∷◌, ◌++◌, [], ℕ, List, length, is_none, IsSome, IsTrue};
 ghost use Rattle.std.specs.Borrow.{Lends, sem};
+ghost use Rattle.df1_base.specs.Host.{IsBody};
 ghost use Rattle.df1_check.specs.declared.Check.{Check as CheckKind};
 ghost use Rattle.df1_frame.specs.Line.{ReadOff};
 ghost use Rattle.df1_frame.specs.Grammar.{full_duplex};
 ghost use Rattle.df1_frame.specs.Standing.{lent};
 ghost use Rattle.duplex_receiver.specs.Receiver.{body_at};
 ghost use Rattle.embedded_response.specs.Giving.{chosen, take};
-ghost use Rattle.duplex_end.specs.End.{new_end, with_host, end_after_byte, step_at_byte, end_after_tick, turn_at_tick, gone_at_tick, next_place, begun_next, prepared, given_next, end_after_take, out_at_take};
+ghost use Rattle.duplex_end.specs.End.{new_end, with_host, end_after_byte, step_at_byte, answered, answer_of, end_after_tick, turn_at_tick, gone_at_tick, next_place, begun_next, prepared, given_next, end_after_take, out_at_take};
 ghost use Rattle.duplex_end.specs.Joined.{most_left};
 ghost use Rattle.duplex_end.specs.Arrived.{StandsFor, HearsWhole};
 ghost use Rattle.duplex_end.specs.contracts.End.{the_row};
@@ -44,7 +45,7 @@ mod serving_tests;
 mod tests;
 
 use arrayvec::ArrayVec;
-use df1_base::{Host, Out, Step, Turn};
+use df1_base::{Act, Host, News, Out, Step, Turn};
 use df1_check::Check;
 use duplex_receiver::Receiver;
 use duplex_sender::{Limits, Phase, Sender};
@@ -123,26 +124,23 @@ impl<H: Host + Drop> End<H> {
 
     /// Takes a byte that was heard, in constant time, and says what the end made of it. `did` is there exactly at
     /// Accept, `news` is what the host answered to a fate that was decided here, `whole` says whether a good frame was
-    /// heard, and `station` is 0.
+    /// heard, and `station` is 0. It is inlined, since most bytes mean nothing, and such a byte costs a caller no call.
+    #[inline(always)]
     pub fn on_byte(&mut self, b: u8) -> Step
         ensures state { self.new ≡ end_after_byte H.Host self.old b }
         ensures step { result ≡ step_at_byte H.Host self.old b }
         ensures stands { (check : CheckKind) (bytes : List ℕ) → StandsFor check bytes self.old → StandsFor check (bytes ++ b ∷ []) self.new }
         ensures whole { (check : CheckKind) (bytes : List ℕ) → StandsFor check bytes self.old → IsTrue result.whole ↔ HearsWhole check (bytes ++ b ∷ []) }
     {
-        let act = self.receiver.on_byte(b, &self.host);
-        let did = take_in(&mut self.host, act, self.receiver.body());
-        respond(&mut self.mouth, act);
-        let before = self.sender.phase();
-        let fate = hear_peer(&mut self.sender, act);
-        drop_wish(&mut self.mouth, before, self.sender.phase());
-        let news = tell(&mut self.host, fate);
-        Step {
-            act,
-            did,
-            news,
-            whole: is_whole(act),
-            station: 0,
+        match self.receiver.on_byte(b, &self.host) {
+            Act::Nothing => Step {
+                act: Act::Nothing,
+                did: None,
+                news: News::Nothing,
+                whole: false,
+                station: 0,
+            },
+            act => self.answer_to(act),
         }
     }
 
@@ -202,6 +200,30 @@ impl<H: Host + Drop> End<H> {
         ensures { result.now ≡ self.now.sending }
     {
         &self.sending
+    }
+
+    /// Gives an act at the last byte heard its effect, and says what the end made of it. It isn't inlined, since it is
+    /// called at few bytes.
+    #[inline(never)]
+    fn answer_to(&mut self, act: Act) -> Step
+        requires body { act ≡ Act.Accept → IsBody (body_at self.old.receiver) }
+        requires room { act ≡ Act.Accept → IsTrue (H.room_for self.old.host (body_at self.old.receiver)) }
+        ensures state { self.new ≡ answered H.Host self.old act }
+        ensures step { result ≡ answer_of H.Host self.old act }
+    {
+        let did = take_in(&mut self.host, act, self.receiver.body());
+        respond(&mut self.mouth, act);
+        let before = self.sender.phase();
+        let fate = hear_peer(&mut self.sender, act);
+        drop_wish(&mut self.mouth, before, self.sender.phase());
+        let news = tell(&mut self.host, fate);
+        Step {
+            act,
+            did,
+            news,
+            whole: is_whole(act),
+            station: 0,
+        }
     }
 
     /// Begins a frame where nothing else is to be given.
