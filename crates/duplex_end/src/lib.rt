@@ -161,6 +161,8 @@ impl<H: Host + Drop> End<H> {
     }
 
     /// Gives the next byte, in constant time but for the beginning of a frame: None exactly where nothing is to be given.
+    /// It is inlined, as what it calls at each byte is, so that a byte costs no call.
+    #[inline(always)]
     pub fn take(&mut self) -> Option<Out>
         ensures state { self.new ≡ end_after_take H.Host self.old }
         ensures out { result ≡ out_at_take H.Host self.old }
@@ -227,6 +229,7 @@ impl<H: Host + Drop> End<H> {
     }
 
     /// Begins a frame where nothing else is to be given.
+    #[inline(always)]
     fn prepare(&mut self)
         ensures state { self.new ≡ prepared H.Host self.old }
         ensures no_more { most_left H.Host self.new ≤ most_left H.Host self.old }
@@ -237,7 +240,9 @@ impl<H: Host + Drop> End<H> {
         }
     }
 
-    /// Begins the frame of a sender that sends, or else that of a new message of the host.
+    /// Begins the frame of a sender that sends, or else that of a new message of the host. It isn't inlined, since few bytes
+    /// begin a frame.
+    #[inline(never)]
     fn begin_next(&mut self)
         requires { chosen self.old.mouth ≡ None }
         ensures state { self.new ≡ begun_next H.Host self.old }
@@ -260,6 +265,7 @@ impl<H: Host + Drop> End<H> {
     }
 
     /// Gives the next byte of what there is.
+    #[inline(always)]
     fn give(&mut self) -> Option<Out>
         ensures state { self.new ≡ given_next self.old }
         ensures out { result ≡ (take self.old.mouth).1 }

@@ -110,6 +110,7 @@ pub(crate) fn tick_sender<H: Host>(sender: &mut Sender, mouth: &mut Mouth, host:
 }
 
 /// Lets the sender wait where the last byte of a transmission was given.
+#[inline(always)]
 pub(crate) fn note_out(sender: &mut Sender, out: Option<Out>)
     requires { IsTrue (ends_here out) → phase_of sender.old ≡ Phase.Sending }
     ensures { sender.new ≡ after_out out sender.old }

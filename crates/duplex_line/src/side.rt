@@ -65,6 +65,7 @@ impl Side {
     }
 
     /// Gives the next byte, which joins the back of the queue, and answers it: None exactly where there is none.
+    #[inline(always)]
     pub fn take(&mut self, alloc: Global) -> Result<Option<u8>, NoMemory>
         ensures state { OnOk result (self.new ≡ after_take self.old) }
         ensures byte { IfOk result (λ byte. byte ≡ byte_taken self.old) }
@@ -95,6 +96,7 @@ impl Side {
     }
 
     /// Takes a byte that arrives, and says what the end made of it.
+    #[inline(always)]
     pub fn hear(&mut self, cell: &Cell) -> Step
         ensures state { self.new ≡ after_cell self.old cell.now }
         ensures step { result ≡ step_of self.old cell.now }

@@ -70,7 +70,9 @@ impl<const N: usize> Receiver<N> {
     }
 
     /// Takes a byte, and says what the receiver makes of it, in constant time. At Accept the host has room for the body,
-    /// which is lent until the next byte; to hand it over and to answer as the table says is the end's part.
+    /// which is lent until the next byte; to hand it over and to answer as the table says is the end's part. It is inlined,
+    /// since at most bytes there is nothing to do.
+    #[inline(always)]
     pub fn on_byte<H: Host>(&mut self, b: u8, host: &H) -> Act
         ensures state { self.new ≡ after_byte (H.room_for host.now) N self.old b }
         ensures act { result ≡ act_at (H.room_for host.now) N self.old b }
@@ -99,6 +101,7 @@ impl<const N: usize> Receiver<N> {
 }
 
 /// What is made of something heard, with the body that is lent there.
+#[inline(always)]
 fn act_on<H: Host>(filter: &mut Filter, heard: Option<Heard>, body: &[u8], host: &H) -> Act
     requires { heard ≡ Some Heard.Good → IsBody body.now }
     ensures act { result ≡ act_of filter.old (record { heard = heard; body = body.now; has_room = H.room_for host.now body.now }) }
@@ -118,7 +121,9 @@ fn act_on<H: Host>(filter: &mut Filter, heard: Option<Heard>, body: &[u8], host:
     }
 }
 
-/// A message with the kept key is a repeat; another is accepted, and its key kept, where there is room, else refused.
+/// A message with the kept key is a repeat; another is accepted, and its key kept, where there is room, else refused. It
+/// isn't inlined, since few bytes end a message.
+#[inline(never)]
 fn judge<H: Host>(filter: &mut Filter, body: &[u8], host: &H) -> Act
     requires { IsBody body.now }
     ensures act { result ≡ verdict_act (judged filter.old (record { body = body.now; has_room = H.room_for host.now body.now })) }

@@ -123,6 +123,7 @@ impl Mouth {
     }
 
     /// Whether nothing is to be given. At most 511 bytes are.
+    #[inline(always)]
     pub fn idle(&self) -> bool
         ensures value { result ≡ is_none (chosen self.now) }
         ensures gives { IsTrue result ↔ IsNone (take self.now).1 }
@@ -168,6 +169,7 @@ pub fn each_take_counts()
 {}
 
 /// Whether a unit of the frame is left.
+#[inline(always)]
 fn is_left(framer: &Option<Framer>) -> bool
     ensures left { result ≡ not (length (left_of framer.now) == 0) }
     ensures most { length (bytes_of (left_of framer.now)) ≤ 506 }
@@ -179,6 +181,7 @@ fn is_left(framer: &Option<Framer>) -> bool
 }
 
 /// The next unit of the frame, if one is left.
+#[inline(always)]
 fn next_unit(framer: &mut Option<Framer>) -> Option<Unit>
     ensures given { result ≡ slice_get (left_of framer.old) 0 }
     ensures left { left_of framer.new ≡ drop 1 (left_of framer.old) }
@@ -190,6 +193,7 @@ fn next_unit(framer: &mut Option<Framer>) -> Option<Unit>
 }
 
 /// Whether a response may stand here in the frame.
+#[inline(always)]
 fn may_embed(embed: bool, gap: bool, framer: &Option<Framer>) -> bool
     ensures { result ≡ (embed && (gap && not (length (left_of framer.now) == 0))) }
 {
@@ -197,6 +201,7 @@ fn may_embed(embed: bool, gap: bool, framer: &Option<Framer>) -> bool
 }
 
 /// Takes the response that waits, where it may be given.
+#[inline(always)]
 fn take_if(waiting: &mut Option<Resp>, may: bool) -> Option<Resp>
     ensures taken { result ≡ (if may then waiting.old else None) }
     ensures left { waiting.new ≡ (if may then None else waiting.old) }
@@ -205,6 +210,7 @@ fn take_if(waiting: &mut Option<Resp>, may: bool) -> Option<Resp>
 }
 
 /// Gives the first byte of a pair without marks, and keeps the second.
+#[inline(always)]
 fn begin_pair(second: &mut Option<Out>, code: u8) -> Out
     ensures out { result ≡ plain 16 }
     ensures second { second.new ≡ Some (plain code) }
@@ -214,6 +220,7 @@ fn begin_pair(second: &mut Option<Out>, code: u8) -> Out
 }
 
 /// Gives the first byte of a unit, and keeps the second of a pair, where none is kept.
+#[inline(always)]
 fn begin_unit(second: &mut Option<Out>, unit: Unit, number: u64) -> Out
     requires { second.old ≡ None }
     ensures out { result ≡ (unit_out unit unit.second number).0 }

@@ -38,7 +38,9 @@ impl World {
     }
 
     /// Does an event: one that may happen on this line; no end issues more than 65,535 commands, and the sum of the events,
-    /// with this one, is at most 5,000,000. Losing and altering take no memory.
+    /// with this one, is at most 5,000,000. Losing and altering take no memory. It is inlined, since an event may be one
+    /// byte alone.
+    #[inline(always)]
     pub fn step(&mut self, event: &Event) -> Result<(), NoMemory>
         requires { IsNext self.old event.now }
         ensures ok { OnOk result (self.new ≡ played self.old event.now) }
