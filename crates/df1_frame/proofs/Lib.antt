@@ -4,3 +4,4 @@ pub mod GatheredLemmas
 pub mod GrammarLemmas
 pub mod FrameLemmas
 pub mod RunLemmas
+pub mod DecoderRuns

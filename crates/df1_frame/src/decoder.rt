@@ -3,13 +3,12 @@
 ghost use Rattle.std.specs.Prelude.{◌≡◌, ◌≤◌, ℕ, List, [], ◌∷◌, ◌++◌, length, take, Option, Some};
 ghost use Rattle.df1_check.specs.declared.Check.{Check as CheckKind};
 ghost use Rattle.df1_frame.specs.declared.heard.Heard.{Heard as Told};
-ghost use Rattle.df1_frame.specs.declared.heard.Heard.TheVariants as heard;
 ghost use Rattle.df1_frame.specs.Line.{ReadOff, answers, last_heard};
 ghost use Rattle.df1_frame.specs.Grammar.{full_duplex};
 ghost use Rattle.df1_frame.specs.Gathered.{verdict};
 ghost use Rattle.df1_frame.specs.Standing.{Outside, AfterDle, Inside, InsideDle, AtCheck, decoding, held as held_of, held_at, lent, lent_at, is_inside, has_begun};
 ghost use Rattle.df1_frame.specs.Step.{left_by, next, outside_next, step};
-ghost use Rattle.df1_frame.specs.Runs.{heard_in_run, run_len, steps};
+ghost use Rattle.df1_frame.specs.Runs.{run_len, steps};
 ghost use Rattle.df1_frame.specs.View.{standing_of};
 
 use crate::Heard;
@@ -97,7 +96,6 @@ impl<const N: usize> Decoder<N> {
         ensures stands { (check : CheckKind) (before : List ℕ) → ReadOff (full_duplex check N) before (decoding check N) self.old
             → ReadOff (full_duplex check N) (before ++ take result bytes.now) (decoding check N) self.new }
         ensures value { self.new ≡ (steps (next N) self.old (take result bytes.now)).0 }
-        ensures heard { (steps (next N) self.old (take result bytes.now)).1 ≡ heard_in_run heard.Stray (is_inside self.old.standing) (take result bytes.now) }
     {
         match self.place {
             Place::Inside => {

@@ -1,6 +1,6 @@
 //! What holds of every list of bytes on a full-duplex line, and of frames in it. The functions do nothing.
 
-ghost use Rattle.std.specs.Prelude.{◌≡◌, ◌≢◌, ◌≤◌, ℕ, List, [], ◌∷◌, ◌++◌, length, Option, Some, None};
+ghost use Rattle.std.specs.Prelude.{◌≡◌, ◌≢◌, ◌≤◌, ℕ, List, [], ◌∷◌, ◌++◌, length, take, Option, Some, None};
 ghost use Rattle.df1_check.specs.declared.Check.TheVariants as check;
 ghost use Rattle.df1_frame.specs.declared.heard.Heard.{Heard};
 ghost use Rattle.df1_frame.specs.declared.heard.Heard.TheVariants as heard;
@@ -8,7 +8,9 @@ ghost use Rattle.df1_frame.specs.Line.{Splits, ReadOff, answers, last_heard};
 ghost use Rattle.df1_frame.specs.Spelling.{Piece, Spells, pieces_of};
 ghost use Rattle.df1_frame.specs.Units.{bytes_of, units};
 ghost use Rattle.df1_frame.specs.Grammar.{Item, Front, Nothing, full_duplex, good_answers};
-ghost use Rattle.df1_frame.specs.Standing.{lent};
+ghost use Rattle.df1_frame.specs.Standing.{Decoding, is_inside, lent};
+ghost use Rattle.df1_frame.specs.Step.{next};
+ghost use Rattle.df1_frame.specs.Runs.{heard_in_run, run_len, steps};
 
 use df1_check::Check;
 
@@ -25,6 +27,13 @@ pub fn one_split(check: Check)
 pub fn heard_stays(check: Check)
     ensures { (N : ℕ) (bytes more : List ℕ) (so_far : List (Option Heard)) → ReadOff (full_duplex check N) bytes (answers (full_duplex check N)) so_far →
         (later : List (Option Heard)) × (length later ≡ length more) × ReadOff (full_duplex check N) (bytes ++ more) (answers (full_duplex check N)) (so_far ++ later) }
+{}
+
+/// A run has the bytes before the first DLE where a decoder stands in a frame's body or outside a frame, and none elsewhere:
+/// in a body nothing is heard at them, and outside each is heard as Stray.
+pub fn heard_in_a_run()
+    ensures { (N : ℕ) (d : Decoding) (bytes : List ℕ) → let run : List ℕ = take (run_len d.standing bytes) bytes in
+        (steps (next N) d run).1 ≡ heard_in_run heard.Stray (is_inside d.standing) run }
 {}
 
 /// A frame with a body of 6 to N bytes, after whole items, is heard as the responses in it, each at its second byte,

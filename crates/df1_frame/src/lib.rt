@@ -17,7 +17,9 @@ pub use decoder::Decoder;
 pub use framer::{Framer, Unit, check_bytes};
 pub use gathered::Gathered;
 pub use heard::Heard;
-pub use laws::{frame_spells, heard_stays, one_split, round_trip, whole_frame, worked_frames};
+pub use laws::{
+    frame_spells, heard_in_a_run, heard_stays, one_split, round_trip, whole_frame, worked_frames,
+};
 pub use plain::plain_len;
 
 /// A second code that is read as NAK, and never sent.

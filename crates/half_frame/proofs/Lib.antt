@@ -2,4 +2,6 @@ pub mod TextLemmas
 pub mod SentLemmas
 pub mod WholeItems
 pub mod SlaveLemmas
+pub mod SlaveRuns
 pub mod MasterLemmas
+pub mod MasterRuns

@@ -22,13 +22,13 @@ pub use framer::{HalfFramer, Sent, marks_change_no_byte};
 pub use heard::{MasterHeard, SlaveHeard};
 pub use master_ear::MasterEar;
 pub use master_laws::{
-    heard_stays_at_the_master, one_split_at_the_master, pair_round_trip_at_the_master,
-    reply_round_trip, worked_replies,
+    heard_in_a_run_at_the_master, heard_stays_at_the_master, one_split_at_the_master,
+    pair_round_trip_at_the_master, reply_round_trip, worked_replies,
 };
 pub use slave_ear::SlaveEar;
 pub use slave_laws::{
-    heard_stays_at_a_slave, message_round_trip, one_split_at_a_slave, pair_round_trip_at_a_slave,
-    poll_round_trip, worked_messages,
+    heard_in_a_run_at_a_slave, heard_stays_at_a_slave, message_round_trip, one_split_at_a_slave,
+    pair_round_trip_at_a_slave, poll_round_trip, worked_messages,
 };
 
 /// Start of header: DLE SOH begins a master's message.

@@ -4,11 +4,10 @@ ghost use Rattle.std.specs.Prelude.{◌≡◌, ◌≤◌, ℕ, List, [], ◌∷�
 ghost use Rattle.df1_check.specs.declared.Check.{Check as CheckKind};
 ghost use Rattle.df1_frame.specs.Line.{ReadOff, answers, last_heard};
 ghost use Rattle.half_frame.specs.declared.heard.MasterHeard.{MasterHeard as Told};
-ghost use Rattle.half_frame.specs.declared.heard.MasterHeard.TheVariants as heard;
 ghost use Rattle.half_frame.specs.MasterGrammar.{master_hears};
 ghost use Rattle.half_frame.specs.MasterStanding.{Outside, listening, held as held_of, held_at, lent, lent_at, is_inside, has_begun};
 ghost use Rattle.half_frame.specs.MasterStep.{begun_by, next, outside_next, pair_next, step, text_next};
-ghost use Rattle.df1_frame.specs.Runs.{heard_in_run, steps};
+ghost use Rattle.df1_frame.specs.Runs.{steps};
 ghost use Rattle.half_frame.specs.Runs.{master_run_len};
 ghost use Rattle.half_frame.specs.TextStep.{text_step};
 ghost use Rattle.half_frame.specs.TextView.{within_of};
@@ -93,7 +92,6 @@ impl<const N: usize> MasterEar<N> {
         ensures stands { (check : CheckKind) (before : List ℕ) → ReadOff (master_hears check N) before (listening check N) self.old
             → ReadOff (master_hears check N) (before ++ take result bytes.now) (listening check N) self.new }
         ensures value { self.new ≡ (steps (next N) self.old (take result bytes.now)).0 }
-        ensures heard { (steps (next N) self.old (take result bytes.now)).1 ≡ heard_in_run heard.Stray (is_inside self.old.standing) (take result bytes.now) }
     {
         match self.place {
             Place::InText(TextPlace::Inside) => {

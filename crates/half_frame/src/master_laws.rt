@@ -1,13 +1,16 @@
 //! What holds of every list of bytes that the master hears, and of messages and pairs in it. The functions do nothing.
 
-ghost use Rattle.std.specs.Prelude.{◌≡◌, ◌≢◌, ◌≤◌, ℕ, List, [], ◌∷◌, ◌++◌, length, get_or, Option, Some, None};
+ghost use Rattle.std.specs.Prelude.{◌≡◌, ◌≢◌, ◌≤◌, ℕ, List, [], ◌∷◌, ◌++◌, length, get_or, take, Option, Some, None};
 ghost use Rattle.df1_check.specs.declared.Check.TheVariants as check;
 ghost use Rattle.half_frame.specs.declared.heard.MasterHeard.{MasterHeard};
 ghost use Rattle.half_frame.specs.declared.heard.MasterHeard.TheVariants as heard;
 ghost use Rattle.df1_frame.specs.Line.{Splits, ReadOff, answers, last_heard};
+ghost use Rattle.df1_frame.specs.Runs.{heard_in_run, steps};
 ghost use Rattle.half_frame.specs.Spelling.{reply_bytes, pair_bytes};
 ghost use Rattle.half_frame.specs.MasterGrammar.{Item, Front, Nothing, master_hears, reply_answers, pair_answers};
-ghost use Rattle.half_frame.specs.MasterStanding.{lent};
+ghost use Rattle.half_frame.specs.MasterStanding.{Listening, is_inside, lent};
+ghost use Rattle.half_frame.specs.MasterStep.{next};
+ghost use Rattle.half_frame.specs.Runs.{master_run_len};
 
 use df1_check::Check;
 
@@ -26,6 +29,13 @@ pub fn heard_stays_at_the_master(check: Check)
         (later : List (Option MasterHeard)) × (length later ≡ length more) × ReadOff (master_hears check N) (bytes ++ more) (answers (master_hears check N)) (so_far ++ later) }
     ensures at_each { (N : ℕ) (front rest : List ℕ) (b : ℕ) (all : List (Option MasterHeard)) → ReadOff (master_hears check N) (front ++ b ∷ rest) (answers (master_hears check N)) all
         → ReadOff (master_hears check N) (front ++ b ∷ []) (last_heard (master_hears check N)) (get_or all (length front) None) }
+{}
+
+/// A run has the bytes before the first DLE where the master's ear stands in a body or outside, and none elsewhere: in a body
+/// nothing is heard at them, and outside each is heard as Stray.
+pub fn heard_in_a_run_at_the_master()
+    ensures { (N : ℕ) (d : Listening) (bytes : List ℕ) → let run : List ℕ = take (master_run_len d.standing bytes) bytes in
+        (steps (next N) d run).1 ≡ heard_in_run heard.Stray (is_inside d.standing) run }
 {}
 
 /// A slave's message with a body of 6 to N bytes, after whole items, is heard as good at its last byte, and nothing

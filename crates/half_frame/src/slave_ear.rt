@@ -6,12 +6,11 @@ ghost use Rattle.df1_check.specs.Checks.{taken};
 ghost use Rattle.df1_frame.specs.Line.{ReadOff, answers, last_heard};
 ghost use Rattle.df1_frame.specs.Gathered.{Gathered as SoFar};
 ghost use Rattle.half_frame.specs.declared.heard.SlaveHeard.{SlaveHeard as Told};
-ghost use Rattle.half_frame.specs.declared.heard.SlaveHeard.TheVariants as heard;
 ghost use Rattle.half_frame.specs.Spelling.{station_head};
 ghost use Rattle.half_frame.specs.SlaveGrammar.{slave_hears};
 ghost use Rattle.half_frame.specs.SlaveStanding.{Outside, listening, held as held_of, held_at, lent, lent_at, is_inside, has_begun};
 ghost use Rattle.half_frame.specs.SlaveStep.{begun_by, header_next, next, outside_next, pair_next, station_next, step, text_next};
-ghost use Rattle.df1_frame.specs.Runs.{heard_in_run, steps};
+ghost use Rattle.df1_frame.specs.Runs.{steps};
 ghost use Rattle.half_frame.specs.Runs.{slave_run_len};
 ghost use Rattle.half_frame.specs.TextStep.{text_step};
 ghost use Rattle.half_frame.specs.TextView.{within_of};
@@ -106,7 +105,6 @@ impl<const N: usize> SlaveEar<N> {
         ensures stands { (check : CheckKind) (before : List ℕ) → ReadOff (slave_hears check N) before (listening check N) self.old
             → ReadOff (slave_hears check N) (before ++ take result bytes.now) (listening check N) self.new }
         ensures value { self.new ≡ (steps (next N) self.old (take result bytes.now)).0 }
-        ensures heard { (steps (next N) self.old (take result bytes.now)).1 ≡ heard_in_run heard.Stray (is_inside self.old.standing) (take result bytes.now) }
     {
         match self.place {
             Place::InText(_, TextPlace::Inside) => {

@@ -1,13 +1,16 @@
 //! What holds of every list of bytes that a slave hears, and of messages, polls and pairs in it. The functions do nothing.
 
-ghost use Rattle.std.specs.Prelude.{◌≡◌, ◌≢◌, ◌≤◌, ℕ, List, [], ◌∷◌, ◌++◌, length, get_or, Option, Some, None};
+ghost use Rattle.std.specs.Prelude.{◌≡◌, ◌≢◌, ◌≤◌, ℕ, List, [], ◌∷◌, ◌++◌, length, get_or, take, Option, Some, None};
 ghost use Rattle.df1_check.specs.declared.Check.TheVariants as check;
 ghost use Rattle.half_frame.specs.declared.heard.SlaveHeard.{SlaveHeard};
 ghost use Rattle.half_frame.specs.declared.heard.SlaveHeard.TheVariants as heard;
 ghost use Rattle.df1_frame.specs.Line.{Splits, ReadOff, answers, last_heard};
+ghost use Rattle.df1_frame.specs.Runs.{heard_in_run, steps};
 ghost use Rattle.half_frame.specs.Spelling.{message_bytes, poll_bytes, pair_bytes};
 ghost use Rattle.half_frame.specs.SlaveGrammar.{Item, Front, Nothing, slave_hears, message_answers, poll_answers, pair_answers};
-ghost use Rattle.half_frame.specs.SlaveStanding.{lent};
+ghost use Rattle.half_frame.specs.SlaveStanding.{Listening, is_inside, lent};
+ghost use Rattle.half_frame.specs.SlaveStep.{next};
+ghost use Rattle.half_frame.specs.Runs.{slave_run_len};
 
 use df1_check::Check;
 
@@ -26,6 +29,13 @@ pub fn heard_stays_at_a_slave(check: Check)
         (later : List (Option SlaveHeard)) × (length later ≡ length more) × ReadOff (slave_hears check N) (bytes ++ more) (answers (slave_hears check N)) (so_far ++ later) }
     ensures at_each { (N : ℕ) (front rest : List ℕ) (b : ℕ) (all : List (Option SlaveHeard)) → ReadOff (slave_hears check N) (front ++ b ∷ rest) (answers (slave_hears check N)) all
         → ReadOff (slave_hears check N) (front ++ b ∷ []) (last_heard (slave_hears check N)) (get_or all (length front) None) }
+{}
+
+/// A run has the bytes before the first DLE where a slave's ear stands in a body or outside, and none elsewhere: in a body
+/// nothing is heard at them, and outside each is heard as Stray.
+pub fn heard_in_a_run_at_a_slave()
+    ensures { (N : ℕ) (d : Listening) (bytes : List ℕ) → let run : List ℕ = take (slave_run_len d.standing bytes) bytes in
+        (steps (next N) d run).1 ≡ heard_in_run heard.Stray (is_inside d.standing) run }
 {}
 
 /// A message to a station with a body of 6 to N bytes, after whole items, is heard as its header at its fifth byte and

@@ -1,7 +1,6 @@
 -- A body for which there is room, and one that is too long.
-use Rattle.std.proofs.Common.{◌≡◌, ◌∙◌, sym, ap, take, arith}
-use Rattle.std.specs.List.{fold}
-use Rattle.df1_frame.specs.Gathered.{Gathered, gather}
+use Rattle.std.proofs.Common.{◌≡◌, sym, arith}
+use Rattle.df1_frame.specs.Gathered.{Gathered}
 use Rattle.df1_frame.proofs.RunLemmas.{gather-fits, gather-over}
 use Rattle.df1_frame.proofs.gathered.Gathered.gather_all.Goals as goal
 

@@ -1,11 +1,10 @@
 -- A run in a body, and one outside a message.
-use Rattle.std.proofs.Common.{◌≡◌, ◌≢◌, ◌∙◌, ℕ, ◌<◌, List, ◌++◌, None, Some, take, sym, ap, refl}
+use Rattle.std.proofs.Common.{◌≡◌, ◌∙◌, ℕ, ◌<◌, List, ◌++◌, None, Some, take, sym, ap}
 use Rattle.std.specs.List.{fold}
-use Rattle.std.proofs.lemmas.Bool.{ne_eqb}
 use Rattle.df1_check.specs.declared.Check.{Check}
 use Rattle.df1_frame.specs.Line.{ReadOff}
 use Rattle.df1_frame.specs.Gathered.{Gathered, gather}
-use Rattle.df1_frame.specs.Runs.{heard_in_run, plain_len, steps}
+use Rattle.df1_frame.specs.Runs.{plain_len, steps}
 use Rattle.df1_frame.proofs.RunLemmas.{ran-ended, ran-inside, ran-outside, stands-steps}
 use Rattle.half_frame.specs.declared.heard.SlaveHeard.TheVariants as heard
 use Rattle.half_frame.specs.declared.text.Place.{Place as TextPlace}
@@ -14,48 +13,33 @@ use Rattle.half_frame.specs.declared.slave_ear.Place.{Place}
 use Rattle.half_frame.specs.declared.slave_ear.Place.TheVariants as place
 use Rattle.half_frame.specs.TextStep.{Inside}
 use Rattle.half_frame.specs.SlaveGrammar.{slave_hears}
-use Rattle.half_frame.specs.SlaveStanding.{Standing, Outside, Ended, AtText, Listening, listening, is_inside}
+use Rattle.half_frame.specs.SlaveStanding.{Outside, Ended, AtText, Listening, listening}
 use Rattle.half_frame.specs.SlaveStep.{next}
 use Rattle.half_frame.specs.SlaveView.{standing_of}
 use Rattle.half_frame.proofs.SlaveLemmas.{machine, works}
+use Rattle.half_frame.proofs.SlaveRuns.{placed, each-outside, each-ended, each-inside}
 use Rattle.half_frame.proofs.slave_ear.SlaveEar.feed_run.Goals as goal
 
--- an ear that was seen to stand there, and its run
-record RanFrom (N : ℕ) (d d' : Listening) (run : List ℕ) : Type 0 where
-  value : d' ≡ (steps (next N) d run).0
-  heard : (steps (next N) d run).1 ≡ heard_in_run heard.Stray (is_inside d.standing) run
-
-abbrev placed : Check → Standing → Listening
-placed check standing = record { check = check; standing = standing }
-
-each-outside : (N : ℕ) (check : Check) (b : ℕ) → b ≢ 16 → next N (placed check Outside) b ≡ (placed check Outside, Some (heard.Stray b))
-each-outside N check b plain = rw (ne_eqb b 16 plain) refl
-
-each-ended : (N : ℕ) (check : Check) (body : List ℕ) (b : ℕ) → b ≢ 16 → next N (placed check (Ended body)) b ≡ (placed check Outside, Some (heard.Stray b))
-each-ended N check body b plain = rw (ne_eqb b 16 plain) refl
-
-each-inside : (N : ℕ) (check : Check) (stn : ℕ) (so_far : Gathered) (b : ℕ) → b ≢ 16 → next N (placed check (AtText stn (Inside so_far))) b ≡ (placed check (AtText stn (Inside (gather N so_far b))), None)
-each-inside N check stn so_far b plain = rw (ne_eqb b 16 plain) refl
-
+-- the value after a run, of an ear that was seen to stand there
 from-inside : (N : ℕ) (check : Check) (stn : ℕ) (so_far so_far' : Gathered) (d : Listening) (n : ℕ) (bytes : List ℕ) → n ≡ plain_len bytes → d ≡ placed check (AtText stn (Inside so_far)) → so_far' ≡ fold (gather N) so_far (take n bytes)
-    → RanFrom N d (placed check (AtText stn (Inside so_far'))) (take n bytes)
+    → placed check (AtText stn (Inside so_far')) ≡ (steps (next N) d (take n bytes)).0
 from-inside N check stn so_far so_far' d n bytes count is gathered =
     let r = ran-inside (next N) (λ (b : ℕ). None) N (λ (g : Gathered). placed check (AtText stn (Inside g))) (each-inside N check stn) so_far so_far' n bytes count gathered in
-    rw is (record { value = r.value; heard = r.said })
+    rw is r.value
 
-from-outside : (N : ℕ) (check : Check) (d : Listening) (n : ℕ) (bytes : List ℕ) → n ≡ plain_len bytes → d ≡ placed check Outside → RanFrom N d d (take n bytes)
+from-outside : (N : ℕ) (check : Check) (d : Listening) (n : ℕ) (bytes : List ℕ) → n ≡ plain_len bytes → d ≡ placed check Outside → d ≡ (steps (next N) d (take n bytes)).0
 from-outside N check d n bytes count is =
     let r = ran-outside (next N) (λ (b : ℕ). Some (heard.Stray b)) (placed check Outside) (each-outside N check) n bytes count in
-    rw is (record { value = r.value; heard = r.said })
+    rw is r.value
 
-from-ended : (N : ℕ) (check : Check) (body : List ℕ) (d : Listening) (n : ℕ) (bytes : List ℕ) → n ≡ plain_len bytes → d ≡ placed check (Ended body) → 0 < n → RanFrom N d (placed check Outside) (take n bytes)
+from-ended : (N : ℕ) (check : Check) (body : List ℕ) (d : Listening) (n : ℕ) (bytes : List ℕ) → n ≡ plain_len bytes → d ≡ placed check (Ended body) → 0 < n → placed check Outside ≡ (steps (next N) d (take n bytes)).0
 from-ended N check body d n bytes count is some =
     let r = ran-ended (next N) (λ (b : ℕ). Some (heard.Stray b)) (placed check (Ended body)) (placed check Outside) (each-ended N check body) (each-outside N check) n bytes count some in
-    rw is (record { value = r.value; heard = r.said })
+    rw is r.value
 
 -- and what it stands for
-ran-stands : (N : ℕ) (d d' : Listening) (run : List ℕ) → RanFrom N d d' run → (check : Check) (before : List ℕ) → ReadOff (slave_hears check N) before (listening check N) d → ReadOff (slave_hears check N) (before ++ run) (listening check N) d'
-ran-stands N d d' run r check before stands = rw r.value (stands-steps (slave_hears check N) (machine check N) (works check N) run before d stands)
+ran-stands : (N : ℕ) (d d' : Listening) (run : List ℕ) → d' ≡ (steps (next N) d run).0 → (check : Check) (before : List ℕ) → ReadOff (slave_hears check N) before (listening check N) d → ReadOff (slave_hears check N) (before ++ run) (listening check N) d'
+ran-stands N d d' run r check before stands = rw r (stands-steps (slave_hears check N) (machine check N) (works check N) run before d stands)
 
 pub returns-in-InText-default-Inside-clause-value : goal.returns-in-InText-default-Inside-clause-value
 returns-in-InText-default-Inside-clause-value g c =
@@ -63,15 +47,7 @@ returns-in-InText-default-Inside-clause-value g c =
     let is_text : c.self.inside.place ≡ place.InText c.in-InText-default-Inside.field-0 text.Inside = c.in-InText-default-Inside.is ∙ ap (λ (t : TextPlace). place.InText c.in-InText-default-Inside.field-0 t) inner in
     let is : c.args.self.now ≡ placed c.self.inside.check (AtText c.in-InText-default-Inside.field-0 (Inside c.self.inside.gathered)) = sym c.self.view_is ∙ ap (λ (p : Place). placed c.self.inside.check (standing_of p c.self.inside.gathered)) is_text in
     let ran = from-inside g.row.N c.self.inside.check c.in-InText-default-Inside.field-0 c.self.inside.gathered c.gather_all.new.self c.args.self.now c.plain_len-count.result c.args.bytes.now c.plain_len-count.ensures is c.gather_all.ensures in
-    rw is_text (ran.value)
-
-pub returns-in-InText-default-Inside-clause-heard : goal.returns-in-InText-default-Inside-clause-heard
-returns-in-InText-default-Inside-clause-heard g c =
-    let inner : c.in-InText-default-Inside.field-1 ≡ text.Inside = rw c.in-InText-default-Inside.is at c.in-InText-default-Inside.field-1-is in
-    let is_text : c.self.inside.place ≡ place.InText c.in-InText-default-Inside.field-0 text.Inside = c.in-InText-default-Inside.is ∙ ap (λ (t : TextPlace). place.InText c.in-InText-default-Inside.field-0 t) inner in
-    let is : c.args.self.now ≡ placed c.self.inside.check (AtText c.in-InText-default-Inside.field-0 (Inside c.self.inside.gathered)) = sym c.self.view_is ∙ ap (λ (p : Place). placed c.self.inside.check (standing_of p c.self.inside.gathered)) is_text in
-    let ran = from-inside g.row.N c.self.inside.check c.in-InText-default-Inside.field-0 c.self.inside.gathered c.gather_all.new.self c.args.self.now c.plain_len-count.result c.args.bytes.now c.plain_len-count.ensures is c.gather_all.ensures in
-    ran.heard
+    rw is_text ran
 
 pub returns-in-InText-default-Inside-clause-stands : goal.returns-in-InText-default-Inside-clause-stands
 returns-in-InText-default-Inside-clause-stands g c =
@@ -84,14 +60,7 @@ returns-in-InText-default-Inside-clause-stands g c =
 pub returns-in-Outside-clause-value : goal.returns-in-Outside-clause-value
 returns-in-Outside-clause-value g c =
     let is : c.args.self.now ≡ placed c.self.inside.check Outside = sym c.self.view_is ∙ ap (λ (p : Place). placed c.self.inside.check (standing_of p c.self.inside.gathered)) c.in-Outside.is in
-    let ran = from-outside g.row.N c.self.inside.check c.args.self.now c.plain_len.result c.args.bytes.now c.plain_len.ensures is in
-    ran.value
-
-pub returns-in-Outside-clause-heard : goal.returns-in-Outside-clause-heard
-returns-in-Outside-clause-heard g c =
-    let is : c.args.self.now ≡ placed c.self.inside.check Outside = sym c.self.view_is ∙ ap (λ (p : Place). placed c.self.inside.check (standing_of p c.self.inside.gathered)) c.in-Outside.is in
-    let ran = from-outside g.row.N c.self.inside.check c.args.self.now c.plain_len.result c.args.bytes.now c.plain_len.ensures is in
-    ran.heard
+    from-outside g.row.N c.self.inside.check c.args.self.now c.plain_len.result c.args.bytes.now c.plain_len.ensures is
 
 pub returns-in-Outside-clause-stands : goal.returns-in-Outside-clause-stands
 returns-in-Outside-clause-stands g c =
@@ -102,14 +71,7 @@ returns-in-Outside-clause-stands g c =
 pub returns-then-count-gt0-clause-value : goal.returns-then-count-gt0-clause-value
 returns-then-count-gt0-clause-value g c =
     let is : c.args.self.now ≡ placed c.self.inside.check (Ended c.self.inside.gathered.bytes) = sym c.self.view_is ∙ ap (λ (p : Place). placed c.self.inside.check (standing_of p c.self.inside.gathered)) c.in-Ended.is in
-    let ran = from-ended g.row.N c.self.inside.check c.self.inside.gathered.bytes c.args.self.now c.plain_len-count-in-Ended.result c.args.bytes.now c.plain_len-count-in-Ended.ensures is c.if-count-gt0.true in
-    ran.value
-
-pub returns-then-count-gt0-clause-heard : goal.returns-then-count-gt0-clause-heard
-returns-then-count-gt0-clause-heard g c =
-    let is : c.args.self.now ≡ placed c.self.inside.check (Ended c.self.inside.gathered.bytes) = sym c.self.view_is ∙ ap (λ (p : Place). placed c.self.inside.check (standing_of p c.self.inside.gathered)) c.in-Ended.is in
-    let ran = from-ended g.row.N c.self.inside.check c.self.inside.gathered.bytes c.args.self.now c.plain_len-count-in-Ended.result c.args.bytes.now c.plain_len-count-in-Ended.ensures is c.if-count-gt0.true in
-    ran.heard
+    from-ended g.row.N c.self.inside.check c.self.inside.gathered.bytes c.args.self.now c.plain_len-count-in-Ended.result c.args.bytes.now c.plain_len-count-in-Ended.ensures is c.if-count-gt0.true
 
 pub returns-then-count-gt0-clause-stands : goal.returns-then-count-gt0-clause-stands
 returns-then-count-gt0-clause-stands g c =
