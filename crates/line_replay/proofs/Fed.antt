@@ -1,13 +1,11 @@
 -- What a replay shows, event by event and byte by byte.
-use Rattle.std.proofs.Common.{◌≡◌, inl, inr, Bool, true, false, ℕ, ◌+◌, cond, List, [], ◌∷◌, ◌++◌, Option, Some, None, Result, Ok, Err, refl, sym, ap, subst, ◌∙◌, arith, append_assoc, append-nil}
-use Rattle.std.specs.Prelude.{◌≢◌, unwrap_or, OnErr, All, count_by, sum_by}
+use Rattle.std.proofs.Common.{◌≡◌, inl, inr, Bool, true, false, ℕ, List, [], ◌∷◌, ◌++◌, Option, Some, None, Result, Ok, Err, refl, sym, ap, subst, ◌∙◌, arith, append_assoc, append-nil, take}
+use Rattle.std.specs.Prelude.{◌≢◌, unwrap_or, OnErr}
 use Rattle.std.specs.List.{flat_map}
 use Rattle.std.proofs.lemmas.Grind.{flat_map-append}
-use Rattle.std.proofs.lemmas.List.Elements.{All-cons, All-head, All-nil, All-tail}
-use Rattle.std.proofs.lemmas.List.Sums.{sum_by-append, sum_by-cons}
+use Rattle.std.proofs.lemmas.List.Elements.{All-nil}
 use Rattle.df1_base.specs.Outside.{Put, WrotePart}
 use Rattle.std.proofs.KnownBytes.{Appends-nil, Appends-trans}
-use Rattle.line_statement.specs.declared.who.Who.TheVariants.{A, B}
 use Rattle.line_script.specs.declared.fault.Cause.{Cause}
 use Rattle.line_script.specs.declared.reader.Reader.{Reader}
 use Rattle.line_script.specs.declared.reader.Reader.TheVariants.{Full, Half}
@@ -24,9 +22,9 @@ use Rattle.script_parts.specs.HalfPlayable.{CanBePlayed, IsHalfPlayable}
 use Rattle.line_script.specs.ScriptText.{script_of}
 use Rattle.line_script.proofs.Setup.{Extends, TellsEvents, script-accepted}
 use Rattle.line_script.proofs.Shown.{shown-script, script-at-end, tells, front-of, front-by-byte, front-at-end, playable, playable-at-end}
-use Rattle.line_report.specs.Report.{line_text, word_text, deceived_text, report}
+use Rattle.line_report.specs.Report.{line_text, report}
 use Rattle.line_replay.specs.declared.world.World.{World}
-use Rattle.line_replay.specs.Runs.{IsNext, after_event, after_events, all_lines, begun, begun_in, last_world, lines_in, lines_of, lines_after, played, printed, record_from, record_of}
+use Rattle.line_replay.specs.Runs.{IsNext, after_event, after_events, all_lines, begun, begun_in, last_world, lines_in, lines_of, lines_after, played, record_of}
 use Rattle.line_replay.proofs.EitherMode.{after-behind, lines-behind, no-lines, report-from}
 use Rattle.line_replay.proofs.Next.{next-at}
 use Rattle.line_replay.specs.declared.replayer.StreamFault.{StreamFault}
@@ -379,3 +377,32 @@ pub unchanged : {K : Type 0} (sink sink' : K) (fault : StreamFault) (held : K �
 unchanged sink sink' (stream.At line cause) held P same failed p = subst (λ k. P (held k)) (sym (same (λ is. cc))) p
 unchanged sink sink' stream.SinkFailed held P same failed p = failed refl
 unchanged sink sink' stream.NoMemory held P same failed p = subst (λ k. P (held k)) (sym (same (λ is. cc))) p
+
+-- what is refused stays so, whatever follows
+pub refused-behind : (whole rest written : List ℕ) (fault : StreamFault) → IsRefusedHere whole written fault → IsRefusedHere (whole ++ rest) written fault
+refused-behind whole rest written (stream.At line cause) refused = λ more.
+    let same : (whole ++ rest) ++ more ≡ whole ++ (rest ++ more) = append_assoc whole rest more in
+    let at = refused (rest ++ more) in
+    (ap script_of same ∙ at.0, ap told same ∙ at.1)
+refused-behind whole rest written stream.SinkFailed refused = tt
+refused-behind whole rest written stream.NoMemory refused = tt
+
+-- ---- more of the rest is taken
+
+pub some-taken : (text front rest : List ℕ) (n : ℕ) (r : Replaying) (a b c : Option (List ℕ)) → ShowsMore (shown text) (shown (text ++ front)) a b
+    → IsReplayOf ((text ++ front) ++ take n rest) r × ShowsMore (shown (text ++ front)) (shown ((text ++ front) ++ take n rest)) b c
+    → IsReplayOf (text ++ (front ++ take n rest)) r × ShowsMore (shown text) (shown (text ++ (front ++ take n rest))) a c
+some-taken text front rest n r a b c so_far now =
+    let all = sym (append_assoc text front (take n rest)) in (
+      subst (λ (t : List ℕ). IsReplayOf t r) (sym all) now.0,
+      subst (λ (t : List ℕ). ShowsMore (shown text) (shown t) a c) (sym all) (shows-behind (shown text) (shown (text ++ front)) (shown ((text ++ front) ++ take n rest)) a b c so_far now.1),
+    )
+
+pub none-taken : (text front rest : List ℕ) (n : ℕ) (r : Replaying) (a b c : Option (List ℕ)) → n ≡ 0 → ShowsMore (shown text) (shown (text ++ front)) a b
+    → IsReplayOf ((text ++ front) ++ take n rest) r × ShowsMore (shown (text ++ front)) (shown ((text ++ front) ++ take n rest)) b c
+    → IsReplayOf (text ++ front) r × ShowsMore (shown text) (shown (text ++ front)) a c
+none-taken text front rest n r a b c zero so_far now =
+    let same : (text ++ front) ++ take n rest ≡ text ++ front = ap (λ k. (text ++ front) ++ take k rest) zero ∙ append-nil (text ++ front) in (
+      subst (λ (t : List ℕ). IsReplayOf t r) same now.0,
+      subst (λ (t : List ℕ). ShowsMore (shown text) (shown t) a c) same (shows-behind (shown text) (shown (text ++ front)) (shown ((text ++ front) ++ take n rest)) a b c so_far now.1),
+    )

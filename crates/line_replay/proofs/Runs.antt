@@ -1,5 +1,5 @@
 -- A run of bytes without a line feed: a replay that holds it stands for the text with it, and no more is shown.
-use Rattle.std.proofs.Common.{◌≡◌, ◌∙◌, ℕ, ◌+◌, ◌-◌, ◌<◌, suc, Bool, eqb, List, [], ◌∷◌, ◌++◌, Some, None, inl, inr, length, take, drop, get_or, ap, arith, refl, sym, subst, append_assoc, drop-cons}
+use Rattle.std.proofs.Common.{◌≡◌, ◌∙◌, ℕ, zero, suc, ◌+◌, ◌-◌, ◌<◌, Bool, eqb, List, [], ◌∷◌, ◌++◌, Some, None, inl, inr, length, take, drop, get_or, ap, arith, refl, sym, subst, append_assoc, drop-cons}
 use Rattle.std.specs.List.{position, position_or_len}
 use Rattle.std.proofs.Math.Numerals.{suc-eq-add-one}
 use Rattle.std.proofs.lemmas.Bool.{cases_lt, eqb-true, lt-ltb}
@@ -74,3 +74,34 @@ no-feed bytes none = elim (cases_lt (position_or_len is_feed bytes) (length byte
   | inl lt ↦ let some : position is_feed bytes ≡ Some (position_or_len is_feed bytes) = rw (lt-ltb (position_or_len is_feed bytes) (length bytes) lt) refl in let no : Some (position_or_len is_feed bytes) ≡ None = sym some ∙ none in cc
   | inr le ↦ list_any_none is_feed bytes (λ k d lt. fails_before_first is_feed bytes k d (omega arith))
 ]
+
+-- ---- the first line of some bytes
+
+take-one-more : (i : ℕ) (bytes : List ℕ) → i < length bytes → take (suc i) bytes ≡ take i bytes ++ get_or bytes i 0 ∷ []
+take-one-more i [] lt = absurd (omega (arith, lt))
+take-one-more zero (b ∷ bytes) lt = refl
+take-one-more (suc i) (b ∷ bytes) lt = ap (λ t. b ∷ t) (take-one-more i bytes (omega (arith, lt)))
+
+-- the first line with its line feed, behind a text
+pub line-behind : (text bytes : List ℕ) (i : ℕ) → position is_feed bytes ≡ Some i → text ++ take (i + 1) bytes ≡ (text ++ take i bytes) ++ 10 ∷ []
+line-behind text bytes i found =
+    let at = position-Some is_feed bytes i 0 found in
+    let feed : get_or bytes i 0 ≡ 10 = eqb-true (get_or bytes i 0) 10 at.1 in
+    let whole : take (i + 1) bytes ≡ take i bytes ++ 10 ∷ [] = ap (λ n. take n bytes) (sym (suc-eq-add-one i)) ∙ take-one-more i bytes at.0 ∙ ap (λ b. take i bytes ++ b ∷ []) feed in
+    ap (λ t. text ++ t) whole ∙ sym (append_assoc text (take i bytes) (10 ∷ []))
+
+-- a first line of the bytes, and what stands behind its line feed
+pub line-and-rest : (text bytes line : List ℕ) (n : ℕ) → take n bytes ≡ line ++ 10 ∷ [] → text ++ bytes ≡ (text ++ line) ++ 10 ∷ drop n bytes
+line-and-rest text bytes line n cut =
+    ap (λ b. text ++ b) (sym (take-append-drop n bytes) ∙ ap (λ t. t ++ drop n bytes) cut ∙ append_assoc line (10 ∷ []) (drop n bytes)) ∙ sym (append_assoc text line (10 ∷ drop n bytes))
+
+pub line-whole : (text bytes line : List ℕ) (n : ℕ) → take n bytes ≡ line ++ 10 ∷ [] → text ++ take n bytes ≡ (text ++ line) ++ 10 ∷ []
+line-whole text bytes line n cut = ap (λ t. text ++ t) cut ∙ sym (append_assoc text line (10 ∷ []))
+
+-- ---- what is taken of the rest
+
+pub taken-here : (front rest bytes : List ℕ) (n : ℕ) → bytes ≡ front ++ rest → bytes ≡ (front ++ take n rest) ++ drop n rest
+taken-here front rest bytes n is = is ∙ ap (λ r. front ++ r) (sym (take-append-drop n rest)) ∙ sym (append_assoc front (take n rest) (drop n rest))
+
+pub taken-first : (bytes : List ℕ) (i : ℕ) → position is_feed bytes ≡ Some i → take (i + 1) bytes ≡ take i bytes ++ 10 ∷ []
+taken-first bytes i found = line-behind [] bytes i found

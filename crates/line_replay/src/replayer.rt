@@ -1,5 +1,5 @@
 //! Replaying while reading: a script comes byte by byte, and the report's lines of an event line are written where it ends.
-ghost use Rattle.std.specs.Prelude.{◌≡◌, ◌≢◌, ◌≤◌, ◌+◌, ◌∷◌, ◌++◌, ℕ, List, [], Some, OnOk, OnErr, IfErr, IsErrOf, MatchOption, length, position, ◌==◌};
+ghost use Rattle.std.specs.Prelude.{◌≡◌, ◌≢◌, ◌≤◌, ◌+◌, ◌∷◌, ◌++◌, ℕ, List, [], Some, OnOk, OnErr, IfOk, IfErr, IsErrOf, length, position, take, ◌==◌};
 ghost use Rattle.df1_base.specs.Outside.{Rose, Put, WrotePart};
 ghost use Rattle.script_parts.specs.declared.script.Event.{Event as OneEvent};
 ghost use Rattle.line_replay.specs.declared.replayer.StreamFault.{StreamFault as Stopped};

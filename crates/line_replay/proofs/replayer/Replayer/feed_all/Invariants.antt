@@ -3,8 +3,8 @@ use Rattle.std.proofs.Common.{◌≡◌, ℕ, List, ◌++◌, length}
 use Rattle.line_replay.specs.Fed.{IsReplay, IsReplayOf, ShowsMore, shown}
 use Rattle.line_replay.proofs.replayer.Replayer.feed_all.Given as goal
 
-abbrev pub invariant-loop-line : goal.invariant-loop-line
-invariant-loop-line g l = record {
+abbrev pub invariant-loop-self : goal.invariant-loop-self
+invariant-loop-self g l = record {
   replay : IsReplay l.self;
   front : List ℕ;
   bytes_are : l.fn.bytes ≡ front ++ l.rest;
@@ -13,5 +13,5 @@ invariant-loop-line g l = record {
   calm : g.K.Sink.faults l.sink ≡ g.K.Sink.faults l.fn.sink;
 }
 
-abbrev pub decreases-loop-line : goal.decreases-loop-line
-decreases-loop-line g l = length l.rest
+abbrev pub decreases-loop-self : goal.decreases-loop-self
+decreases-loop-self g l = length l.rest

@@ -1,4 +1,4 @@
-use Rattle.std.proofs.Common.{◌≡◌, ◌∙◌, OnOk, Some, List, ℕ, ap, subst, sym}
+use Rattle.std.proofs.Common.{◌≡◌, ◌∙◌, OnOk, Some, List, ℕ, ap, subst}
 use Rattle.df1_base.specs.Outside.{Put, WrotePart}
 use Rattle.df1_base.proofs.Laws.{wrote_none}
 use Rattle.line_script.specs.Lines.{script_with}
