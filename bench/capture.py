@@ -82,7 +82,6 @@ def main():
         capture = os.path.join(folder, "capture")
         for kind in ("frames", "noise"):
             for command, check in CASES:
-                # In a process of its own: a run's peak counts what its parent holds.
                 subprocess.run([sys.executable, os.path.abspath(__file__), "--write", kind, check, capture], check=True)
                 # 1 is for a capture with a fault of the line, or with an item that its end cuts off.
                 taken, used, peak = timed.run_used(program, [command, "full", check], capture, os.devnull, ends=(0, 1))

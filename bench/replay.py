@@ -115,7 +115,7 @@ def events(text):
 
 
 def made(name, path):
-    """Writes a script and answers its events, in a process of its own: a run's peak counts what its parent holds."""
+    """Writes a script and answers its events."""
     code = subprocess.run([sys.executable, os.path.abspath(__file__), "--write", name, path], stdout=subprocess.PIPE, check=True)
     return int(code.stdout)
 

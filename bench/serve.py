@@ -39,7 +39,6 @@ def main():
         return
     program = timed.program()
     with tempfile.TemporaryDirectory() as folder:
-        # In a process of its own: a run's peak counts what its parent holds.
         subprocess.run([sys.executable, os.path.abspath(__file__), "--write", os.path.join(folder, "line")], check=True)
         with open(os.path.join(folder, "plan"), "w") as file:
             file.write(PLAN)

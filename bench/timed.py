@@ -1,7 +1,9 @@
 """What the benchmarks share: the program that they time, and a run of it."""
 import os
+import re
 import subprocess
 import sys
+import threading
 import time
 
 
@@ -21,13 +23,32 @@ def run(path, words, given, written, folder=None, ends=(0,)):
     return taken, peak
 
 
+def watch(pid, samples):
+    """Adds the most KiB that a process has held so far, each millisecond until it ends. What wait4 tells wouldn't do: a process
+    counts there what its parent held as it was made."""
+    while True:
+        try:
+            with open(f"/proc/{pid}/status") as status:
+                found = re.search(r"^VmHWM:\s+(\d+)", status.read(), re.MULTILINE)
+        except OSError:
+            return
+        if not found:
+            return
+        samples.append(int(found[1]))
+        time.sleep(0.001)
+
+
 def run_used(path, words, given, written, folder=None, ends=(0,)):
     """The same, and answers the seconds of a processor too, before the KiB."""
+    samples = []
     with open(given, "rb") as source, open(written, "wb") as sink:
         start = time.perf_counter()
         child = subprocess.Popen([path, *words], stdin=source, stdout=sink, cwd=folder)
+        watcher = threading.Thread(target=watch, args=(child.pid, samples))
+        watcher.start()
         _, status, usage = os.wait4(child.pid, 0)
         taken = time.perf_counter() - start
+    watcher.join()
     if os.waitstatus_to_exitcode(status) not in ends:
         sys.exit(f"{sys.argv[0]}: {path} ended with {os.waitstatus_to_exitcode(status)}")
-    return taken, usage.ru_utime + usage.ru_stime, usage.ru_maxrss
+    return taken, usage.ru_utime + usage.ru_stime, samples[-1] if samples else 0
