@@ -119,7 +119,7 @@ impl TextReader {
         ensures refused { result ≡ None → self.old.line ≡ [] → (line more : List ℕ) (step : OneStep) → bytes.now ≡ line ++ 10 ∷ more → step_before line ≡ Some step
             → IsErr (after_line self.old.reader (text_line self.old.start line true)) }
         ensures fits { ForSome result (λ taken. (1 ≤ taken.1) × (taken.1 ≤ length bytes.now)) }
-        ensures line { ForSome result (λ taken. (line : List ℕ) × (take taken.1 bytes.now ≡ line ++ 10 ∷ []) × HasNoFeed line) }
+        ensures line { ForSome result (λ taken. (line : List ℕ) × (take taken.1 bytes.now ≡ line ++ 10 ∷ []) × HasNoFeed line × (step_before line ≡ Some taken.0)) }
         ensures stands { (text : List ℕ) (events : List OneEvent) → StandsFor text events self.old →
             ForSome result (λ taken. StandsFor (text ++ take taken.1 bytes.now) (events ++ times_event taken.0.side taken.0.verb taken.0.n ∷ []) self.new) }
     {

@@ -3,7 +3,7 @@ use Rattle.std.specs.Prelude.{IsErr}
 use Rattle.duplex_script.specs.Drafts.{times_event}
 use Rattle.line_script.specs.Fed.{Fed, HasNoFeed, StandsFor}
 use Rattle.line_script.specs.Lines.{after_line, text_line}
-use Rattle.line_script.specs.Steps.{short_line}
+use Rattle.line_script.specs.Steps.{short_line, step_before}
 use Rattle.line_script.specs.declared.step.Step.{Step}
 use Rattle.line_script.proofs.Runs.{is-empty, line-read-whole}
 use Rattle.line_script.proofs.StepLines.{short_cut, step_line}
@@ -20,7 +20,7 @@ returns-in_err-step-clause-refused c none empty line more step bytes is =
     let same : line ≡ read = ap (λ o. unwrap_or o line) found in
     subst (λ (r : Fed). IsErr (after_line r.reader (text_line r.start line true))) c.self.view_is
     (subst (λ (l : List ℕ). IsErr (after_line c.self.inside.reader (text_line c.self.inside.start l true))) (sym same)
-    (c.in_err-step.ensures.refused refl step (ap (λ l. Rattle.line_script.specs.Steps.step_before l) (sym same) ∙ is)))
+    (c.in_err-step.ensures.refused refl step (ap step_before (sym same) ∙ is)))
 
 pub returns-clause-stands : goal.returns-clause-stands
 returns-clause-stands c text events h x is =
@@ -43,5 +43,7 @@ returns-clause-line c x is =
     let bytes = c.args.bytes.now in
     let line = c.in_ok-line.line.now in
     let step = c.in_ok-step.step in
-    let cut : (l : List ℕ) × (take (length line + 1) bytes ≡ l ++ 10 ∷ []) × HasNoFeed l = (line, short_cut bytes line (sym c.in_ok-line.ensures), (step_line line step c.in_ok-step.ensures.step.0).0) in
-    subst (λ (t : Step × ℕ). (l : List ℕ) × (take t.1 bytes ≡ l ++ 10 ∷ []) × HasNoFeed l) (ap (λ (o : Option (Step × ℕ)). unwrap_or o (step, length line + 1)) is) cut
+    let known = c.in_ok-step.ensures.step.0 in
+    let cut : (l : List ℕ) × (take (length line + 1) bytes ≡ l ++ 10 ∷ []) × HasNoFeed l × (step_before l ≡ Some step) =
+    (line, short_cut bytes line (sym c.in_ok-line.ensures), (step_line line step known).0, known) in
+    subst (λ (t : Step × ℕ). (l : List ℕ) × (take t.1 bytes ≡ l ++ 10 ∷ []) × HasNoFeed l × (step_before l ≡ Some t.0)) (ap (λ (o : Option (Step × ℕ)). unwrap_or o (step, length line + 1)) is) cut
