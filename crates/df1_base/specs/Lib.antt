@@ -1,5 +1,6 @@
 pub mod Feed
 pub mod Host
+pub mod HostAnswers
 pub mod InMemory
 pub mod Outside
 pub mod PortLaws

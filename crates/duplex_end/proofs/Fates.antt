@@ -6,12 +6,13 @@ use Rattle.df1_base.specs.declared.host.Fate.{Fate}
 use Rattle.df1_base.specs.declared.host.Fate.TheVariants as fate
 use Rattle.df1_base.specs.declared.link.Act.{Act}
 use Rattle.df1_base.specs.declared.link.Act.TheVariants as act
+use Rattle.df1_base.specs.HostAnswers.{host_told}
 use Rattle.duplex_sender.specs.declared.Limits.{Limits}
 use Rattle.duplex_sender.specs.declared.Phase.TheVariants as phase
 use Rattle.duplex_sender.specs.declared.SendTurn.TheVariants as sends
 use Rattle.duplex_sender.specs.Sender.{SenderState, Activity, Idle, Sending, Waiting, phase_of, load, sent_last, on_tick, tick_turn}
 use Rattle.embedded_response.specs.Giving.{begin, take, given}
-use Rattle.duplex_end.specs.End.{EndState, Place, OfMouth, FrameAgain, FrameOfNew, next_place, taken, sender_after, fate_at, ends_here, act_of_byte, host_after, host_told, host_at_byte, fate_of_tick, host_at_tick}
+use Rattle.duplex_end.specs.End.{EndState, Place, OfMouth, FrameAgain, FrameOfNew, next_place, taken, sender_after, fate_at, ends_here, act_of_byte, host_after, host_at_byte, fate_of_tick, host_at_tick}
 use Rattle.duplex_end.specs.Emission.{Letter, Byte, Tick, Take, end_after, end_after_all}
 use Rattle.duplex_end.specs.Fates.{Event, HandedOut, Told, told, handed_out, events_at, events, InTurn, ends, hands_out, tells, has_message}
 use Rattle.duplex_end.proofs.Order.{new-next}

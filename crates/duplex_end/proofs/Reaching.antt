@@ -6,6 +6,7 @@ use Rattle.df1_base.specs.declared.host.Fate.{Fate}
 use Rattle.df1_base.specs.declared.link.Act.{Act}
 use Rattle.df1_base.specs.declared.link.Act.TheVariants as act
 use Rattle.df1_base.specs.Host.{IsBody}
+use Rattle.df1_base.specs.HostAnswers.{host_told}
 use Rattle.df1_check.specs.declared.Check.{Check}
 use Rattle.duplex_sender.specs.declared.Limits.{Limits}
 use Rattle.duplex_sender.specs.declared.Phase.{Phase}
@@ -17,7 +18,7 @@ use Rattle.duplex_receiver.specs.Receiver.{Response, Offers, Forgets, Again, Sil
 use Rattle.duplex_receiver.proofs.Accepting.{accepts-body, lent-fits}
 use Rattle.embedded_response.specs.Giving.{Giving, offer, forget, answer_enq, unask, chosen}
 use Rattle.duplex_end.specs.declared.Setup.{Setup}
-use Rattle.duplex_end.specs.End.{EndState, Place, OfMouth, FrameAgain, FrameOfNew, next_place, taken, new_end, with_host, sender_after, responded, asked, is_waiting, act_of_byte, receiver_after, host_after, host_told, host_at_byte, host_at_tick, fate_at, fate_of_tick, end_after_byte, end_after_tick, end_after_take, begun_at, begun_next, prepared}
+use Rattle.duplex_end.specs.End.{EndState, Place, OfMouth, FrameAgain, FrameOfNew, next_place, taken, new_end, with_host, sender_after, responded, asked, is_waiting, act_of_byte, receiver_after, host_after, host_at_byte, host_at_tick, fate_at, fate_of_tick, end_after_byte, end_after_tick, end_after_take, begun_at, begun_next, prepared}
 use Rattle.duplex_end.specs.Joined.{Joined, IsShort}
 use Rattle.duplex_end.specs.Emission.{Letter, Byte, Tick, Take, end_after}
 use Rattle.duplex_end.specs.Reached.{Reached, begins, goes_on, changes, BodiesFit}

@@ -13,6 +13,7 @@ use Rattle.df1_base.specs.declared.link.Out.{Out}
 use Rattle.df1_base.specs.declared.link.Step.{Step}
 use Rattle.df1_base.specs.declared.link.Turn.{Turn}
 use Rattle.df1_base.specs.declared.link.Turn.TheVariants as turn
+use Rattle.df1_base.specs.HostAnswers.{did_at, host_told, news_of}
 use Rattle.df1_frame.specs.Standing.{Outside}
 use Rattle.duplex_sender.specs.declared.Phase.{Phase}
 use Rattle.duplex_sender.specs.declared.Phase.TheVariants as phase
@@ -81,25 +82,10 @@ ends_here (Some out) = is_some out.last_of
 abbrev pub after_out : Option Out → SenderState → SenderState
 after_out out s = if ends_here out then sent_last s else s
 
--- what the host did with an accepted body
-abbrev pub did_at : {H : Type 0} → Ghosts H → Act → H → List ℕ → Option Did
-did_at m act.Accept host body = Some (m.did host body)
-did_at m _ host body = None
-
 -- the host takes an accepted body
 abbrev pub host_after : {H : Type 0} → Ghosts H → Act → H → List ℕ → H
 host_after m act.Accept host body = m.after_accept host body
 host_after m _ host body = host
-
--- a fate is told to the host
-abbrev pub host_told : {H : Type 0} → Ghosts H → Option Fate → H → H
-host_told m None host = host
-host_told m (Some what) host = m.after_told host what
-
--- what the host answers to that
-abbrev pub news_of : {H : Type 0} → Ghosts H → Option Fate → H → News
-news_of m None host = news.Nothing
-news_of m (Some what) host = m.news host what
 
 -- ---- an act
 

@@ -2,9 +2,10 @@
 
 ghost use Rattle.std.specs.Prelude.{◌≡◌, ◌≤◌, length, IsTrue};
 ghost use Rattle.df1_base.specs.Host.{IsBody};
+ghost use Rattle.df1_base.specs.HostAnswers.{did_at, host_told, news_of};
 ghost use Rattle.duplex_receiver.specs.Receiver.{is_whole as is_whole_act};
 ghost use Rattle.duplex_sender.specs.Sender.{phase_of, on_tick, tick_turn};
-ghost use Rattle.duplex_end.specs.End.{sender_after, fate_at, responded, dropped, ends_here, after_out, did_at, host_after, fate_of_tick, host_told, news_of, asked, turn_told};
+ghost use Rattle.duplex_end.specs.End.{sender_after, fate_at, responded, dropped, ends_here, after_out, host_after, fate_of_tick, asked, turn_told};
 
 use arrayvec::ArrayVec;
 use df1_base::{Act, Did, Fate, Host, News, Out, Resp, Turn};

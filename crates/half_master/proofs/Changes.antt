@@ -11,6 +11,7 @@ use Rattle.df1_base.specs.declared.link.Act.{Act}
 use Rattle.df1_base.specs.declared.link.Act.TheVariants as act
 use Rattle.df1_base.specs.declared.link.Turn.{Turn}
 use Rattle.df1_base.specs.declared.link.Turn.TheVariants as turn
+use Rattle.df1_base.specs.HostAnswers.{host_told, news_of}
 use Rattle.half_frame.specs.declared.heard.MasterHeard.{MasterHeard}
 use Rattle.half_frame.specs.declared.heard.MasterHeard.TheVariants as heard
 use Rattle.half_mouth.specs.Giving.{is_done}
@@ -22,7 +23,7 @@ use Rattle.half_master.specs.declared.table.Phase.TheVariants as phase
 use Rattle.half_master.specs.declared.table.Effect.{Effect}
 use Rattle.half_master.specs.declared.table.Effect.TheVariants as effect
 use Rattle.half_master.specs.Stations.{is_listed, with_key}
-use Rattle.half_master.specs.Master.{MasterState, with_host, with_byte, heard_at, body_of, effect_in, answered, effect_heard, effect_of_tick, effect_of_byte, effect_at_tick, performed, host_told, host_accepted, host_ticked, fate_of, transmitted, acknowledged, polled, master_after_byte, step_at_byte, act_heard, act_of, did_at, news_of, gone_of, turn_told, turn_at_tick, gone_at_tick, master_after_tick, message_next, is_idle, begun_of, begun}
+use Rattle.half_master.specs.Master.{MasterState, with_host, with_byte, heard_at, body_of, effect_in, answered, effect_heard, effect_of_tick, effect_of_byte, effect_at_tick, performed, host_accepted, host_ticked, fate_of, transmitted, acknowledged, polled, master_after_byte, step_at_byte, act_heard, act_of, did_at, gone_of, turn_told, turn_at_tick, gone_at_tick, master_after_tick, message_next, is_idle, begun_of, begun}
 
 -- ---- a byte
 

@@ -3,6 +3,7 @@ use Rattle.std.proofs.Common.{◌≡◌, ℕ, true, List, [], ◌∷◌, ◌++�
 use Rattle.std.specs.Prelude.{◌↔◌, ◌⊎◌, slice_get, slice_index}
 use Rattle.std.proofs.lemmas.Bool.{cond_both}
 use Rattle.df1_base.specs.declared.host.Host.{Ghosts}
+use Rattle.df1_base.specs.HostAnswers.{host_told}
 use Rattle.df1_check.specs.declared.Check.{Check}
 use Rattle.df1_frame.specs.Line.{ReadOff, last_heard}
 use Rattle.df1_frame.proofs.LineLemmas.{stands-next, heard-next, same-split, stands-start as line-start}
@@ -17,7 +18,7 @@ use Rattle.half_master.specs.declared.stations.Station.{Station}
 use Rattle.half_master.specs.declared.table.Effect.{Effect}
 use Rattle.half_master.specs.declared.table.Effect.TheVariants as effect
 use Rattle.half_master.specs.Stations.{is_listed}
-use Rattle.half_master.specs.Master.{MasterState, new_master, with_host, with_byte, heard_at, polled, performed, effect_of_byte, effect_at_tick, fate_of, host_told, host_accepted, host_ticked, body_of, is_good, master_after_byte, master_after_tick, master_after_take, step_at_byte, message_next, begun_of}
+use Rattle.half_master.specs.Master.{MasterState, new_master, with_host, with_byte, heard_at, polled, performed, effect_of_byte, effect_at_tick, fate_of, host_accepted, host_ticked, body_of, is_good, master_after_byte, master_after_tick, master_after_take, step_at_byte, message_next, begun_of}
 use Rattle.half_master.specs.Emission.{Letter, Byte, Tick, Take, master_after, bytes_among}
 use Rattle.half_master.specs.Arrived.{StandsFor, Hears, HearsWhole, Arrival, bytes_arrived, HeardByGrammar}
 

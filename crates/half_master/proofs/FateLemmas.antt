@@ -5,6 +5,7 @@ use Rattle.std.proofs.lemmas.Bool.{cond_both, and_parts, ltb-true, ltb-false}
 use Rattle.df1_base.specs.declared.host.Host.{Ghosts}
 use Rattle.df1_base.specs.declared.host.Fate.{Fate}
 use Rattle.df1_base.specs.declared.host.Fate.TheVariants as fate
+use Rattle.df1_base.specs.HostAnswers.{host_told}
 use Rattle.half_frame.specs.declared.heard.MasterHeard.{MasterHeard}
 use Rattle.half_frame.specs.declared.heard.MasterHeard.TheVariants as heard
 use Rattle.half_mouth.specs.Giving.{is_done}
@@ -16,7 +17,7 @@ use Rattle.half_master.specs.declared.table.Phase.TheVariants as phase
 use Rattle.half_master.specs.declared.table.Effect.{Effect}
 use Rattle.half_master.specs.declared.table.Effect.TheVariants as effect
 use Rattle.half_master.specs.Stations.{is_listed}
-use Rattle.half_master.specs.Master.{MasterState, with_host, with_byte, heard_at, body_of, unacknowledged, effect_of_verdict, answered, effect_on_message, effect_on_poll, effect_in, effect_heard, effect_of_tick, effect_of_byte, effect_at_tick, with_left, polled, performed, fate_of, host_told, host_accepted, host_ticked, is_idle, message_next, transmitted, begun_of}
+use Rattle.half_master.specs.Master.{MasterState, with_host, with_byte, heard_at, body_of, unacknowledged, effect_of_verdict, answered, effect_on_message, effect_on_poll, effect_in, effect_heard, effect_of_tick, effect_of_byte, effect_at_tick, with_left, polled, performed, fate_of, host_accepted, host_ticked, is_idle, message_next, transmitted, begun_of}
 use Rattle.half_master.specs.Emission.{Letter, Byte, Tick, Take, master_after, master_after_all}
 use Rattle.half_master.specs.Fates.{Event, HandedOut, GivenAgain, Told, ForNoStation, events_of, handed_out, events_at, events, InTurn, ends, hands_out, gives_again, delivers, gives_up, passes_over, out_of, IsWithin}
 use Rattle.half_master.proofs.Runs.{signal-setup}

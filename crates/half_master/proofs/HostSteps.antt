@@ -4,10 +4,11 @@ use Rattle.std.specs.Prelude.{slice_index, if◌then◌else◌}
 use Rattle.df1_base.specs.declared.host.Host.{Ghosts}
 use Rattle.df1_base.specs.declared.host.Fate.{Fate}
 use Rattle.df1_base.specs.declared.host.Fate.TheVariants as fate
+use Rattle.df1_base.specs.HostAnswers.{host_told}
 use Rattle.half_master.specs.declared.table.Effect.{Effect}
 use Rattle.half_master.specs.declared.table.Effect.TheVariants as effect
 use Rattle.half_master.specs.Stations.{is_listed}
-use Rattle.half_master.specs.Master.{MasterState, with_host, with_byte, body_of, message_next, begun_of, transmitted, effect_of_byte, effect_at_tick, fate_of, host_accepted, host_told, host_ticked, master_after_byte, master_after_tick, master_after_take}
+use Rattle.half_master.specs.Master.{MasterState, with_host, with_byte, body_of, message_next, begun_of, transmitted, effect_of_byte, effect_at_tick, fate_of, host_accepted, host_ticked, master_after_byte, master_after_tick, master_after_take}
 use Rattle.half_master.proofs.FateLemmas.{performed-host}
 
 -- what is kept from one host to a later one

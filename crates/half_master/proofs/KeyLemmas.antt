@@ -5,6 +5,7 @@ use Rattle.std.specs.List.{fold}
 use Rattle.std.specs.Option.{option_and_then}
 use Rattle.std.proofs.lemmas.Bool.{cond_both, eqb-true, eqb-false}
 use Rattle.df1_base.specs.declared.host.Host.{Ghosts}
+use Rattle.df1_base.specs.HostAnswers.{host_told}
 use Rattle.half_frame.specs.declared.heard.MasterHeard.{MasterHeard}
 use Rattle.half_frame.specs.declared.heard.MasterHeard.TheVariants as heard
 use Rattle.half_mouth.specs.Giving.{is_done}
@@ -18,7 +19,7 @@ use Rattle.half_master.specs.declared.table.Phase.TheVariants as phase
 use Rattle.half_master.specs.declared.table.Effect.{Effect}
 use Rattle.half_master.specs.declared.table.Effect.TheVariants as effect
 use Rattle.half_master.specs.Stations.{numbers_of, is_listed, with_key}
-use Rattle.half_master.specs.Master.{MasterState, with_host, with_byte, heard_at, body_of, unacknowledged, effect_of_verdict, answered, effect_on_message, effect_on_poll, effect_in, effect_of_tick, effect_of_byte, effect_at_tick, polled, performed, fate_of, host_told, host_accepted, host_ticked, is_good, message_next, begun_of}
+use Rattle.half_master.specs.Master.{MasterState, with_host, with_byte, heard_at, body_of, unacknowledged, effect_of_verdict, answered, effect_on_message, effect_on_poll, effect_in, effect_of_tick, effect_of_byte, effect_at_tick, polled, performed, fate_of, host_accepted, host_ticked, is_good, message_next, begun_of}
 use Rattle.half_master.specs.Emission.{Letter, Byte, Tick, Take, master_after, master_after_all}
 use Rattle.half_master.specs.Keys.{kept_at, is_polled, is_from, offers_at, offers}
 use Rattle.half_master.proofs.FittingLemmas.{with_key-numbers}

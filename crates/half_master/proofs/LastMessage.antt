@@ -6,6 +6,7 @@ use Rattle.std.proofs.lemmas.Bool.Decides.{nat_tests}
 use Rattle.df1_base.specs.declared.host.Fate.TheVariants as fate
 use Rattle.df1_base.specs.declared.host.Host.{Ghosts}
 use Rattle.df1_base.specs.declared.link.Out.{Out}
+use Rattle.df1_base.specs.HostAnswers.{host_told}
 use Rattle.half_frame.specs.declared.framer.Sent.{Sent}
 use Rattle.half_frame.specs.declared.heard.MasterHeard.{MasterHeard}
 use Rattle.half_frame.specs.declared.heard.MasterHeard.TheVariants as heard
@@ -18,7 +19,7 @@ use Rattle.half_master.specs.declared.table.Phase.TheVariants as phase
 use Rattle.half_master.specs.declared.table.Effect.{Effect}
 use Rattle.half_master.specs.declared.table.Effect.TheVariants as effect
 use Rattle.half_master.specs.Stations.{is_listed}
-use Rattle.half_master.specs.Master.{MasterState, new_master, with_host, with_byte, unacknowledged, effect_of_verdict, answered, effect_on_message, effect_on_poll, effect_in, effect_of_tick, effect_heard, effect_at_tick, effect_of_byte, with_left, polled, performed, heard_at, body_of, is_idle, message_next, transmitted, begun_of, begun, master_after_take, out_at_take, master_after_byte, master_after_tick, fate_of, host_told, host_accepted, host_ticked}
+use Rattle.half_master.specs.Master.{MasterState, new_master, with_host, with_byte, unacknowledged, effect_of_verdict, answered, effect_on_message, effect_on_poll, effect_in, effect_of_tick, effect_heard, effect_at_tick, effect_of_byte, with_left, polled, performed, heard_at, body_of, is_idle, message_next, transmitted, begun_of, begun, master_after_take, out_at_take, master_after_byte, master_after_tick, fate_of, host_accepted, host_ticked}
 
 -- the last element of a list
 abbrev pub IsLast : List (List ℕ) → List ℕ → Type 0

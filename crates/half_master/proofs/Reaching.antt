@@ -6,6 +6,7 @@ use Rattle.df1_base.specs.declared.host.Host.{Ghosts}
 use Rattle.df1_base.specs.declared.host.Fate.{Fate}
 use Rattle.df1_base.specs.declared.host.Fate.TheVariants as fate
 use Rattle.df1_base.specs.Host.{IsBody}
+use Rattle.df1_base.specs.HostAnswers.{host_told}
 use Rattle.df1_check.specs.declared.Check.{Check}
 use Rattle.df1_frame.specs.Line.{ReadOff}
 use Rattle.df1_frame.specs.Spelling.{same, check_of}
@@ -21,7 +22,7 @@ use Rattle.half_master.specs.declared.table.Phase.TheVariants as phase
 use Rattle.half_master.specs.declared.table.Effect.{Effect}
 use Rattle.half_master.specs.declared.table.Effect.TheVariants as effect
 use Rattle.half_master.specs.Stations.{AreStations, numbers_of, is_listed, with_key}
-use Rattle.half_master.specs.Master.{MasterState, new_master, with_host, with_byte, heard_at, body_of, effect_of_byte, effect_at_tick, polled, acknowledged, transmitted, performed, fate_of, host_told, host_accepted, host_ticked, master_after_byte, master_after_tick, master_after_take, message_next, begun_of, begun}
+use Rattle.half_master.specs.Master.{MasterState, new_master, with_host, with_byte, heard_at, body_of, effect_of_byte, effect_at_tick, polled, acknowledged, transmitted, performed, fate_of, host_accepted, host_ticked, master_after_byte, master_after_tick, master_after_take, message_next, begun_of, begun}
 use Rattle.half_master.specs.Fitting.{IsMessage, Fits, Suits}
 use Rattle.half_master.specs.Emission.{Letter, Byte, Tick, Take, master_after}
 use Rattle.half_master.specs.Reached.{Reached, begins, goes_on, changes}

@@ -1,11 +1,12 @@
 -- A byte as the code takes it, part by part.
 use Rattle.std.proofs.Common.{◌≡◌, ℕ, List, Option, refl}
 use Rattle.df1_base.specs.declared.host.Host.{Ghosts}
+use Rattle.df1_base.specs.HostAnswers.{host_told, news_of}
 use Rattle.half_frame.specs.declared.heard.MasterHeard.{MasterHeard}
 use Rattle.half_frame.specs.MasterStanding.{Listening, lent_at}
 use Rattle.half_frame.specs.MasterStep.{next}
 use Rattle.half_master.specs.declared.table.Effect.{Effect}
-use Rattle.half_master.specs.Master.{MasterState, effect_heard, performed, fate_of, host_told, host_accepted, did_at, news_of, act_of, is_good, master_after_byte, step_at_byte}
+use Rattle.half_master.specs.Master.{MasterState, effect_heard, performed, fate_of, host_accepted, did_at, act_of, is_good, master_after_byte, step_at_byte}
 
 -- the parts: the ear and what is heard, the effect, the body, and the host after it took a message and was told a fate
 pub record Parts {H : Type 0} (m : Ghosts H) (e : MasterState H) (b : ℕ) (ear : Listening) (what : Option MasterHeard) (effect : Effect) (body : List ℕ) (took told : H) : Type 0 where

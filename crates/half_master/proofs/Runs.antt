@@ -4,11 +4,12 @@ use Rattle.std.specs.Prelude.{slice_get, slice_index}
 use Rattle.std.proofs.lemmas.Bool.{cond_both}
 use Rattle.df1_base.specs.declared.host.Host.{Ghosts}
 use Rattle.df1_base.specs.declared.link.Out.{Out}
+use Rattle.df1_base.specs.HostAnswers.{host_told}
 use Rattle.half_master.specs.declared.stations.Station.{Station}
 use Rattle.half_master.specs.declared.table.Effect.{Effect}
 use Rattle.half_master.specs.declared.table.Effect.TheVariants as effect
 use Rattle.half_master.specs.Stations.{is_listed}
-use Rattle.half_master.specs.Master.{MasterState, with_host, with_byte, polled, performed, effect_of_byte, effect_at_tick, fate_of, host_told, host_accepted, host_ticked, body_of, message_next, begun_of}
+use Rattle.half_master.specs.Master.{MasterState, with_host, with_byte, polled, performed, effect_of_byte, effect_at_tick, fate_of, host_accepted, host_ticked, body_of, message_next, begun_of}
 use Rattle.half_master.specs.Emission.{Letter, Byte, Tick, Take, master_after, given_at, master_after_all, emission}
 
 -- ---- one signal more

@@ -10,6 +10,7 @@ use Rattle.df1_base.specs.declared.host.News.TheVariants as news
 use Rattle.df1_base.specs.declared.link.Act.TheVariants as act
 use Rattle.df1_base.specs.declared.link.Turn.{Turn}
 use Rattle.df1_base.specs.declared.link.Turn.TheVariants as turn
+use Rattle.df1_base.specs.HostAnswers.{host_told, news_of}
 use Rattle.half_frame.specs.declared.heard.MasterHeard.{MasterHeard}
 use Rattle.half_frame.specs.declared.heard.MasterHeard.TheVariants as heard
 use Rattle.half_mouth.specs.Giving.{is_done}
@@ -27,7 +28,7 @@ use Rattle.std.specs.List.{list_any}
 use Rattle.half_master.specs.Keys.{kept_at}
 use Rattle.half_master.proofs.Keeping.{keyed}
 use Rattle.half_frame.specs.MasterStanding.{lent_at}
-use Rattle.half_master.specs.Master.{MasterState, with_host, with_byte, body_of, heard_at, is_good, unacknowledged, effect_of_verdict, answered, effect_on_message, effect_on_poll, effect_in, effect_of_byte, effect_at_tick, polled, performed, fate_of, host_told, host_accepted, host_ticked, act_heard, act_of, master_after_byte, step_at_byte, master_after_tick, effect_of_tick, did_at, news_of, turn_told, turn_at_tick, gone_of, gone_at_tick}
+use Rattle.half_master.specs.Master.{MasterState, with_host, with_byte, body_of, heard_at, is_good, unacknowledged, effect_of_verdict, answered, effect_on_message, effect_on_poll, effect_in, effect_of_byte, effect_at_tick, polled, performed, fate_of, host_accepted, host_ticked, act_heard, act_of, master_after_byte, step_at_byte, master_after_tick, effect_of_tick, did_at, turn_told, turn_at_tick, gone_of, gone_at_tick}
 
 -- ---- what an effect leaves as it is
 

@@ -3,13 +3,14 @@ use Rattle.std.proofs.Common.{◌≡◌, ℕ, Bool, true, false, List, [], ◌�
 use Rattle.std.specs.Prelude.{slice_get, slice_index, if◌then◌else◌}
 use Rattle.df1_base.specs.declared.host.Host.{Ghosts}
 use Rattle.df1_base.specs.declared.host.Fate.TheVariants as fate
+use Rattle.df1_base.specs.HostAnswers.{host_told}
 use Rattle.half_frame.specs.declared.framer.Sent.{Sent}
 use Rattle.half_mouth.specs.Giving.{Giving, one_more, taken}
 use Rattle.half_master.specs.declared.stations.Station.{Station}
 use Rattle.half_master.specs.declared.table.Effect.{Effect}
 use Rattle.half_master.specs.declared.table.Effect.TheVariants as effect
 use Rattle.half_master.specs.Stations.{is_listed}
-use Rattle.half_master.specs.Master.{MasterState, with_host, with_byte, body_of, effect_of_byte, effect_at_tick, polled, performed, fate_of, host_told, host_accepted, host_ticked, message_next, transmitted, begun_of, given_next}
+use Rattle.half_master.specs.Master.{MasterState, with_host, with_byte, body_of, effect_of_byte, effect_at_tick, polled, performed, fate_of, host_accepted, host_ticked, message_next, transmitted, begun_of, given_next}
 use Rattle.half_master.specs.Emission.{Letter, Byte, Tick, Take, master_after, master_after_all}
 use Rattle.half_master.specs.Fates.{Event, HandedOut, GivenAgain, Told, ForNoStation, events_of, handed_out, events_at, events}
 use Rattle.half_master.specs.Transmissions.{begun_after, sending_after}

@@ -3,13 +3,14 @@ use Rattle.std.proofs.Common.{◌≡◌, ℕ, true, false, List, [], ◌∷◌, 
 use Rattle.std.specs.Prelude.{slice_get, slice_index, is_some, ◌==◌}
 use Rattle.std.proofs.lemmas.Bool.{cond_both, both_ways, eqb-true, ne_eqb}
 use Rattle.df1_base.specs.declared.host.Host.{Ghosts}
+use Rattle.df1_base.specs.HostAnswers.{host_told}
 use Rattle.half_frame.specs.declared.framer.Sent.{Sent}
 use Rattle.half_mouth.specs.Giving.{Giving, is_done, taken, take}
 use Rattle.half_master.specs.declared.stations.Station.{Station}
 use Rattle.half_master.specs.declared.table.Effect.{Effect}
 use Rattle.half_master.specs.declared.table.Effect.TheVariants as effect
 use Rattle.half_master.specs.Stations.{is_listed}
-use Rattle.half_master.specs.Master.{MasterState, with_host, with_byte, heard_at, body_of, effect_in, effect_of_tick, polled, performed, fate_of, host_told, host_accepted, host_ticked, message_next, begun_of, given_next, master_after_byte, master_after_tick}
+use Rattle.half_master.specs.Master.{MasterState, with_host, with_byte, heard_at, body_of, effect_in, effect_of_tick, polled, performed, fate_of, host_accepted, host_ticked, message_next, begun_of, given_next, master_after_byte, master_after_tick}
 use Rattle.half_master.specs.Waits.{HasAllTicks}
 use Rattle.half_master.specs.Emission.{Letter, Byte, Tick, Take, master_after}
 use Rattle.half_master.specs.Reached.{Reached, begins, goes_on, changes}

@@ -12,6 +12,7 @@ use Rattle.df1_base.specs.declared.link.Out.{Out}
 use Rattle.df1_base.specs.declared.link.Step.{Step}
 use Rattle.df1_base.specs.declared.link.Turn.{Turn}
 use Rattle.df1_base.specs.declared.link.Turn.TheVariants as turn
+use Rattle.df1_base.specs.HostAnswers.{host_told, news_of}
 use Rattle.half_frame.specs.declared.heard.MasterHeard.{MasterHeard}
 use Rattle.half_frame.specs.declared.heard.MasterHeard.TheVariants as heard
 use Rattle.half_frame.specs.MasterStanding.{Listening, Outside, lent_at}
@@ -168,16 +169,6 @@ abbrev pub fate_of : Effect → Option Fate
 fate_of effect.Delivered = Some fate.Delivered
 fate_of effect.GivenUp = Some fate.Undelivered
 fate_of _ = None
-
--- the host is told a fate
-abbrev pub host_told : {H : Type 0} → Ghosts H → Option Fate → H → H
-host_told m None host = host
-host_told m (Some what) host = m.after_told host what
-
--- what it answers to that
-abbrev pub news_of : {H : Type 0} → Ghosts H → Option Fate → H → News
-news_of m None host = news.Nothing
-news_of m (Some what) host = m.news host what
 
 -- the host's tick, which comes with a poll alone, and the commands that are unanswered from it on
 abbrev pub host_ticked : {H : Type 0} → Ghosts H → Effect → H → H

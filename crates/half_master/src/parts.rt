@@ -2,7 +2,8 @@
 
 ghost use Rattle.std.specs.Prelude.{◌≡◌, ℕ, IsSome, IsTrue};
 ghost use Rattle.df1_base.specs.Host.{IsBody};
-ghost use Rattle.half_master.specs.Master.{did_at, host_accepted, fate_of, host_told, news_of, host_ticked, gone_of, act_of, act_heard, is_good, turn_told};
+ghost use Rattle.df1_base.specs.HostAnswers.{host_told, news_of};
+ghost use Rattle.half_master.specs.Master.{did_at, host_accepted, fate_of, host_ticked, gone_of, act_of, act_heard, is_good, turn_told};
 
 use crate::table::Effect;
 use arrayvec::ArrayVec;

@@ -13,6 +13,7 @@ use Rattle.df1_base.specs.declared.link.Out.{Out}
 use Rattle.df1_base.specs.declared.link.Resp.{Resp}
 use Rattle.df1_base.specs.declared.link.Resp.TheVariants as resp
 use Rattle.df1_base.specs.declared.link.Step.{Step}
+use Rattle.df1_base.specs.HostAnswers.{did_at, news_of}
 use Rattle.half_frame.specs.declared.heard.SlaveHeard.{SlaveHeard}
 use Rattle.half_frame.specs.declared.heard.SlaveHeard.TheVariants as heard
 use Rattle.half_frame.specs.Spelling.{reply_sent, pair_bytes, unmarked}
@@ -113,11 +114,6 @@ abbrev pub told : {H : Type 0} → Ghosts H → SlaveState H → Option Fate →
 told m s None = s
 told m s (Some what) = record s { held = None; host = m.after_told s.host what }
 
--- what the host answers to that
-abbrev pub news_of : {H : Type 0} → Ghosts H → Option Fate → H → News
-news_of m None host = news.Nothing
-news_of m (Some what) host = m.news host what
-
 -- ---- the rows: a message to this station
 
 -- by the kept key and the host's room it is a repeat, accepted, or refused
@@ -202,11 +198,6 @@ fate_at s (Some (heard.Poll stn)) = if is_answered s stn then fate_at_poll s.set
 fate_at s (Some heard.Ack) = fate_at_ack s.held
 fate_at s (Some heard.Reset) = fate_at_reset s.held
 fate_at s _ = None
-
--- what the host did with an accepted body
-abbrev pub did_at : {H : Type 0} → Ghosts H → Act → H → List ℕ → Option Did
-did_at m act.Accept host body = Some (m.did host body)
-did_at m _ host body = None
 
 -- a whole message was heard
 abbrev pub is_whole : Option SlaveHeard → Bool

@@ -28,6 +28,7 @@
 #![tactic(auto)]
 
 ghost use Rattle.std.specs.Prelude.{◌≡◌, ◌≢◌, ◌≤◌, ◌+◌, ◌∷◌, ◌++◌, [], ℕ, List, length, is_none, false, IsSome, IsTrue};
+ghost use Rattle.df1_base.specs.HostAnswers.{news_of, did_at};
 ghost use Rattle.std.specs.Borrow.{Lends, sem};
 ghost use Rattle.df1_check.specs.declared.Check.{Check as CheckKind};
 ghost use Rattle.df1_frame.specs.Line.{ReadOff};
@@ -35,7 +36,7 @@ ghost use Rattle.half_frame.specs.declared.heard.SlaveHeard.TheVariants.{Address
 ghost use Rattle.half_frame.specs.SlaveGrammar.{slave_hears};
 ghost use Rattle.half_frame.specs.SlaveStanding.{lent};
 ghost use Rattle.half_mouth.specs.Giving.{bytes_left};
-ghost use Rattle.half_slave.specs.Slave.{new_slave, with_host, is_quiet, body_of, heard_at, listened, verdict, verdict_act, received, told, news_of, did_at, sent, answered, act_at, fate_at, slave_after_heard, step_at_heard, slave_after_byte, step_at_byte, response_code, mouth_at_take, responds_at_take, slave_after_take, out_at_take, left_to_give};
+ghost use Rattle.half_slave.specs.Slave.{new_slave, with_host, is_quiet, body_of, heard_at, listened, verdict, verdict_act, received, told, sent, answered, act_at, fate_at, slave_after_heard, step_at_heard, slave_after_byte, step_at_byte, response_code, mouth_at_take, responds_at_take, slave_after_take, out_at_take, left_to_give};
 ghost use Rattle.half_slave.specs.Arrived.{StandsFor, TellsMessage};
 ghost use Rattle.half_slave.specs.contracts.Slave.{the_row};
 

@@ -10,6 +10,7 @@ use Rattle.df1_base.specs.declared.host.Fate.{Fate}
 use Rattle.df1_base.specs.declared.host.Fate.TheVariants as fate
 use Rattle.df1_base.specs.declared.link.Act.{Act}
 use Rattle.df1_base.specs.declared.link.Act.TheVariants as act
+use Rattle.df1_base.specs.HostAnswers.{news_of, host_told}
 use Rattle.df1_frame.specs.declared.heard.Heard.{Heard}
 use Rattle.df1_frame.specs.declared.heard.Heard.TheVariants as hears
 use Rattle.df1_frame.specs.Standing.{lent_at}
@@ -23,7 +24,7 @@ use Rattle.df1_node.specs.Node.{NodeState, has_room, after_accept, after_told}
 use Rattle.duplex_sender.specs.declared.Limits.{Limits}
 use Rattle.duplex_sender.specs.Sender.{Activity, Idle, Sending, Waiting, ack_fate}
 use Rattle.duplex_receiver.specs.Receiver.{act_of, is_good}
-use Rattle.duplex_end.specs.End.{EndState, act_of_byte, news_of, host_told}
+use Rattle.duplex_end.specs.End.{EndState, act_of_byte}
 use Rattle.line_statement.specs.declared.who.Who.{Who}
 use Rattle.line_report.specs.declared.record.Line.{Line}
 use Rattle.line_cells.specs.Cells.{LaneCell, Ending}

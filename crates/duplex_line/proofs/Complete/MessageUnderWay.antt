@@ -7,6 +7,7 @@ use Rattle.df1_base.specs.declared.link.Act.{Act}
 use Rattle.df1_base.specs.declared.link.Act.TheVariants as act
 use Rattle.df1_base.specs.declared.link.Out.{Out}
 use Rattle.df1_base.specs.declared.link.Resp.TheVariants as resp
+use Rattle.df1_base.specs.HostAnswers.{host_told}
 use Rattle.df1_frame.specs.declared.heard.Heard.{Heard}
 use Rattle.df1_frame.specs.declared.heard.Heard.TheVariants as hears
 use Rattle.df1_frame.specs.Standing.{Decoding, lent_at}
@@ -21,7 +22,7 @@ use Rattle.duplex_sender.specs.declared.SendTurn.TheVariants as turn
 use Rattle.duplex_sender.specs.Sender.{SenderState, Activity, Idle, Sending, Waiting, phase_of, body_of, load, sent_last, on_ack, on_tick, tick_turn}
 use Rattle.embedded_response.specs.Giving.{Giving, take, begin, chosen, offer, unask}
 use Rattle.duplex_receiver.specs.Receiver.{kept_at}
-use Rattle.duplex_end.specs.End.{EndState, after_out, ends_here, sender_after, fate_at, responded, is_waiting, dropped, host_after, host_told, act_of_byte, end_after_byte, end_after_tick, asked, fate_of_tick, with_host}
+use Rattle.duplex_end.specs.End.{EndState, after_out, ends_here, sender_after, fate_at, responded, is_waiting, dropped, host_after, act_of_byte, end_after_byte, end_after_tick, asked, fate_of_tick, with_host}
 use Rattle.line_cells.specs.Cells.{LaneCell}
 use Rattle.line_cells.specs.Cells.{cell_of}
 use Rattle.each_once.proofs.Sublists.{get-seam}

@@ -5,13 +5,14 @@ use Rattle.df1_node.specs.Answer.{StationState}
 use Rattle.df1_node.specs.Initiator.{Issued, Standing, Waiting, Out, Answered, Undelivered, Unanswered, next_command}
 use Rattle.df1_base.specs.declared.host.Fate.{Fate}
 use Rattle.df1_base.specs.declared.host.Fate.TheVariants as fate
+use Rattle.df1_base.specs.HostAnswers.{host_told}
 use Rattle.df1_node.specs.declared.handed.Handed.{Handed}
 use Rattle.df1_node.specs.declared.handed.Handed.TheVariants as handed
 use Rattle.df1_node.specs.Node.{NodeState, next_body, initiator_after, after_tick as node_ticked}
 use Rattle.duplex_sender.specs.declared.Limits.{Limits}
 use Rattle.duplex_sender.specs.declared.Phase.TheVariants as phase
 use Rattle.duplex_sender.specs.Sender.{Activity, Idle, Sending, Waiting as Awaiting, phase_of, tick_turn}
-use Rattle.duplex_end.specs.End.{EndState, host_told, fate_of_tick, out_at_take, turn_at_tick, gone_at_tick}
+use Rattle.duplex_end.specs.End.{EndState, fate_of_tick, out_at_take, turn_at_tick, gone_at_tick}
 use Rattle.line_statement.specs.declared.who.Who.{Who}
 use Rattle.line_report.specs.declared.record.Line.{Line}
 use Rattle.line_cells.specs.Cells.{LaneCell}

@@ -11,6 +11,7 @@ use Rattle.df1_base.specs.declared.host.News.{News}
 use Rattle.df1_base.specs.declared.host.News.TheVariants as news
 use Rattle.df1_base.specs.declared.link.Act.{Act}
 use Rattle.df1_base.specs.declared.link.Act.TheVariants as act
+use Rattle.df1_base.specs.HostAnswers.{did_at, news_of}
 use Rattle.pccc_envelope.specs.declared.key.Key.{Key}
 use Rattle.pccc_envelope.specs.Envelope.{is_reply, tns_of, key_of}
 use Rattle.pccc_envelope.specs.Accepted.{is_kept}
@@ -19,7 +20,7 @@ use Rattle.df1_node.specs.Initiator.{Issued, answered_place}
 use Rattle.df1_node.specs.Node.{NodeState}
 use Rattle.duplex_sender.specs.Sender.{SenderState}
 use Rattle.duplex_receiver.specs.Receiver.{hearing, kept_at}
-use Rattle.duplex_end.specs.End.{EndState, act_of_byte, did_at, news_of, fate_at, host_after, host_at_byte}
+use Rattle.duplex_end.specs.End.{EndState, act_of_byte, fate_at, host_after, host_at_byte}
 use Rattle.line_statement.specs.declared.who.Who.{Who}
 use Rattle.line_report.specs.declared.record.Line.{Line}
 use Rattle.line_report.specs.declared.record.Line.TheVariants as line

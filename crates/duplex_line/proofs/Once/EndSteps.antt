@@ -6,11 +6,12 @@ use Rattle.std.proofs.lemmas.Option.{slice_get-map}
 use Rattle.df1_base.specs.declared.host.Fate.{Fate}
 use Rattle.df1_base.specs.declared.link.Act.{Act}
 use Rattle.df1_base.specs.declared.link.Act.TheVariants as act
+use Rattle.df1_base.specs.HostAnswers.{host_told}
 use Rattle.df1_node.specs.Answer.{StationState}
 use Rattle.df1_node.specs.Initiator.{Issued, Standing, Waiting, Out, Answered, Undelivered, Unanswered, is_settled}
 use Rattle.df1_node.specs.Node.{NodeState, Step, Accept, Next, Told, Tick, after, after_next, after_tick, next_body}
 use Rattle.df1_node.proofs.Final.{final_step}
-use Rattle.duplex_end.specs.End.{host_after, host_told}
+use Rattle.duplex_end.specs.End.{host_after}
 use Rattle.each_once.specs.NodeHost.{node_host}
 use Rattle.each_once.proofs.KeptCommands.{is_given_up}
 use Rattle.each_once.proofs.Sublists.{from-map}

@@ -6,6 +6,7 @@ use Rattle.df1_base.specs.declared.host.Fate.{Fate}
 use Rattle.df1_base.specs.declared.host.Fate.TheVariants as fate
 use Rattle.df1_base.specs.declared.link.Act.{Act}
 use Rattle.df1_base.specs.declared.link.Act.TheVariants as act
+use Rattle.df1_base.specs.HostAnswers.{host_told}
 use Rattle.pccc_envelope.specs.Envelope.{is_reply}
 use Rattle.df1_node.specs.declared.handed.Handed.{Handed}
 use Rattle.df1_node.specs.declared.handed.Handed.TheVariants as handed
@@ -15,7 +16,7 @@ use Rattle.duplex_sender.specs.declared.Phase.{Phase}
 use Rattle.duplex_sender.specs.declared.Phase.TheVariants as phase
 use Rattle.duplex_sender.specs.Sender.{phase_of, tick_turn}
 use Rattle.embedded_response.specs.Giving.{chosen}
-use Rattle.duplex_end.specs.End.{EndState, end_after_byte, end_after_tick, end_after_take, host_after, host_told, host_at_byte, act_of_byte, fate_at, fate_of_tick, begun_next, begun_at}
+use Rattle.duplex_end.specs.End.{EndState, end_after_byte, end_after_tick, end_after_take, host_after, host_at_byte, act_of_byte, fate_at, fate_of_tick, begun_next, begun_at}
 use Rattle.duplex_end.proofs.Order.{end-is}
 use Rattle.line_statement.specs.declared.who.Who.{Who}
 use Rattle.line_statement.specs.declared.who.Who.TheVariants.{A, B, M, S}

@@ -13,11 +13,12 @@ use Rattle.df1_base.specs.declared.link.Act.{Act}
 use Rattle.df1_base.specs.declared.link.Act.TheVariants as act
 use Rattle.df1_base.specs.declared.link.Turn.{Turn}
 use Rattle.df1_base.specs.declared.link.Turn.TheVariants as turn
+use Rattle.df1_base.specs.HostAnswers.{did_at, news_of, host_told}
 use Rattle.df1_node.specs.Node.{NodeState, after_next, after_tick as node_ticked}
 use Rattle.duplex_sender.specs.declared.SendTurn.{SendTurn}
 use Rattle.duplex_sender.specs.declared.SendTurn.TheVariants as sends
 use Rattle.duplex_sender.specs.Sender.{tick_turn}
-use Rattle.duplex_end.specs.End.{act_of_byte, did_at, news_of, fate_at, host_after, host_told, host_at_byte, fate_of_tick, turn_told, turn_at_tick, host_at_tick, gone_at_tick}
+use Rattle.duplex_end.specs.End.{act_of_byte, fate_at, host_after, host_at_byte, fate_of_tick, turn_told, turn_at_tick, host_at_tick, gone_at_tick}
 use Rattle.line_statement.specs.declared.who.Who.{Who}
 use Rattle.line_statement.specs.declared.who.Who.TheVariants.{A, B, M, S}
 use Rattle.script_parts.specs.declared.script.Event.{Event}

@@ -1,11 +1,12 @@
 -- Each step of an undisturbed run leaves it such, whether something is under way after it or not.
 use Rattle.std.proofs.Common.{◌≡◌, ◌∙◌, ℕ, ◌+◌, ◌<◌, ◌≤◌, Bool, true, false, List, [], ◌∷◌, ◌++◌, Option, Some, None, refl, ap, sym, subst, append-nil, append_assoc, arith}
+use Rattle.df1_base.specs.HostAnswers.{host_told}
 use Rattle.std.specs.Prelude.{IsTrue, slice_get, if◌then◌else◌}
 use Rattle.df1_node.specs.Node.{NodeState}
 use Rattle.half_master.specs.declared.MasterSetup.{MasterSetup}
 use Rattle.half_frame.specs.MasterStanding.{Listening}
 use Rattle.half_master.specs.Emission.{Tick as TickLetter, Take as TakeLetter}
-use Rattle.half_master.specs.Master.{MasterState, with_host, effect_at_tick, fate_of, host_told, host_ticked, master_after_tick}
+use Rattle.half_master.specs.Master.{MasterState, with_host, effect_at_tick, fate_of, host_ticked, master_after_tick}
 use Rattle.half_master.proofs.EarLemmas.{take-ear, performed-ear}
 use Rattle.half_master.proofs.HostSteps.{tick-keeps, take-keeps}
 use Rattle.half_master.proofs.Runs.{signal-setup}

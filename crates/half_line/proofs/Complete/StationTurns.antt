@@ -9,6 +9,7 @@ use Rattle.df1_base.specs.declared.host.News.TheVariants as news
 use Rattle.df1_base.specs.declared.link.Act.{Act}
 use Rattle.df1_base.specs.declared.link.Act.TheVariants as act
 use Rattle.df1_base.specs.declared.link.Resp.TheVariants as resp
+use Rattle.df1_base.specs.HostAnswers.{did_at, news_of}
 use Rattle.half_frame.specs.declared.heard.SlaveHeard.{SlaveHeard}
 use Rattle.half_frame.specs.declared.heard.SlaveHeard.TheVariants as heard
 use Rattle.half_frame.specs.SlaveStep.{next}
@@ -20,7 +21,7 @@ use Rattle.pccc_envelope.specs.Accepted.{Accepted, is_kept}
 use Rattle.line_statement.specs.declared.who.Who.{Who}
 use Rattle.told_lines.specs.NodeLines.{did_lines, act_lines, news_lines, step_lines}
 use Rattle.half_slave.specs.declared.held.Held.{Held}
-use Rattle.half_slave.specs.Slave.{SlaveState, loaded, after_heard, sent, received, verdict, heard_at, listened, slave_after_heard, slave_after_byte, fate_at_ack, told, polled, answered, is_quiet, is_own, is_answered, verdict_act, act_at, did_at, news_of, fate_at_poll, step_at_heard, step_at_byte}
+use Rattle.half_slave.specs.Slave.{SlaveState, loaded, after_heard, sent, received, verdict, heard_at, listened, slave_after_heard, slave_after_byte, fate_at_ack, told, polled, answered, is_quiet, is_own, is_answered, verdict_act, act_at, fate_at_poll, step_at_heard, step_at_byte}
 
 -- ---- the ear alone
 

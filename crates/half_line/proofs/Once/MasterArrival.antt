@@ -10,6 +10,7 @@ use Rattle.df1_base.specs.declared.host.Fate.{Fate}
 use Rattle.df1_base.specs.declared.host.News.TheVariants as news
 use Rattle.df1_base.specs.declared.link.Act.TheVariants as act
 use Rattle.df1_base.specs.declared.link.Step.{Step}
+use Rattle.df1_base.specs.HostAnswers.{host_told}
 use Rattle.pccc_envelope.specs.declared.key.Key.{Key}
 use Rattle.pccc_envelope.specs.Envelope.{is_reply, key_of}
 use Rattle.pccc_envelope.specs.Accepted.{is_kept}
@@ -18,7 +19,7 @@ use Rattle.df1_node.specs.Initiator.{Issued, answered_place}
 use Rattle.df1_node.specs.Node.{NodeState, did_accept}
 use Rattle.half_master.specs.Emission.{Byte}
 use Rattle.half_master.specs.Keys.{kept_at}
-use Rattle.half_master.specs.Master.{MasterState, with_byte, body_of, host_told, master_after_byte, step_at_byte}
+use Rattle.half_master.specs.Master.{MasterState, with_byte, body_of, master_after_byte, step_at_byte}
 use Rattle.half_master.proofs.KeyLemmas.{signal-numbers}
 use Rattle.half_master.proofs.LastMessage.{sends-byte}
 use Rattle.half_master.proofs.Seen.{Accepts, PassesOver, accepts, passes, at-byte, lent-after, key-before, key-after, other-keys, number-at}

@@ -16,11 +16,12 @@ use Rattle.df1_base.specs.declared.link.Act.{Act}
 use Rattle.df1_base.specs.declared.link.Act.TheVariants as act
 use Rattle.df1_base.specs.declared.link.Step.{Step}
 use Rattle.df1_base.specs.declared.link.Turn.{Turn}
+use Rattle.df1_base.specs.HostAnswers.{host_told, news_of}
 use Rattle.df1_node.specs.declared.handed.Handed.TheVariants as handed
 use Rattle.df1_node.specs.Initiator.{Issued, Waiting, InitiatorState, is_waiting, is_out, next_command, next_place, next_issued}
 use Rattle.df1_node.specs.Node.{NodeState, did_accept, after_accept, after_next, after_told, after_tick, gone_unanswered, initiator_after}
 use Rattle.half_master.specs.Emission.{Byte, Tick as TickLetter, Take as TakeLetter}
-use Rattle.half_master.specs.Master.{MasterState, body_of, with_byte, with_host, host_told, news_of, begun_of, message_next, master_after_byte, master_after_tick, master_after_take, step_at_byte}
+use Rattle.half_master.specs.Master.{MasterState, body_of, with_byte, with_host, begun_of, message_next, master_after_byte, master_after_tick, master_after_take, step_at_byte}
 use Rattle.half_master.specs.Stations.{numbers_of as station_numbers, is_listed}
 use Rattle.half_master.proofs.KeyLemmas.{signal-numbers}
 use Rattle.half_master.proofs.LastMessage.{next-of}

@@ -8,6 +8,7 @@ use Rattle.df1_base.specs.declared.link.Act.{Act}
 use Rattle.df1_base.specs.declared.link.Act.TheVariants as act
 use Rattle.df1_base.specs.declared.link.Out.{Out}
 use Rattle.df1_base.specs.declared.link.Resp.{Resp}
+use Rattle.df1_base.specs.HostAnswers.{news_of, did_at}
 use Rattle.half_frame.specs.declared.heard.SlaveHeard.{SlaveHeard}
 use Rattle.half_frame.specs.declared.heard.SlaveHeard.TheVariants as heard
 use Rattle.half_frame.specs.SlaveStanding.{lent_at}
@@ -18,7 +19,7 @@ use Rattle.df1_node.specs.Answer.{StationState}
 use Rattle.df1_node.specs.Node.{NodeState}
 use Rattle.half_slave.specs.declared.SlaveSetup.{SlaveSetup}
 use Rattle.half_slave.specs.declared.held.Held.{Held}
-use Rattle.half_slave.specs.Slave.{is_whole, station_of, news_of, SlaveState, new_slave, body_of, ends_here, after_sending, fate_at_poll, fate_at_ack, fate_at_reset, told, verdict, verdict_act, received, sent, offered, answered, polled, reset, heard_at, listened, is_own, is_answered, slave_after_heard, act_at, fate_at, did_at, slave_after_byte, step_at_byte, with_response, mouth_at_take, out_at_take, slave_after_take}
+use Rattle.half_slave.specs.Slave.{is_whole, station_of, SlaveState, new_slave, body_of, ends_here, after_sending, fate_at_poll, fate_at_ack, fate_at_reset, told, verdict, verdict_act, received, sent, offered, answered, polled, reset, heard_at, listened, is_own, is_answered, slave_after_heard, act_at, fate_at, slave_after_byte, step_at_byte, with_response, mouth_at_take, out_at_take, slave_after_take}
 use Rattle.half_master.proofs.LastMessage.{IsLast, Gives, take-gives, take-ends}
 use Rattle.each_once.specs.NodeHost.{node_host}
 use Rattle.each_once.proofs.AnsweringStation.{Serves, serves-start, serves-next, serves-told, serves-clear}
