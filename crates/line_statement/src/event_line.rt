@@ -125,7 +125,7 @@ fn side_event(
 }
 
 /// What happens a number of times at an end of a full-duplex link, or at its queue, by its letter: `k` takes, `t` ticks, `d`
-/// delivers, `x` loses.
+/// delivers, `x` loses. None comes exactly for every other byte.
 pub fn verb_of(letter: u8) -> Option<Verb>
     ensures { result ≡ the_verb letter }
 {

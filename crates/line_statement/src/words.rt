@@ -69,7 +69,8 @@ fn is_blank(byte: u8) -> bool
     byte == b' ' || byte == b'\t'
 }
 
-/// The number that a word of 1 to 9 decimal digits is. Leading zeros are digits like others.
+/// The number that a word of 1 to 9 decimal digits is: 0 to 999,999,999. Leading zeros are digits like others. None comes
+/// exactly where a word is none: it is empty, has over 9 bytes, or one of its bytes is no decimal digit.
 #[tactic(auto, unfolding(crate::specs::Words::number_of))]
 pub fn number_of(word: &[u8]) -> Option<u32>
     ensures { result ≡ number_of word.now }
@@ -142,7 +143,8 @@ fn byte_in(bytes: &[u8]) -> Option<u8>
     }
 }
 
-/// The word of a data file that four hexadecimal digits spell, its high byte first.
+/// The word of a data file that four hexadecimal digits of either case spell, its high byte first: 0 to 65,535. None comes
+/// exactly where the bytes are not four such digits.
 pub fn register_of(word: &[u8]) -> Option<u16>
     ensures { result ≡ the_register word.now }
 {
