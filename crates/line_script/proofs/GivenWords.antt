@@ -15,6 +15,8 @@ use Rattle.line_statement.specs.Words.{is_blank, number_of, register_of, within,
 use Rattle.line_statement.specs.declared.statement.EndName.{EndName}
 use Rattle.line_statement.specs.declared.statement.EndName.TheVariants.{Known}
 use Rattle.line_statement.specs.declared.statement.Side.{Side}
+use Rattle.line_statement.specs.declared.statement.Statement.TheVariants.{Setup}
+use Rattle.line_statement.specs.declared.setup_line.SetupLine.TheVariants.{Word}
 use Rattle.line_script.specs.Lines.{is_passed_over}
 use Rattle.line_script.proofs.Steps.{digit_in_word, number_is_digits}
 
@@ -47,33 +49,30 @@ number_cut bytes i n found is = ap words (cut_at bytes i found) ∙ number_first
 
 -- ---- a whole line
 
-within_files : (n : ℕ) → n ≤ 999 → within 0 999 (Some n) ≡ Some n
-within_files n most = grind (arith, common_steps)
-
 words_of_line : (e : ℕ) (operands : List ℕ) → is_blank e ≡ false → words (119 ∷ 111 ∷ 114 ∷ 100 ∷ 32 ∷ e ∷ 32 ∷ operands) ≡ (119 ∷ 111 ∷ 114 ∷ 100 ∷ []) ∷ (e ∷ []) ∷ words operands
 words_of_line e operands blank = rw blank refl
 
-said : (e : ℕ) (first second third : List ℕ) (side : Side) (file index value : ℕ)
-    → end_of (e ∷ []) ≡ Some (Known side) → number_of first ≡ Some file → number_of second ≡ Some index → register_of third ≡ Some value → file ≤ 999
+said : (e : ℕ) (first second third : List ℕ) (side : Side) (number file index value : ℕ)
+    → end_of (e ∷ []) ≡ Some (Known side) → number_of first ≡ Some number → number_of second ≡ Some index → register_of third ≡ Some value → within 0 999 (Some number) ≡ Some file
     → statement_of ((119 ∷ 111 ∷ 114 ∷ 100 ∷ []) ∷ (e ∷ []) ∷ first ∷ second ∷ third ∷ []) ≡ Some (word_given side file index value)
 unfolding statement_of
-said e first second third side file index value end is_file is_index is_value most =
+said e first second third side number file index value end is_number is_index is_value is_file =
     ap (λ (o : Option EndName). word_line o (number_of first) (number_of second) (register_of third)) end
-    ∙ ap (λ (o : Option ℕ). word_line (Some (Known side)) o (number_of second) (register_of third)) is_file
-    ∙ ap (λ (o : Option ℕ). word_line (Some (Known side)) (Some file) o (register_of third)) is_index
-    ∙ ap (λ (o : Option ℕ). word_line (Some (Known side)) (Some file) (Some index) o) is_value
-    ∙ rw (within_files file most) refl
+    ∙ ap (λ (o : Option ℕ). word_line (Some (Known side)) o (number_of second) (register_of third)) is_number
+    ∙ ap (λ (o : Option ℕ). word_line (Some (Known side)) (Some number) o (register_of third)) is_index
+    ∙ ap (λ (o : Option ℕ). word_line (Some (Known side)) (Some number) (Some index) o) is_value
+    ∙ ap (λ (o : Option ℕ). Some (Setup (Known side) (Word o index value))) is_file
 
 -- the name, an end, two numbers and a value
-pub word_says : (line operands first rest second third : List ℕ) (e : ℕ) (side : Side) (file index value : ℕ)
+pub word_says : (line operands first rest second third : List ℕ) (e : ℕ) (side : Side) (number file index value : ℕ)
     → line ≡ 119 ∷ 111 ∷ 114 ∷ 100 ∷ 32 ∷ e ∷ 32 ∷ operands → end_of (e ∷ []) ≡ Some (Known side) → is_blank e ≡ false
-    → words operands ≡ first ∷ words rest → number_of first ≡ Some file → words rest ≡ second ∷ words third → number_of second ≡ Some index
-    → words third ≡ third ∷ [] → register_of third ≡ Some value → file ≤ 999
+    → words operands ≡ first ∷ words rest → number_of first ≡ Some number → words rest ≡ second ∷ words third → number_of second ≡ Some index
+    → words third ≡ third ∷ [] → register_of third ≡ Some value → within 0 999 (Some number) ≡ Some file
     → (is_passed_over (words line) ≡ false) × (statement_of (words line) ≡ Some (word_given side file index value))
-word_says line operands first rest second third e side file index value bytes end blank one is_file two is_index three is_value most =
+word_says line operands first rest second third e side number file index value bytes end blank one is_number two is_index three is_value is_file =
     let all : words line ≡ (119 ∷ 111 ∷ 114 ∷ 100 ∷ []) ∷ (e ∷ []) ∷ first ∷ second ∷ third ∷ [] =
     ap words bytes ∙ words_of_line e operands blank ∙ ap (λ (ws : List (List ℕ)). (119 ∷ 111 ∷ 114 ∷ 100 ∷ []) ∷ (e ∷ []) ∷ ws) (one ∙ ap (λ (ws : List (List ℕ)). first ∷ ws) (two ∙ ap (λ (ws : List (List ℕ)). second ∷ ws) three)) in
-    (ap is_passed_over all, ap statement_of all ∙ said e first second third side file index value end is_file is_index is_value most)
+    (ap is_passed_over all, ap statement_of all ∙ said e first second third side number file index value end is_number is_index is_value is_file)
 
 -- the bytes of a line of seven and more that begins with the name, and has an end between blanks
 pub front : (line operands : List ℕ) → 7 ≤ length line → slice_index_or line 0 0 ≡ 119 → slice_index_or line 1 0 ≡ 111 → slice_index_or line 2 0 ≡ 114 → slice_index_or line 3 0 ≡ 100

@@ -7,10 +7,7 @@ ghost use Rattle.line_statement.specs.Words.{number_of as the_number, register_o
 ghost use Rattle.line_script.specs.Lines.{is_passed_over};
 
 use crate::step::side_of;
-use line_statement::{EndName, SetupLine, Side, Statement, number_of, register_of};
-
-/// The highest file number.
-const FILE_NUMBER: u32 = 999;
+use line_statement::{EndName, SetupLine, Side, Statement, file_number, number_of, register_of};
 
 /// The first value of a word.
 #[derive(Clone, Copy)]
@@ -47,12 +44,9 @@ pub(crate) fn given_word(line: &[u8]) -> Option<GivenWord>
             let side = side_of(*end)?;
             let (file, rest) = number_first(operands)?;
             let (index, digits) = number_first(rest)?;
-            if file > FILE_NUMBER {
-                return None;
-            }
             Some(GivenWord {
                 side,
-                file: file as u16,
+                file: file_number(file)?,
                 index,
                 value: value_of(digits)?,
             })

@@ -26,7 +26,7 @@ pub use event_line::verb_of;
 pub use half_event::{HalfEvent, Way};
 pub use items::{Bytes, Items};
 pub use setup_line::{Setting, SetupLine};
-pub use statement::{EVENTS, EndName, Side, Statement, Verb, statement_of};
+pub use statement::{EVENTS, EndName, Side, Statement, Verb, file_number, statement_of};
 pub use who::Who;
 pub use words::{FirstWords, first_words, number_of, register_of};
 

@@ -279,8 +279,8 @@ fn file_spec(number: u32, kind: Option<FileType>, count: u32) -> Option<FileSpec
     })
 }
 
-/// The number of a file, where a file may have it.
-pub(crate) fn file_number(number: u32) -> Option<u16>
+/// The number of a file, 0 to 999. None comes exactly where it is over 999, which no file may have.
+pub fn file_number(number: u32) -> Option<u16>
     ensures { result ≡ the_bounded 0 999 (Some number) }
 {
     let number = within(0, FILE_NUMBER, Some(number))?;

@@ -1,4 +1,4 @@
-use Rattle.std.proofs.Common.{◌≡◌, ◌≤◌, length, rules, refl, slice_index_or}
+use Rattle.std.proofs.Common.{◌≡◌, ◌≤◌, length, rules, refl, sym, slice_index_or}
 use Rattle.std.proofs.lemmas.List.{take_rest}
 use Rattle.line_script.proofs.GivenWords.{front, word_says}
 use Rattle.line_script.proofs.given_word.given_word.Goals as goal
@@ -19,5 +19,5 @@ returns-in_ok-value_of-in-119 c =
     let file = c.in_ok-file-in-119.ensures in
     let index = c.in_ok-index-in-119.ensures in
     let value = c.in_ok-value_of-in-119.ensures in
-    word_says line _ file.0 c.in_ok-file-in-119.rest.now index.0 c.in_ok-index-in-119.digits.now (slice_index_or line 5 0) side c.in_ok-file-in-119.file c.in_ok-index-in-119.index c.in_ok-value_of-in-119.field-0
-    bytes end.0 end.1 file.2 file.1 index.2 index.1 value.1 value.0 c.if-file-gt-FILE_NUMBER.false
+    word_says line _ file.0 c.in_ok-file-in-119.rest.now index.0 c.in_ok-index-in-119.digits.now (slice_index_or line 5 0) side c.in_ok-file-in-119.file c.in_ok-file_number-in-119.field-0 c.in_ok-index-in-119.index c.in_ok-value_of-in-119.field-0
+    bytes end.0 end.1 file.2 file.1 index.2 index.1 value.1 value.0 (sym c.in_ok-file_number-in-119.ensures)
