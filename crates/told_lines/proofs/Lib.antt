@@ -1,1 +1,1 @@
-mod CountedUp
+mod FileWords

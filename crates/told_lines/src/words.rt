@@ -1,10 +1,9 @@
 //! The words that are not 0 in the end.
 
-ghost use Rattle.std.specs.Prelude.{◌≡◌, ◌++◌, OnOk};
-ghost use Rattle.data_files.specs.Tables.{word_at, word_count};
+ghost use Rattle.std.specs.Prelude.{◌≡◌, ◌<◌, ◌^◌, ◌++◌, length, OnOk};
 ghost use Rattle.told_lines.specs.Words.{word_line, words_from, words_of};
 
-use data_files::{FileSpec, Tables};
+use data_files::Tables;
 use df1_base::NoMemory;
 use line_statement::Who;
 use script_parts::{WordOf, Words};
@@ -13,42 +12,40 @@ use script_parts::{WordOf, Words};
 pub fn push_all(who: Who, tables: &Tables, words: &mut Words) -> Result<(), NoMemory>
     ensures { OnOk result (words.new ≡ words.old ++ words_of who tables.now) }
 {
+    let mut rest = tables.flat();
     for place in 0..tables.files() {
         let Some(spec) = tables.spec_at(place) else {
             unreachable!();
         };
-        push_file(who, tables, spec, words)?;
+        let (values, more) = rest.split_at(spec.words() as usize);
+        push_file(who, spec.number, values, words)?;
+        rest = more;
     }
     Ok(())
 }
 
-/// Adds the words of a file that aren't 0.
-fn push_file(who: Who, tables: &Tables, spec: FileSpec, words: &mut Words) -> Result<(), NoMemory>
-    ensures { OnOk result (words.new ≡ words.old ++ words_from who tables.now spec.number 0 (word_count spec)) }
+/// Adds the words of a file that aren't 0, of all its words.
+fn push_file(who: Who, file: u16, values: &[u16], words: &mut Words) -> Result<(), NoMemory>
+    requires { length values.now < 2 ^ 32 }
+    ensures { OnOk result (words.new ≡ words.old ++ words_from who file 0 values.now) }
 {
-    for index in 0..spec.words() {
-        push_word(who, tables, spec.number, index, words)?;
+    for (index, value) in values.iter().enumerate() {
+        push_word(who, file, index as u32, *value, words)?;
     }
     Ok(())
 }
 
 /// Adds a word of a file, unless it is 0.
-fn push_word(
-    who: Who,
-    tables: &Tables,
-    file: u16,
-    index: u32,
-    words: &mut Words,
-) -> Result<(), NoMemory>
-    ensures { OnOk result (words.new ≡ words.old ++ word_line who file index (word_at tables.now file index)) }
+fn push_word(who: Who, file: u16, index: u32, value: u16, words: &mut Words) -> Result<(), NoMemory>
+    ensures { OnOk result (words.new ≡ words.old ++ word_line who file index value) }
 {
-    match tables.word(file, index) {
-        Some(value) if value != 0 => words.push(WordOf {
-            who,
-            file,
-            index,
-            value,
-        }),
-        _ => Ok(()),
+    if value == 0 {
+        return Ok(());
     }
+    words.push(WordOf {
+        who,
+        file,
+        index,
+        value,
+    })
 }
