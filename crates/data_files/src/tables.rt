@@ -71,9 +71,10 @@ impl Tables {
         })
     }
 
-    /// How many files there are.
+    /// How many files there are, at most 256.
     pub fn files(&self) -> usize
-        ensures { result ≡ length self.now.specs }
+        ensures value { result ≡ length self.now.specs }
+        ensures most { result ≤ 256 }
     {
         self.specs.len()
     }

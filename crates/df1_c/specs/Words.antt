@@ -1,5 +1,5 @@
 -- What C is told of the data files of a node, and how it sets their words.
-use Rattle.std.specs.Prelude.{ℕ, ◌-◌, ◌^◌, Bool, length, min, is_some, slice_get, if◌then◌else◌}
+use Rattle.std.specs.Prelude.{ℕ, Bool, length, is_some, slice_get, if◌then◌else◌}
 use Rattle.std.specs.declared.option.Option.{Option}
 use Rattle.std.specs.Option.{option_map}
 use Rattle.data_files.specs.declared.file_spec.FileSpec.{FileSpec}
@@ -24,9 +24,9 @@ word_told node file index = word_at node.station.tables file index
 abbrev pub word_set : ℕ → ℕ → ℕ → NodeState → NodeState
 word_set file index value node = if is_word node file index then with_node_word node file index value else node
 
--- how many files there are, as far as a u32 counts
+-- how many files there are
 abbrev pub file_count : NodeState → ℕ
-file_count node = min (length node.station.tables.specs) (2 ^ 32 - 1)
+file_count node = length node.station.tables.specs
 
 abbrev pub file_parts : FileSpec → FileParts
 file_parts spec = record { number = spec.number; kind = type_byte spec.kind; elements = spec.count }

@@ -109,7 +109,7 @@ fn tell_files(held: &Held, count: &mut u32) -> Code
     let Some(node) = node_of(held) else {
         return Code::NoHandle;
     };
-    *count = node.tables().files().min(u32::MAX as usize) as u32;
+    *count = node.tables().files() as u32;
     Code::Done
 }
 
