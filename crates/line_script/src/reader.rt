@@ -125,8 +125,7 @@ impl Reader {
         }
     }
 
-    /// Reads the first words of the next line. It isn't inlined, since a line that gives a word would pay for its room.
-    #[inline(never)]
+    /// Reads the first words of the next line.
     fn read_words(&mut self, alloc: Global, words: &[&[u8]]) -> Result<Option<Event>, LineFault>
         ensures { MatchResult result (λ event. after_words self.old (map (λ x. x.now) words.now) ≡ Ok (self.new, event))
             (λ fault. IsFaulty fault (after_words self.old (map (λ x. x.now) words.now))) }
