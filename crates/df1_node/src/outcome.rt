@@ -1,5 +1,5 @@
 //! What becomes of a command, and why one is not issued.
-use std::alloc::{AllocError, AllocFailed};
+use std::alloc::AllocError;
 use thiserror::Error;
 
 /// What became of a command.
@@ -35,17 +35,6 @@ pub enum IssueFault {
     /// There is no memory left.
     #[error("no memory")]
     NoMemory,
-}
-
-impl<T: Drop> From<AllocFailed<T>> for IssueFault {
-    ghost use Rattle.std.specs.Prelude.{◌≡◌};
-    ghost use Rattle.df1_node.specs.declared.outcome.IssueFault.TheVariants.{NoMemory};
-
-    ghost from_gives = { λ _ e. e ≡ NoMemory };
-
-    fn from(_: AllocFailed<T>) -> Self {
-        IssueFault::NoMemory
-    }
 }
 
 impl From<AllocError> for IssueFault {
