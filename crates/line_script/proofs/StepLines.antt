@@ -1,10 +1,10 @@
 -- The line of a step: no line feed is in it, and the next one stands where that of a step may.
-use Rattle.std.proofs.Common.{◌≡◌, ◌≤◌, ◌∙◌, ◌+◌, ◌-◌, ◌++◌, ◌&&◌, ℕ, zero, suc, true, false, cond, eqb, leb, List, [], ◌∷◌, Option, Some, None, refl, sym, ap, subst, arith, length, take, slice_index_or, unwrap_or}
+use Rattle.std.proofs.Common.{◌≡◌, ◌≤◌, ◌∙◌, ◌+◌, ◌-◌, ◌++◌, ◌&&◌, ◌||◌, ℕ, zero, suc, true, false, cond, eqb, leb, List, [], ◌∷◌, Option, Some, None, refl, sym, ap, subst, arith, inl, inr, drop, length, take, slice_index_or, unwrap_or}
 use Rattle.std.specs.Prelude.{not, slice_index}
 use Rattle.std.specs.Char.{is_ascii_digit}
-use Rattle.std.specs.List.{list_all}
-use Rattle.std.proofs.Math.Numerals.{suc-eq-add-one}
-use Rattle.std.proofs.lemmas.Bool.{eqb-true}
+use Rattle.std.specs.List.{list_all, list_any}
+use Rattle.std.proofs.Math.Seq.{take-append_seam}
+use Rattle.std.proofs.lemmas.Bool.{cases_lt, eqb-true}
 use Rattle.std.proofs.lemmas.Bool.Decides.{nat_tests}
 use Rattle.std.proofs.lemmas.Grind.{common_steps}
 use Rattle.std.proofs.lemmas.List.{length-take}
@@ -14,7 +14,7 @@ use Rattle.line_statement.specs.declared.statement.Side.{Side}
 use Rattle.line_statement.specs.declared.statement.Verb.{Verb}
 use Rattle.line_script.specs.Fed.{HasNoFeed}
 use Rattle.line_script.specs.Lines.{content, text_line}
-use Rattle.line_script.specs.Steps.{count_in, short_line, side_in, step_before, step_in, step_with}
+use Rattle.line_script.specs.Steps.{count_in, side_in, step_before, step_in, step_with}
 use Rattle.line_script.specs.declared.step.Step.{Step}
 use Rattle.line_script.proofs.Steps.{number_is_digits}
 
@@ -86,9 +86,6 @@ content_size line = elim (eqb (slice_index line (length line - 1)) 13) as (λ b.
 no_feed : (d : ℕ) → is_ascii_digit d ≡ true → eqb d 10 ≡ false
 no_feed d digit = grind (arith, common_steps)
 
-abbrev IsLine : List ℕ → Type 0
-IsLine line = HasNoFeed line × ((more : List ℕ) → short_line (line ++ 10 ∷ more) ≡ Some line)
-
 one : (d : ℕ) → list_all is_ascii_digit (d ∷ []) ≡ true → eqb d 10 ≡ false
 one d all = let digit : is_ascii_digit d ≡ true = grind (arith, common_steps) in no_feed d digit
 
@@ -101,35 +98,33 @@ two d f all =
 return_is_none : (x : ℕ) → eqb x 13 ≡ true → eqb x 10 ≡ false
 return_is_none x is = subst (λ y. eqb y 10 ≡ false) (sym (eqb-true x 13 is)) refl
 
-four : (e v b d : ℕ) (step : Step) → step_before (e ∷ v ∷ b ∷ d ∷ []) ≡ Some step → IsLine (e ∷ v ∷ b ∷ d ∷ [])
-four e v b d step is = elim (eqb d 13) as (λ x. step_in (cond x (e ∷ v ∷ b ∷ []) (e ∷ v ∷ b ∷ d ∷ [])) ≡ Some step → IsLine (e ∷ v ∷ b ∷ d ∷ [])) [
+four : (e v b d : ℕ) (step : Step) → step_before (e ∷ v ∷ b ∷ d ∷ []) ≡ Some step → HasNoFeed (e ∷ v ∷ b ∷ d ∷ [])
+four e v b d step is = elim (eqb d 13) as (λ x. step_in (cond x (e ∷ v ∷ b ∷ []) (e ∷ v ∷ b ∷ d ∷ [])) ≡ Some step → HasNoFeed (e ∷ v ∷ b ∷ d ∷ [])) [
   | true ↦ λ h. let some = (parts e v b [] step h).some in absurd (omega (arith, some))
-  | false ↦ λ h. let s = parts e v b (d ∷ []) step h in (rw (s.end, s.letter, s.blank, one d s.all) refl, λ more. refl)
+  | false ↦ λ h. let s = parts e v b (d ∷ []) step h in rw (s.end, s.letter, s.blank, one d s.all) refl
 ] is
 
-five : (e v b d f : ℕ) (step : Step) → step_before (e ∷ v ∷ b ∷ d ∷ f ∷ []) ≡ Some step → IsLine (e ∷ v ∷ b ∷ d ∷ f ∷ [])
-five e v b d f step is = elim (eqb f 13) as (λ x. eqb f 13 ≡ x → step_in (cond x (e ∷ v ∷ b ∷ d ∷ []) (e ∷ v ∷ b ∷ d ∷ f ∷ [])) ≡ Some step → IsLine (e ∷ v ∷ b ∷ d ∷ f ∷ [])) [
+five : (e v b d f : ℕ) (step : Step) → step_before (e ∷ v ∷ b ∷ d ∷ f ∷ []) ≡ Some step → HasNoFeed (e ∷ v ∷ b ∷ d ∷ f ∷ [])
+five e v b d f step is = elim (eqb f 13) as (λ x. eqb f 13 ≡ x → step_in (cond x (e ∷ v ∷ b ∷ d ∷ []) (e ∷ v ∷ b ∷ d ∷ f ∷ [])) ≡ Some step → HasNoFeed (e ∷ v ∷ b ∷ d ∷ f ∷ [])) [
   | true ↦ λ back h.
       let s = parts e v b (d ∷ []) step h in
-      let last = return_is_none f back in
-      (rw (s.end, s.letter, s.blank, one d s.all, last) refl, λ more. rw last refl)
+      rw (s.end, s.letter, s.blank, one d s.all, return_is_none f back) refl
   | false ↦ λ other h.
       let s = parts e v b (d ∷ f ∷ []) step h in
       let both = two d f s.all in
-      (rw (s.end, s.letter, s.blank, both.0, both.1) refl, λ more. rw (both.1) refl)
+      rw (s.end, s.letter, s.blank, both.0, both.1) refl
 ] refl is
 
-six : (e v b d f g : ℕ) (step : Step) → step_before (e ∷ v ∷ b ∷ d ∷ f ∷ g ∷ []) ≡ Some step → IsLine (e ∷ v ∷ b ∷ d ∷ f ∷ g ∷ [])
-six e v b d f g step is = elim (eqb g 13) as (λ x. eqb g 13 ≡ x → step_in (cond x (e ∷ v ∷ b ∷ d ∷ f ∷ []) (e ∷ v ∷ b ∷ d ∷ f ∷ g ∷ [])) ≡ Some step → IsLine (e ∷ v ∷ b ∷ d ∷ f ∷ g ∷ [])) [
+six : (e v b d f g : ℕ) (step : Step) → step_before (e ∷ v ∷ b ∷ d ∷ f ∷ g ∷ []) ≡ Some step → HasNoFeed (e ∷ v ∷ b ∷ d ∷ f ∷ g ∷ [])
+six e v b d f g step is = elim (eqb g 13) as (λ x. eqb g 13 ≡ x → step_in (cond x (e ∷ v ∷ b ∷ d ∷ f ∷ []) (e ∷ v ∷ b ∷ d ∷ f ∷ g ∷ [])) ≡ Some step → HasNoFeed (e ∷ v ∷ b ∷ d ∷ f ∷ g ∷ [])) [
   | true ↦ λ back h.
       let s = parts e v b (d ∷ f ∷ []) step h in
       let both = two d f s.all in
-      let last = return_is_none g back in
-      (rw (s.end, s.letter, s.blank, both.0, both.1, last) refl, λ more. rw (both.1, last) refl)
+      rw (s.end, s.letter, s.blank, both.0, both.1, return_is_none g back) refl
   | false ↦ λ other h. let few = (parts e v b (d ∷ f ∷ g ∷ []) step h).few in absurd (omega (arith, few))
 ] refl is
 
-before_size : (line : List ℕ) (step : Step) → step_before line ≡ Some step → (4 ≤ length line) × (length line ≤ 6)
+pub before_size : (line : List ℕ) (step : Step) → step_before line ≡ Some step → (4 ≤ length line) × (length line ≤ 6)
 before_size line step is =
     let size = sizes (content (text_line 0 line true)) step is in
     let near = content_size line in
@@ -139,7 +134,7 @@ before_size line step is =
     let more = near.1 in
     (omega (arith, least, fewer), omega (arith, most, more))
 
-pub step_line : (line : List ℕ) (step : Step) → step_before line ≡ Some step → IsLine line
+pub step_line : (line : List ℕ) (step : Step) → step_before line ≡ Some step → HasNoFeed line
 step_line (e ∷ v ∷ b ∷ d ∷ []) step is = four e v b d step is
 step_line (e ∷ v ∷ b ∷ d ∷ f ∷ []) step is = five e v b d f step is
 step_line (e ∷ v ∷ b ∷ d ∷ f ∷ g ∷ []) step is = six e v b d f g step is
@@ -149,32 +144,46 @@ step_line (a ∷ b ∷ []) step is = let size = (before_size (a ∷ b ∷ []) st
 step_line (a ∷ b ∷ c ∷ []) step is = let size = (before_size (a ∷ b ∷ c ∷ []) step is).0 in absurd (omega (arith, size))
 step_line (a ∷ b ∷ c ∷ d ∷ e ∷ f ∷ g ∷ rest) step is = let size = (before_size (a ∷ b ∷ c ∷ d ∷ e ∷ f ∷ g ∷ rest) step is).1 in absurd (omega (arith, size))
 
--- ---- the bytes before a line feed, and that
+-- ---- the first line feed from a place on
 
-cut_at : (i : ℕ) (bytes : List ℕ) → slice_index_or bytes i 0 ≡ 10 → (take (suc i) bytes ≡ take i bytes ++ 10 ∷ []) × (length (take i bytes) ≡ i)
-cut_at i [] is = cc
-cut_at zero (b ∷ bytes) is = (ap (λ x. x ∷ []) is, refl)
-cut_at (suc i) (b ∷ bytes) is = let more = cut_at i bytes is in (ap (λ t. b ∷ t) more.0, ap suc more.1)
+feed_behind : (line more : List ℕ) → slice_index_or (line ++ 10 ∷ more) (length line) 0 ≡ 10
+feed_behind [] more = refl
+feed_behind (b ∷ line) more = feed_behind line more
 
-cut_with : (i : ℕ) (bytes line : List ℕ) → slice_index_or bytes i 0 ≡ 10 → take i bytes ≡ line → take (length line + 1) bytes ≡ line ++ 10 ∷ []
-cut_with i bytes line feed is =
-    let cut = cut_at i bytes feed in
-    let size : length line + 1 ≡ suc i = ap (λ l. length l + 1) (sym is) ∙ ap (λ n. n + 1) cut.1 ∙ sym (suc-eq-add-one i) in
-    ap (λ n. take n bytes) size ∙ cut.0 ∙ ap (λ l. l ++ 10 ∷ []) is
+rest_has_none : (b : ℕ) (line : List ℕ) → HasNoFeed (b ∷ line) → HasNoFeed line
+rest_has_none b line none = elim (eqb b 10) as (λ x. (x || list_any (λ byte. eqb byte 10) line) ≡ false → HasNoFeed line) [
+  | true ↦ λ h. cc
+  | false ↦ λ h. h
+] none
 
-pub short_cut : (bytes line : List ℕ) → short_line bytes ≡ Some line → take (length line + 1) bytes ≡ line ++ 10 ∷ []
-short_cut bytes line is = elim (eqb (slice_index_or bytes 4 0) 10) as (λ x. eqb (slice_index_or bytes 4 0) 10 ≡ x
-    → cond x (Some (take 4 bytes)) (cond (eqb (slice_index_or bytes 5 0) 10) (Some (take 5 bytes)) (cond (eqb (slice_index_or bytes 6 0) 10) (Some (take 6 bytes)) None)) ≡ Some line
-    → take (length line + 1) bytes ≡ line ++ 10 ∷ []) [
-      | true ↦ λ feed h. cut_with 4 bytes line (eqb-true (slice_index_or bytes 4 0) 10 feed) (ap (λ o. unwrap_or o line) h)
-      | false ↦ λ not_four. elim (eqb (slice_index_or bytes 5 0) 10) as (λ x. eqb (slice_index_or bytes 5 0) 10 ≡ x
-          → cond x (Some (take 5 bytes)) (cond (eqb (slice_index_or bytes 6 0) 10) (Some (take 6 bytes)) None) ≡ Some line
-          → take (length line + 1) bytes ≡ line ++ 10 ∷ []) [
-            | true ↦ λ feed h. cut_with 5 bytes line (eqb-true (slice_index_or bytes 5 0) 10 feed) (ap (λ o. unwrap_or o line) h)
-            | false ↦ λ not_five. elim (eqb (slice_index_or bytes 6 0) 10) as (λ x. eqb (slice_index_or bytes 6 0) 10 ≡ x
-                → cond x (Some (take 6 bytes)) None ≡ Some line → take (length line + 1) bytes ≡ line ++ 10 ∷ []) [
-                  | true ↦ λ feed h. cut_with 6 bytes line (eqb-true (slice_index_or bytes 6 0) 10 feed) (ap (λ o. unwrap_or o line) h)
-                  | false ↦ λ not_six h. cc
-                ] refl
-          ] refl
-    ] refl is
+pub none_behind : (k : ℕ) (line : List ℕ) → HasNoFeed line → HasNoFeed (drop k line)
+none_behind zero line none = none
+none_behind (suc k) [] none = none
+none_behind (suc k) (b ∷ line) none = none_behind k line (rest_has_none b line none)
+
+first_feed : (line more : List ℕ) (i : ℕ) → HasNoFeed line → i ≤ length line → slice_index_or (line ++ 10 ∷ more) i 0 ≡ 10 → i ≡ length line
+first_feed [] more i none within feed = omega (arith, within)
+first_feed (b ∷ line) more zero none within feed = let no : HasNoFeed (10 ∷ line) = subst (λ x. HasNoFeed (x ∷ line)) feed none in cc
+first_feed (b ∷ line) more (suc i) none within feed = ap suc (first_feed line more i (rest_has_none b line none) (omega (arith, within)) feed)
+
+first_feed_from : (k : ℕ) (line more : List ℕ) (i : ℕ) → HasNoFeed (drop k line) → k ≤ i → i ≤ length line → slice_index_or (line ++ 10 ∷ more) i 0 ≡ 10 → i ≡ length line
+first_feed_from zero line more i none from within feed = first_feed line more i none within feed
+first_feed_from (suc k) [] more i none from within feed = omega (arith, within)
+first_feed_from (suc k) (b ∷ line) more zero none from within feed = absurd (omega (arith, from))
+first_feed_from (suc k) (b ∷ line) more (suc i) none from within feed = ap suc (first_feed_from k line more i none (omega (arith, from)) (omega (arith, within)) feed)
+
+-- where a line feed stands behind so many bytes of a line, at least four, these are all of it
+pub whole_line : (i : ℕ) (bytes line more : List ℕ) → HasNoFeed (drop 4 line) → 4 ≤ i → i ≤ length line → bytes ≡ line ++ 10 ∷ more → slice_index_or bytes i 0 ≡ 10 → take i bytes ≡ line
+whole_line i bytes line more none from within all feed =
+    let at : i ≡ length line = first_feed_from 4 line more i none from within (subst (λ (b : List ℕ). slice_index_or b i 0 ≡ 10) all feed) in
+    ap (take i) all ∙ ap (λ n. take n (line ++ 10 ∷ more)) at ∙ take-append_seam line (10 ∷ more)
+
+-- where another byte stands there, the line has more
+pub longer_line : (i : ℕ) (bytes line more : List ℕ) → i ≤ length line → bytes ≡ line ++ 10 ∷ more → eqb (slice_index_or bytes i 0) 10 ≡ false → i + 1 ≤ length line
+longer_line i bytes line more within all other = elim (cases_lt i (length line)) [
+  | inl lt ↦ omega (arith, lt)
+  | inr le ↦
+      let at : length line ≡ i = omega (arith, within, le) in
+      let feed : slice_index_or bytes i 0 ≡ 10 = ap (λ (b : List ℕ). slice_index_or b i 0) all ∙ subst (λ n. slice_index_or (line ++ 10 ∷ more) n 0 ≡ 10) at (feed_behind line more) in
+      let no : true ≡ false = sym (ap (λ x. eqb x 10) feed) ∙ other in cc
+]

@@ -1,5 +1,5 @@
 -- Steps, the commonest lines of a script: what happens one to 99 times at an end of a full-duplex link or at its queue.
-use Rattle.std.specs.Prelude.{ℕ, List, [], ◌∷◌, length, not, slice_index, slice_index_or, take, true, Option, Some, None, nat_le, ◌==◌, ◌&&◌, if◌then◌else◌}
+use Rattle.std.specs.Prelude.{ℕ, List, [], ◌∷◌, length, not, slice_index, true, Option, Some, None, nat_le, ◌==◌, ◌&&◌, if◌then◌else◌}
 use Rattle.line_statement.specs.declared.statement.EndName.{EndName}
 use Rattle.line_statement.specs.declared.statement.EndName.TheVariants.{Known}
 use Rattle.line_statement.specs.declared.statement.Side.{Side}
@@ -30,11 +30,3 @@ step_in other = None
 -- the step that the bytes before a line feed are
 abbrev pub step_before : List ℕ → Option Step
 step_before line = step_in (content (text_line 0 line true))
-
--- the bytes before the first line feed that stands where that of a step may
-abbrev pub short_line : List ℕ → Option (List ℕ)
-short_line bytes =
-    if slice_index_or bytes 4 0 == 10 then Some (take 4 bytes)
-    else if slice_index_or bytes 5 0 == 10 then Some (take 5 bytes)
-    else if slice_index_or bytes 6 0 == 10 then Some (take 6 bytes)
-    else None

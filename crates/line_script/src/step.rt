@@ -1,12 +1,13 @@
 //! Steps, the commonest lines of a full-duplex script, known without a look at the other forms: an end and the letter of a verb,
 //! a blank, and one or two digits that say how often.
-ghost use Rattle.std.specs.Prelude.{◌≡◌, ◌==◌, ◌≤◌, ◌∷◌, [], Some, List, ℕ, false, option_map};
+ghost use Rattle.std.specs.Prelude.{◌≡◌, ◌==◌, ◌≤◌, ◌+◌, ◌∷◌, ◌++◌, [], IfSome, Some, List, ℕ, drop, false, length, option_map, take};
 ghost use Rattle.std.specs.Option.{ForSome};
 ghost use Rattle.duplex_script.specs.Drafts.{times_event as the_times};
 ghost use Rattle.line_statement.specs.Statements.{end_of as the_end, statement_of as the_statement};
 ghost use Rattle.line_statement.specs.Words.{is_blank, number_of, words};
+ghost use Rattle.line_script.specs.Fed.{HasNoFeed};
 ghost use Rattle.line_script.specs.Lines.{is_passed_over};
-ghost use Rattle.line_script.specs.Steps.{count_in, short_line as the_short_line, side_in, step_in};
+ghost use Rattle.line_script.specs.Steps.{count_in, side_in, step_in};
 ghost use Rattle.line_statement.specs.declared.statement.EndName.{EndName as Name};
 ghost use Rattle.line_statement.specs.declared.statement.Statement.{Statement as Form};
 
@@ -31,10 +32,12 @@ impl Step {
     }
 }
 
-/// The bytes before the first line feed that stands where that of a step may: behind four, five or six bytes.
+/// The bytes before the first line feed that stands where that of a step may: behind four, five or six bytes. None comes exactly
+/// where none stands there.
 #[inline(always)]
 pub(crate) fn short_line(bytes: &[u8]) -> Option<&[u8]>
-    ensures { option_map (λ line. line.now) result ≡ the_short_line bytes.now }
+    ensures cut { IfSome result (λ line. (4 ≤ length line.now) × (length line.now ≤ 6) × (take (length line.now + 1) bytes.now ≡ line.now ++ 10 ∷ [])) }
+    ensures first { (line more : List ℕ) → HasNoFeed (drop 4 line) → 4 ≤ length line → length line ≤ 6 → bytes.now ≡ line ++ 10 ∷ more → option_map (λ found. found.now) result ≡ Some line }
 {
     match bytes {
         [_, _, _, _, b'\n', ..] => Some(&bytes[..4]),

@@ -1,23 +1,24 @@
-use Rattle.std.proofs.Common.{◌≡◌, ◌∙◌, ◌+◌, ◌++◌, ◌∷◌, [], ℕ, List, Ok, Option, Some, None, ap, append_assoc, eqb, length, refl, rules, subst, sym, take, true, unwrap_or}
+use Rattle.std.proofs.Common.{◌≡◌, ◌∙◌, ◌+◌, ◌++◌, ◌∷◌, [], ℕ, List, Ok, Option, Some, ap, append_assoc, eqb, length, refl, rules, subst, sym, take, true, unwrap_or}
 use Rattle.std.specs.Prelude.{IsErr}
 use Rattle.duplex_script.specs.Drafts.{times_event}
 use Rattle.line_script.specs.Fed.{Fed, HasNoFeed, StandsFor}
 use Rattle.line_script.specs.Lines.{after_line, text_line}
-use Rattle.line_script.specs.Steps.{short_line, step_before}
+use Rattle.line_script.specs.Steps.{step_before}
 use Rattle.line_script.specs.declared.step.Step.{Step}
 use Rattle.line_script.proofs.Runs.{is-empty, line-read-whole}
-use Rattle.line_script.proofs.StepLines.{short_cut, step_line}
+use Rattle.line_script.proofs.StepLines.{before_size, none_behind, step_line}
 use Rattle.line_script.proofs.text_reader.TextReader.feed_step.Goals as goal
 
 pub returns-in_err-line-clause-refused : goal.returns-in_err-line-clause-refused
 returns-in_err-line-clause-refused c none empty line more step bytes is =
-    let found : Some line ≡ None = sym ((step_line line step is).1 more) ∙ ap short_line (sym bytes) ∙ sym c.in_err-line.ensures in cc
+    let size = before_size line step is in
+    let found = c.in_err-line.ensures.first line more (none_behind 4 line (step_line line step is)) size.0 size.1 bytes in cc
 
 pub returns-in_err-step-clause-refused : goal.returns-in_err-step-clause-refused
 returns-in_err-step-clause-refused c none empty line more step bytes is =
     let read = c.in_ok-line.line.now in
-    let found : Some line ≡ Some read = sym ((step_line line step is).1 more) ∙ ap short_line (sym bytes) ∙ sym c.in_ok-line.ensures in
-    let same : line ≡ read = ap (λ o. unwrap_or o line) found in
+    let size = before_size line step is in
+    let same : line ≡ read = sym (ap (λ o. unwrap_or o line) (c.in_ok-line.ensures.first line more (none_behind 4 line (step_line line step is)) size.0 size.1 bytes)) in
     subst (λ (r : Fed). IsErr (after_line r.reader (text_line r.start line true))) c.self.view_is
     (subst (λ (l : List ℕ). IsErr (after_line c.self.inside.reader (text_line c.self.inside.start l true))) (sym same)
     (c.in_err-step.ensures.refused refl step (ap step_before (sym same) ∙ is)))
@@ -33,8 +34,8 @@ returns-clause-stands c text events h x is =
     let none : eqb (length inside.line.items) 0 ≡ true = search rules in
     let empty = is-empty inside.line.items none in
     let taken = c.in_ok-step.ensures.step in
-    let read = line-read-whole text line events r new (Ok (Some (times_event step.side step.verb step.n))) (step_line line step taken.0).0 (subst (StandsFor text events) (sym c.self.view_is) h) empty (taken.1, empty, refl, refl) in
-    let front : text ++ take (length line + 1) bytes ≡ (text ++ line) ++ 10 ∷ [] = ap (λ t. text ++ t) (short_cut bytes line (sym c.in_ok-line.ensures)) ∙ sym (append_assoc text line (10 ∷ [])) in
+    let read = line-read-whole text line events r new (Ok (Some (times_event step.side step.verb step.n))) (step_line line step taken.0) (subst (StandsFor text events) (sym c.self.view_is) h) empty (taken.1, empty, refl, refl) in
+    let front : text ++ take (length line + 1) bytes ≡ (text ++ line) ++ 10 ∷ [] = ap (λ t. text ++ t) c.in_ok-line.ensures.cut.2 ∙ sym (append_assoc text line (10 ∷ [])) in
     let stands : StandsFor (text ++ take (length line + 1) bytes) (events ++ times_event step.side step.verb step.n ∷ []) new = subst (λ t. StandsFor t (events ++ times_event step.side step.verb step.n ∷ []) new) (sym front) read in
     subst (λ (t : Step × ℕ). StandsFor (text ++ take t.1 bytes) (events ++ times_event t.0.side t.0.verb t.0.n ∷ []) new) (ap (λ (o : Option (Step × ℕ)). unwrap_or o (step, length line + 1)) is) stands
 
@@ -45,5 +46,5 @@ returns-clause-line c x is =
     let step = c.in_ok-step.step in
     let known = c.in_ok-step.ensures.step.0 in
     let cut : (l : List ℕ) × (take (length line + 1) bytes ≡ l ++ 10 ∷ []) × HasNoFeed l × (step_before l ≡ Some step) =
-    (line, short_cut bytes line (sym c.in_ok-line.ensures), (step_line line step known).0, known) in
+    (line, c.in_ok-line.ensures.cut.2, step_line line step known, known) in
     subst (λ (t : Step × ℕ). (l : List ℕ) × (take t.1 bytes ≡ l ++ 10 ∷ []) × HasNoFeed l × (step_before l ≡ Some t.0)) (ap (λ (o : Option (Step × ℕ)). unwrap_or o (step, length line + 1)) is) cut
