@@ -1,12 +1,13 @@
 -- A run of bytes without a line feed, and a line feed behind it: what a reader makes of them at once is what it makes of them one by one.
-use Rattle.std.proofs.Common.{◌≡◌, ◌∙◌, ℕ, ◌+◌, ◌-◌, ◌<◌, ◌≤◌, true, false, eqb, ltb, leb, min, List, [], ◌∷◌, ◌++◌, length, Option, Result, Ok, Err, refl, ap, arith, append_assoc, length-append}
-use Rattle.std.specs.Prelude.{MatchResult}
+use Rattle.std.proofs.Common.{◌≡◌, ◌∙◌, ℕ, ◌+◌, ◌-◌, ◌<◌, ◌≤◌, true, false, eqb, ltb, leb, min, List, [], ◌∷◌, ◌++◌, length, Option, Result, Ok, Err, refl, sym, ap, arith, append_assoc, length-append}
+use Rattle.std.specs.Prelude.{IsErr, MatchResult}
 use Rattle.std.specs.Option.{option_to_list}
 use Rattle.std.proofs.lemmas.Bool.{eqb-true, lt-ltb, le-ltb}
 use Rattle.std.proofs.lemmas.List.Folds.{list_any-append}
 use Rattle.line_script.specs.declared.fault.Cause.{Cause}
 use Rattle.line_script.specs.declared.fault.Cause.TheVariants as cause
 use Rattle.line_script.specs.declared.fault.LineFault.{LineFault}
+use Rattle.line_script.specs.declared.fault.LineFault.TheVariants.{Faulty}
 use Rattle.line_script.specs.declared.fault.ScriptFault.{ScriptFault}
 use Rattle.line_script.specs.declared.fault.ScriptFault.TheVariants as fault
 use Rattle.script_parts.specs.declared.script.Event.{Event}
@@ -15,9 +16,11 @@ use Rattle.line_script.specs.Fed.{Fed, HasNoFeed, IsRefusedFor, StandsFor, accep
 use Rattle.line_script.specs.Lines.{after_line, script_with, text_line}
 use Rattle.line_script.specs.Refusal.{IsFaulty, fault_at}
 use Rattle.line_script.specs.ScriptText.{script_of}
+use Rattle.line_script.specs.Unfinished.{unfinished}
 use Rattle.line_script.proofs.LongTexts.{at_end, over_cause}
 use Rattle.line_script.proofs.Unfinished.{long_cause, refused_last}
 use Rattle.line_script.proofs.Fed.{begun-part, goes-on-from-text, line-read, no-size, refused-with}
+use Rattle.line_script.proofs.Shown.{left-begun}
 
 -- a reader with more bytes of the line that is begun
 abbrev pub holding : Fed → List ℕ → Fed
@@ -85,3 +88,20 @@ pub line-read-whole : (text run : List ℕ) (events : List Event) (r new : Fed) 
 line-read-whole text run events r new result none h empty read =
     let whole : r.line ++ run ≡ run = ap (λ line. line ++ run) empty in
     line-read (text ++ run) events (holding r run) 10 result new (stands-holding text run events r none h) refl (rw whole read)
+
+-- where all lines of a text are ended, none is begun
+pub none-begun : (text : List ℕ) (events : List Event) (r : Fed) → StandsFor text events r → unfinished text ≡ 0 → r.line ≡ []
+none-begun text events r h ends = is-empty r.line (ap (λ n. eqb n 0) (sym (left-begun text events r h) ∙ ends))
+
+-- a line that is faulty there makes a text that is no script, whatever follows
+pub faulty-line : (text line rest : List ℕ) (events : List Event) (r : Fed) → HasNoFeed line → StandsFor text events r → unfinished text ≡ 0
+    → IsErr (after_line r.reader (text_line r.start line true)) → IsErr (script_of ((text ++ line) ++ 10 ∷ rest))
+faulty-line text line rest events r none h ends faulty =
+    elim (after_line r.reader (text_line r.start line true)) as (λ a. after_line r.reader (text_line r.start line true) ≡ a → IsErr a → IsErr (script_of ((text ++ line) ++ 10 ∷ rest))) [
+      | Ok step ↦ λ is no. cc
+      | Err c ↦ λ is yes.
+          let refused : IsRefusedFor ((text ++ line) ++ 10 ∷ []) (script_with r.reader events) (fault.At r.number c) =
+          line-read-whole text line events r r (Err (fault.At r.number c)) none h (none-begun text events r h ends) (Faulty c, refl, is) in
+          let read : script_of ((text ++ line) ++ 10 ∷ rest) ≡ Err (r.number, c) = ap script_of (sym (append_assoc (text ++ line) (10 ∷ []) rest)) ∙ (refused rest).0 in
+          rw read refl
+    ] refl faulty

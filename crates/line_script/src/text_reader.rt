@@ -112,12 +112,13 @@ impl TextReader {
 
     /// Takes the first line of the next bytes, its line feed included, as `feed` takes its bytes one by one, where no line is begun
     /// and it is a step that may follow: a step, and how many bytes its line has. None comes exactly where a line is begun, where
-    /// the bytes begin with no step and a line feed behind it, and where that step is refused; then nothing is taken.
+    /// the bytes begin with no step and a line feed behind it, and where no text that begins with what was fed and that line is a
+    /// script; then nothing is taken.
     #[inline(always)]
     pub fn feed_step(&mut self, bytes: &[u8]) -> Option<(Step, usize)>
         ensures left { result ≡ None → self.new ≡ self.old }
-        ensures refused { result ≡ None → self.old.line ≡ [] → (line more : List ℕ) (step : OneStep) → bytes.now ≡ line ++ 10 ∷ more → step_before line ≡ Some step
-            → IsErr (after_line self.old.reader (text_line self.old.start line true)) }
+        ensures refused { result ≡ None → (text line more rest : List ℕ) (events : List OneEvent) (step : OneStep) → StandsFor text events self.old → unfinished text ≡ 0
+            → bytes.now ≡ line ++ 10 ∷ more → step_before line ≡ Some step → IsErr (script_of ((text ++ line) ++ 10 ∷ rest)) }
         ensures fits { ForSome result (λ taken. (1 ≤ taken.1) × (taken.1 ≤ length bytes.now)) }
         ensures line { ForSome result (λ taken. (line : List ℕ) × (take taken.1 bytes.now ≡ line ++ 10 ∷ []) × HasNoFeed line × (step_before line ≡ Some taken.0)) }
         ensures stands { (text : List ℕ) (events : List OneEvent) → StandsFor text events self.old →

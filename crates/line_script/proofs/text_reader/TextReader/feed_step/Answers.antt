@@ -1,27 +1,34 @@
-use Rattle.std.proofs.Common.{◌≡◌, ◌∙◌, ◌+◌, ◌++◌, ◌∷◌, [], ℕ, List, Ok, Option, Some, ap, append_assoc, eqb, length, refl, rules, subst, sym, take, true, unwrap_or}
+use Rattle.std.proofs.Common.{◌≡◌, ◌∙◌, ◌+◌, ◌++◌, ◌∷◌, [], ℕ, List, Ok, Option, Some, ap, append_assoc, eqb, false, length, refl, rules, subst, sym, take, true, unwrap_or}
 use Rattle.std.specs.Prelude.{IsErr}
 use Rattle.duplex_script.specs.Drafts.{times_event}
 use Rattle.line_script.specs.Fed.{Fed, HasNoFeed, StandsFor}
 use Rattle.line_script.specs.Lines.{after_line, text_line}
 use Rattle.line_script.specs.Steps.{step_before}
 use Rattle.line_script.specs.declared.step.Step.{Step}
-use Rattle.line_script.proofs.Runs.{is-empty, line-read-whole}
+use Rattle.line_script.proofs.Runs.{faulty-line, is-empty, line-read-whole, none-begun}
 use Rattle.line_script.proofs.StepLines.{before_size, none_behind, step_line}
 use Rattle.line_script.proofs.text_reader.TextReader.feed_step.Goals as goal
 
+pub returns-then-not-is_empty-clause-refused : goal.returns-then-not-is_empty-clause-refused
+returns-then-not-is_empty-clause-refused c is text line more rest events step h ends bytes known =
+    let none = ap length (ap (λ (r : Fed). r.line) c.self.view_is ∙ none-begun text events c.args.self.now h ends) in
+    let some : eqb (length c.self.inside.line.items) 0 ≡ false = search rules in
+    let no : true ≡ false = sym (ap (λ n. eqb n 0) none) ∙ some in cc
+
 pub returns-in_err-line-clause-refused : goal.returns-in_err-line-clause-refused
-returns-in_err-line-clause-refused c none empty line more step bytes is =
+returns-in_err-line-clause-refused c none text line more rest events step h ends bytes is =
     let size = before_size line step is in
     let found = c.in_err-line.ensures.first line more (none_behind 4 line (step_line line step is)) size.0 size.1 bytes in cc
 
 pub returns-in_err-step-clause-refused : goal.returns-in_err-step-clause-refused
-returns-in_err-step-clause-refused c none empty line more step bytes is =
+returns-in_err-step-clause-refused c none text line more rest events step h ends bytes is =
     let read = c.in_ok-line.line.now in
     let size = before_size line step is in
     let same : line ≡ read = sym (ap (λ o. unwrap_or o line) (c.in_ok-line.ensures.first line more (none_behind 4 line (step_line line step is)) size.0 size.1 bytes)) in
-    subst (λ (r : Fed). IsErr (after_line r.reader (text_line r.start line true))) c.self.view_is
+    let faulty = subst (λ (r : Fed). IsErr (after_line r.reader (text_line r.start line true))) c.self.view_is
     (subst (λ (l : List ℕ). IsErr (after_line c.self.inside.reader (text_line c.self.inside.start l true))) (sym same)
-    (c.in_err-step.ensures.refused refl step (ap step_before (sym same) ∙ is)))
+    (c.in_err-step.ensures.refused refl step (ap step_before (sym same) ∙ is))) in
+    faulty-line text line rest events c.args.self.now (step_line line step is) h ends faulty
 
 pub returns-clause-stands : goal.returns-clause-stands
 returns-clause-stands c text events h x is =
