@@ -166,8 +166,8 @@ fn issue_line(side: Side, payload: Option<Bytes>) -> Option<Statement>
     })
 }
 
-/// A payload, where it is one.
-pub(crate) fn payload_of(payload: Bytes) -> Option<Bytes>
+/// A payload, where it is one: it has 1 to 245 bytes, and bit 6 of its CMD is clear. None comes exactly for all other bytes.
+pub fn payload_of(payload: Bytes) -> Option<Bytes>
     ensures { result ≡ the_payload payload }
 {
     if is_payload(payload.as_slice()) {

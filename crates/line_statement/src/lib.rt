@@ -22,13 +22,13 @@ mod statement;
 mod who;
 mod words;
 
-pub use event_line::verb_of;
+pub use event_line::{payload_of, verb_of};
 pub use half_event::{HalfEvent, Way};
 pub use items::{Bytes, Items};
 pub use setup_line::{Setting, SetupLine};
 pub use statement::{EVENTS, EndName, Side, Statement, Verb, file_number, statement_of};
 pub use who::Who;
-pub use words::{FirstWords, first_words, number_of, register_of};
+pub use words::{FirstWords, first_words, hex_of, number_of, register_of};
 
 #[cfg(test)]
 mod tests;

@@ -112,9 +112,10 @@ pub(crate) fn is(word: &[u8], text: &str) -> bool
     word == text.as_bytes()
 }
 
-/// The bytes that a word of pairs of hexadecimal digits spells. A word of an odd length takes no memory.
+/// The bytes that a word of pairs of hexadecimal digits of either case spells. None comes where a byte is no such digit, or their
+/// number is odd; a word of an odd length takes no memory.
 #[inline(never)]
-pub(crate) fn hex_of(alloc: Global, word: &[u8]) -> Result<Option<Bytes>, NoMemory>
+pub fn hex_of(alloc: Global, word: &[u8]) -> Result<Option<Bytes>, NoMemory>
     ensures value { IfOk result (λ bytes. bytes ≡ the_bytes word.now) }
     ensures memory { OnErr result (length word.now % 2 ≡ 0) }
 {
