@@ -11,7 +11,7 @@ use crate::first_flaw::steps_of;
 use crate::reader::{NODE_OF_A, NODE_OF_B};
 use df1_base::NoMemory;
 use end_drafts::{Flaw, Stage, StatementFault};
-use line_statement::{EndName, SetupLine, Side, Statement, Verb};
+use line_statement::{Bytes, EndName, SetupLine, Side, Statement, Verb};
 use script_parts::{Event, Lane, WordOf};
 
 impl DuplexReader {
@@ -75,6 +75,24 @@ impl DuplexReader {
         Ok(())
     }
 
+    /// Takes a statement that issues a command with this payload at an end, as `take` takes it, and answers its event. The flaw is
+    /// Spent where the end may issue no more, and else Events where the sum of events would pass its most.
+    pub fn take_issue(&mut self, side: Side, payload: Bytes) -> Result<Event, Flaw>
+        ensures { MatchResult result (λ event. after_statement self.old (Statement.Issue side (Some payload)) ≡ Ok (self.new, Some event))
+            (λ flaw. after_statement self.old (Statement.Issue side (Some payload)) ≡ Err flaw) }
+    {
+        if self.end(side).commands_left == 0 {
+            return Err(Flaw::Spent);
+        }
+        if self.events_left == 0 {
+            return Err(Flaw::Events);
+        }
+        self.stage = Stage::Events;
+        self.events_left -= 1;
+        self.count_command(side);
+        Ok(self.command(side, payload))
+    }
+
     /// Takes a statement that is a line of an end.
     fn take_line(&mut self, statement: Statement) -> Result<(), NoMemory>
         requires { the_setup_test statement ≡ true }
@@ -128,11 +146,7 @@ impl DuplexReader {
             Statement::Issue {
                 side,
                 payload: Some(payload),
-            } => Some(Event::Issue {
-                who: side.who(),
-                dst: self.address_of(side.other()),
-                payload,
-            }),
+            } => Some(self.command(side, payload)),
             Statement::Times {
                 side,
                 verb,
@@ -153,6 +167,17 @@ impl DuplexReader {
                 bytes,
             }),
             _ => None,
+        }
+    }
+
+    /// The event that issues a command at an end, for the other one.
+    fn command(&self, side: Side, payload: Bytes) -> Event
+        ensures { Some result ≡ the_event self.now (Statement.Issue side (Some payload)) }
+    {
+        Event::Issue {
+            who: side.who(),
+            dst: self.address_of(side.other()),
+            payload,
         }
     }
 
