@@ -11,3 +11,4 @@ pub mod Runs
 mod Steps
 mod StepLines
 mod GivenWords
+mod GivenCommands

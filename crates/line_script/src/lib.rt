@@ -4,6 +4,7 @@
 #![tactic(auto)]
 
 mod fault;
+mod given_command;
 mod given_word;
 mod laws;
 mod reader;

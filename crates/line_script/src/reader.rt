@@ -13,6 +13,7 @@ ghost use Rattle.line_statement.specs.declared.statement.Side.{Side as End};
 ghost use Rattle.line_statement.specs.declared.statement.Statement.{Statement as Form};
 ghost use Rattle.line_statement.specs.declared.statement.Verb.{Verb as Happening};
 
+use crate::given_command::{GivenCommand, given_command};
 use crate::given_word::{GivenWord, given_word};
 use crate::step::{Step, step_of};
 use crate::{Cause, Event, Events, LineFault, Script};
@@ -68,7 +69,10 @@ impl Reader {
         let said = content(line, is_ended);
         match given_word(said) {
             Some(word) => self.read_given(alloc, word),
-            None => self.read_words(alloc, &first_words(said)),
+            None => match given_command(alloc, said) {
+                Some(command) => self.read_issue(alloc, command),
+                None => self.read_words(alloc, &first_words(said)),
+            },
         }
     }
 
@@ -122,6 +126,36 @@ impl Reader {
                 }
             }
             Reader::Half(_) => self.take(alloc, word.statement()),
+        }
+    }
+
+    /// Reads a line that issues a command of a full-duplex end. It isn't inlined, since the other lines would pay for the room that
+    /// this one takes on the stack.
+    #[inline(never)]
+    fn read_issue(
+        &mut self,
+        alloc: Global,
+        command: GivenCommand,
+    ) -> Result<Option<Event>, LineFault>
+        ensures { MatchResult result (λ event. after_said self.old (Some (Form.Issue command.side (Some command.payload))) ≡ Ok (self.new, event))
+            (λ fault. IsFaulty fault (after_said self.old (Some (Form.Issue command.side (Some command.payload))))) }
+    {
+        if self.is_ended() {
+            return Err(LineFault::Faulty(Cause::After));
+        }
+        let GivenCommand { side, payload } = command;
+        match self {
+            Reader::Full(duplex) => match duplex.take_issue(side, payload) {
+                Ok(event) => Ok(Some(event)),
+                Err(flaw) => Err(LineFault::Faulty(cause_of(flaw))),
+            },
+            Reader::Half(_) => self.take(
+                alloc,
+                Statement::Issue {
+                    side,
+                    payload: Some(payload),
+                },
+            ),
         }
     }
 

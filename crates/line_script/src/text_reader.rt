@@ -117,6 +117,7 @@ impl TextReader {
     #[inline(always)]
     pub fn feed_step(&mut self, bytes: &[u8]) -> Option<(Step, usize)>
         ensures left { result ≡ None → self.new ≡ self.old }
+        ensures begun { (text : List ℕ) (events : List OneEvent) → StandsFor text events self.old → 0 < unfinished text → result ≡ None }
         ensures refused { result ≡ None → (text line more rest : List ℕ) (events : List OneEvent) (step : OneStep) → StandsFor text events self.old → unfinished text ≡ 0
             → bytes.now ≡ line ++ 10 ∷ more → step_before line ≡ Some step → IsErr (script_of ((text ++ line) ++ 10 ∷ rest)) }
         ensures fits { ForSome result (λ taken. (1 ≤ taken.1) × (taken.1 ≤ length bytes.now)) }

@@ -15,8 +15,8 @@ read_by_six d [] = refl
 read_by_six d (word ∷ line) =
     ap (λ (s : Option Statement). cond (is_passed_over (word ∷ line)) (Ok (d, None)) (cond (is_ended (stage_of d)) (Err cause.After) (after_form d s))) (first_six (word ∷ line))
 
-pub returns-in-None : goal.returns-in-None
-returns-in-None c =
+pub returns-in-None-given_command : goal.returns-in-None-given_command
+returns-in-None-given_command c =
     let d = c.args.self.now in
     let line = text_line c.args.start c.args.line.now c.args.is_ended in
     let near : reaches_limit line ≡ false = sym c.reaches_limit.ensures ∙ c.if-reaches_limit.false in

@@ -1,11 +1,13 @@
-use Rattle.std.proofs.Common.{◌≡◌, ◌∙◌, ◌+◌, ◌++◌, ◌∷◌, [], ℕ, List, Ok, Option, Some, ap, append_assoc, eqb, false, length, refl, rules, subst, sym, take, true, unwrap_or}
+use Rattle.std.proofs.Common.{◌≡◌, arith, ◌∙◌, ◌+◌, ◌++◌, ◌∷◌, [], ℕ, List, Ok, Option, Some, ap, append_assoc, eqb, false, length, refl, rules, subst, sym, take, true, unwrap_or}
 use Rattle.std.specs.Prelude.{IsErr}
 use Rattle.duplex_script.specs.Drafts.{times_event}
 use Rattle.line_script.specs.Fed.{Fed, HasNoFeed, StandsFor}
 use Rattle.line_script.specs.Lines.{after_line, text_line}
 use Rattle.line_script.specs.Steps.{step_before}
+use Rattle.line_script.specs.Unfinished.{unfinished}
 use Rattle.line_script.specs.declared.step.Step.{Step}
 use Rattle.line_script.proofs.Runs.{faulty-line, is-empty, line-read-whole, none-begun}
+use Rattle.line_script.proofs.Shown.{left-begun}
 use Rattle.line_script.proofs.StepLines.{before_size, none_behind, step_line}
 use Rattle.line_script.proofs.text_reader.TextReader.feed_step.Goals as goal
 
@@ -29,6 +31,13 @@ returns-in_err-step-clause-refused c none text line more rest events step h ends
     (subst (λ (l : List ℕ). IsErr (after_line c.self.inside.reader (text_line c.self.inside.start l true))) (sym same)
     (c.in_err-step.ensures.refused refl step (ap step_before (sym same) ∙ is))) in
     faulty-line text line rest events c.args.self.now (step_line line step is) h ends faulty
+
+pub returns-clause-begun : goal.returns-clause-begun
+returns-clause-begun c text events h some =
+    let none : eqb (length c.self.inside.line.items) 0 ≡ true = search rules in
+    let empty = is-empty c.self.inside.line.items none in
+    let ends : unfinished text ≡ 0 = left-begun text events c.args.self.now h ∙ ap length (sym (ap (λ (r : Fed). r.line) c.self.view_is) ∙ empty) in
+    absurd (omega (arith, ends, some))
 
 pub returns-clause-stands : goal.returns-clause-stands
 returns-clause-stands c text events h x is =
