@@ -62,6 +62,39 @@ end-is {H} m e = ap (λ (to : EndState H × Option Out). to.0) (taken-is m e)
 pub out-is : {H : Type 0} (m : Ghosts H) (e : EndState H) → out_at_take m e ≡ (take (prepared m e).mouth).1
 out-is {H} m e = ap (λ (to : EndState H × Option Out). to.1) (taken-is m e)
 
+-- ---- a take that first looks what the mouth gives
+
+none-chosen : (g : Giving) (c : Option Choice) → (given g c).1 ≡ None → c ≡ None
+none-chosen g None none = refl
+none-chosen g (Some (Second out)) none = absurd cc
+none-chosen g (Some (Respond r)) none = absurd cc
+none-chosen g (Some (Give unit)) none = absurd cc
+none-chosen g (Some Enquire) none = absurd cc
+
+-- where the mouth gives nothing, nothing is chosen, and the end stays as it is
+pub nothing-given : {H : Type 0} (e after : EndState H) (out : Option Out) → after ≡ given_next e → out ≡ (take e.mouth).1 → out ≡ None → (after ≡ e) × (chosen e.mouth ≡ None)
+nothing-given {H} e after out state is none =
+    let nothing = none-chosen e.mouth (chosen e.mouth) (sym is ∙ none) in
+    (state ∙ ap (λ (c : Option Choice). (gives e (given e.mouth c)).0) nothing, nothing)
+
+some-prepared : {H : Type 0} (m : Ghosts H) (e : EndState H) (out : Out) (c : Option Choice) → (given e.mouth c).1 ≡ Some out → (if is_none c then begun_next m e else e) ≡ e
+some-prepared m e out None some = absurd cc
+some-prepared m e out (Some choice) some = refl
+
+-- where it gives a byte, that is all
+pub end-given : {H : Type 0} (m : Ghosts H) (e : EndState H) (out : Out) → (take e.mouth).1 ≡ Some out → end_after_take m e ≡ given_next e
+end-given {H} m e out some = end-is m e ∙ ap (λ (x : EndState H). given_next x) (some-prepared m e out (chosen e.mouth) some)
+
+none-prepared : {H : Type 0} (m : Ghosts H) (e : EndState H) → chosen e.mouth ≡ None → prepared m e ≡ begun_next m e
+none-prepared {H} m e none = ap (λ (c : Option Choice). if is_none c then begun_next m e else e) none
+
+-- where it has nothing chosen, a frame that is next is begun, and then the next byte is given
+pub end-begun : {H : Type 0} (m : Ghosts H) (e : EndState H) → chosen e.mouth ≡ None → end_after_take m e ≡ given_next (begun_next m e)
+end-begun {H} m e none = end-is m e ∙ ap (λ (x : EndState H). given_next x) (none-prepared m e none)
+
+pub out-begun : {H : Type 0} (m : Ghosts H) (e : EndState H) → chosen e.mouth ≡ None → out_at_take m e ≡ (take (begun_next m e).mouth).1
+out-begun {H} m e none = out-is m e ∙ ap (λ (x : EndState H). (take x.mouth).1) (none-prepared m e none)
+
 -- ---- a byte is given exactly where something is there
 
 some-given : (g : Giving) (choice : Choice) → is_none (given g (Some choice)).1 ≡ false

@@ -31,7 +31,7 @@ ghost use Rattle.df1_frame.specs.Grammar.{full_duplex};
 ghost use Rattle.df1_frame.specs.Standing.{lent};
 ghost use Rattle.duplex_receiver.specs.Receiver.{body_at};
 ghost use Rattle.embedded_response.specs.Giving.{chosen, take};
-ghost use Rattle.duplex_end.specs.End.{new_end, with_host, end_after_byte, step_at_byte, answered, answer_of, end_after_tick, turn_at_tick, gone_at_tick, next_place, begun_next, prepared, given_next, end_after_take, out_at_take};
+ghost use Rattle.duplex_end.specs.End.{new_end, with_host, end_after_byte, step_at_byte, answered, answer_of, end_after_tick, turn_at_tick, gone_at_tick, next_place, begun_next, given_next, end_after_take, out_at_take};
 ghost use Rattle.duplex_end.specs.Joined.{most_left};
 ghost use Rattle.duplex_end.specs.Arrived.{StandsFor, HearsWhole};
 ghost use Rattle.duplex_end.specs.contracts.End.{the_row};
@@ -170,8 +170,10 @@ impl<H: Host + Drop> End<H> {
         ensures fewer { IsSome result → most_left H.Host self.new + 1 ≤ most_left H.Host self.old }
         ensures most { most_left H.Host self.old ≤ 511 }
     {
-        self.prepare();
-        self.give()
+        match self.give() {
+            Some(out) => Some(out),
+            None => self.begin_and_give(),
+        }
     }
 
     /// Whether `take` would give nothing.
@@ -228,21 +230,20 @@ impl<H: Host + Drop> End<H> {
         }
     }
 
-    /// Begins a frame where nothing else is to be given.
-    #[inline(always)]
-    fn prepare(&mut self)
-        ensures state { self.new ≡ prepared H.Host self.old }
-        ensures no_more { most_left H.Host self.new ≤ most_left H.Host self.old }
-        ensures most { most_left H.Host self.old ≤ 511 }
+    /// Begins a frame, since nothing else is to be given, and gives its first byte. It isn't inlined, since few bytes begin
+    /// a frame.
+    #[inline(never)]
+    fn begin_and_give(&mut self) -> Option<Out>
+        requires { chosen self.old.mouth ≡ None }
+        ensures state { self.new ≡ given_next (begun_next H.Host self.old) }
+        ensures out { result ≡ (take (begun_next H.Host self.old).mouth).1 }
+        ensures fewer { IsSome result → most_left H.Host self.new + 1 ≤ most_left H.Host self.old }
     {
-        if self.mouth.idle() {
-            self.begin_next();
-        }
+        self.begin_next();
+        self.give()
     }
 
-    /// Begins the frame of a sender that sends, or else that of a new message of the host. It isn't inlined, since few bytes
-    /// begin a frame.
-    #[inline(never)]
+    /// Begins the frame of a sender that sends, or else that of a new message of the host.
     fn begin_next(&mut self)
         requires { chosen self.old.mouth ≡ None }
         ensures state { self.new ≡ begun_next H.Host self.old }
@@ -270,6 +271,7 @@ impl<H: Host + Drop> End<H> {
         ensures state { self.new ≡ given_next self.old }
         ensures out { result ≡ (take self.old.mouth).1 }
         ensures fewer { IsSome result → most_left H.Host self.new + 1 ≤ most_left H.Host self.old }
+        ensures most { most_left H.Host self.old ≤ 511 }
     {
         let out = self.mouth.take();
         note_out(&mut self.sender, out);
