@@ -48,7 +48,8 @@ fn frame_of(check: Check, body: &[u8]) -> ArrayVec<u8, MAX_FRAME>
     ensures frame { result.items ≡ frame_of check body.now }
     ensures most { length result.items ≤ 506 }
 {
-    let mut framer = Framer::start(body, check);
+    let mut framer = Framer::new();
+    framer.begin(body, check);
     let _begun = framer.done();
     let mut frame = ArrayVec::new();
     while let Some(unit) = framer.next_unit() {

@@ -56,22 +56,30 @@ impl Model for Framer {
 }
 
 impl Framer {
-    /// Begins the frame of a body of at most 250 bytes.
-    pub fn start(body: &[u8], check: Check) -> Framer
-        requires { length body.now ≤ 250 }
-        ensures { result ≡ units check body.now }
+    /// A framer with nothing to give.
+    pub fn new() -> Framer
+        ensures { result ≡ [] }
     {
-        let mut kept = ArrayVec::new();
+        Framer {
+            part: Part::Check(0),
+            body: ArrayVec::new(),
+            check: ArrayVec::new(),
+        }
+    }
+
+    /// Begins the frame of a body of at most 250 bytes, in the place of what is left.
+    pub fn begin(&mut self, body: &[u8], check: Check)
+        requires { length body.now ≤ 250 }
+        ensures { self.new ≡ units check body.now }
+    {
+        self.part = Part::Opening;
+        self.body.clear();
         let mut running = Running::new(check);
         for b in body {
-            kept.push(*b);
+            self.body.push(*b);
             running.step(*b);
         }
-        Framer {
-            part: Part::Opening,
-            body: kept,
-            check: check_bytes(check, running),
-        }
+        self.check = check_bytes(check, running);
     }
 
     /// Gives the next unit: None exactly where none is left. It is inlined, since a unit that is handed over in memory costs

@@ -135,7 +135,8 @@ fn hears_the_sizes_of_bodies_in_two_runs(rt: HostRuntime) {
 // Takes the units of a body's frame, and compares their bytes.
 fn give(rt: &impl Abort, body: &[u8], check: Check, wanted: &[u8]) {
     assert!(rt; body.len() <= 250);
-    let mut framer = Framer::start(body, check);
+    let mut framer = Framer::new();
+    framer.begin(body, check);
     let mut given = 0usize;
     for _ in 0..wanted.len() {
         let Some(unit) = framer.next_unit() else {

@@ -18,17 +18,18 @@ abbrev count : Option Out → Option Resp → List Given → Bool → ℕ
 count second waiting left asking =
     one_if (not (is_none second)) + length (bytes_of left) + (one_if (not (is_none waiting)) + one_if (not (is_none waiting))) + (one_if asking + one_if asking)
 
-none-counts : (second : Option Out) (may : Bool) (waiting : Option Resp) (left : List Given) (asking : Bool) → first_there (choices second may waiting left asking) ≡ None → count second waiting left asking ≡ 0
-none-counts (Some x) may waiting left asking e = absurd cc
-none-counts None true (Some r) left asking e = absurd cc
-none-counts None false (Some r) [] asking e = absurd cc
-none-counts None false (Some r) (u ∷ left) asking e = absurd cc
-none-counts None true None (u ∷ left) asking e = absurd cc
-none-counts None false None (u ∷ left) asking e = absurd cc
-none-counts None true None [] true e = absurd cc
-none-counts None false None [] true e = absurd cc
-none-counts None true None [] false e = refl
-none-counts None false None [] false e = refl
+-- where none of the choices is there, nothing is: no half-given pair, no frame, no response and no ENQ
+none-there : (second : Option Out) (may : Bool) (waiting : Option Resp) (left : List Given) (asking : Bool) → first_there (choices second may waiting left asking) ≡ None → (second ≡ None) × (left ≡ []) × (waiting ≡ None) × (asking ≡ false)
+none-there (Some x) may waiting left asking e = absurd cc
+none-there None true (Some r) left asking e = absurd cc
+none-there None false (Some r) [] asking e = absurd cc
+none-there None false (Some r) (u ∷ left) asking e = absurd cc
+none-there None true None (u ∷ left) asking e = absurd cc
+none-there None false None (u ∷ left) asking e = absurd cc
+none-there None true None [] true e = absurd cc
+none-there None false None [] true e = absurd cc
+none-there None true None [] false e = (refl, refl, refl, refl)
+none-there None false None [] false e = (refl, refl, refl, refl)
 
 none-chosen : (second : Option Out) (may : Bool) (waiting : Option Resp) (left : List Given) (asking : Bool) → count second waiting left asking ≡ 0 → first_there (choices second may waiting left asking) ≡ None
 none-chosen (Some x) may waiting left asking e = absurd (omega arith)
@@ -45,8 +46,20 @@ none-given g (Some (Respond r)) h = absurd (grind arith)
 none-given g (Some (Give unit)) h = absurd (grind arith)
 none-given g (Some Enquire) h = absurd (grind arith)
 
+is-none : (c : Option Choice) → IsNone c → c ≡ None
+is-none None h = refl
+is-none (Some choice) h = absurd cc
+
+-- nothing is there where nothing is chosen ..
+pub chosen_none : (g : Giving) → IsNone (chosen g) → (g.second ≡ None) × (g.left ≡ []) × (g.waiting ≡ None) × (g.asking ≡ false)
+chosen_none g h = none-there g.second (may_embed g) g.waiting g.left g.asking (is-none (chosen g) h)
+
+-- .. and where nothing is given
+pub taken_none : (g : Giving) → IsNone (take g).1 → (g.second ≡ None) × (g.left ≡ []) × (g.waiting ≡ None) × (g.asking ≡ false)
+taken_none g h = none-there g.second (may_embed g) g.waiting g.left g.asking (none-given g (chosen g) h)
+
 pub take-none : (g : Giving) → IsNone (take g).1 → bytes_left g ≡ 0
-take-none g h = none-counts g.second (may_embed g) g.waiting g.left g.asking (none-given g (chosen g) h)
+take-none g h = let none = taken_none g h in rw (none.0, none.1, none.2, none.3) refl
 
 pub none-take : (g : Giving) → bytes_left g ≡ 0 → IsNone (take g).1
 none-take g e = rw (none-chosen g.second (may_embed g) g.waiting g.left g.asking e) refl

@@ -11,10 +11,9 @@
 //! A newer response replaces one that still waits. NAK is given as 10 15 (manual topic: full-duplex protocol).
 #![tactic(auto)]
 
-ghost use Rattle.std.specs.Prelude.{◌≡◌, ◌≤◌, ◌↔◌, [], length, drop, slice_get, not, ◌&&◌, ◌==◌, is_none, if◌then◌else◌, IsNone, IsSome, IsTrue, None, Some, ◌+◌};
-ghost use Rattle.df1_frame.specs.Units.{bytes_of};
+ghost use Rattle.std.specs.Prelude.{◌≡◌, ◌≤◌, ◌↔◌, [], length, not, is_none, if◌then◌else◌, IsNone, IsSome, IsTrue, None, Some, ◌+◌};
+ghost use Rattle.std.specs.Option.{option_map};
 ghost use Rattle.embedded_response.specs.Giving.{Giving, bytes_left, nothing, offer, forget, answer_enq, ask, unask, begin, is_begun, chosen, take, plain, unit_out, code_of};
-ghost use Rattle.embedded_response.specs.View.{left_of};
 
 #[cfg(test)]
 mod tests;
@@ -32,8 +31,8 @@ pub struct Mouth {
     last: Resp,
     waiting: Option<Resp>,
     asking: bool,
-    framer: Option<Framer>,
-    second: Option<Out>,
+    framer: Framer,
+    second: Option<u8>,
     gap: bool,
     begun: u64,
 }
@@ -43,9 +42,10 @@ impl Model for Mouth {
 
     ghost Value = { Giving };
 
-    ghost use Rattle.embedded_response.specs.View.{left_of};
+    ghost use Rattle.std.specs.Option.{option_map};
+    ghost use Rattle.embedded_response.specs.Giving.{plain};
 
-    ghost view = { λ m. record { check = m.check; embed = m.embed; last = m.last; waiting = m.waiting; asking = m.asking; left = left_of m.framer; second = m.second; gap = m.gap; begun = m.begun } };
+    ghost view = { λ m. record { check = m.check; embed = m.embed; last = m.last; waiting = m.waiting; asking = m.asking; left = m.framer; second = option_map plain m.second; gap = m.gap; begun = m.begun } };
 }
 
 impl Mouth {
@@ -59,7 +59,7 @@ impl Mouth {
             last: Resp::Nak,
             waiting: None,
             asking: false,
-            framer: None,
+            framer: Framer::new(),
             second: None,
             gap: false,
             begun: 0,
@@ -109,7 +109,7 @@ impl Mouth {
         requires fits { length body.now ≤ 250 }
         ensures { self.new ≡ begin self.old body.now }
     {
-        self.framer = Some(Framer::start(body, self.check));
+        self.framer.begin(body, self.check);
         self.gap = false;
         self.begun = self.begun.saturating_add(1);
     }
@@ -119,18 +119,19 @@ impl Mouth {
         ensures value { result ≡ is_begun self.now }
         ensures begun { IsTrue (not result) ↔ (self.now.left ≡ []) }
     {
-        is_left(&self.framer)
+        !self.framer.done()
     }
 
     /// Whether nothing is to be given. At most 511 bytes are.
+    #[tactic(auto, using(crate::proofs::GivingLemmas::chosen_none, crate::proofs::GivingLemmas::taken_none))]
     #[inline(always)]
     pub fn idle(&self) -> bool
         ensures value { result ≡ is_none (chosen self.now) }
         ensures gives { IsTrue result ↔ IsNone (take self.now).1 }
         ensures most { bytes_left self.now ≤ 511 }
     {
-        let framed = is_left(&self.framer);
-        self.second.is_none() && !framed && self.waiting.is_none() && !self.asking
+        let ended = self.framer.done();
+        self.second.is_none() && ended && self.waiting.is_none() && !self.asking
     }
 
     /// Gives the next byte: None exactly where no half-given pair, response, ENQ or frame is left. It is inlined, since a byte
@@ -140,14 +141,14 @@ impl Mouth {
         ensures after { self.new ≡ (take self.old).0 }
         ensures out { result ≡ (take self.old).1 }
     {
-        if self.second.is_some() {
-            return self.second.take();
+        if let Some(code) = self.second.take() {
+            return Some(unmarked(code));
         }
-        let may_embed = may_embed(self.embed, self.gap, &self.framer);
+        let may_embed = self.embed && self.gap && !self.framer.done();
         if let Some(r) = take_if(&mut self.waiting, may_embed) {
             return Some(begin_pair(&mut self.second, response_code(r)));
         }
-        if let Some(unit) = next_unit(&mut self.framer) {
+        if let Some(unit) = self.framer.next_unit() {
             self.gap = unit.gap;
             return Some(begin_unit(&mut self.second, unit, self.begun));
         }
@@ -168,38 +169,6 @@ pub fn each_take_counts()
     ensures none { (g : Giving) → IsNone (take g).1 ↔ (bytes_left g ≡ 0) }
 {}
 
-/// Whether a unit of the frame is left.
-#[inline(always)]
-fn is_left(framer: &Option<Framer>) -> bool
-    ensures left { result ≡ not (length (left_of framer.now) == 0) }
-    ensures most { length (bytes_of (left_of framer.now)) ≤ 506 }
-{
-    match framer {
-        Some(framer) => !framer.done(),
-        None => false,
-    }
-}
-
-/// The next unit of the frame, if one is left.
-#[inline(always)]
-fn next_unit(framer: &mut Option<Framer>) -> Option<Unit>
-    ensures given { result ≡ slice_get (left_of framer.old) 0 }
-    ensures left { left_of framer.new ≡ drop 1 (left_of framer.old) }
-{
-    match framer {
-        Some(framer) => framer.next_unit(),
-        None => None,
-    }
-}
-
-/// Whether a response may stand here in the frame.
-#[inline(always)]
-fn may_embed(embed: bool, gap: bool, framer: &Option<Framer>) -> bool
-    ensures { result ≡ (embed && (gap && not (length (left_of framer.now) == 0))) }
-{
-    embed && gap && is_left(framer)
-}
-
 /// Takes the response that waits, where it may be given.
 #[inline(always)]
 fn take_if(waiting: &mut Option<Resp>, may: bool) -> Option<Resp>
@@ -211,20 +180,20 @@ fn take_if(waiting: &mut Option<Resp>, may: bool) -> Option<Resp>
 
 /// Gives the first byte of a pair without marks, and keeps the second.
 #[inline(always)]
-fn begin_pair(second: &mut Option<Out>, code: u8) -> Out
+fn begin_pair(second: &mut Option<u8>, code: u8) -> Out
     ensures out { result ≡ plain 16 }
-    ensures second { second.new ≡ Some (plain code) }
+    ensures second { second.new ≡ Some code }
 {
-    *second = Some(unmarked(code));
+    *second = Some(code);
     unmarked(DLE)
 }
 
 /// Gives the first byte of a unit, and keeps the second of a pair, where none is kept.
 #[inline(always)]
-fn begin_unit(second: &mut Option<Out>, unit: Unit, number: u64) -> Out
+fn begin_unit(second: &mut Option<u8>, unit: Unit, number: u64) -> Out
     requires { second.old ≡ None }
     ensures out { result ≡ (unit_out unit unit.second number).0 }
-    ensures second { second.new ≡ (unit_out unit unit.second number).1 }
+    ensures second { option_map plain second.new ≡ (unit_out unit unit.second number).1 }
 {
     match unit.second {
         None => Out {
@@ -233,7 +202,7 @@ fn begin_unit(second: &mut Option<Out>, unit: Unit, number: u64) -> Out
             body_of: unit.gap.then_some(number),
         },
         Some(code) => {
-            *second = Some(unmarked(code));
+            *second = Some(code);
             unmarked(unit.first)
         }
     }
