@@ -126,6 +126,7 @@ fn deliver(
             return Ok(());
         };
         arrive(alloc, to, far, &cell, reported)?;
+        near.keep(cell);
     }
     Ok(())
 }

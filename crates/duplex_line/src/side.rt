@@ -14,18 +14,19 @@ use df1_base::{NoMemory, Step, Turn};
 use df1_check::Check;
 use df1_node::{IssueFault, Node, Tables};
 use duplex_end::End;
-use line_cells::Cell;
+use line_cells::{Cell, Spare};
 use outset::{node_of, setup_of};
 use script_parts::EndPlan;
 use std::alloc::Global;
 use std::collections::VecDeque;
 use std::marker::Model;
 
-/// An end, and the bytes on their way from it to the other end.
+/// An end, and the bytes on their way from it to the other end, with memory for what is known of the end of a transmission.
 #[derive(Drop)]
 pub(crate) struct Side {
     end: End<Node>,
     lane: VecDeque<Cell>,
+    spare: Spare,
 }
 
 impl Model for Side {
@@ -48,6 +49,7 @@ impl Side {
         Side {
             end,
             lane: VecDeque::new(alloc),
+            spare: Spare::new(),
         }
     }
 
@@ -73,7 +75,17 @@ impl Side {
         let Some(out) = self.end.take() else {
             return Ok(None);
         };
-        let cell = Cell::given(alloc, &out, self.end.sending())?;
+        let cell = match out.last_of {
+            None => Cell::within(out.byte, out.body_of),
+            Some(number) => Cell::last(
+                alloc,
+                out.byte,
+                number,
+                self.end.sending(),
+                out.body_of,
+                &mut self.spare,
+            )?,
+        };
         self.lane.push_back(cell)?;
         Ok(Some(out.byte))
     }
@@ -84,6 +96,14 @@ impl Side {
         ensures cell { result ≡ slice_get self.old.lane 0 }
     {
         self.lane.pop_front()
+    }
+
+    /// Keeps the memory of a cell that has arrived.
+    #[inline(always)]
+    pub fn keep(&mut self, cell: Cell)
+        ensures { self.new ≡ self.old }
+    {
+        cell.spend(&mut self.spare);
     }
 
     /// Alters the head of the queue, if there is one, by exclusive or with `mask`.

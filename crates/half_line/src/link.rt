@@ -84,6 +84,7 @@ pub(crate) fn deliver(
             return Ok(());
         };
         arrive(alloc, way, master, side, &cell, reported)?;
+        side.keep(cell);
     }
     Ok(())
 }

@@ -15,7 +15,7 @@ use df1_base::{NoMemory, Out, Step};
 use df1_check::Check;
 use df1_node::{Node, Tables};
 use half_slave::Slave;
-use line_cells::Cell;
+use line_cells::{Cell, Spare};
 use outset::node_of;
 use script_parts::EndPlan;
 use std::alloc::Global;
@@ -30,6 +30,8 @@ pub(crate) struct Side {
     slave: Slave<Node>,
     to_it: VecDeque<Cell>,
     from_it: VecDeque<Cell>,
+    /// Memory for the next cell that ends a transmission.
+    spare: Spare,
 }
 
 impl Model for Side {
@@ -54,6 +56,7 @@ impl Side {
             slave,
             to_it: VecDeque::new(alloc),
             from_it: VecDeque::new(alloc),
+            spare: Spare::new(),
         }
     }
 
@@ -68,7 +71,7 @@ impl Side {
     pub fn join(&mut self, alloc: Global, out: &Out, sending: &[u8]) -> Result<(), NoMemory>
         ensures { OnOk result (self.new ≡ joined (cell_of sending.now out.now ∷ []) self.old) }
     {
-        let cell = Cell::given(alloc, out, sending)?;
+        let cell = cell_given(alloc, out, sending, &mut self.spare)?;
         self.to_it.push_back(cell)?;
         Ok(())
     }
@@ -82,7 +85,7 @@ impl Side {
         let Some(out) = self.slave.take() else {
             return Ok(None);
         };
-        let cell = Cell::given(alloc, &out, self.slave.sending())?;
+        let cell = cell_given(alloc, &out, self.slave.sending(), &mut self.spare)?;
         self.from_it.push_back(cell)?;
         Ok(Some(out.byte))
     }
@@ -108,6 +111,13 @@ impl Side {
         }
     }
 
+    /// Keeps the memory of a cell that has arrived.
+    pub fn keep(&mut self, cell: Cell)
+        ensures { self.new ≡ self.old }
+    {
+        cell.spend(&mut self.spare);
+    }
+
     /// The station takes a byte that arrives, and says what it made of it.
     pub fn hear(&mut self, byte: u8) -> Step
         ensures state { self.new ≡ station_heard self.old byte }
@@ -128,6 +138,16 @@ impl Side {
         ensures { result.now ≡ tables_of self.now }
     {
         self.slave.host().tables()
+    }
+}
+
+/// The cell of a byte that was given while this body was sent.
+fn cell_given(alloc: Global, out: &Out, sending: &[u8], spare: &mut Spare) -> Result<Cell, NoMemory>
+    ensures { IfOk result (λ cell. cell ≡ cell_of sending.now out.now) }
+{
+    match out.last_of {
+        None => Ok(Cell::within(out.byte, out.body_of)),
+        Some(number) => Cell::last(alloc, out.byte, number, sending, out.body_of, spare),
     }
 }
 

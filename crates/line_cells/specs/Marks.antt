@@ -8,7 +8,7 @@ use Rattle.line_cells.specs.Cells.{Ending}
 abbrev pub ending_of_marks : Marks → Option Ending
 ending_of_marks marks.Nothing = None
 ending_of_marks (marks.Body number) = None
-ending_of_marks (marks.End ended) = Some (record { number = ended.value.number; body = ended.value.body })
+ending_of_marks (marks.End ended) = Some (record { number = ended.value.number; body = ended.value.body.items })
 
 -- the number of the transmission of which it is a one-byte body unit
 abbrev pub body_of_marks : Marks → Option ℕ

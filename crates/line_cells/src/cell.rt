@@ -2,12 +2,11 @@
 //! a transmission, and what is known of its end stands apart.
 
 ghost use Rattle.std.specs.Prelude.{◌≡◌, IfOk, None, Some};
-ghost use Rattle.line_cells.specs.Cells.{bare, cell_of};
+ghost use Rattle.line_cells.specs.Cells.{bare, ending_of};
 ghost use Rattle.line_cells.specs.Deception.{is_sent as is_body_sent};
 ghost use Rattle.line_cells.specs.Marks.{body_of_marks, ending_of_marks};
 
-use df1_base::{NoMemory, Out};
-use line_statement::Bytes;
+use df1_base::NoMemory;
 use std::alloc::Global;
 use std::marker::Model;
 
@@ -17,9 +16,40 @@ struct Ended {
     /// The number of the transmission, counted from 1 at its end of the line.
     number: u64,
     /// The body of its message.
-    body: Bytes,
+    body: Vec<u8>,
     /// The number of the transmission of which the byte is a one-byte body unit.
     body_of: Option<u64>,
+}
+
+impl Ended {
+    /// Memory for the end of a transmission.
+    fn boxed(alloc: Global) -> Result<Box<Ended>, NoMemory> {
+        let ended = Ended {
+            number: 0,
+            body: Vec::new(alloc),
+            body_of: None,
+        };
+        Ok(Box::new(alloc, ended)?)
+    }
+}
+
+/// Memory for what is known of the end of a transmission, which serves again. Contracts see nothing of it.
+#[derive(Drop)]
+pub struct Spare {
+    ended: Option<Box<Ended>>,
+}
+
+impl Model for Spare {
+    ghost Value = { Unit {0} };
+
+    ghost view = { λ s. tt };
+}
+
+impl Spare {
+    /// None yet.
+    pub fn new() -> Spare {
+        Spare { ended: None }
+    }
 }
 
 /// What is known of a byte.
@@ -60,18 +90,50 @@ impl Cell {
         }
     }
 
-    /// A byte that an end gave while it sent this body, which is copied for the last byte of a transmission alone. It is inlined,
-    /// since a cell that is handed over in memory costs more than all else here.
-    #[inline(always)]
-    pub fn given(alloc: Global, out: &Out, sending: &[u8]) -> Result<Cell, NoMemory>
-        ensures { IfOk result (λ cell. cell ≡ cell_of sending.now out.now) }
+    /// A byte that ends no transmission. Where it is a one-byte body unit of one, `body_of` is the number of that transmission.
+    pub fn within(byte: u8, body_of: Option<u64>) -> Cell
+        ensures { result ≡ record { byte = byte; ends = None; body_of = body_of } }
     {
-        match out.last_of {
-            None => Ok(Cell {
-                byte: out.byte,
-                marks: unit_of(out.body_of),
-            }),
-            Some(number) => last_cell(alloc, out, number, sending),
+        let marks = match body_of {
+            Some(number) => Marks::Body(number),
+            None => Marks::Nothing,
+        };
+        Cell { byte, marks }
+    }
+
+    /// The last byte of the transmission of this number and body. What is known of its end stands in the spare memory, if there is
+    /// any.
+    #[inline(never)]
+    pub fn last(
+        alloc: Global,
+        byte: u8,
+        number: u64,
+        body: &[u8],
+        body_of: Option<u64>,
+        spare: &mut Spare,
+    ) -> Result<Cell, NoMemory>
+        ensures { IfOk result (λ cell. cell ≡ record { byte = byte; ends = Some (ending_of body.now number); body_of = body_of }) }
+    {
+        let mut ended = match spare.ended.take() {
+            Some(ended) => ended,
+            None => Ended::boxed(alloc)?,
+        };
+        ended.number = number;
+        ended.body_of = body_of;
+        ended.body.clear();
+        ended.body.extend_from_slice(body)?;
+        Ok(Cell {
+            byte,
+            marks: Marks::End(ended),
+        })
+    }
+
+    /// Drops a cell, and keeps the memory of what was known of a transmission's end, if it has any.
+    #[inline(always)]
+    pub fn spend(self, spare: &mut Spare) {
+        let Cell { marks, .. } = self;
+        if let Marks::End(ended) = marks {
+            spare.ended = Some(ended);
         }
     }
 
@@ -83,36 +145,6 @@ impl Cell {
             Marks::End(ended) => ended.body.as_slice() == body,
             Marks::Nothing | Marks::Body(_) => false,
         }
-    }
-}
-
-/// The last byte of a transmission of this number and body.
-#[inline(never)]
-fn last_cell(alloc: Global, out: &Out, number: u64, sending: &[u8]) -> Result<Cell, NoMemory>
-    requires { out.now.last_of ≡ Some number }
-    ensures { IfOk result (λ cell. cell ≡ cell_of sending.now out.now) }
-{
-    let body_of = out.body_of;
-    let body = Bytes::copy_of(alloc, sending)?;
-    let ended = Ended {
-        number,
-        body,
-        body_of,
-    };
-    Ok(Cell {
-        byte: out.byte,
-        marks: Marks::End(Box::new(alloc, ended)?),
-    })
-}
-
-/// What is known of a byte that ends no transmission.
-fn unit_of(body_of: Option<u64>) -> Marks
-    ensures ends { ending_of_marks result ≡ None }
-    ensures unit { body_of_marks result ≡ body_of }
-{
-    match body_of {
-        Some(number) => Marks::Body(number),
-        None => Marks::Nothing,
     }
 }
 

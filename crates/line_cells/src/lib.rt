@@ -6,5 +6,5 @@
 mod cell;
 mod deceit;
 
-pub use cell::Cell;
+pub use cell::{Cell, Spare};
 pub use deceit::{is_deceived, is_station_deceived};

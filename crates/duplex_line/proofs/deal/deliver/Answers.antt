@@ -13,9 +13,9 @@ loop-preserved c =
     let head : slice_get s.a.lane 0 ≡ Some c.in-Some.cell = sym c.in-Some.ensures.cell in
     let rest = replicate (c.args.n - (c.loop.counter + 1)) Deliver in
     record {
-      state = rw (c.leave.ensures.state, c.in_ok-arrive.ensures.side, c.in_ok-arrive.ensures.deceived)
+      state = rw (c.keep.ensures, c.leave.ensures.state, c.in_ok-arrive.ensures.side, c.in_ok-arrive.ensures.deceived)
           (ap (λ (t : LineState). after_deeds t rest) (sym (deliver-one s c.in-Some.cell head)) ∙ (rw next at c.loop.invariant.state));
-      lines = λ from. rw (c.leave.ensures.state, c.in_ok-arrive.ensures.lines, c.in_ok-arrive.ensures.side, c.in_ok-arrive.ensures.deceived, append_assoc)
+      lines = λ from. rw (c.keep.ensures, c.leave.ensures.state, c.in_ok-arrive.ensures.lines, c.in_ok-arrive.ensures.side, c.in_ok-arrive.ensures.deceived, append_assoc)
           (ap (λ (lines : List Line). c.loop.reported.lines ++ lines) (sym (deliver-lines from c.args.to s c.in-Some.cell rest head)) ∙ (rw next at (c.loop.invariant.lines from)));
       few = omega (arith, c.arrive.ensures.few);
     }

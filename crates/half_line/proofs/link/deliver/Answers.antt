@@ -15,7 +15,8 @@ loop-preserved c =
     let s : LinkState = link_state c.loop.master c.loop.side c.loop.reported.deceived in
     let head : slice_get (lane_of way s.side) 0 ≡ Some c.in-Some.cell = sym c.in-Some.ensures.cell in
     let rest = replicate (c.args.n - (c.loop.counter + 1)) (OnLane way Deliver) in
-    let arrived = rw c.leave.ensures.state at c.in_ok-arrive.ensures.state in
+    let kept = ap (λ (side : StationSide). link_state c.arrive.new.master side c.arrive.new.reported.deceived) c.keep.ensures in
+    let arrived = kept ∙ (rw c.leave.ensures.state at c.in_ok-arrive.ensures.state) in
     let told = rw c.leave.ensures.state at c.in_ok-arrive.ensures.lines in
     record {
       state = ap (λ (t : LinkState). after_link_deeds t rest) (arrived ∙ sym (deliver-one way s c.in-Some.cell head)) ∙ (rw next at c.loop.invariant.state);
