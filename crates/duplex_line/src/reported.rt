@@ -1,12 +1,15 @@
 //! What is told of a run: the lines of its report, and how often an end was deceived.
 
-ghost use Rattle.std.specs.Prelude.{◌≡◌, ◌+◌, ◌≤◌, ◌<◌, ◌^◌, ◌++◌, OnOk};
+ghost use Rattle.std.specs.Prelude.{◌≡◌, ◌+◌, ◌≤◌, ◌<◌, ◌^◌, ◌++◌, [], OnOk, OnErr};
+ghost use Rattle.std.specs.List.{flat_map};
+ghost use Rattle.df1_base.specs.Outside.{Rose, Put, WrotePart};
+ghost use Rattle.line_report.specs.Report.{line_text};
 ghost use Rattle.duplex_line.specs.Acts.{after_cell, cell_lines, deceptions_at};
 
 use crate::side::Side;
-use df1_base::NoMemory;
+use df1_base::{Act, Failed, NoMemory, Sink};
 use line_cells::{Cell, is_deceived};
-use line_report::Lines;
+use line_report::{Lines, print_lines};
 use line_statement::Who;
 use std::alloc::Global;
 use told_lines::{tell_act, tell_news};
@@ -18,7 +21,45 @@ pub(crate) struct Reported {
     pub deceived: u64,
 }
 
-/// A byte arrives at an end: first the line of the act is told, then the news.
+impl Reported {
+    /// Writes the lines, if there are any, and drops them. `Failed` comes where the sink failed; then it holds a first part of
+    /// their text.
+    #[inline(always)]
+    pub fn print<K: Sink>(&mut self, sink: &mut K) -> Result<(), Failed>
+        ensures none { OnOk result (self.new.lines ≡ []) }
+        ensures count { self.new.deceived ≡ self.old.deceived }
+        ensures ok { OnOk result (Put (K.held sink.old) (K.held sink.new) (flat_map line_text self.old.lines)) }
+        ensures part { WrotePart (K.held sink.old) (K.held sink.new) (flat_map line_text self.old.lines) }
+        ensures calm { OnOk result (K.faults sink.new ≡ K.faults sink.old) }
+        ensures later { K.faults sink.old ≤ K.faults sink.new }
+        ensures cause { OnErr result (Rose (K.faults sink.old) (K.faults sink.new)) }
+    {
+        if self.lines.as_slice().is_empty() {
+            return Ok(());
+        }
+        self.print_some(sink)
+    }
+
+    /// The same, where there are some. It isn't inlined, since an event of which nothing is told would pay for the registers that
+    /// this one saves.
+    #[inline(never)]
+    fn print_some<K: Sink>(&mut self, sink: &mut K) -> Result<(), Failed>
+        ensures none { OnOk result (self.new.lines ≡ []) }
+        ensures count { self.new.deceived ≡ self.old.deceived }
+        ensures ok { OnOk result (Put (K.held sink.old) (K.held sink.new) (flat_map line_text self.old.lines)) }
+        ensures part { WrotePart (K.held sink.old) (K.held sink.new) (flat_map line_text self.old.lines) }
+        ensures calm { OnOk result (K.faults sink.new ≡ K.faults sink.old) }
+        ensures later { K.faults sink.old ≤ K.faults sink.new }
+        ensures cause { OnErr result (Rose (K.faults sink.old) (K.faults sink.new)) }
+    {
+        print_lines(self.lines.as_slice(), sink)?;
+        self.lines.clear();
+        Ok(())
+    }
+}
+
+/// A byte arrives at an end: first the line of the act is told, then the news. Most bytes mean nothing, and there is nothing to
+/// tell of them.
 #[inline(always)]
 pub(crate) fn arrive(
     alloc: Global,
@@ -34,6 +75,9 @@ pub(crate) fn arrive(
     ensures few { reported.new.deceived ≤ reported.old.deceived + 1 }
 {
     let step = side.hear(cell);
+    if let Act::Nothing = step.act {
+        return Ok(());
+    }
     if is_deceived(step.whole, cell, side.body()) {
         reported.deceived += 1;
     }

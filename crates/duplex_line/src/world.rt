@@ -13,7 +13,7 @@ use crate::reported::Reported;
 use crate::sent::Sent;
 use crate::side::{Side, side_of};
 use df1_base::{Failed, NoMemory, Sink};
-use line_report::{Lines, Record, print_lines};
+use line_report::{Lines, Record};
 use line_statement::Who;
 use script_parts::{Event, Script, Words};
 use std::alloc::Global;
@@ -114,8 +114,7 @@ impl World {
         ensures later { K.faults sink.old ≤ K.faults sink.new }
         ensures cause { OnErr result (Rose (K.faults sink.old) (K.faults sink.new)) }
     {
-        print_lines(self.reported.lines.as_slice(), sink)?;
-        self.reported.lines.clear();
+        self.reported.print(sink)?;
         self.sent.print(sink)
     }
 

@@ -1,4 +1,4 @@
-use Rattle.std.proofs.Common.{◌≡◌, ◌∙◌, ◌++◌, List, ap, sym}
+use Rattle.std.proofs.Common.{◌∙◌, ◌++◌, List, ap, sym}
 use Rattle.line_report.specs.declared.record.Line.{Line}
 use Rattle.duplex_line.proofs.Steps.EventSteps.{on_ok}
 use Rattle.duplex_line.proofs.Told.{one-sent}
