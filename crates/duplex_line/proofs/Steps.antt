@@ -1,8 +1,6 @@
--- What is counted up one by one: unit steps of one kind, and bytes.
-pub mod CountedUp
 -- An event at one end, by what its steps do there.
 pub mod EventSteps
--- Playing one event after another: which are still to come, and that there is room for them.
+-- Playing one event after another: that there is room for the events that are still to come.
 pub mod EventsToCome
 -- A take that gives nothing changes nothing, at an end over any host.
 pub mod IdleTake

@@ -14,7 +14,7 @@ use crate::side::Side;
 use arrayvec::ArrayVec;
 use df1_base::NoMemory;
 use line_cells::Cell;
-use line_report::Lines;
+use line_report::Page;
 use line_statement::{Bytes, Who};
 use script_parts::Event;
 use std::alloc::Global;
@@ -136,9 +136,10 @@ fn lose(near: &mut Side, n: u32)
     ensures { near.new ≡ near_over near.old (replicate n Lose) }
 {
     for _ in 0..n {
-        if near.leave().is_none() {
+        let Some(cell) = near.leave() else {
             return;
-        }
+        };
+        near.keep(cell);
     }
 }
 
@@ -167,7 +168,7 @@ fn intrude(
 
 /// `n` units of time pass.
 #[inline(never)]
-fn pass(who: Who, near: &mut Side, n: u32, lines: &mut Lines) -> Result<(), NoMemory>
+fn pass(who: Who, near: &mut Side, n: u32, lines: &mut Page) -> Result<(), NoMemory>
     ensures near { OnOk result (near.new ≡ near_over near.old (replicate n Tick)) }
     ensures lines { OnOk result (lines.new ≡ lines.old ++ near_lines_over who near.old (replicate n Tick)) }
 {
@@ -183,7 +184,7 @@ fn tick(
     who: Who,
     near: &mut Side,
     gone: &mut ArrayVec<u32, 16>,
-    lines: &mut Lines,
+    lines: &mut Page,
 ) -> Result<(), NoMemory>
     ensures near { OnOk result (near.new ≡ after_tick near.old) }
     ensures lines { OnOk result (lines.new ≡ lines.old ++ tick_lines who near.old) }

@@ -9,7 +9,7 @@ ghost use Rattle.duplex_line.specs.Acts.{after_cell, cell_lines, deceptions_at};
 use crate::side::Side;
 use df1_base::{Act, Failed, NoMemory, Sink};
 use line_cells::{Cell, is_deceived};
-use line_report::{Lines, print_lines};
+use line_report::{Page, print_lines};
 use line_statement::Who;
 use std::alloc::Global;
 use told_lines::{tell_act, tell_news};
@@ -17,7 +17,7 @@ use told_lines::{tell_act, tell_news};
 /// The lines so far, and how often an end was deceived.
 #[derive(Drop)]
 pub(crate) struct Reported {
-    pub lines: Lines,
+    pub lines: Page,
     pub deceived: u64,
 }
 

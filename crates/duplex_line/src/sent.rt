@@ -8,7 +8,7 @@ ghost use Rattle.duplex_line.specs.Run.{sent_lines};
 ghost use Rattle.duplex_line.specs.Told.{with_sent};
 
 use df1_base::{Failed, NoMemory, Sink};
-use line_report::{Line, Lines, put_sent};
+use line_report::{Line, Page, put_sent};
 use line_statement::{Bytes, Who};
 use std::alloc::Global;
 use std::mem;
@@ -33,7 +33,7 @@ impl Sent {
     }
 
     /// Puts their line behind the others, if there are any.
-    pub fn settle(&mut self, alloc: Global, lines: &mut Lines) -> Result<(), NoMemory>
+    pub fn settle(&mut self, alloc: Global, lines: &mut Page) -> Result<(), NoMemory>
         ensures none { OnOk result (self.new.bytes ≡ []) }
         ensures lines { OnOk result (lines.new ≡ with_sent lines.old self.old) }
     {
@@ -47,12 +47,12 @@ impl Sent {
     /// takes on the stack.
     #[cold]
     #[inline(never)]
-    fn put_behind(&mut self, alloc: Global, lines: &mut Lines) -> Result<(), NoMemory>
+    fn put_behind(&mut self, alloc: Global, lines: &mut Page) -> Result<(), NoMemory>
         requires { 0 < length self.old.bytes }
         ensures none { OnOk result (self.new.bytes ≡ []) }
         ensures lines { OnOk result (lines.new ≡ with_sent lines.old self.old) }
     {
-        let bytes = mem::replace(&mut self.bytes, Bytes::new(alloc));
+        let bytes = mem::replace(&mut self.bytes, lines.no_bytes(alloc));
         lines.push(Line::Sent {
             who: self.who,
             bytes,

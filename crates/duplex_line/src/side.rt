@@ -20,6 +20,7 @@ use script_parts::EndPlan;
 use std::alloc::Global;
 use std::collections::VecDeque;
 use std::marker::Model;
+use std::mem;
 
 /// An end, and the bytes on their way from it to the other end, with memory for what is known of the end of a transmission.
 #[derive(Drop)]
@@ -75,17 +76,7 @@ impl Side {
         let Some(out) = self.end.take() else {
             return Ok(None);
         };
-        let cell = match out.last_of {
-            None => Cell::within(out.byte, out.body_of),
-            Some(number) => Cell::last(
-                alloc,
-                out.byte,
-                number,
-                self.end.sending(),
-                out.body_of,
-                &mut self.spare,
-            )?,
-        };
+        let cell = Cell::given(alloc, &out, self.end.sending(), &mut self.spare)?;
         self.lane.push_back(cell)?;
         Ok(Some(out.byte))
     }
@@ -98,7 +89,7 @@ impl Side {
         self.lane.pop_front()
     }
 
-    /// Keeps the memory of a cell that has arrived.
+    /// Keeps the memory of a cell that has arrived or is lost.
     #[inline(always)]
     pub fn keep(&mut self, cell: Cell)
         ensures { self.new ≡ self.old }
@@ -111,7 +102,8 @@ impl Side {
         ensures { self.new ≡ after_alter self.old mask }
     {
         if let Some(cell) = self.lane.front_mut() {
-            *cell = Cell::bare(cell.byte ^ mask);
+            let altered = Cell::bare(cell.byte ^ mask);
+            mem::replace(cell, altered).spend(&mut self.spare);
         }
     }
 

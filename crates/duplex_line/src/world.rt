@@ -13,7 +13,7 @@ use crate::reported::Reported;
 use crate::sent::Sent;
 use crate::side::{Side, side_of};
 use df1_base::{Failed, NoMemory, Sink};
-use line_report::{Lines, Record};
+use line_report::{Page, Record};
 use line_statement::Who;
 use script_parts::{Event, Script, Words};
 use std::alloc::Global;
@@ -62,7 +62,7 @@ impl World {
             a: side_of(alloc, script.check, a)?,
             b: side_of(alloc, script.check, b)?,
             reported: Reported {
-                lines: Lines::new(alloc),
+                lines: Page::new(alloc),
                 deceived: 0,
             },
             sent: Sent::new(alloc),
@@ -131,7 +131,7 @@ impl World {
         } = self;
         sent.settle(alloc, &mut reported.lines)?;
         Ok(Record {
-            lines: reported.lines,
+            lines: reported.lines.into_lines(),
             words,
             deceived: reported.deceived,
         })

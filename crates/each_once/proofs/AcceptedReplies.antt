@@ -115,7 +115,7 @@ other-answer first executed heard sent replies body reply earlier differ all wit
     (differ-within tns_of (filter is_reply heard ++ reply ∷ []) (map (λ e. e.1) (exchanges first executed)) some numbers)
     before.1 (ap (λ (key : Key). key.tns) same)
 
-given-up : (heard : List (List ℕ)) (body : List ℕ) (standing : Standing) → is_waiting standing ≡ false → is_out standing ≡ false → IsSettledBy heard body standing
+pub given-up : (heard : List (List ℕ)) (body : List ℕ) (standing : Standing) → is_waiting standing ≡ false → is_out standing ≡ false → IsSettledBy heard body standing
     → ((earlier : List ℕ) → Has heard earlier → is_reply_to body earlier ≡ true → ⊥) → is_given_up standing ≡ true
 given-up heard body Waiting handed not_out settled none = absurd cc
 given-up heard body (Out left) handed not_out settled none = absurd cc

@@ -2,6 +2,7 @@ pub mod AcceptedReplies
 pub mod AnsweringStation
 pub mod CommandBodies
 pub mod ContinuedCommands
+pub mod CountedUp
 pub mod HandedOut
 pub mod InitiatorProgress
 pub mod InitiatorSteps

@@ -1,16 +1,16 @@
 -- A reply that is accepted from a station is what that station answered to one of the commands.
-use Rattle.std.proofs.Common.{◌≡◌, ℕ, suc, ◌+◌, ◌≤◌, true, false, List, [], ◌∷◌, ◌++◌, length, map, Option, Some, None, refl, ap, sym, subst, arith}
+use Rattle.std.proofs.Common.{◌≡◌, ℕ, suc, ◌+◌, ◌≤◌, true, List, [], ◌∷◌, ◌++◌, length, map, Option, Some, None, ap, sym, subst, arith}
 use Rattle.std.specs.Prelude.{Contains}
 use Rattle.pccc_envelope.specs.declared.key.Key.{Key}
 use Rattle.pccc_envelope.specs.Envelope.{tns_of}
 use Rattle.df1_node.specs.Answer.{StationState}
-use Rattle.df1_node.specs.Initiator.{Issued, Standing, Waiting, Out, Answered, Undelivered, Unanswered, InitiatorState, is_waiting, is_out, is_reply_to, answered_place}
+use Rattle.df1_node.specs.Initiator.{Issued, InitiatorState, is_reply_to, answered_place}
 use Rattle.each_once.specs.Exchanges.{exchanges}
 use Rattle.each_once.proofs.AnsweringStation.{replies_to, Replies}
-use Rattle.each_once.proofs.AcceptedReplies.{IsFound, numbers-differ, is-answer}
+use Rattle.each_once.proofs.AcceptedReplies.{IsFound, numbers-differ, is-answer, given-up}
 use Rattle.each_once.proofs.CommandBodies.{answered-none}
-use Rattle.each_once.proofs.HandedOut.{IsSettledBy, Initiates, handed-at, handed-front, settled-at}
-use Rattle.each_once.proofs.KeptCommands.{is_given_up, IsReplyOf, IsOfLost}
+use Rattle.each_once.proofs.HandedOut.{Initiates, handed-at, handed-front, settled-at}
+use Rattle.each_once.proofs.KeptCommands.{IsReplyOf, IsOfLost}
 use Rattle.each_once.proofs.StationReplies.{exchanges-tns, fits-key}
 use Rattle.each_once.proofs.Sublists.{Has, IsWithin, within-has, within-front, Differ, differ-within, differ-last, contains-at}
 
@@ -38,14 +38,6 @@ executed-differ executed s commands heard i few within =
     let front = handed-front s.issued commands i.in_order in
     let numbers : Differ (map tns_of (commands ++ front.0)) = subst (λ (bodies : List (List ℕ)). Differ (map tns_of bodies)) front.1 (numbers-differ s.tns 0 s.issued (omega (arith, few)) i.numbered) in
     differ-within tns_of executed (commands ++ front.0) (within-front executed commands front.0 within) numbers
-
-given-up : (heard : List (List ℕ)) (body : List ℕ) (standing : Standing) → is_waiting standing ≡ false → is_out standing ≡ false → IsSettledBy heard body standing
-    → ((earlier : List ℕ) → Has heard earlier → is_reply_to body earlier ≡ true → ⊥) → is_given_up standing ≡ true
-given-up heard body Waiting handed not_out settled none = absurd cc
-given-up heard body (Out left) handed not_out settled none = absurd cc
-given-up heard body (Answered reply) handed not_out settled none = absurd (none reply settled.0 settled.1)
-given-up heard body Undelivered handed not_out settled none = refl
-given-up heard body Unanswered handed not_out settled none = refl
 
 -- a command that was answered before was answered by an earlier reply of the station; but its replies to one command are one
 other-answer : (first : StationState) (executed told : List (List ℕ)) (body reply earlier : List ℕ) → Differ (map tns_of executed) → IsWithin (told ++ reply ∷ []) (replies_to first executed)

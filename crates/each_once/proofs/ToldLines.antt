@@ -64,10 +64,10 @@ told-stays from to first before issued executed lines stays t = record {
 
 -- ---- more lines
 
-adds : {X Y : Type 0} (h : X → Option Y) (xs more : List X) (ys : List Y) → filter_map h more ≡ ys → filter_map h (xs ++ more) ≡ filter_map h xs ++ ys
+pub adds : {X Y : Type 0} (h : X → Option Y) (xs more : List X) (ys : List Y) → filter_map h more ≡ ys → filter_map h (xs ++ more) ≡ filter_map h xs ++ ys
 adds h xs more ys is = filter_map-append h xs more ∙ ap (λ zs. filter_map h xs ++ zs) is
 
-adds-none : {X Y : Type 0} (h : X → Option Y) (xs more : List X) → filter_map h more ≡ [] → filter_map h (xs ++ more) ≡ filter_map h xs
+pub adds-none : {X Y : Type 0} (h : X → Option Y) (xs more : List X) → filter_map h more ≡ [] → filter_map h (xs ++ more) ≡ filter_map h xs
 adds-none h xs more is = adds h xs more [] is ∙ append-nil (filter_map h xs)
 
 -- lines that tell nothing of these

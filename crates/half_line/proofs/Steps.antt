@@ -1,5 +1,3 @@
--- What is counted up one by one: unit steps of one kind, and bytes.
-pub mod CountedUp
 -- Unit steps of one kind at the master.
 pub mod MasterSteps
 -- Unit steps of one kind at a station, or with the bytes between it and the master.

@@ -15,7 +15,7 @@ use crate::way::way_from;
 use df1_base::NoMemory;
 use df1_node::Node;
 use half_master::Master;
-use line_report::Lines;
+use line_report::Page;
 use line_statement::Who;
 use script_parts::Event;
 use std::alloc::Global;
@@ -26,7 +26,7 @@ pub(crate) fn deal_at_master(
     event: &Event,
     master: &mut Master<Node>,
     stations: &mut Vec<Side>,
-    lines: &mut Lines,
+    lines: &mut Page,
 ) -> Result<(), NoMemory>
     requires possible { (numbers : List ℕ) × IsHalfPossible numbers event.now }
     requires unspent { IsUnspent master.old event.now }

@@ -1,6 +1,6 @@
 //! Events at a station, or with the bytes between it and the master.
 
-ghost use Rattle.std.specs.Prelude.{◌≡◌, ◌+◌, ◌≤◌, ◌<◌, ◌^◌, ◌++◌, ℕ, IfOk, OnOk, length, map, replicate};
+ghost use Rattle.std.specs.Prelude.{◌≡◌, ◌+◌, ◌≤◌, ◌<◌, ◌^◌, ◌++◌, ℕ, OnOk, length, map, replicate};
 ghost use Rattle.half_master.specs.Master.{MasterState};
 ghost use Rattle.df1_node.specs.Node.{NodeState};
 ghost use Rattle.half_line.specs.Acts.{StationSide, StationGives, OnLane, Deliver, Lose, Foreign, link_state, after_cell, cell_lines, deceptions_at};
@@ -15,13 +15,10 @@ use df1_base::NoMemory;
 use df1_node::Node;
 use half_master::Master;
 use line_cells::{Cell, is_deceived, is_station_deceived};
-use line_report::{Line, Lines};
+use line_report::{Line, Page};
 use line_statement::{Bytes, Who};
 use std::alloc::Global;
 use told_lines::{tell_act, tell_news};
-
-/// For how many bytes of one event memory is asked for at once.
-const ROOM: usize = 32;
 
 /// The station of this number gives up to `n` bytes, and they are told where there is one.
 pub(crate) fn give(
@@ -29,15 +26,17 @@ pub(crate) fn give(
     number: u8,
     side: &mut Side,
     n: u32,
-    lines: &mut Lines,
+    lines: &mut Page,
 ) -> Result<(), NoMemory>
     ensures state { (master : MasterState NodeState) (deceived : ℕ) → OnOk result (link_state master side.new deceived
         ≡ after_link_deeds (link_state master side.old deceived) (replicate n StationGives)) }
     ensures lines { (master : MasterState NodeState) (deceived : ℕ) → OnOk result (lines.new
         ≡ lines.old ++ sent_lines (Who.S number) (link_bytes_over (link_state master side.old deceived) (replicate n StationGives))) }
 {
-    let bytes = take_all(alloc, side, n)?;
+    let mut bytes = lines.no_bytes(alloc);
+    take_all(alloc, side, n, &mut bytes)?;
     if bytes.as_slice().is_empty() {
+        lines.keep(bytes);
         return Ok(());
     }
     lines.push(Line::Sent {
@@ -46,21 +45,20 @@ pub(crate) fn give(
     })
 }
 
-/// Takes up to `n` bytes, and answers them.
-fn take_all(alloc: Global, side: &mut Side, n: u32) -> Result<Bytes, NoMemory>
+/// Takes up to `n` bytes, and puts them behind the others.
+fn take_all(alloc: Global, side: &mut Side, n: u32, bytes: &mut Bytes) -> Result<(), NoMemory>
     ensures state { (master : MasterState NodeState) (deceived : ℕ) → OnOk result (link_state master side.new deceived
         ≡ after_link_deeds (link_state master side.old deceived) (replicate n StationGives)) }
-    ensures bytes { (master : MasterState NodeState) (deceived : ℕ) → IfOk result (λ bytes. bytes
-        ≡ link_bytes_over (link_state master side.old deceived) (replicate n StationGives)) }
+    ensures bytes { (master : MasterState NodeState) (deceived : ℕ) → OnOk result (bytes.new
+        ≡ bytes.old ++ link_bytes_over (link_state master side.old deceived) (replicate n StationGives)) }
 {
-    let mut bytes = Bytes::with_room(alloc, ROOM.min(n as usize))?;
     for _ in 0..n {
         let Some(byte) = side.take(alloc)? else {
-            return Ok(bytes);
+            return Ok(());
         };
         bytes.push(byte)?;
     }
-    Ok(bytes)
+    Ok(())
 }
 
 /// Up to `n` bytes of the queue that goes this way arrive.
@@ -95,9 +93,10 @@ pub(crate) fn lose(way: Way, side: &mut Side, n: u32)
         ≡ after_link_deeds (link_state master side.old deceived) (replicate n (OnLane way Lose)) }
 {
     for _ in 0..n {
-        if side.leave(way).is_none() {
+        let Some(cell) = side.leave(way) else {
             return;
-        }
+        };
+        side.keep(cell);
     }
 }
 

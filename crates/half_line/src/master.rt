@@ -14,13 +14,10 @@ use arrayvec::ArrayVec;
 use df1_base::{NoMemory, Out};
 use df1_node::{IssueFault, Node};
 use half_master::Master;
-use line_report::{Line, Lines};
+use line_report::{Line, Page};
 use line_statement::{Bytes, Who};
 use std::alloc::Global;
 use told_lines::{tell_gone, tell_turn};
-
-/// For how many bytes of one event memory is asked for at once.
-const ROOM: usize = 32;
 
 /// The master issues a command. The payload has 1 to 245 bytes, bit 6 of its CMD is clear, and the master has issued fewer
 /// than 65,535 commands.
@@ -41,40 +38,42 @@ pub(crate) fn give(
     master: &mut Master<Node>,
     stations: &mut Vec<Side>,
     n: u32,
-    lines: &mut Lines,
+    lines: &mut Page,
 ) -> Result<(), NoMemory>
     ensures state { (deceived : ℕ) → OnOk result (half_state master.new stations.new.items deceived
         ≡ after_master_deeds (half_state master.old stations.old.items deceived) (replicate n Give)) }
     ensures lines { OnOk result (lines.new ≡ lines.old ++ sent_lines Who.M (master_bytes_over master.old (replicate n Give))) }
 {
-    let bytes = take_all(alloc, master, stations, n)?;
+    let mut bytes = lines.no_bytes(alloc);
+    take_all(alloc, master, stations, n, &mut bytes)?;
     if bytes.as_slice().is_empty() {
+        lines.keep(bytes);
         return Ok(());
     }
     lines.push(Line::Sent { who: Who::M, bytes })
 }
 
-/// Takes up to `n` bytes, and answers them.
+/// Takes up to `n` bytes, and puts them behind the others.
 fn take_all(
     alloc: Global,
     master: &mut Master<Node>,
     stations: &mut Vec<Side>,
     n: u32,
-) -> Result<Bytes, NoMemory>
+    bytes: &mut Bytes,
+) -> Result<(), NoMemory>
     ensures state { (deceived : ℕ) → OnOk result (half_state master.new stations.new.items deceived
         ≡ after_master_deeds (half_state master.old stations.old.items deceived) (replicate n Give)) }
-    ensures bytes { IfOk result (λ bytes. bytes ≡ master_bytes_over master.old (replicate n Give)) }
+    ensures bytes { OnOk result (bytes.new ≡ bytes.old ++ master_bytes_over master.old (replicate n Give)) }
 {
-    let mut bytes = Bytes::with_room(alloc, ROOM.min(n as usize))?;
     for _ in 0..n {
         if master.quiet() {
-            return Ok(bytes);
+            return Ok(());
         }
         if let Some(byte) = take(alloc, master, stations)? {
             bytes.push(byte)?;
         }
     }
-    Ok(bytes)
+    Ok(())
 }
 
 /// Gives the next byte, which joins the queue to each station, and answers it: None exactly where there is none.
@@ -110,7 +109,7 @@ fn join_all(
 }
 
 /// `n` units of time pass at the master.
-pub(crate) fn pass(master: &mut Master<Node>, n: u32, lines: &mut Lines) -> Result<(), NoMemory>
+pub(crate) fn pass(master: &mut Master<Node>, n: u32, lines: &mut Page) -> Result<(), NoMemory>
     ensures state { (stations : List StationSide) (deceived : ℕ) → OnOk result (half_state master.new stations deceived
         ≡ after_master_deeds (half_state master.old stations deceived) (replicate n Tick)) }
     ensures lines { OnOk result (lines.new ≡ lines.old ++ master_lines_over master.old (replicate n Tick)) }
@@ -122,7 +121,7 @@ pub(crate) fn pass(master: &mut Master<Node>, n: u32, lines: &mut Lines) -> Resu
 }
 
 /// A unit of time passes: first the message that was given up is told, then the unanswered commands.
-fn tick(master: &mut Master<Node>, lines: &mut Lines) -> Result<(), NoMemory>
+fn tick(master: &mut Master<Node>, lines: &mut Page) -> Result<(), NoMemory>
     ensures master { OnOk result (master.new ≡ master_after_tick node_host master.old) }
     ensures lines { OnOk result (lines.new ≡ lines.old ++ master_lines master.old Tick) }
 {

@@ -1,10 +1,10 @@
 //! What is told of a run: the lines of its report, and how often an end was deceived.
 
-use line_report::Lines;
+use line_report::Page;
 
 /// The lines so far, and how often an end was deceived.
 #[derive(Drop)]
 pub(crate) struct Reported {
-    pub lines: Lines,
+    pub lines: Page,
     pub deceived: u64,
 }

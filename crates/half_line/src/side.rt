@@ -21,6 +21,7 @@ use script_parts::EndPlan;
 use std::alloc::Global;
 use std::collections::VecDeque;
 use std::marker::Model;
+use std::mem;
 
 /// A station, and the bytes on their way to it and from it.
 #[derive(Drop)]
@@ -71,7 +72,7 @@ impl Side {
     pub fn join(&mut self, alloc: Global, out: &Out, sending: &[u8]) -> Result<(), NoMemory>
         ensures { OnOk result (self.new ≡ joined (cell_of sending.now out.now ∷ []) self.old) }
     {
-        let cell = cell_given(alloc, out, sending, &mut self.spare)?;
+        let cell = Cell::given(alloc, out, sending, &mut self.spare)?;
         self.to_it.push_back(cell)?;
         Ok(())
     }
@@ -85,7 +86,7 @@ impl Side {
         let Some(out) = self.slave.take() else {
             return Ok(None);
         };
-        let cell = cell_given(alloc, &out, self.slave.sending(), &mut self.spare)?;
+        let cell = Cell::given(alloc, &out, self.slave.sending(), &mut self.spare)?;
         self.from_it.push_back(cell)?;
         Ok(Some(out.byte))
     }
@@ -106,12 +107,12 @@ impl Side {
         ensures { self.new ≡ side_moved way self.old (Alter mask) }
     {
         match way {
-            Way::ToStation => alter(&mut self.to_it, mask),
-            Way::ToMaster => alter(&mut self.from_it, mask),
+            Way::ToStation => alter(&mut self.to_it, &mut self.spare, mask),
+            Way::ToMaster => alter(&mut self.from_it, &mut self.spare, mask),
         }
     }
 
-    /// Keeps the memory of a cell that has arrived.
+    /// Keeps the memory of a cell that has arrived or is lost.
     pub fn keep(&mut self, cell: Cell)
         ensures { self.new ≡ self.old }
     {
@@ -141,22 +142,13 @@ impl Side {
     }
 }
 
-/// The cell of a byte that was given while this body was sent.
-fn cell_given(alloc: Global, out: &Out, sending: &[u8], spare: &mut Spare) -> Result<Cell, NoMemory>
-    ensures { IfOk result (λ cell. cell ≡ cell_of sending.now out.now) }
-{
-    match out.last_of {
-        None => Ok(Cell::within(out.byte, out.body_of)),
-        Some(number) => Cell::last(alloc, out.byte, number, sending, out.body_of, spare),
-    }
-}
-
 /// Alters the head of a queue, if there is one, by exclusive or with `mask`.
-fn alter(lane: &mut VecDeque<Cell>, mask: u8)
+fn alter(lane: &mut VecDeque<Cell>, spare: &mut Spare, mask: u8)
     ensures { lane.new.items ≡ altered mask lane.old.items }
 {
     if let Some(cell) = lane.front_mut() {
-        *cell = Cell::bare(cell.byte ^ mask);
+        let altered = Cell::bare(cell.byte ^ mask);
+        mem::replace(cell, altered).spend(spare);
     }
 }
 

@@ -21,7 +21,7 @@ use df1_base::{Failed, NoMemory, Sink};
 use df1_check::Check;
 use df1_node::Node;
 use half_master::Master;
-use line_report::{Lines, Record, print_lines};
+use line_report::{Page, Record, print_lines};
 use line_statement::Who;
 use outset::node_of;
 use script_parts::{EndPlan, Event, Script, Words};
@@ -74,7 +74,7 @@ impl HalfWorld {
             ),
             stations: sides_of(alloc, script.check, plans)?,
             reported: Reported {
-                lines: Lines::new(alloc),
+                lines: Page::new(alloc),
                 deceived: 0,
             },
             events: 0,
@@ -137,7 +137,7 @@ impl HalfWorld {
         let words = self.words()?;
         let HalfWorld { reported, .. } = self;
         Ok(Record {
-            lines: reported.lines,
+            lines: reported.lines.into_lines(),
             words,
             deceived: reported.deceived,
         })

@@ -2,11 +2,11 @@
 //! a transmission, and what is known of its end stands apart.
 
 ghost use Rattle.std.specs.Prelude.{◌≡◌, IfOk, None, Some};
-ghost use Rattle.line_cells.specs.Cells.{bare, ending_of};
+ghost use Rattle.line_cells.specs.Cells.{bare, cell_of, ending_of};
 ghost use Rattle.line_cells.specs.Deception.{is_sent as is_body_sent};
 ghost use Rattle.line_cells.specs.Marks.{body_of_marks, ending_of_marks};
 
-use df1_base::NoMemory;
+use df1_base::{NoMemory, Out};
 use std::alloc::Global;
 use std::marker::Model;
 
@@ -90,8 +90,26 @@ impl Cell {
         }
     }
 
+    /// A byte that an end gave while it sent this body. Where it ends the transmission, what is known of that stands in the spare
+    /// memory, if there is any.
+    #[inline(always)]
+    pub fn given(
+        alloc: Global,
+        out: &Out,
+        sending: &[u8],
+        spare: &mut Spare,
+    ) -> Result<Cell, NoMemory>
+        ensures { IfOk result (λ cell. cell ≡ cell_of sending.now out.now) }
+    {
+        match out.last_of {
+            None => Ok(Cell::within(out.byte, out.body_of)),
+            Some(number) => Cell::last(alloc, out.byte, number, sending, out.body_of, spare),
+        }
+    }
+
     /// A byte that ends no transmission. Where it is a one-byte body unit of one, `body_of` is the number of that transmission.
-    pub fn within(byte: u8, body_of: Option<u64>) -> Cell
+    #[inline(always)]
+    fn within(byte: u8, body_of: Option<u64>) -> Cell
         ensures { result ≡ record { byte = byte; ends = None; body_of = body_of } }
     {
         let marks = match body_of {
@@ -101,10 +119,9 @@ impl Cell {
         Cell { byte, marks }
     }
 
-    /// The last byte of the transmission of this number and body. What is known of its end stands in the spare memory, if there is
-    /// any.
+    /// The last byte of the transmission of this number and body.
     #[inline(never)]
-    pub fn last(
+    fn last(
         alloc: Global,
         byte: u8,
         number: u64,

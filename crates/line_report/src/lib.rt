@@ -3,11 +3,13 @@
 #![tactic(auto)]
 
 mod digits;
+mod page;
 mod printing;
 mod record;
 mod short;
 
 pub use digits::pair;
+pub use page::Page;
 pub use printing::{print, print_lines, put_line, put_sent};
 pub use record::{Line, Lines, Record};
 

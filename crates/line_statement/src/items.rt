@@ -32,15 +32,6 @@ impl<T> Items<T> {
         }
     }
 
-    /// An empty list, with memory for so many items.
-    pub fn with_room(alloc: Global, room: usize) -> Result<Self, NoMemory>
-        ensures { IfOk result (λ items. items ≡ []) }
-    {
-        Ok(Items {
-            items: Vec::with_capacity(alloc, room)?,
-        })
-    }
-
     /// The items of a vector.
     pub fn from_vec(items: Vec<T>) -> Self
         ensures { result ≡ items.items }
@@ -70,6 +61,16 @@ impl<T> Items<T> {
             Ok(()) => Ok(()),
             Err(refused) => Err(refused.into()),
         }
+    }
+
+    /// Puts copies of these items at the end. Where there is no memory for them, the list is unchanged.
+    pub fn extend(&mut self, items: &[T]) -> Result<(), NoMemory>
+    where
+        T: Copy,
+        ensures ok { OnOk result (self.new ≡ self.old ++ items.now) }
+        ensures err { OnErr result (self.new ≡ self.old) }
+    {
+        Ok(self.items.extend_from_slice(items)?)
     }
 
     /// Drops all items, and keeps the memory for as many.

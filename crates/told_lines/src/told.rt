@@ -5,8 +5,8 @@ ghost use Rattle.df1_base.specs.declared.host.Did.{Did as Told};
 ghost use Rattle.told_lines.specs.NodeLines.{act_lines, did_lines, gone_lines, news_lines, turn_lines};
 
 use df1_base::{Act, Did, News, NoMemory, Turn};
-use line_report::{Line, Lines};
-use line_statement::{Bytes, Who};
+use line_report::{Line, Page};
+use line_statement::Who;
 use std::alloc::Global;
 
 /// Tells an act: the body is that of the message that was heard. It is inlined, since at most bytes there is nothing to tell.
@@ -17,7 +17,7 @@ pub fn tell_act(
     act: Act,
     did: Option<Did>,
     body: &[u8],
-    lines: &mut Lines,
+    lines: &mut Page,
 ) -> Result<(), NoMemory>
     ensures { OnOk result (lines.new ≡ lines.old ++ act_lines who act did body.now) }
 {
@@ -30,7 +30,7 @@ pub fn tell_act(
 
 /// Tells an act at which a message came that isn't accepted.
 #[inline(never)]
-fn tell_refusal(who: Who, act: Act, lines: &mut Lines) -> Result<(), NoMemory>
+fn tell_refusal(who: Who, act: Act, lines: &mut Page) -> Result<(), NoMemory>
     requires { act ≢ Act.Accept }
     ensures { (did : Option Told) (body : List ℕ) → OnOk result (lines.new ≡ lines.old ++ act_lines who act did body) }
 {
@@ -50,23 +50,24 @@ fn tell_did(
     who: Who,
     did: Option<Did>,
     body: &[u8],
-    lines: &mut Lines,
+    lines: &mut Page,
 ) -> Result<(), NoMemory>
     ensures { OnOk result (lines.new ≡ lines.old ++ did_lines who did body.now) }
 {
     let Some(did) = did else {
         return Ok(());
     };
-    let body = Bytes::copy_of(alloc, body)?;
+    let mut kept = lines.no_bytes(alloc);
+    kept.extend(body)?;
     lines.push(match did {
-        Did::Executed => Line::Exec { who, body },
-        Did::Answered(n) => Line::Answered { who, n, body },
-        Did::Stray => Line::Stray { who, body },
+        Did::Executed => Line::Exec { who, body: kept },
+        Did::Answered(n) => Line::Answered { who, n, body: kept },
+        Did::Stray => Line::Stray { who, body: kept },
     })
 }
 
 /// Tells what a host answered to a fate.
-pub fn tell_news(who: Who, news: News, lines: &mut Lines) -> Result<(), NoMemory>
+pub fn tell_news(who: Who, news: News, lines: &mut Page) -> Result<(), NoMemory>
     ensures { OnOk result (lines.new ≡ lines.old ++ news_lines who news) }
 {
     match news {
@@ -77,7 +78,7 @@ pub fn tell_news(who: Who, news: News, lines: &mut Lines) -> Result<(), NoMemory
 }
 
 /// Tells what a tick did to the sender.
-pub fn tell_turn(who: Who, turn: Turn, lines: &mut Lines) -> Result<(), NoMemory>
+pub fn tell_turn(who: Who, turn: Turn, lines: &mut Page) -> Result<(), NoMemory>
     ensures { OnOk result (lines.new ≡ lines.old ++ turn_lines who turn) }
 {
     match turn {
@@ -88,7 +89,7 @@ pub fn tell_turn(who: Who, turn: Turn, lines: &mut Lines) -> Result<(), NoMemory
 }
 
 /// Tells the commands that are unanswered.
-pub fn tell_gone(who: Who, gone: &[u32], lines: &mut Lines) -> Result<(), NoMemory>
+pub fn tell_gone(who: Who, gone: &[u32], lines: &mut Page) -> Result<(), NoMemory>
     ensures { OnOk result (lines.new ≡ lines.old ++ gone_lines who gone.now) }
 {
     for n in gone {

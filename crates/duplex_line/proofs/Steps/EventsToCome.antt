@@ -1,7 +1,6 @@
--- Playing one event after another: which are still to come, and that there is room for them.
-use Rattle.std.proofs.Common.{◌≡◌, ◌∙◌, ℕ, ◌+◌, ◌<◌, ◌≤◌, suc, List, ◌∷◌, length, drop, drop-cons, get_or, ap, sym, cond, arith}
+-- Playing one event after another: that there is room for the events that are still to come.
+use Rattle.std.proofs.Common.{ℕ, ◌+◌, ◌≤◌, List, ◌∷◌, cond, arith}
 use Rattle.std.specs.Prelude.{count_by, sum_by}
-use Rattle.std.proofs.Math.Numerals.{suc-eq-add-one}
 use Rattle.std.proofs.lemmas.List.Sums.{sum_by-cons}
 use Rattle.line_statement.specs.declared.who.Who.TheVariants.{A, B, M, S}
 use Rattle.script_parts.specs.declared.script.Event.{Event}
@@ -11,11 +10,6 @@ use Rattle.duplex_line.specs.Acts.{LineState}
 use Rattle.duplex_line.specs.Run.{after_event, seen_from, who_of}
 use Rattle.duplex_line.specs.Plays.{issued_by, most_events, IsUnspent}
 use Rattle.duplex_line.proofs.Once.IssueLimits.{commands-of-a, commands-of-b}
-
--- the events from one on are that one and those after it
-pub events-next : (events : List Event) (i : ℕ) (e : Event) → i < length events → e ≡ get_or events i e → drop i events ≡ e ∷ drop (i + 1) events
-events-next events i e lt is =
-    drop-cons events i e lt ∙ ap (λ (x : Event). x ∷ drop (suc i) events) (sym is) ∙ ap (λ (j : ℕ). e ∷ drop j events) (suc-eq-add-one i)
 
 -- there is room for the commands that are still to come
 pub room-of-a : (s : LineState) (e : Event) (rest : List Event) → IsPossible e → issued_by s.a + count_by (issues A) (e ∷ rest) ≤ 65535 → issued_by (after_event s e).a + count_by (issues A) rest ≤ 65535

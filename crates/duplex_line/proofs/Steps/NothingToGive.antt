@@ -1,5 +1,5 @@
 -- An end that has nothing to give, and an empty lane: nothing comes of more steps.
-use Rattle.std.proofs.Common.{◌≡◌, ◌∙◌, ℕ, ◌+◌, zero, suc, false, is_some, List, [], ◌∷◌, ◌++◌, drop, Option, Some, None, refl, sym, ap, append-nil}
+use Rattle.std.proofs.Common.{◌≡◌, ◌∙◌, ℕ, ◌+◌, zero, suc, List, [], ◌∷◌, ◌++◌, drop, Option, Some, None, refl, sym, ap, append-nil}
 use Rattle.std.specs.Prelude.{replicate, slice_get}
 use Rattle.std.specs.Option.{option_map, option_to_list}
 use Rattle.df1_base.specs.declared.link.Out.{Out}
@@ -67,10 +67,6 @@ delivers-no-lines near far s e (suc n) =
     ∙ delivers-no-lines near far s e n
 
 -- ---- the head of a lane arrives
-
-pub is-none : (cell : Option LaneCell) → is_some cell ≡ false → cell ≡ None
-is-none None e = refl
-is-none (Some cell) e = absurd cc
 
 -- the line after a cell has arrived
 abbrev pub delivered : LineState → LaneCell → LineState

@@ -1,15 +1,15 @@
 -- The master executes nothing, and accepts replies from stations of the line alone: what the lines tell of it.
-use Rattle.std.proofs.Common.{◌≡◌, ◌∙◌, ℕ, zero, suc, Bool, true, false, List, [], ◌∷◌, ◌++◌, Option, Some, refl, ap, append-nil}
+use Rattle.std.proofs.Common.{◌≡◌, ◌∙◌, ℕ, zero, suc, Bool, true, false, List, [], ◌∷◌, ◌++◌, Some, refl, ap}
 use Rattle.std.specs.Prelude.{All, IsTrue, slice_get, slice_index, ◌==◌, ◌||◌}
-use Rattle.std.specs.List.{filter_map}
 use Rattle.std.proofs.lemmas.Bool.{eq-eqb}
-use Rattle.std.proofs.lemmas.List.Elements.{filter_map-append, All-push, All-nil}
+use Rattle.std.proofs.lemmas.List.Elements.{All-push, All-nil}
 use Rattle.line_statement.specs.declared.who.Who.TheVariants.{M}
 use Rattle.script_parts.specs.HalfPlayable.{is_declared}
 use Rattle.line_report.specs.declared.record.Line.{Line}
 use Rattle.line_report.specs.declared.record.Line.TheVariants as line
 use Rattle.each_once.specs.Tells.{executed_at, answer_at, stray_at, executed_in, answers_in, strays_in}
 use Rattle.each_once.proofs.Sublists.{same-some}
+use Rattle.each_once.proofs.ToldLines.{adds, adds-none}
 use Rattle.half_line.proofs.Once.QuietLines.{IsMute}
 
 -- the station that a reply is from is one of these numbers
@@ -23,12 +23,6 @@ pub record MasterTold (numbers : List ℕ) (lines : List Line) : Type 0 where
 
 pub master-start : (numbers : List ℕ) → MasterTold numbers []
 master-start numbers = record { executes_none = refl; answers_from = All-nil _; strays_from = All-nil _ }
-
-adds : {X Y : Type 0} (h : X → Option Y) (xs more : List X) (ys : List Y) → filter_map h more ≡ ys → filter_map h (xs ++ more) ≡ filter_map h xs ++ ys
-adds h xs more ys is = filter_map-append h xs more ∙ ap (λ zs. filter_map h xs ++ zs) is
-
-adds-none : {X Y : Type 0} (h : X → Option Y) (xs more : List X) → filter_map h more ≡ [] → filter_map h (xs ++ more) ≡ filter_map h xs
-adds-none h xs more is = adds h xs more [] is ∙ append-nil (filter_map h xs)
 
 pub master-mute : (numbers : List ℕ) (lines more : List Line) → IsMute more → MasterTold numbers lines → MasterTold numbers (lines ++ more)
 master-mute numbers lines more mute t = record {

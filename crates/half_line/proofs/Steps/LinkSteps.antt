@@ -1,6 +1,6 @@
 -- Unit steps of one kind at a station, or with the bytes between it and the master.
 use Rattle.std.proofs.Common.{◌≡◌, ◌∙◌, ℕ, ◌+◌, zero, suc, List, [], ◌∷◌, ◌++◌, map, drop, Option, Some, None, Result, Ok, Err, OnOk, refl, sym, ap, append-nil, append_assoc}
-use Rattle.std.specs.Prelude.{replicate, slice_get, is_some, false}
+use Rattle.std.specs.Prelude.{replicate, slice_get}
 use Rattle.std.specs.Option.{option_map, option_to_list}
 use Rattle.df1_base.specs.declared.link.Out.{Out}
 use Rattle.df1_node.specs.Node.{NodeState}
@@ -153,10 +153,6 @@ loses-lines number way n s old =
     without-bytes number s (replicate n (OnLane way Lose)) (lane-no-bytes way Lose n s) old old (sym (append-nil old) ∙ ap (λ (lines : List Line). old ++ lines) (sym (loses-no-lines way n s)))
 
 -- ---- one cell, or none
-
-pub is-none : (cell : Option LaneCell) → is_some cell ≡ false → cell ≡ None
-is-none None e = refl
-is-none (Some cell) e = absurd cc
 
 -- a foreign byte has arrived
 pub foreign-arrived : (way : Way) (s after : LinkState) (cell : LaneCell) (byte : ℕ) → cell ≡ bare byte → after ≡ after_cell way s cell → after ≡ after_link_deed s (OnLane way (Foreign byte))

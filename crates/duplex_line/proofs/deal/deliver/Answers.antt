@@ -2,7 +2,7 @@ use Rattle.std.proofs.Common.{◌≡◌, ◌-◌, ◌+◌, ◌∙◌, ◌++◌, 
 use Rattle.std.specs.Prelude.{replicate, slice_get}
 use Rattle.line_report.specs.declared.record.Line.{Line}
 use Rattle.duplex_line.specs.Acts.{SideState, LineState, Deliver, after_deeds}
-use Rattle.duplex_line.proofs.Steps.CountedUp.{repeat-next}
+use Rattle.each_once.proofs.CountedUp.{repeat-next}
 use Rattle.duplex_line.proofs.Steps.NothingToGive.{leave-none, delivers-none, delivers-no-lines, deliver-one, deliver-lines}
 use Rattle.duplex_line.proofs.deal.deliver.Goals as goal
 

@@ -1,6 +1,6 @@
 use Rattle.std.proofs.Common.{◌+◌, ◌∙◌, ap, drop, map, arith}
 use Rattle.duplex_line.specs.Acts.{LineState, Foreign, after_deeds}
-use Rattle.duplex_line.proofs.Steps.CountedUp.{drop-next}
+use Rattle.each_once.proofs.CountedUp.{drop-next}
 use Rattle.duplex_line.proofs.Steps.EventSteps.{foreign-one, foreign-lines-one}
 use Rattle.duplex_line.proofs.deal.intrude.Goals as goal
 

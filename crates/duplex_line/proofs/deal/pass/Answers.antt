@@ -1,6 +1,6 @@
 use Rattle.std.proofs.Common.{append_assoc}
 use Rattle.duplex_line.specs.Acts.{Tick}
-use Rattle.duplex_line.proofs.Steps.CountedUp.{repeat-next}
+use Rattle.each_once.proofs.CountedUp.{repeat-next}
 use Rattle.duplex_line.proofs.deal.pass.Goals as goal
 
 pub loop-preserved : goal.loop-preserved

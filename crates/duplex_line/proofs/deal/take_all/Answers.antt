@@ -1,7 +1,7 @@
 use Rattle.std.proofs.Common.{◌≡◌, ◌-◌, ◌+◌, ◌∙◌, ◌++◌, List, ℕ, None, Some, sym, ap, append_assoc, append-nil}
 use Rattle.std.specs.Prelude.{replicate}
 use Rattle.duplex_line.specs.Acts.{Take, byte_taken}
-use Rattle.duplex_line.proofs.Steps.CountedUp.{repeat-next}
+use Rattle.each_once.proofs.CountedUp.{repeat-next}
 use Rattle.duplex_line.proofs.Steps.NothingToGive.{take-none, takes-none, gives-nothing, gives-byte}
 use Rattle.duplex_line.proofs.deal.take_all.Goals as goal
 

@@ -4,7 +4,7 @@ use Rattle.std.specs.Prelude.{replicate, slice_get}
 use Rattle.line_report.specs.declared.record.Line.{Line}
 use Rattle.half_line.specs.Acts.{StationSide, LinkState, OnLane, Deliver, lane_of, link_state}
 use Rattle.half_line.specs.Steps.{after_link_deeds}
-use Rattle.half_line.proofs.Steps.CountedUp.{repeat-next}
+use Rattle.each_once.proofs.CountedUp.{repeat-next}
 use Rattle.half_line.proofs.Steps.LinkSteps.{leave-none, delivers-none, delivers-no-lines, deliver-one, deliver-lines}
 use Rattle.half_line.proofs.link.deliver.Goals as goal
 

@@ -2,7 +2,7 @@
 use Rattle.std.proofs.Common.{◌+◌, ◌∙◌, ap, drop, map, arith}
 use Rattle.half_line.specs.Acts.{LinkState, OnLane, Foreign, link_state}
 use Rattle.half_line.specs.Steps.{after_link_deeds}
-use Rattle.half_line.proofs.Steps.CountedUp.{drop-next}
+use Rattle.each_once.proofs.CountedUp.{drop-next}
 use Rattle.half_line.proofs.Steps.LinkSteps.{foreign-arrived, foreign-lines}
 use Rattle.half_line.proofs.link.intrude.Goals as goal
 

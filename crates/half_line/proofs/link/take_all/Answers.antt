@@ -2,7 +2,7 @@
 use Rattle.std.proofs.Common.{◌≡◌, ◌-◌, ◌+◌, ◌∙◌, ◌++◌, List, ℕ, None, Some, sym, ap, append_assoc, append-nil}
 use Rattle.std.specs.Prelude.{replicate}
 use Rattle.half_line.specs.Acts.{StationSide, StationGives, byte_taken, link_state}
-use Rattle.half_line.proofs.Steps.CountedUp.{repeat-next}
+use Rattle.each_once.proofs.CountedUp.{repeat-next}
 use Rattle.half_line.proofs.Steps.LinkSteps.{take-none, takes-none, gives-nothing, gives-byte}
 use Rattle.half_line.proofs.link.take_all.Goals as goal
 

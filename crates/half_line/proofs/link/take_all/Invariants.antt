@@ -12,5 +12,5 @@ invariant-loop l = record {
   state : (master : MasterState NodeState) (deceived : ℕ) → after_link_deeds (link_state master l.side deceived) (replicate (l.n - l.counter) StationGives)
       ≡ after_link_deeds (link_state master l.fn.side deceived) (replicate l.n StationGives);
   bytes : (master : MasterState NodeState) (deceived : ℕ) → l.bytes ++ link_bytes_over (link_state master l.side deceived) (replicate (l.n - l.counter) StationGives)
-      ≡ link_bytes_over (link_state master l.fn.side deceived) (replicate l.n StationGives);
+      ≡ l.fn.bytes ++ link_bytes_over (link_state master l.fn.side deceived) (replicate l.n StationGives);
 }

@@ -5,7 +5,7 @@ use Rattle.std.specs.Option.{option_to_list}
 use Rattle.half_master.specs.Master.{is_quiet}
 use Rattle.each_once.specs.NodeHost.{node_host}
 use Rattle.half_line.specs.Acts.{Give, half_state, byte_given}
-use Rattle.half_line.proofs.Steps.CountedUp.{repeat-next}
+use Rattle.each_once.proofs.CountedUp.{repeat-next}
 use Rattle.half_line.proofs.Steps.MasterSteps.{quiet-deeds, quiet-bytes, bytes-next}
 use Rattle.half_line.proofs.master.take_all.Goals.{in-Some+in_ok-push, in_default}
 use Rattle.half_line.proofs.master.take_all.Goals as goal
@@ -25,11 +25,11 @@ loop-preserved c =
     let m = c.loop.master in
     let next = repeat-next Give c.args.n c.loop.counter c.loop-test.true in
     let byte : byte_given m ≡ c.in_ok-byte.field-0 = sym c.in_ok-byte.ensures.byte in
-    let after : c.match-branch-3.bytes ≡ c.loop.bytes ++ option_to_list (byte_given m) = elim c.match-branch-3.branch [
+    let after : c.match-branch-2.bytes ≡ c.loop.bytes ++ option_to_list (byte_given m) = elim c.match-branch-2.branch [
       | in-Some+in_ok-push w ↦ w.bytes-is ∙ w.in_ok-push.ensures.ok ∙ (rw (byte, w.in-Some.is) refl)
       | in_default w ↦ w.bytes-is ∙ (rw (byte, w.in_default.is) (sym (append-nil c.loop.bytes)))
     ] in
     record {
       state = λ deceived. rw (c.in_ok-byte.ensures.master, c.in_ok-byte.ensures.stations) (rw next at (c.loop.invariant.state deceived));
-      bytes = rw c.in_ok-byte.ensures.master (bytes-next m (replicate (c.args.n - (c.loop.counter + 1)) Give) c.loop.bytes c.match-branch-3.bytes after ∙ (rw next at c.loop.invariant.bytes));
+      bytes = rw c.in_ok-byte.ensures.master (bytes-next m (replicate (c.args.n - (c.loop.counter + 1)) Give) c.loop.bytes c.match-branch-2.bytes after ∙ (rw next at c.loop.invariant.bytes));
     }

@@ -9,5 +9,5 @@ abbrev pub invariant-loop : goal.invariant-loop
 invariant-loop l = record {
   state : (deceived : ℕ) → after_master_deeds (half_state l.master l.stations.items deceived) (replicate (l.n - l.counter) Give)
       ≡ after_master_deeds (half_state l.fn.master l.fn.stations.items deceived) (replicate l.n Give);
-  bytes : l.bytes ++ master_bytes_over l.master (replicate (l.n - l.counter) Give) ≡ master_bytes_over l.fn.master (replicate l.n Give);
+  bytes : l.bytes ++ master_bytes_over l.master (replicate (l.n - l.counter) Give) ≡ l.fn.bytes ++ master_bytes_over l.fn.master (replicate l.n Give);
 }
