@@ -4,7 +4,15 @@ use Rattle.std.proofs.lemmas.List.{take_rest, take_at, drop-drop, length-take-le
 use Rattle.std.specs.Prelude.{◌==◌}
 use Rattle.std.specs.List.{list_any}
 use Rattle.std.proofs.KnownBytes.{Appends-nil, Appends-trans}
-use Rattle.df1_base.specs.Outside.{Put, Wrote, WrotePart}
+use Rattle.df1_base.specs.Outside.{Put, Wrote, WrotePart, Mark, Later}
+
+-- one call after another
+pub later_then : (m n o : Mark) (f g h : ℕ) → Later m n f g → Later n o g h → Later m o f h
+later_then m n o f g h (name, settled, faults) (name', settled', faults') = (name' ∙ name, grind arith, grind arith)
+
+-- no call
+pub later_same : (m : Mark) (f : ℕ) → Later m m f f
+later_same m f = (refl, grind arith, grind arith)
 
 -- nothing is written yet
 pub wrote_none : (a : Option (List ℕ)) (text : List ℕ) → Wrote a a text text

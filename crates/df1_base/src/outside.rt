@@ -1,7 +1,7 @@
 //! The outside as every layer sees it: where bytes come from and where they go, each with a count of its faults.
 ghost use Rattle.std.specs.Prelude.{◌≡◌, ◌<◌, ◌≤◌, List, ℕ, Option, length, take, IfOk, OnOk, OnErr};
 ghost use Rattle.std.specs.Io.KnownBytes.{Keeps, IsAtEnd};
-ghost use Rattle.df1_base.specs.Outside.{Rose, Took, Put};
+ghost use Rattle.df1_base.specs.Outside.{Rose, Took, Put, Mark, Later, unmarked};
 
 use std::alloc::{AllocError, AllocFailed};
 use thiserror::Error;
@@ -57,14 +57,19 @@ pub trait Sink {
     /// How often it has failed.
     ghost faults: { Self → ℕ };
 
+    /// What tells it from others, and which of its bytes are settled: nothing, for a sink that keeps its bytes itself. One
+    /// that hands them on to a sink that it borrows names the borrow, and what it has handed on is settled.
+    ghost mark: { Self → Mark } = { λ _. unmarked };
+
     /// Takes bytes from the front of `from`, at least one where there is one, and answers how many. `Failed` comes only
-    /// where the count of faults rose, and then nothing was taken. Else the count stands still.
+    /// where the count of faults rose, and then nothing was taken. Else the count stands still. It is the same sink then,
+    /// and takes nothing back that was settled.
     fn write(&mut self, from: &[u8]) -> Result<usize, Failed>
         ensures bound { IfOk result (λ count. count ≤ length from.now) }
         ensures some { IfOk result (λ count. 0 < length from.now → 0 < count) }
         ensures put { IfOk result (λ count. Put (held self.old) (held self.new) (take count from.now)) }
         ensures failed { OnErr result (Keeps (held self.old) (held self.new)) }
         ensures calm { OnOk result (faults self.new ≡ faults self.old) }
-        ensures later { faults self.old ≤ faults self.new }
+        ensures later { Later (mark self.old) (mark self.new) (faults self.old) (faults self.new) }
         ensures cause { OnErr result (Rose (faults self.old) (faults self.new)) };
 }

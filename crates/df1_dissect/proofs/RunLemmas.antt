@@ -1,12 +1,12 @@
 -- What comes of a run of bytes before a DLE, on each side.
-use Rattle.std.proofs.Common.{◌≡◌, ◌≢◌, ◌∙◌, ◌<◌, ℕ, ◌+◌, suc, Bool, true, false, List, [], ◌∷◌, ◌++◌, length, map, take, refl, sym, ap, arith, append_assoc, add-zero}
+use Rattle.std.proofs.Common.{◌≡◌, ◌≢◌, ◌∙◌, ◌<◌, ℕ, ◌+◌, true, false, List, [], ◌∷◌, ◌++◌, length, take, refl, ap, arith, append_assoc, add-zero}
 use Rattle.std.proofs.lemmas.List.{append-nil}
 use Rattle.std.proofs.lemmas.Bool.{ne_eqb}
 use Rattle.df1_check.specs.declared.Check.{Check}
 use Rattle.df1_frame.specs.Gathered.{Gathered, gather}
 use Rattle.df1_frame.specs.Standing.{Standing, Outside, Ended, AfterDle, Inside, InsideDle, AtCheck, Decoding, is_inside}
 use Rattle.df1_frame.specs.Step.{next as full_next}
-use Rattle.df1_frame.specs.Runs.{plain_len, run_len, steps}
+use Rattle.df1_frame.specs.Runs.{run_len, steps}
 use Rattle.df1_frame.proofs.RunLemmas.{run-inside, run-outside}
 use Rattle.half_frame.specs.TextStep.{Inside as TextInside, InsideDle as TextDle, AtCheck as TextCheck}
 use Rattle.half_frame.specs.SlaveStanding as slave_ear

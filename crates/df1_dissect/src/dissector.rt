@@ -2,7 +2,7 @@
 ghost use Rattle.std.specs.Prelude.{◌≡◌, ◌≤◌, ◌<◌, ◌+◌, ◌-◌, ◌++◌, ◌∷◌, [], ℕ, List, length, OnOk, OnErr};
 ghost use Rattle.std.specs.List.{flat_map};
 ghost use Rattle.arrayvec.specs.ArrayVec.{array_vec_len};
-ghost use Rattle.df1_base.specs.Outside.{Rose, Put, WrotePart};
+ghost use Rattle.df1_base.specs.Outside.{Rose, Put, WrotePart, Later};
 ghost use Rattle.df1_check.specs.declared.Check.{Check as CheckKind};
 ghost use Rattle.df1_frame.specs.Line.{ReadOff};
 ghost use Rattle.df1_dissect.specs.declared.ear.Side.{Side as Captured};
@@ -67,7 +67,7 @@ impl Dissector {
         ensures ok { OnOk result (Put (K.held sink.old) (K.held sink.new) (lines_at self.old b)) }
         ensures part { WrotePart (K.held sink.old) (K.held sink.new) (lines_at self.old b) }
         ensures calm { OnOk result (K.faults sink.new ≡ K.faults sink.old) }
-        ensures later { K.faults sink.old ≤ K.faults sink.new }
+        ensures later { Later (K.mark sink.old) (K.mark sink.new) (K.faults sink.old) (K.faults sink.new) }
         ensures cause { OnErr result (Rose (K.faults sink.old) (K.faults sink.new)) }
     {
         match self.reader.hear(b) {
@@ -103,7 +103,7 @@ impl Dissector {
         ensures ok { OnOk result (Put (K.held sink.old) (K.held sink.new) (open_text self.old.start self.old.fed)) }
         ensures part { WrotePart (K.held sink.old) (K.held sink.new) (open_text self.old.start self.old.fed) }
         ensures calm { OnOk result (K.faults sink.new ≡ K.faults sink.old) }
-        ensures later { K.faults sink.old ≤ K.faults sink.new }
+        ensures later { Later (K.mark sink.old) (K.mark sink.new) (K.faults sink.old) (K.faults sink.new) }
         ensures cause { OnErr result (Rose (K.faults sink.old) (K.faults sink.new)) }
     {
         let left = self.reader.left();
@@ -157,7 +157,7 @@ fn put_thing<K: Sink>(sink: &mut K, thing: Thing, body: &[u8]) -> Result<(), Fai
     ensures ok { OnOk result (Put (K.held sink.old) (K.held sink.new) (line_text (with_body thing body.now))) }
     ensures part { WrotePart (K.held sink.old) (K.held sink.new) (line_text (with_body thing body.now)) }
     ensures calm { OnOk result (K.faults sink.new ≡ K.faults sink.old) }
-    ensures later { K.faults sink.old ≤ K.faults sink.new }
+    ensures later { Later (K.mark sink.old) (K.mark sink.new) (K.faults sink.old) (K.faults sink.new) }
     ensures cause { OnErr result (Rose (K.faults sink.old) (K.faults sink.new)) }
 {
     let mut line = ArrayVec::<u8, ROOM>::new();
@@ -171,7 +171,7 @@ fn put_open<K: Sink>(sink: &mut K, first: u64, last: u64) -> Result<(), Failed>
     ensures ok { OnOk result (Put (K.held sink.old) (K.held sink.new) (open_line first last)) }
     ensures part { WrotePart (K.held sink.old) (K.held sink.new) (open_line first last) }
     ensures calm { OnOk result (K.faults sink.new ≡ K.faults sink.old) }
-    ensures later { K.faults sink.old ≤ K.faults sink.new }
+    ensures later { Later (K.mark sink.old) (K.mark sink.new) (K.faults sink.old) (K.faults sink.new) }
     ensures cause { OnErr result (Rose (K.faults sink.old) (K.faults sink.new)) }
 {
     let mut line = ArrayVec::<u8, ROOM>::new();

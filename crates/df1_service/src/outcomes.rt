@@ -11,7 +11,7 @@
 ghost use Rattle.std.specs.Prelude.{◌≡◌, ◌+◌, ◌*◌, ◌≤◌, ◌++◌, OnErr, OnOk, length};
 ghost use Rattle.arrayvec.specs.ArrayVec.{array_vec_len};
 ghost use Rattle.hex.specs.Hex.{encode_upper};
-ghost use Rattle.df1_base.specs.Outside.{Put, Rose, WrotePart};
+ghost use Rattle.df1_base.specs.Outside.{Put, Rose, WrotePart, Later};
 ghost use Rattle.df1_service.specs.Service.{outcome_line, outcomes_text};
 
 use arrayvec::ArrayVec;
@@ -31,7 +31,7 @@ pub fn write_outcomes<K: Sink>(initiator: &Initiator, sink: &mut K) -> Result<()
     ensures ok { OnOk result (Put (K.held sink.old) (K.held sink.new) (outcomes_text initiator.now)) }
     ensures part { WrotePart (K.held sink.old) (K.held sink.new) (outcomes_text initiator.now) }
     ensures calm { OnOk result (K.faults sink.new ≡ K.faults sink.old) }
-    ensures later { K.faults sink.old ≤ K.faults sink.new }
+    ensures later { Later (K.mark sink.old) (K.mark sink.new) (K.faults sink.old) (K.faults sink.new) }
     ensures cause { OnErr result (Rose (K.faults sink.old) (K.faults sink.new)) }
 {
     let mut n = 1;

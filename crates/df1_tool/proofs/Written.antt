@@ -1,7 +1,10 @@
--- What is written of a script, piece by piece: the collected lines go to the output.
-use Rattle.std.proofs.Common.{◌≡◌, ◌∙◌, ◌⊎◌, inl, inr, ℕ, List, [], ◌++◌, Option, Some, None, Result, Ok, Err, sym, ap, subst, append_assoc, append-nil}
-use Rattle.std.specs.Prelude.{OnOk, OnErr, IfErr, IsErrOf}
-use Rattle.df1_base.specs.Outside.{Put, WrotePart}
+-- What is written of a script, piece by piece: a buffer takes the lines and hands them on.
+use Rattle.std.proofs.Common.{◌≡◌, ◌∙◌, ◌≤◌, ◌⊎◌, inl, inr, ℕ, List, [], ◌++◌, Option, None, Result, Ok, Err, refl, sym, ap, subst, append_assoc, append-nil, arith}
+use Rattle.std.specs.Prelude.{◌≢◌, OnOk, OnErr, IfErr, IsErrOf}
+use Rattle.std.specs.Io.KnownBytes.{Keeps, append_known}
+use Rattle.df1_base.specs.Outside.{Rose}
+use Rattle.df1_buffer.specs.Buffered.{told_length}
+use Rattle.df1_buffer.proofs.Handed.{put_through, part_through}
 use Rattle.line_script.specs.declared.fault.Cause.{Cause}
 use Rattle.line_script.specs.ScriptText.{script_of}
 use Rattle.line_replay.specs.declared.replayer.StreamFault.{StreamFault}
@@ -9,30 +12,27 @@ use Rattle.line_replay.specs.declared.replayer.StreamFault.TheVariants as stream
 use Rattle.line_replay.specs.Fed.{Replaying, IsReplayOf, IsRefusedWith, IsRefusedAs, ShowsFront, ShowsMore, shown, told}
 use Rattle.line_replay.proofs.Fed.{front-as-shown}
 use Rattle.df1_tool.specs.declared.trouble.Trouble.{Trouble}
-use Rattle.df1_tool.specs.declared.trouble.Trouble.TheVariants.{Output}
+use Rattle.df1_tool.specs.declared.trouble.Trouble.TheVariants.{Usage, Refusal, Input, Output, NoMemory}
 use Rattle.df1_tool.specs.Outcome.{TellsRefusal}
 use Rattle.df1_tool.specs.Tool.{result_of, trouble_of_replay}
 
--- the collected lines are what is shown more
-lines-are : (lines lines' more : List ℕ) → lines ≡ [] → lines' ≡ lines ++ more → more ≡ lines'
-lines-are lines lines' more none is = sym (is ∙ ap (λ l. l ++ more) none)
-
--- collected first, and then written
-pub written-more : (before after lines lines' : List ℕ) (held held' : Option (List ℕ)) → lines ≡ [] → ShowsMore before after (Some lines) (Some lines') → Put held held' lines' → ShowsMore before after held held'
-written-more before after lines lines' held held' none shows put = record {
+-- what a buffer took in which nothing waited, and handed on
+pub written-more : (before after waited waits : List ℕ) (held held' told : Option (List ℕ)) → waited ≡ [] → waits ≡ [] → ShowsMore before after (append_known held waited) told → Keeps told (append_known held' waits) → ShowsMore before after held held'
+written-more before after waited waits held held' told none none' shows kept = record {
   more = shows.more;
   shows = shows.shows;
-  put = subst (λ l. Put held held' l) (sym (lines-are lines lines' shows.more none shows.put)) put;
+  put = put_through held held' told waited waits shows.more none none' shows.put kept;
 }
 
-pub written-front : (before all lines lines' : List ℕ) (held held' : Option (List ℕ)) → lines ≡ [] → ShowsFront before all (Some lines) (Some lines') → WrotePart held held' lines' → ShowsFront before all held held'
-written-front before all lines lines' held held' none shows (rest, w) =
-    let is = lines-are lines lines' shows.more none shows.put in
+-- and not all of it
+pub written-front : (before all waited waits : List ℕ) (held held' told : Option (List ℕ)) → waited ≡ [] → told_length held ≤ told_length held' → ShowsFront before all (append_known held waited) told → Keeps told (append_known held' waits) → ShowsFront before all held held'
+written-front before all waited waits held held' told none grown shows kept =
+    let (rest, w) = part_through held held' told waited waits shows.more none grown shows.put kept in
     record {
       more = w.part;
       rest = rest ++ shows.rest;
       shows =
-          shows.shows ∙ ap (λ m. (before ++ m) ++ shows.rest) (is ∙ w.text_is) ∙ ap (λ t. t ++ shows.rest) (sym (append_assoc before w.part rest)) ∙ append_assoc (before ++ w.part) rest shows.rest;
+          shows.shows ∙ ap (λ m. (before ++ m) ++ shows.rest) w.text_is ∙ ap (λ t. t ++ shows.rest) (sym (append_assoc before w.part rest)) ∙ append_assoc (before ++ w.part) rest shows.rest;
       put = w.put;
     }
 
@@ -71,10 +71,52 @@ at-err : {P : Type 0} (result : Result (Unit {0}) Trouble) → P → OnErr resul
 at-err (Ok done) p = tt
 at-err (Err fault) p = p
 
-pub front-on : {P : Type 0} (fed : Result (Unit {0}) StreamFault) (result : Result (Unit {0}) Trouble) (before all lines lines' : List ℕ) (held held' : Option (List ℕ)) → lines ≡ []
-    → OnOk fed P → (P → ShowsFront before all (Some lines) (Some lines')) → OnErr fed (ShowsFront before all (Some lines) (Some lines')) → WrotePart held held' lines' → OnErr result (ShowsFront before all held held')
-front-on (Ok done) result before all lines lines' held held' none ok go err part = at-err result (written-front before all lines lines' held held' none (go ok) part)
-front-on (Err fault) result before all lines lines' held held' none ok go err part = at-err result (written-front before all lines lines' held held' none err part)
+pub front-on : {P : Type 0} (fed : Result (Unit {0}) StreamFault) (result : Result (Unit {0}) Trouble) (before all waited waits : List ℕ) (held held' told : Option (List ℕ)) → waited ≡ [] → told_length held ≤ told_length held' → Keeps told (append_known held' waits)
+    → OnOk fed P → (P → ShowsFront before all (append_known held waited) told) → OnErr fed (ShowsFront before all (append_known held waited) told) → OnErr result (ShowsFront before all held held')
+front-on (Ok done) result before all waited waits held held' told none grown kept ok go err = at-err result (written-front before all waited waits held held' told none grown (go ok) kept)
+front-on (Err fault) result before all waited waits held held' told none grown kept ok go err = at-err result (written-front before all waited waits held held' told none grown err kept)
+
+-- ---- the faults of the output
+
+-- the output failed while the lines were made, or when they were handed on
+abbrev pub Failing : Result (Unit {0}) StreamFault → ℕ → ℕ → Type 0
+Failing fed between after = IsErrOf fed stream.SinkFailed ⊎ Rose between after
+
+pub le_then : (a b c : ℕ) → a ≤ b → b ≤ c → a ≤ c
+le_then a b c le le' = omega (arith, le, le')
+
+rose-then : (before between after : ℕ) → Rose before between → between ≤ after → Rose before after
+rose-then before between after rose le = omega (arith, rose, le)
+
+then-rose : (before between after : ℕ) → before ≤ between → Rose between after → Rose before after
+then-rose before between after le rose = omega (arith, rose, le)
+
+-- any trouble but one of the output
+abbrev IsElse : Trouble → Type 0
+IsElse Usage = Unit {0}
+IsElse (Refusal line cause) = Unit {0}
+IsElse Input = Unit {0}
+IsElse Output = ⊥
+IsElse NoMemory = Unit {0}
+
+sink-failed : (fed : Result (Unit {0}) StreamFault) → IsErrOf (result_of fed) Output → IsErrOf fed stream.SinkFailed
+sink-failed (Ok done) is = absurd (subst (λ (r : Result (Unit {0}) Trouble). OnOk r ⊥) (sym is) tt)
+sink-failed (Err (stream.At line cause)) is = absurd (subst (λ (r : Result (Unit {0}) Trouble). IfErr r IsElse) is tt)
+sink-failed (Err stream.SinkFailed) is = refl
+sink-failed (Err stream.NoMemory) is = absurd (subst (λ (r : Result (Unit {0}) Trouble). IfErr r IsElse) is tt)
+
+pub output-rose : {X : Type 0} (fed : Result (Unit {0}) StreamFault) (result : Result (Unit {0}) Trouble) (before between after : ℕ) → Ends fed result (Failing fed between after) X → (IsErrOf fed stream.SinkFailed → Rose before between) → before ≤ between → between ≤ after
+    → IsErrOf result Output → Rose before after
+output-rose fed result before between after (inl (_, inl failed)) cause le le' is = rose-then before between after (cause failed) le'
+output-rose fed result before between after (inl (_, inr rose)) cause le le' is = then-rose before between after le rose
+output-rose fed result before between after (inr came) cause le le' is = rose-then before between after (cause (sink-failed fed (sym came.0 ∙ is))) le'
+
+-- any other trouble leaves the count as it was
+pub steady-on : {F W : Type 0} (fed : Result (Unit {0}) StreamFault) (result : Result (Unit {0}) Trouble) (before between after : ℕ) → Ends fed result F (W × (after ≡ between)) → IfErr fed (λ fault. fault ≢ stream.SinkFailed → between ≡ before)
+    → IfErr result (λ trouble. trouble ≢ Output → after ≡ before)
+steady-on fed result before between after (inl failed) steady = rw failed.0 (λ other. absurd (other refl))
+steady-on (Ok done) result before between after (inr came) steady = rw came.0 tt
+steady-on (Err fault) result before between after (inr came) steady = rw came.0 (λ other. came.1.1 ∙ steady (λ same. other (ap trouble_of_replay same)))
 
 -- what is shown of a replayed text is a front of what is told of it
 pub told-more : (text : List ℕ) (r : Replaying) → IsReplayOf text r → (rest : List ℕ) × (told text ≡ shown text ++ rest)

@@ -104,10 +104,10 @@ report_of (Err fault) = None
 abbrev pub replayed : List ℕ → Option (List ℕ)
 replayed input = report_of (script_of input)
 
--- the trouble of a replay that stopped; lines that no memory holds are collected nowhere
+-- the trouble of a replay that stopped
 abbrev pub trouble_of_replay : StreamFault → Trouble
 trouble_of_replay (stream.At line cause) = Refusal line cause
-trouble_of_replay stream.SinkFailed = NoMemory
+trouble_of_replay stream.SinkFailed = Output
 trouble_of_replay stream.NoMemory = NoMemory
 
 abbrev pub result_of : Result (Unit {0}) StreamFault → Result (Unit {0}) Trouble

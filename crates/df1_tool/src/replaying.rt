@@ -1,6 +1,8 @@
 //! The command `replay`: its script is read piece by piece, and what a piece shows is written before the next is read.
-ghost use Rattle.std.specs.Prelude.{◌≡◌, ◌⊎◌, ◌≢◌, ◌≤◌, [], ◌++◌, List, ℕ, Some, Err, OnOk, OnErr, IfErr, IsErrOf};
-ghost use Rattle.df1_base.specs.Outside.{Rose, Put, WrotePart};
+ghost use Rattle.std.specs.Prelude.{◌≡◌, ◌⊎◌, ◌≢◌, [], ◌++◌, List, ℕ, Some, Err, OnOk, OnErr, IfErr, IsErrOf};
+ghost use Rattle.std.specs.Io.KnownBytes.{Keeps};
+ghost use Rattle.df1_base.specs.Outside.{Rose, Later};
+ghost use Rattle.df1_buffer.specs.Buffered.{buffer_out, buffer_waiting, buffer_name, buffer_held, buffer_mark};
 ghost use Rattle.line_script.specs.ScriptText.{script_of};
 ghost use Rattle.line_replay.specs.Fed.{IsReplay, IsReplayOf, IsScript, ShowsFront, ShowsMore, shown, told};
 ghost use Rattle.line_script.specs.declared.fault.Cause.{Cause as Fault};
@@ -11,7 +13,8 @@ ghost use Rattle.df1_tool.specs.Outcome.{Answered, BrokenOff, CutOff, IsFromPiec
 ghost use Rattle.df1_tool.specs.declared.trouble.Trouble.{Trouble as Ending};
 
 use crate::trouble::{Trouble, tell};
-use df1_base::{Collected, Failed, Sink, Source, write_all};
+use df1_base::{Failed, Sink, Source};
+use df1_buffer::Buffered;
 use line_replay::{Replayer, StreamFault};
 use line_script::{LINE, SCRIPT};
 use std::alloc::Global;
@@ -63,38 +66,38 @@ fn answer<S: Source, K: Sink>(alloc: Global, input: &mut S, out: &mut K) -> Resu
     ensures written { Written told (S.left input.old) (S.left input.new) (K.held out.old) (K.held out.new) }
 {
     let mut replayer = Replayer::new(alloc);
-    let mut lines = Collected::new(alloc);
-    replay_all(&mut replayer, &mut lines, input, out)
+    let mut report = Buffered::new(out);
+    replay_all(&mut replayer, &mut report, input)
 }
 
 /// Reads the whole script, piece by piece, over a replay that was fed nothing.
 fn replay_all<S: Source, K: Sink>(
     replayer: &mut Replayer,
-    lines: &mut Collected,
+    report: &mut Buffered<'_, K>,
     input: &mut S,
-    out: &mut K,
 ) -> Result<(), Trouble>
     requires nothing { IsReplayOf [] replayer.old }
-    requires none { lines.old.held ≡ [] }
-    ensures done { OnOk result (Answered replayed (S.left input.old) (S.left input.new) (K.held out.old) (K.held out.new)) }
+    requires none { buffer_waiting report.old ≡ [] }
+    ensures same_reference { buffer_name report.new ≡ buffer_name report.old }
+    ensures done { OnOk result (Answered replayed (S.left input.old) (S.left input.new) (K.held (buffer_out report.old)) (K.held (buffer_out report.new))) }
     ensures calm { OnOk result (S.faults input.new ≡ S.faults input.old) }
-    ensures refusal { IfErr result (TellsRefusal (Refused (S.left input.old) (S.left input.new) (K.held out.old) (K.held out.new) (S.faults input.old) (S.faults input.new))) }
-    ensures input { IsErrOf result Trouble.Input → BrokenOff (S.left input.old) (S.left input.new) (K.held out.old) (K.held out.new) (S.faults input.old) (S.faults input.new) }
-    ensures output { IsErrOf result Trouble.Output → Rose (K.faults out.old) (K.faults out.new) × (S.faults input.new ≡ S.faults input.old)
-        × CutOff (S.left input.old) (S.left input.new) (K.held out.old) (K.held out.new) }
+    ensures refusal { IfErr result (TellsRefusal (Refused (S.left input.old) (S.left input.new) (K.held (buffer_out report.old)) (K.held (buffer_out report.new)) (S.faults input.old) (S.faults input.new))) }
+    ensures input { IsErrOf result Trouble.Input → BrokenOff (S.left input.old) (S.left input.new) (K.held (buffer_out report.old)) (K.held (buffer_out report.new)) (S.faults input.old) (S.faults input.new) }
+    ensures output { IsErrOf result Trouble.Output → Rose (K.faults (buffer_out report.old)) (K.faults (buffer_out report.new)) × (S.faults input.new ≡ S.faults input.old)
+        × CutOff (S.left input.old) (S.left input.new) (K.held (buffer_out report.old)) (K.held (buffer_out report.new)) }
     ensures memory { IsErrOf result Trouble.NoMemory → S.faults input.new ≡ S.faults input.old }
-    ensures steady { OnOk result (K.faults out.new ≡ K.faults out.old) }
-    ensures steady_else { IfErr result (λ trouble. trouble ≢ Ending.Output → K.faults out.new ≡ K.faults out.old) }
+    ensures steady { OnOk result (K.faults (buffer_out report.new) ≡ K.faults (buffer_out report.old)) }
+    ensures steady_else { IfErr result (λ trouble. trouble ≢ Ending.Output → K.faults (buffer_out report.new) ≡ K.faults (buffer_out report.old)) }
     ensures known { IfErr result (λ trouble. trouble ≢ Ending.Usage) }
-    ensures written { Written told (S.left input.old) (S.left input.new) (K.held out.old) (K.held out.new) }
+    ensures written { Written told (S.left input.old) (S.left input.new) (K.held (buffer_out report.old)) (K.held (buffer_out report.new)) }
 {
     let mut piece = [0; PIECE];
     while replayer.fed() <= SCRIPT {
         let begun = replayer.held();
         prove!(begun <= LINE);
         match input.read(&mut piece) {
-            Ok(0) => return close(replayer, lines, out),
-            Ok(count) => match go_on(replayer, &piece[..count], lines, out) {
+            Ok(0) => return close(replayer, report),
+            Ok(count) => match go_on(replayer, &piece[..count], report) {
                 Ok(()) => {}
                 Err(trouble) => return Err(trouble),
             },
@@ -108,63 +111,60 @@ fn replay_all<S: Source, K: Sink>(
 fn go_on<K: Sink>(
     replayer: &mut Replayer,
     piece: &[u8],
-    lines: &mut Collected,
-    out: &mut K,
+    report: &mut Buffered<'_, K>,
 ) -> Result<(), Trouble>
     requires replay { IsReplay replayer.old }
-    requires none { lines.old.held ≡ [] }
-    ensures none { OnOk result (lines.new.held ≡ []) }
+    requires none { buffer_waiting report.old ≡ [] }
+    ensures same_reference { buffer_name report.new ≡ buffer_name report.old }
+    ensures none { OnOk result (buffer_waiting report.new ≡ []) }
     ensures ok { (text : List ℕ) → IsReplayOf text replayer.old → OnOk result
-        (IsReplayOf (text ++ piece.now) replayer.new × ShowsMore (shown text) (shown (text ++ piece.now)) (K.held out.old) (K.held out.new)) }
-    ensures refused { (text : List ℕ) → IsReplayOf text replayer.old → IfErr result (TellsRefusal (λ line cause. (more : List ℕ) → (script_of ((text ++ piece.now) ++ more) ≡ Err (line, cause)) × ShowsMore (shown text) (told ((text ++ piece.now) ++ more)) (K.held out.old) (K.held out.new))) }
-    ensures front { (text : List ℕ) → IsReplayOf text replayer.old → OnErr result (ShowsFront (shown text) (told (text ++ piece.now)) (K.held out.old) (K.held out.new)) }
+        (IsReplayOf (text ++ piece.now) replayer.new × ShowsMore (shown text) (shown (text ++ piece.now)) (K.held (buffer_out report.old)) (K.held (buffer_out report.new))) }
+    ensures refused { (text : List ℕ) → IsReplayOf text replayer.old → IfErr result (TellsRefusal (λ line cause. (more : List ℕ) → (script_of ((text ++ piece.now) ++ more) ≡ Err (line, cause)) × ShowsMore (shown text) (told ((text ++ piece.now) ++ more)) (K.held (buffer_out report.old)) (K.held (buffer_out report.new)))) }
+    ensures front { (text : List ℕ) → IsReplayOf text replayer.old → OnErr result (ShowsFront (shown text) (told (text ++ piece.now)) (K.held (buffer_out report.old)) (K.held (buffer_out report.new))) }
     ensures known { IfErr result IsFromPiece }
-    ensures output { IsErrOf result Trouble.Output → Rose (K.faults out.old) (K.faults out.new) }
-    ensures steady { OnOk result (K.faults out.new ≡ K.faults out.old) }
-    ensures steady_else { IfErr result (λ trouble. trouble ≢ Ending.Output → K.faults out.new ≡ K.faults out.old) }
+    ensures output { IsErrOf result Trouble.Output → Rose (K.faults (buffer_out report.old)) (K.faults (buffer_out report.new)) }
+    ensures steady { OnOk result (K.faults (buffer_out report.new) ≡ K.faults (buffer_out report.old)) }
+    ensures steady_else { IfErr result (λ trouble. trouble ≢ Ending.Output → K.faults (buffer_out report.new) ≡ K.faults (buffer_out report.old)) }
 {
-    let fed = replayer.feed_all(piece, lines);
-    hand_on(fed, lines, out)
+    let fed = replayer.feed_all(piece, report);
+    hand_on(fed, report)
 }
 
 /// Ends the script, and writes what follows.
-fn close<K: Sink>(
-    replayer: &mut Replayer,
-    lines: &mut Collected,
-    out: &mut K,
-) -> Result<(), Trouble>
+fn close<K: Sink>(replayer: &mut Replayer, report: &mut Buffered<'_, K>) -> Result<(), Trouble>
     requires replay { IsReplay replayer.old }
-    requires none { lines.old.held ≡ [] }
-    ensures ok { (text : List ℕ) → IsReplayOf text replayer.old → OnOk result (IsScript text × ShowsMore (shown text) (told text) (K.held out.old) (K.held out.new)) }
-    ensures refused { (text : List ℕ) → IsReplayOf text replayer.old → IfErr result (TellsRefusal (λ line cause. (script_of text ≡ Err (line, cause)) × ShowsMore (shown text) (told text) (K.held out.old) (K.held out.new))) }
-    ensures front { (text : List ℕ) → IsReplayOf text replayer.old → OnErr result (ShowsFront (shown text) (told text) (K.held out.old) (K.held out.new)) }
+    requires none { buffer_waiting report.old ≡ [] }
+    ensures same_reference { buffer_name report.new ≡ buffer_name report.old }
+    ensures ok { (text : List ℕ) → IsReplayOf text replayer.old → OnOk result (IsScript text × ShowsMore (shown text) (told text) (K.held (buffer_out report.old)) (K.held (buffer_out report.new))) }
+    ensures refused { (text : List ℕ) → IsReplayOf text replayer.old → IfErr result (TellsRefusal (λ line cause. (script_of text ≡ Err (line, cause)) × ShowsMore (shown text) (told text) (K.held (buffer_out report.old)) (K.held (buffer_out report.new)))) }
+    ensures front { (text : List ℕ) → IsReplayOf text replayer.old → OnErr result (ShowsFront (shown text) (told text) (K.held (buffer_out report.old)) (K.held (buffer_out report.new))) }
     ensures known { IfErr result IsFromPiece }
-    ensures output { IsErrOf result Trouble.Output → Rose (K.faults out.old) (K.faults out.new) }
-    ensures steady { OnOk result (K.faults out.new ≡ K.faults out.old) }
-    ensures steady_else { IfErr result (λ trouble. trouble ≢ Ending.Output → K.faults out.new ≡ K.faults out.old) }
+    ensures output { IsErrOf result Trouble.Output → Rose (K.faults (buffer_out report.old)) (K.faults (buffer_out report.new)) }
+    ensures steady { OnOk result (K.faults (buffer_out report.new) ≡ K.faults (buffer_out report.old)) }
+    ensures steady_else { IfErr result (λ trouble. trouble ≢ Ending.Output → K.faults (buffer_out report.new) ≡ K.faults (buffer_out report.old)) }
 {
-    let ended = replayer.finish(lines);
-    hand_on(ended, lines, out)
+    let ended = replayer.finish(report);
+    hand_on(ended, report)
 }
 
-/// Writes the lines that were collected, and tells what else happened.
+/// Writes what still waits of the lines of a piece, and tells what else happened.
 fn hand_on<K: Sink>(
     ended: Result<(), StreamFault>,
-    lines: &mut Collected,
-    out: &mut K,
+    report: &mut Buffered<'_, K>,
 ) -> Result<(), Trouble>
-    ensures ends { (IsErrOf result Trouble.Output × Rose (K.faults out.old) (K.faults out.new))
-        ⊎ ((result ≡ result_of ended) × ((lines.new.held ≡ []) × (K.faults out.new ≡ K.faults out.old) × Put (K.held out.old) (K.held out.new) lines.old.held)) }
-    ensures part { WrotePart (K.held out.old) (K.held out.new) lines.old.held }
+    ensures ends { (IsErrOf result Trouble.Output × (IsErrOf ended StreamFault.SinkFailed ⊎ Rose (K.faults (buffer_out report.old)) (K.faults (buffer_out report.new))))
+        ⊎ ((result ≡ result_of ended) × ((buffer_waiting report.new ≡ []) × (K.faults (buffer_out report.new) ≡ K.faults (buffer_out report.old)))) }
+    ensures kept { Keeps (buffer_held K.held report.old) (buffer_held K.held report.new) }
+    ensures later { Later (buffer_mark K.held K.mark report.old) (buffer_mark K.held K.mark report.new) (K.faults (buffer_out report.old)) (K.faults (buffer_out report.new)) }
 {
-    match write_all(out, lines.bytes()) {
-        Ok(()) => {
-            lines.clear();
-            match ended {
-                Ok(()) => Ok(()),
-                Err(fault) => Err(fault.into()),
-            }
-        }
-        Err(Failed) => Err(Trouble::Output),
+    if let Err(StreamFault::SinkFailed) = ended {
+        return Err(Trouble::Output);
+    }
+    if let Err(Failed) = report.flush() {
+        return Err(Trouble::Output);
+    }
+    match ended {
+        Ok(()) => Ok(()),
+        Err(fault) => Err(fault.into()),
     }
 }

@@ -39,7 +39,8 @@ impl From<StreamFault> for Trouble {
     fn from(fault: StreamFault) -> Self {
         match fault {
             StreamFault::At { line, cause } => Trouble::Refusal(line, cause),
-            StreamFault::SinkFailed | StreamFault::NoMemory => Trouble::NoMemory,
+            StreamFault::SinkFailed => Trouble::Output,
+            StreamFault::NoMemory => Trouble::NoMemory,
         }
     }
 }

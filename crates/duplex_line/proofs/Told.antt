@@ -8,10 +8,9 @@ use Rattle.df1_base.proofs.Laws.{part_of_more}
 use Rattle.line_statement.specs.declared.who.Who.{Who}
 use Rattle.line_report.specs.declared.record.Line.{Line}
 use Rattle.line_report.specs.declared.record.Line.TheVariants as line
-use Rattle.line_report.specs.Report.{line_text}
+use Rattle.line_report.specs.Report.{line_text, sent_lines}
 use Rattle.line_report.proofs.Writing.{part_behind}
 use Rattle.duplex_line.specs.declared.sent.Sent.{Sent}
-use Rattle.duplex_line.specs.Run.{sent_lines}
 use Rattle.duplex_line.specs.Told.{with_sent}
 
 pub empty : (bytes : List ℕ) → length bytes ≡ 0 → bytes ≡ []

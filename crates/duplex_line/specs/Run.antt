@@ -1,5 +1,5 @@
 -- The run of a script: its first state, what each event leaves, the lines of the report that it makes, and the record.
-use Rattle.std.specs.Prelude.{ℕ, List, [], ◌∷◌, ◌++◌, map, replicate, slice_index_or}
+use Rattle.std.specs.Prelude.{List, [], ◌∷◌, ◌++◌, map, replicate, slice_index_or}
 use Rattle.df1_check.specs.declared.Check.{Check}
 use Rattle.data_files.specs.Tables.{DataTables}
 use Rattle.duplex_end.specs.End.{new_end}
@@ -12,8 +12,8 @@ use Rattle.script_parts.specs.declared.script.Script.{Script}
 use Rattle.script_parts.specs.declared.script.WordOf.{WordOf}
 use Rattle.script_parts.specs.Plans.{first_plan}
 use Rattle.line_report.specs.declared.record.Line.{Line}
-use Rattle.line_report.specs.declared.record.Line.TheVariants as line
 use Rattle.line_report.specs.declared.record.Record.{Record}
+use Rattle.line_report.specs.Report.{sent_lines}
 pub use Rattle.outset.specs.Outset.{with_first, with_all, first_tables, first_station, first_node, limits_of, setup_of}
 use Rattle.told_lines.specs.Words.{words_of}
 use Rattle.duplex_line.specs.Acts.{SideState, LineState, swapped, Deed, Issue, Take, Deliver, Lose, Alter, Foreign, Tick, after_deeds, lines_over, given_over}
@@ -75,11 +75,6 @@ seen_from (S station) s = s
 
 abbrev pub after_event : LineState → Event → LineState
 after_event s e = seen_from (who_of e) (after_deeds (seen_from (who_of e) s) (deeds_of e))
-
--- the bytes that an end gave at one event, if it gave one
-abbrev pub sent_lines : Who → List ℕ → List Line
-sent_lines who [] = []
-sent_lines who (byte ∷ bytes) = line.Sent who (byte ∷ bytes) ∷ []
 
 -- the lines of unit steps at an end, and then its bytes
 abbrev pub deed_lines : Who → LineState → List Deed → List Line

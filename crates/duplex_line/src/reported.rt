@@ -2,7 +2,7 @@
 
 ghost use Rattle.std.specs.Prelude.{◌≡◌, ◌+◌, ◌≤◌, ◌<◌, ◌^◌, ◌++◌, [], OnOk, OnErr};
 ghost use Rattle.std.specs.List.{flat_map};
-ghost use Rattle.df1_base.specs.Outside.{Rose, Put, WrotePart};
+ghost use Rattle.df1_base.specs.Outside.{Rose, Put, WrotePart, Later};
 ghost use Rattle.line_report.specs.Report.{line_text};
 ghost use Rattle.duplex_line.specs.Acts.{after_cell, cell_lines, deceptions_at};
 
@@ -31,7 +31,7 @@ impl Reported {
         ensures ok { OnOk result (Put (K.held sink.old) (K.held sink.new) (flat_map line_text self.old.lines)) }
         ensures part { WrotePart (K.held sink.old) (K.held sink.new) (flat_map line_text self.old.lines) }
         ensures calm { OnOk result (K.faults sink.new ≡ K.faults sink.old) }
-        ensures later { K.faults sink.old ≤ K.faults sink.new }
+        ensures later { Later (K.mark sink.old) (K.mark sink.new) (K.faults sink.old) (K.faults sink.new) }
         ensures cause { OnErr result (Rose (K.faults sink.old) (K.faults sink.new)) }
     {
         if self.lines.as_slice().is_empty() {
@@ -49,7 +49,7 @@ impl Reported {
         ensures ok { OnOk result (Put (K.held sink.old) (K.held sink.new) (flat_map line_text self.old.lines)) }
         ensures part { WrotePart (K.held sink.old) (K.held sink.new) (flat_map line_text self.old.lines) }
         ensures calm { OnOk result (K.faults sink.new ≡ K.faults sink.old) }
-        ensures later { K.faults sink.old ≤ K.faults sink.new }
+        ensures later { Later (K.mark sink.old) (K.mark sink.new) (K.faults sink.old) (K.faults sink.new) }
         ensures cause { OnErr result (Rose (K.faults sink.old) (K.faults sink.new)) }
     {
         print_lines(self.lines.as_slice(), sink)?;

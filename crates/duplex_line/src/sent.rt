@@ -1,10 +1,9 @@
 //! The bytes that an end gave last, before their line stands among the others.
 
-ghost use Rattle.std.specs.Prelude.{◌≡◌, ◌<◌, ◌≤◌, [], length, OnOk, OnErr};
+ghost use Rattle.std.specs.Prelude.{◌≡◌, ◌<◌, [], length, OnOk, OnErr};
 ghost use Rattle.std.specs.List.{flat_map};
-ghost use Rattle.df1_base.specs.Outside.{Rose, Put, WrotePart};
-ghost use Rattle.line_report.specs.Report.{line_text};
-ghost use Rattle.duplex_line.specs.Run.{sent_lines};
+ghost use Rattle.df1_base.specs.Outside.{Rose, Put, WrotePart, Later};
+ghost use Rattle.line_report.specs.Report.{line_text, sent_lines};
 ghost use Rattle.duplex_line.specs.Told.{with_sent};
 
 use df1_base::{Failed, NoMemory, Sink};
@@ -66,7 +65,7 @@ impl Sent {
         ensures ok { OnOk result (Put (K.held sink.old) (K.held sink.new) (flat_map line_text (sent_lines self.old.who self.old.bytes))) }
         ensures part { WrotePart (K.held sink.old) (K.held sink.new) (flat_map line_text (sent_lines self.old.who self.old.bytes)) }
         ensures calm { OnOk result (K.faults sink.new ≡ K.faults sink.old) }
-        ensures later { K.faults sink.old ≤ K.faults sink.new }
+        ensures later { Later (K.mark sink.old) (K.mark sink.new) (K.faults sink.old) (K.faults sink.new) }
         ensures cause { OnErr result (Rose (K.faults sink.old) (K.faults sink.new)) }
     {
         let bytes = self.bytes.as_slice();

@@ -20,7 +20,6 @@ use script_parts::EndPlan;
 use std::alloc::Global;
 use std::collections::VecDeque;
 use std::marker::Model;
-use std::mem;
 
 /// An end, and the bytes on their way from it to the other end, with memory for what is known of the end of a transmission.
 #[derive(Drop)]
@@ -102,8 +101,7 @@ impl Side {
         ensures { self.new ≡ after_alter self.old mask }
     {
         if let Some(cell) = self.lane.front_mut() {
-            let altered = Cell::bare(cell.byte ^ mask);
-            mem::replace(cell, altered).spend(&mut self.spare);
+            cell.alter(mask, &mut self.spare);
         }
     }
 

@@ -17,8 +17,8 @@ use Rattle.script_parts.specs.declared.script.WordOf.{WordOf}
 use Rattle.script_parts.specs.Plans.{first_plan}
 use Rattle.script_parts.specs.HalfPlayable.{station_plans, numbers_of}
 use Rattle.line_report.specs.declared.record.Line.{Line}
-use Rattle.line_report.specs.declared.record.Line.TheVariants as line
 use Rattle.line_report.specs.declared.record.Record.{Record}
+use Rattle.line_report.specs.Report.{sent_lines}
 use Rattle.outset.specs.Outset.{first_node}
 use Rattle.told_lines.specs.Words.{words_of}
 use Rattle.half_line.specs.declared.way.Way.{Way}
@@ -120,11 +120,6 @@ after_event s e = after_steps s (steps_of s e)
 abbrev pub giver : Option ℕ → Who
 giver None = M
 giver (Some number) = S number
-
--- the bytes that an end gave at one event, if it gave one
-abbrev pub sent_lines : Who → List ℕ → List Line
-sent_lines who [] = []
-sent_lines who (byte ∷ bytes) = line.Sent who (byte ∷ bytes) ∷ []
 
 -- the lines of the unit steps, and then the bytes that were given
 abbrev pub lines_of : HalfState → Event → List Line

@@ -1,9 +1,10 @@
 //! Events at the master, and events at a station or with the bytes between it and the master.
 
 ghost use Rattle.std.specs.Prelude.{◌≡◌, ◌+◌, ◌≤◌, ◌++◌, ℕ, List, OnOk, IsOk, IsTrue};
+ghost use Rattle.line_report.specs.Report.{sent_lines};
 ghost use Rattle.half_line.specs.Acts.{half_state, link_state};
 ghost use Rattle.half_line.specs.Steps.{after_link_deeds, after_master_deeds, link_bytes_over, link_lines_over, master_bytes_over, master_lines_over};
-ghost use Rattle.half_line.specs.Run.{link_deeds, master_deeds, sent_lines};
+ghost use Rattle.half_line.specs.Run.{link_deeds, master_deeds};
 ghost use Rattle.half_line.specs.Plays.{IsUnspent, most_events, takes_no_memory};
 ghost use Rattle.script_parts.specs.HalfPlayable.{IsHalfPossible, half_count_of};
 

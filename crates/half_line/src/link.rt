@@ -1,11 +1,11 @@
 //! Events at a station, or with the bytes between it and the master.
 
 ghost use Rattle.std.specs.Prelude.{◌≡◌, ◌+◌, ◌≤◌, ◌<◌, ◌^◌, ◌++◌, ℕ, OnOk, length, map, replicate};
+ghost use Rattle.line_report.specs.Report.{sent_lines};
 ghost use Rattle.half_master.specs.Master.{MasterState};
 ghost use Rattle.df1_node.specs.Node.{NodeState};
 ghost use Rattle.half_line.specs.Acts.{StationSide, StationGives, OnLane, Deliver, Lose, Foreign, link_state, after_cell, cell_lines, deceptions_at};
 ghost use Rattle.half_line.specs.Steps.{after_link_deeds, link_lines_over, link_bytes_over};
-ghost use Rattle.half_line.specs.Run.{sent_lines};
 ghost use Rattle.half_line.specs.Plays.{most_events};
 
 use crate::reported::Reported;
@@ -15,7 +15,7 @@ use df1_base::NoMemory;
 use df1_node::Node;
 use half_master::Master;
 use line_cells::{Cell, is_deceived, is_station_deceived};
-use line_report::{Line, Page};
+use line_report::Page;
 use line_statement::{Bytes, Who};
 use std::alloc::Global;
 use told_lines::{tell_act, tell_news};
@@ -35,14 +35,7 @@ pub(crate) fn give(
 {
     let mut bytes = lines.no_bytes(alloc);
     take_all(alloc, side, n, &mut bytes)?;
-    if bytes.as_slice().is_empty() {
-        lines.keep(bytes);
-        return Ok(());
-    }
-    lines.push(Line::Sent {
-        who: Who::S(number),
-        bytes,
-    })
+    lines.push_sent(Who::S(number), bytes)
 }
 
 /// Takes up to `n` bytes, and puts them behind the others.

@@ -1,20 +1,20 @@
 //! The master of the line: what it issues, gives and is told of time.
 
 ghost use Rattle.std.specs.Prelude.{◌≡◌, ◌∷◌, ◌++◌, ℕ, List, [], IfOk, OnOk, None, map, replicate, option_map, option_to_list};
+ghost use Rattle.line_report.specs.Report.{sent_lines};
 ghost use Rattle.df1_node.specs.Initiator.{issue_fault};
 ghost use Rattle.half_master.specs.Master.{master_after_take, master_after_tick, out_at_take};
 ghost use Rattle.line_cells.specs.Cells.{cell_of};
 ghost use Rattle.each_once.specs.NodeHost.{node_host};
 ghost use Rattle.half_line.specs.Acts.{StationSide, Give, Tick, half_state, after_issue, master_lines, byte_given, cells_given, joined};
 ghost use Rattle.half_line.specs.Steps.{after_master_deeds, master_bytes_over, master_lines_over};
-ghost use Rattle.half_line.specs.Run.{sent_lines};
 
 use crate::side::Side;
 use arrayvec::ArrayVec;
 use df1_base::{NoMemory, Out};
 use df1_node::{IssueFault, Node};
 use half_master::Master;
-use line_report::{Line, Page};
+use line_report::Page;
 use line_statement::{Bytes, Who};
 use std::alloc::Global;
 use told_lines::{tell_gone, tell_turn};
@@ -46,11 +46,7 @@ pub(crate) fn give(
 {
     let mut bytes = lines.no_bytes(alloc);
     take_all(alloc, master, stations, n, &mut bytes)?;
-    if bytes.as_slice().is_empty() {
-        lines.keep(bytes);
-        return Ok(());
-    }
-    lines.push(Line::Sent { who: Who::M, bytes })
+    lines.push_sent(Who::M, bytes)
 }
 
 /// Takes up to `n` bytes, and puts them behind the others.

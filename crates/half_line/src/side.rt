@@ -21,7 +21,6 @@ use script_parts::EndPlan;
 use std::alloc::Global;
 use std::collections::VecDeque;
 use std::marker::Model;
-use std::mem;
 
 /// A station, and the bytes on their way to it and from it.
 #[derive(Drop)]
@@ -147,8 +146,7 @@ fn alter(lane: &mut VecDeque<Cell>, spare: &mut Spare, mask: u8)
     ensures { lane.new.items ≡ altered mask lane.old.items }
 {
     if let Some(cell) = lane.front_mut() {
-        let altered = Cell::bare(cell.byte ^ mask);
-        mem::replace(cell, altered).spend(spare);
+        cell.alter(mask, spare);
     }
 }
 

@@ -1,7 +1,7 @@
 //! The cells of a queue: a byte on its way, with what is known of where it comes from. A cell takes 24 bytes: few bytes end
 //! a transmission, and what is known of its end stands apart.
 
-ghost use Rattle.std.specs.Prelude.{◌≡◌, IfOk, None, Some};
+ghost use Rattle.std.specs.Prelude.{◌≡◌, IfOk, None, Some, bit_xor};
 ghost use Rattle.line_cells.specs.Cells.{bare, cell_of, ending_of};
 ghost use Rattle.line_cells.specs.Deception.{is_sent as is_body_sent};
 ghost use Rattle.line_cells.specs.Marks.{body_of_marks, ending_of_marks};
@@ -9,6 +9,7 @@ ghost use Rattle.line_cells.specs.Marks.{body_of_marks, ending_of_marks};
 use df1_base::{NoMemory, Out};
 use std::alloc::Global;
 use std::marker::Model;
+use std::mem;
 
 /// The end of a transmission.
 #[derive(Drop)]
@@ -143,6 +144,16 @@ impl Cell {
             byte,
             marks: Marks::End(ended),
         })
+    }
+
+    /// Alters the byte by exclusive or with `mask`, and nothing is known of it from then on. The memory of what was known is
+    /// kept.
+    #[inline(always)]
+    pub fn alter(&mut self, mask: u8, spare: &mut Spare)
+        ensures { self.new ≡ bare (bit_xor self.old.byte mask) }
+    {
+        let altered = Cell::bare(self.byte ^ mask);
+        mem::replace(self, altered).spend(spare);
     }
 
     /// Drops a cell, and keeps the memory of what was known of a transmission's end, if it has any.

@@ -1,6 +1,6 @@
 //! Replaying while reading: a script comes byte by byte, and the report's lines of an event line are written where it ends.
 ghost use Rattle.std.specs.Prelude.{◌≡◌, ◌≢◌, ◌≤◌, ◌+◌, ◌∷◌, ◌++◌, ℕ, List, [], Some, OnOk, OnErr, IfOk, IfErr, IsErrOf, length, position, take, ◌==◌};
-ghost use Rattle.df1_base.specs.Outside.{Rose, Put, WrotePart};
+ghost use Rattle.df1_base.specs.Outside.{Rose, Put, WrotePart, Later};
 ghost use Rattle.script_parts.specs.declared.script.Event.{Event as OneEvent};
 ghost use Rattle.line_replay.specs.declared.replayer.StreamFault.{StreamFault as Stopped};
 ghost use Rattle.line_script.specs.Fed.{HasNoFeed, accepted_script};
@@ -132,7 +132,7 @@ impl Replayer {
         ensures front { (text : List ℕ) → IsReplayOf text self.old → (more : List ℕ) → OnErr result (ShowsFront (shown text) (told (text ++ b ∷ more)) (K.held sink.old) (K.held sink.new)) }
         ensures silent { IfErr result (λ fault. fault ≢ Stopped.SinkFailed → sink.new ≡ sink.old) }
         ensures calm { OnOk result (K.faults sink.new ≡ K.faults sink.old) }
-        ensures later { K.faults sink.old ≤ K.faults sink.new }
+        ensures later { Later (K.mark sink.old) (K.mark sink.new) (K.faults sink.old) (K.faults sink.new) }
         ensures cause { IsErrOf result StreamFault.SinkFailed → Rose (K.faults sink.old) (K.faults sink.new) }
     {
         match self.text.feed(b) {
@@ -150,7 +150,8 @@ impl Replayer {
         ensures refused { (text : List ℕ) → IsReplayOf text self.old → IfErr result (IsRefusedWith (text ++ bytes.now) (shown text) (K.held sink.old) (K.held sink.new)) }
         ensures front { (text : List ℕ) → IsReplayOf text self.old → OnErr result (ShowsFront (shown text) (told (text ++ bytes.now)) (K.held sink.old) (K.held sink.new)) }
         ensures calm { OnOk result (K.faults sink.new ≡ K.faults sink.old) }
-        ensures later { K.faults sink.old ≤ K.faults sink.new }
+        ensures steady { IfErr result (λ fault. fault ≢ Stopped.SinkFailed → K.faults sink.new ≡ K.faults sink.old) }
+        ensures later { Later (K.mark sink.old) (K.mark sink.new) (K.faults sink.old) (K.faults sink.new) }
         ensures cause { IsErrOf result StreamFault.SinkFailed → Rose (K.faults sink.old) (K.faults sink.new) }
     {
         let mut rest = bytes;
@@ -175,7 +176,7 @@ impl Replayer {
         ensures front { (text : List ℕ) → IsReplayOf text self.old → OnErr result (ShowsFront (shown text) (told (text ++ bytes.now)) (K.held sink.old) (K.held sink.new)) }
         ensures silent { IfErr result (λ fault. fault ≢ Stopped.SinkFailed → sink.new ≡ sink.old) }
         ensures calm { OnOk result (K.faults sink.new ≡ K.faults sink.old) }
-        ensures later { K.faults sink.old ≤ K.faults sink.new }
+        ensures later { Later (K.mark sink.old) (K.mark sink.new) (K.faults sink.old) (K.faults sink.new) }
         ensures cause { IsErrOf result StreamFault.SinkFailed → Rose (K.faults sink.old) (K.faults sink.new) }
     {
         match self.text.feed_step(bytes) {
@@ -198,7 +199,7 @@ impl Replayer {
         ensures front { (text : List ℕ) → IsReplayOf text self.old → OnErr result (ShowsFront (shown text) (told (text ++ bytes.now)) (K.held sink.old) (K.held sink.new)) }
         ensures silent { IfErr result (λ fault. fault ≢ Stopped.SinkFailed → sink.new ≡ sink.old) }
         ensures calm { OnOk result (K.faults sink.new ≡ K.faults sink.old) }
-        ensures later { K.faults sink.old ≤ K.faults sink.new }
+        ensures later { Later (K.mark sink.old) (K.mark sink.new) (K.faults sink.old) (K.faults sink.new) }
         ensures cause { IsErrOf result StreamFault.SinkFailed → Rose (K.faults sink.old) (K.faults sink.new) }
     {
         let Some(end) = line_end(bytes) else {
@@ -219,7 +220,7 @@ impl Replayer {
         ensures front { (text : List ℕ) → IsReplayOf text self.old → (more : List ℕ) → OnErr result (ShowsFront (shown text) (told ((text ++ line.now) ++ 10 ∷ more)) (K.held sink.old) (K.held sink.new)) }
         ensures silent { IfErr result (λ fault. fault ≢ Stopped.SinkFailed → sink.new ≡ sink.old) }
         ensures calm { OnOk result (K.faults sink.new ≡ K.faults sink.old) }
-        ensures later { K.faults sink.old ≤ K.faults sink.new }
+        ensures later { Later (K.mark sink.old) (K.mark sink.new) (K.faults sink.old) (K.faults sink.new) }
         ensures cause { IsErrOf result StreamFault.SinkFailed → Rose (K.faults sink.old) (K.faults sink.new) }
     {
         match self.text.feed_line(line) {
@@ -252,7 +253,8 @@ impl Replayer {
         ensures refused { (text : List ℕ) → IsReplayOf text self.old → IfErr result (IsRefusedAs text (ShowsMore (shown text) (told text) (K.held sink.old) (K.held sink.new))) }
         ensures front { (text : List ℕ) → IsReplayOf text self.old → OnErr result (ShowsFront (shown text) (told text) (K.held sink.old) (K.held sink.new)) }
         ensures calm { OnOk result (K.faults sink.new ≡ K.faults sink.old) }
-        ensures later { K.faults sink.old ≤ K.faults sink.new }
+        ensures steady { IfErr result (λ fault. fault ≢ Stopped.SinkFailed → K.faults sink.new ≡ K.faults sink.old) }
+        ensures later { Later (K.mark sink.old) (K.mark sink.new) (K.faults sink.old) (K.faults sink.new) }
         ensures cause { IsErrOf result StreamFault.SinkFailed → Rose (K.faults sink.old) (K.faults sink.new) }
     {
         match self.end_lines(sink) {
@@ -270,7 +272,7 @@ impl Replayer {
         ensures front { (text : List ℕ) → IsReplayOf text self.old → OnErr result (ShowsFront (shown text) (told text) (K.held sink.old) (K.held sink.new)) }
         ensures silent { IfErr result (λ fault. fault ≢ Stopped.SinkFailed → sink.new ≡ sink.old) }
         ensures calm { OnOk result (K.faults sink.new ≡ K.faults sink.old) }
-        ensures later { K.faults sink.old ≤ K.faults sink.new }
+        ensures later { Later (K.mark sink.old) (K.mark sink.new) (K.faults sink.old) (K.faults sink.new) }
         ensures cause { IsErrOf result StreamFault.SinkFailed → Rose (K.faults sink.old) (K.faults sink.new) }
     {
         match self.text.end() {
@@ -288,7 +290,7 @@ impl Replayer {
         ensures front { (text : List ℕ) → IsReplayAtEnd text self.old → OnErr result (ShowsFront (events_text (accepted_script text)) (told text) (K.held sink.old) (K.held sink.new)) }
         ensures silent { IfErr result (λ fault. fault ≢ Stopped.SinkFailed → sink.new ≡ sink.old) }
         ensures calm { OnOk result (K.faults sink.new ≡ K.faults sink.old) }
-        ensures later { K.faults sink.old ≤ K.faults sink.new }
+        ensures later { Later (K.mark sink.old) (K.mark sink.new) (K.faults sink.old) (K.faults sink.new) }
         ensures cause { IsErrOf result StreamFault.SinkFailed → Rose (K.faults sink.old) (K.faults sink.new) }
     {
         match self.text.close() {
@@ -307,7 +309,7 @@ impl Replayer {
         ensures silent { IfErr result (λ fault. fault ≢ Stopped.SinkFailed → sink.new ≡ sink.old) }
         ensures known { IfErr result IsFromPlay }
         ensures calm { OnOk result (K.faults sink.new ≡ K.faults sink.old) }
-        ensures later { K.faults sink.old ≤ K.faults sink.new }
+        ensures later { Later (K.mark sink.old) (K.mark sink.new) (K.faults sink.old) (K.faults sink.new) }
         ensures cause { IsErrOf result StreamFault.SinkFailed → Rose (K.faults sink.old) (K.faults sink.new) }
     {
         self.begin()?;
@@ -330,7 +332,7 @@ impl Replayer {
         ensures silent { IfErr result (λ fault. fault ≢ Stopped.SinkFailed → sink.new ≡ sink.old) }
         ensures known { IfErr result IsFromPlay }
         ensures calm { OnOk result (K.faults sink.new ≡ K.faults sink.old) }
-        ensures later { K.faults sink.old ≤ K.faults sink.new }
+        ensures later { Later (K.mark sink.old) (K.mark sink.new) (K.faults sink.old) (K.faults sink.new) }
         ensures cause { IsErrOf result StreamFault.SinkFailed → Rose (K.faults sink.old) (K.faults sink.new) }
     {
         self.begin()?;
@@ -376,7 +378,7 @@ fn play_on<K: Sink>(world: &mut World, event: &Event, sink: &mut K) -> Result<()
     ensures silent { IfErr result (λ fault. fault ≢ Stopped.SinkFailed → sink.new ≡ sink.old) }
     ensures known { IfErr result IsFromPlay }
     ensures calm { OnOk result (K.faults sink.new ≡ K.faults sink.old) }
-    ensures later { K.faults sink.old ≤ K.faults sink.new }
+    ensures later { Later (K.mark sink.old) (K.mark sink.new) (K.faults sink.old) (K.faults sink.new) }
     ensures cause { IsErrOf result StreamFault.SinkFailed → Rose (K.faults sink.old) (K.faults sink.new) }
 {
     world.step(event)?;
@@ -391,7 +393,7 @@ fn print_rest<K: Sink>(world: World, sink: &mut K) -> Result<(), StreamFault>
     ensures silent { IfErr result (λ fault. fault ≢ Stopped.SinkFailed → sink.new ≡ sink.old) }
     ensures known { IfErr result IsFromPlay }
     ensures calm { OnOk result (K.faults sink.new ≡ K.faults sink.old) }
-    ensures later { K.faults sink.old ≤ K.faults sink.new }
+    ensures later { Later (K.mark sink.old) (K.mark sink.new) (K.faults sink.old) (K.faults sink.new) }
     ensures cause { IsErrOf result StreamFault.SinkFailed → Rose (K.faults sink.old) (K.faults sink.new) }
 {
     let record = world.finish()?;

@@ -1,8 +1,8 @@
 //! The world of a script of either mode.
 
-ghost use Rattle.std.specs.Prelude.{◌≡◌, ◌≤◌, IfOk, IsOk, IsTrue, OnOk, OnErr};
+ghost use Rattle.std.specs.Prelude.{◌≡◌, IfOk, IsOk, IsTrue, OnOk, OnErr};
 ghost use Rattle.std.specs.List.{flat_map};
-ghost use Rattle.df1_base.specs.Outside.{Rose, Put, WrotePart};
+ghost use Rattle.df1_base.specs.Outside.{Rose, Put, WrotePart, Later};
 ghost use Rattle.line_report.specs.Report.{line_text};
 ghost use Rattle.script_parts.specs.HalfPlayable.{CanBePlayed};
 ghost use Rattle.line_replay.specs.Runs.{IsNext, begun, lines_in, played, printed, record_from, takes_no_memory};
@@ -59,7 +59,7 @@ impl World {
         ensures ok { OnOk result (Put (K.held sink.old) (K.held sink.new) (flat_map line_text (lines_in self.old))) }
         ensures part { WrotePart (K.held sink.old) (K.held sink.new) (flat_map line_text (lines_in self.old)) }
         ensures calm { OnOk result (K.faults sink.new ≡ K.faults sink.old) }
-        ensures later { K.faults sink.old ≤ K.faults sink.new }
+        ensures later { Later (K.mark sink.old) (K.mark sink.new) (K.faults sink.old) (K.faults sink.new) }
         ensures cause { OnErr result (Rose (K.faults sink.old) (K.faults sink.new)) }
     {
         match self {

@@ -9,6 +9,11 @@ use Rattle.line_report.specs.declared.record.Line.{Line}
 use Rattle.line_report.specs.declared.record.Line.TheVariants.{Sent, Exec, Answered, Undelivered, Unanswered, Stray, Repeat, Full, Damaged, Enquiry, Dropped}
 use Rattle.line_report.specs.declared.record.Record.{Record}
 
+-- the line of the bytes that an end gave at one event, if it gave any
+abbrev pub sent_lines : Who → List ℕ → List Line
+sent_lines who [] = []
+sent_lines who (byte ∷ bytes) = Sent who (byte ∷ bytes) ∷ []
+
 -- the name of an end
 abbrev pub who_text : Who → List ℕ
 who_text A = codes "a"

@@ -4,7 +4,7 @@ ghost use Rattle.std.specs.Prelude.{◌≡◌, ◌++◌, ◌∷◌, [], OnOk, On
 
 use crate::{Line, Lines};
 use df1_base::NoMemory;
-use line_statement::{Bytes, Items};
+use line_statement::{Bytes, Items, Who};
 use std::alloc::Global;
 use std::marker::Model;
 
@@ -26,6 +26,8 @@ impl Model for Page {
 }
 
 impl Page {
+    ghost use Rattle.line_report.specs.Report.{sent_lines};
+
     /// No lines.
     pub fn new(alloc: Global) -> Page
         ensures { result ≡ [] }
@@ -45,6 +47,19 @@ impl Page {
             Ok(()) => Ok(()),
             Err(refused) => Err(refused.into()),
         }
+    }
+
+    /// Puts the line of the bytes that an end gave behind the others, where there are any. Where there is no memory for it,
+    /// the lines are unchanged.
+    pub fn push_sent(&mut self, who: Who, bytes: Bytes) -> Result<(), NoMemory>
+        ensures ok { OnOk result (self.new ≡ self.old ++ sent_lines who bytes) }
+        ensures err { OnErr result (self.new ≡ self.old) }
+    {
+        if bytes.as_slice().is_empty() {
+            self.keep(bytes);
+            return Ok(());
+        }
+        self.push(Line::Sent { who, bytes })
     }
 
     /// No bytes, for a line: in memory of one that was dropped, if there is any.

@@ -18,7 +18,7 @@
 ghost use Rattle.std.specs.Prelude.{◌≡◌, ◌≤◌, ◌+◌, ◌++◌, ◌∷◌, [], codes, decimal, length, OnOk, OnErr};
 ghost use Rattle.arrayvec.specs.ArrayVec.{array_vec_len};
 ghost use Rattle.std.specs.List.{flat_map};
-ghost use Rattle.df1_base.specs.Outside.{Rose, Put, WrotePart};
+ghost use Rattle.df1_base.specs.Outside.{Rose, Put, WrotePart, Later};
 ghost use Rattle.hex.specs.Hex.{encode_upper};
 ghost use Rattle.line_report.specs.Report.{report, line_text, who_text, word_text};
 
@@ -36,7 +36,7 @@ pub fn print<K: Sink>(record_of: &Record, sink: &mut K) -> Result<(), Failed>
     ensures ok { OnOk result (Put (K.held sink.old) (K.held sink.new) (report record_of.now)) }
     ensures part { WrotePart (K.held sink.old) (K.held sink.new) (report record_of.now) }
     ensures calm { OnOk result (K.faults sink.new ≡ K.faults sink.old) }
-    ensures later { K.faults sink.old ≤ K.faults sink.new }
+    ensures later { Later (K.mark sink.old) (K.mark sink.new) (K.faults sink.old) (K.faults sink.new) }
     ensures cause { OnErr result (Rose (K.faults sink.old) (K.faults sink.new)) }
 {
     print_lines(record_of.lines.as_slice(), sink)?;
@@ -49,7 +49,7 @@ pub fn print_lines<K: Sink>(lines: &[Line], sink: &mut K) -> Result<(), Failed>
     ensures ok { OnOk result (Put (K.held sink.old) (K.held sink.new) (flat_map line_text lines.now)) }
     ensures part { WrotePart (K.held sink.old) (K.held sink.new) (flat_map line_text lines.now) }
     ensures calm { OnOk result (K.faults sink.new ≡ K.faults sink.old) }
-    ensures later { K.faults sink.old ≤ K.faults sink.new }
+    ensures later { Later (K.mark sink.old) (K.mark sink.new) (K.faults sink.old) (K.faults sink.new) }
     ensures cause { OnErr result (Rose (K.faults sink.old) (K.faults sink.new)) }
 {
     for line in lines {
@@ -63,7 +63,7 @@ pub fn put_line<K: Sink>(sink: &mut K, line: &Line) -> Result<(), Failed>
     ensures ok { OnOk result (Put (K.held sink.old) (K.held sink.new) (line_text line.now)) }
     ensures part { WrotePart (K.held sink.old) (K.held sink.new) (line_text line.now) }
     ensures calm { OnOk result (K.faults sink.new ≡ K.faults sink.old) }
-    ensures later { K.faults sink.old ≤ K.faults sink.new }
+    ensures later { Later (K.mark sink.old) (K.mark sink.new) (K.faults sink.old) (K.faults sink.new) }
     ensures cause { OnErr result (Rose (K.faults sink.old) (K.faults sink.new)) }
 {
     match line {
@@ -87,7 +87,7 @@ pub fn put_sent<K: Sink>(sink: &mut K, who: Who, bytes: &[u8]) -> Result<(), Fai
     ensures ok { OnOk result (Put (K.held sink.old) (K.held sink.new) (line_text (Line.Sent who bytes.now))) }
     ensures part { WrotePart (K.held sink.old) (K.held sink.new) (line_text (Line.Sent who bytes.now)) }
     ensures calm { OnOk result (K.faults sink.new ≡ K.faults sink.old) }
-    ensures later { K.faults sink.old ≤ K.faults sink.new }
+    ensures later { Later (K.mark sink.old) (K.mark sink.new) (K.faults sink.old) (K.faults sink.new) }
     ensures cause { OnErr result (Rose (K.faults sink.old) (K.faults sink.new)) }
 {
     match (who, bytes) {
@@ -102,7 +102,7 @@ fn put_byte<K: Sink>(sink: &mut K, end: u8, byte: u8) -> Result<(), Failed>
     ensures ok { OnOk result (Put (K.held sink.old) (K.held sink.new) (end ∷ codes " sent " ++ encode_upper (byte ∷ []) ++ codes "\n")) }
     ensures part { WrotePart (K.held sink.old) (K.held sink.new) (end ∷ codes " sent " ++ encode_upper (byte ∷ []) ++ codes "\n") }
     ensures calm { OnOk result (K.faults sink.new ≡ K.faults sink.old) }
-    ensures later { K.faults sink.old ≤ K.faults sink.new }
+    ensures later { Later (K.mark sink.old) (K.mark sink.new) (K.faults sink.old) (K.faults sink.new) }
     ensures cause { OnErr result (Rose (K.faults sink.old) (K.faults sink.new)) }
 {
     let [high, low] = pair(byte);
@@ -118,7 +118,7 @@ fn put_bytes<K: Sink>(sink: &mut K, who: Who, what: &[u8], bytes: &[u8]) -> Resu
     ensures ok { OnOk result (Put (K.held sink.old) (K.held sink.new) (who_text who ++ what.now ++ encode_upper bytes.now ++ codes "\n")) }
     ensures part { WrotePart (K.held sink.old) (K.held sink.new) (who_text who ++ what.now ++ encode_upper bytes.now ++ codes "\n") }
     ensures calm { OnOk result (K.faults sink.new ≡ K.faults sink.old) }
-    ensures later { K.faults sink.old ≤ K.faults sink.new }
+    ensures later { Later (K.mark sink.old) (K.mark sink.new) (K.faults sink.old) (K.faults sink.new) }
     ensures cause { OnErr result (Rose (K.faults sink.old) (K.faults sink.new)) }
 {
     let mut line = ArrayVec::new();
@@ -132,7 +132,7 @@ fn put_answer<K: Sink>(sink: &mut K, who: Who, n: u32, body: &[u8]) -> Result<()
     ensures ok { OnOk result (Put (K.held sink.old) (K.held sink.new) (who_text who ++ codes " answered " ++ decimal n ++ codes " " ++ encode_upper body.now ++ codes "\n")) }
     ensures part { WrotePart (K.held sink.old) (K.held sink.new) (who_text who ++ codes " answered " ++ decimal n ++ codes " " ++ encode_upper body.now ++ codes "\n") }
     ensures calm { OnOk result (K.faults sink.new ≡ K.faults sink.old) }
-    ensures later { K.faults sink.old ≤ K.faults sink.new }
+    ensures later { Later (K.mark sink.old) (K.mark sink.new) (K.faults sink.old) (K.faults sink.new) }
     ensures cause { OnErr result (Rose (K.faults sink.old) (K.faults sink.new)) }
 {
     let mut line = ArrayVec::new();
@@ -149,7 +149,7 @@ fn put_number<K: Sink>(sink: &mut K, who: Who, what: &[u8], n: u32) -> Result<()
     ensures ok { OnOk result (Put (K.held sink.old) (K.held sink.new) (who_text who ++ what.now ++ decimal n ++ codes "\n")) }
     ensures part { WrotePart (K.held sink.old) (K.held sink.new) (who_text who ++ what.now ++ decimal n ++ codes "\n") }
     ensures calm { OnOk result (K.faults sink.new ≡ K.faults sink.old) }
-    ensures later { K.faults sink.old ≤ K.faults sink.new }
+    ensures later { Later (K.mark sink.old) (K.mark sink.new) (K.faults sink.old) (K.faults sink.new) }
     ensures cause { OnErr result (Rose (K.faults sink.old) (K.faults sink.new)) }
 {
     let mut line = ArrayVec::new();
@@ -166,7 +166,7 @@ fn put_said<K: Sink>(sink: &mut K, who: Who, what: &[u8]) -> Result<(), Failed>
     ensures ok { OnOk result (Put (K.held sink.old) (K.held sink.new) (who_text who ++ what.now)) }
     ensures part { WrotePart (K.held sink.old) (K.held sink.new) (who_text who ++ what.now) }
     ensures calm { OnOk result (K.faults sink.new ≡ K.faults sink.old) }
-    ensures later { K.faults sink.old ≤ K.faults sink.new }
+    ensures later { Later (K.mark sink.old) (K.mark sink.new) (K.faults sink.old) (K.faults sink.new) }
     ensures cause { OnErr result (Rose (K.faults sink.old) (K.faults sink.new)) }
 {
     let mut line = ArrayVec::new();
@@ -180,7 +180,7 @@ fn put_behind<K: Sink>(sink: &mut K, line: &mut Short, bytes: &[u8]) -> Result<(
     ensures ok { OnOk result (Put (K.held sink.old) (K.held sink.new) (line.old.items ++ encode_upper bytes.now ++ codes "\n")) }
     ensures part { WrotePart (K.held sink.old) (K.held sink.new) (line.old.items ++ encode_upper bytes.now ++ codes "\n") }
     ensures calm { OnOk result (K.faults sink.new ≡ K.faults sink.old) }
-    ensures later { K.faults sink.old ≤ K.faults sink.new }
+    ensures later { Later (K.mark sink.old) (K.mark sink.new) (K.faults sink.old) (K.faults sink.new) }
     ensures cause { OnErr result (Rose (K.faults sink.old) (K.faults sink.new)) }
 {
     if bytes.len() > (ROOM - 1 - line.len()) / 2 {
@@ -197,7 +197,7 @@ fn put_pieces<K: Sink>(sink: &mut K, head: &[u8], bytes: &[u8]) -> Result<(), Fa
     ensures ok { OnOk result (Put (K.held sink.old) (K.held sink.new) (head.now ++ encode_upper bytes.now ++ codes "\n")) }
     ensures part { WrotePart (K.held sink.old) (K.held sink.new) (head.now ++ encode_upper bytes.now ++ codes "\n") }
     ensures calm { OnOk result (K.faults sink.new ≡ K.faults sink.old) }
-    ensures later { K.faults sink.old ≤ K.faults sink.new }
+    ensures later { Later (K.mark sink.old) (K.mark sink.new) (K.faults sink.old) (K.faults sink.new) }
     ensures cause { OnErr result (Rose (K.faults sink.old) (K.faults sink.new)) }
 {
     write_all(sink, head)?;
@@ -210,7 +210,7 @@ fn put_words<K: Sink>(sink: &mut K, words: &[WordOf]) -> Result<(), Failed>
     ensures ok { OnOk result (Put (K.held sink.old) (K.held sink.new) (flat_map word_text words.now)) }
     ensures part { WrotePart (K.held sink.old) (K.held sink.new) (flat_map word_text words.now) }
     ensures calm { OnOk result (K.faults sink.new ≡ K.faults sink.old) }
-    ensures later { K.faults sink.old ≤ K.faults sink.new }
+    ensures later { Later (K.mark sink.old) (K.mark sink.new) (K.faults sink.old) (K.faults sink.new) }
     ensures cause { OnErr result (Rose (K.faults sink.old) (K.faults sink.new)) }
 {
     for word in words {
@@ -224,7 +224,7 @@ fn put_word<K: Sink>(sink: &mut K, word: WordOf) -> Result<(), Failed>
     ensures ok { OnOk result (Put (K.held sink.old) (K.held sink.new) (word_text word)) }
     ensures part { WrotePart (K.held sink.old) (K.held sink.new) (word_text word) }
     ensures calm { OnOk result (K.faults sink.new ≡ K.faults sink.old) }
-    ensures later { K.faults sink.old ≤ K.faults sink.new }
+    ensures later { Later (K.mark sink.old) (K.mark sink.new) (K.faults sink.old) (K.faults sink.new) }
     ensures cause { OnErr result (Rose (K.faults sink.old) (K.faults sink.new)) }
 {
     write_all(sink, &word_line(word))

@@ -18,10 +18,11 @@ use Rattle.script_parts.specs.Plans.{first_plan}
 use Rattle.line_statement.specs.Statements.{is_payload}
 use Rattle.script_parts.specs.Playable.{IsPossible, IsPlayable, AreEnds, issues, is_end}
 use Rattle.line_report.specs.declared.record.Line.{Line}
+use Rattle.line_report.specs.Report.{sent_lines}
 use Rattle.line_cells.specs.Cells.{LaneCell}
 use Rattle.line_cells.specs.Cells.{altered}
 use Rattle.duplex_line.specs.Acts.{SideState, LineState, swapped, Deed, Issue, Take, Deliver, Lose, Alter, Foreign, Tick, after_leaving, after_alter, after_deed, after_deeds, lines_at, lines_over, given_over}
-use Rattle.duplex_line.specs.Run.{first_station, first_side, first_node, setup_of, plan_of_a, plan_of_b, start, who_of, deeds_of, other, seen_from, after_event, sent_lines, deed_lines, lines_of, state_after, lines_after, last_state, record_from}
+use Rattle.duplex_line.specs.Run.{first_station, first_side, first_node, setup_of, plan_of_a, plan_of_b, start, who_of, deeds_of, other, seen_from, after_event, deed_lines, lines_of, state_after, lines_after, last_state, record_from}
 use Rattle.duplex_line.specs.Plays.{issued_by, IsUnspent}
 use Rattle.each_once.specs.Exchanges.{exchanges}
 use Rattle.duplex_line.proofs.Steps.EventsToCome.{room-of-a, room-of-b, unspent}

@@ -27,6 +27,7 @@ use Rattle.script_parts.specs.declared.script.Script.{Script}
 use Rattle.script_parts.specs.Playable.{IsPossible, IsPlayable, is_end}
 use Rattle.line_report.specs.declared.record.Line.{Line}
 use Rattle.line_report.specs.declared.record.Line.TheVariants as line
+use Rattle.line_report.specs.Report.{sent_lines}
 use Rattle.each_once.specs.Commands.{Request, AreOutcomesTold}
 use Rattle.each_once.specs.NodeHost.{node_host}
 use Rattle.told_lines.specs.NodeLines.{did_lines, act_lines, news_lines, turn_lines, gone_lines}
@@ -36,7 +37,7 @@ use Rattle.each_once.proofs.ToldOutcomes.{TellNone, none-both, outcomes-start, o
 use Rattle.line_cells.specs.Cells.{LaneCell}
 use Rattle.duplex_line.specs.Acts.{SideState, LineState, swapped, Deed, Issue, Take, Deliver, Lose, Alter, Foreign, Tick, near_after, arriving, after_cell, after_arrival, step_of, body_heard, after_deed, after_deeds, near_lines, cell_lines, arrival_lines, lines_at, lines_over, given_over}
 use Rattle.duplex_line.specs.Issues.{request_at, requests_in}
-use Rattle.duplex_line.specs.Run.{plan_of_a, plan_of_b, start, seen_from, after_event, sent_lines, deed_lines, lines_of, state_after, lines_after, last_state}
+use Rattle.duplex_line.specs.Run.{plan_of_a, plan_of_b, start, seen_from, after_event, deed_lines, lines_of, state_after, lines_after, last_state}
 use Rattle.duplex_line.proofs.Once.Invariant.{AreTwo, two-swapped, a-and-b, joins-end}
 use Rattle.duplex_line.proofs.Once.SentMessages.{handed_at, take-host}
 

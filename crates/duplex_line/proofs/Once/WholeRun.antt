@@ -15,10 +15,11 @@ use Rattle.line_statement.specs.Statements.{is_payload}
 use Rattle.script_parts.specs.Playable.{IsPossible, IsPlayable, issues, is_end}
 use Rattle.line_report.specs.declared.record.Line.{Line}
 use Rattle.line_report.specs.declared.record.Record.{Record}
+use Rattle.line_report.specs.Report.{sent_lines}
 use Rattle.line_cells.specs.Cells.{LaneCell}
 use Rattle.duplex_line.specs.Acts.{SideState, LineState, swapped, Deed, Issue, Take, Deliver, Lose, Alter, Foreign, Tick, arriving, deceived_after, after_deed, after_deeds, lines_at, lines_over, given_over}
 use Rattle.told_lines.specs.Words.{words_of}
-use Rattle.duplex_line.specs.Run.{first_station, setup_of, first_node, plan_of_a, plan_of_b, start, who_of, seen_from, after_event, sent_lines, deed_lines, lines_of, state_after, lines_after, last_state, tables_of, record_from}
+use Rattle.duplex_line.specs.Run.{first_station, setup_of, first_node, plan_of_a, plan_of_b, start, who_of, seen_from, after_event, deed_lines, lines_of, state_after, lines_after, last_state, tables_of, record_from}
 use Rattle.duplex_line.specs.Plays.{Played, issued_by, IsUnspent}
 use Rattle.duplex_line.proofs.Steps.EventsToCome.{room-of-a, room-of-b, unspent}
 use Rattle.each_once.specs.Commands.{AreOutcomesTold}

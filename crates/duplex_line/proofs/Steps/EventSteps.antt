@@ -3,11 +3,12 @@ use Rattle.std.proofs.Common.{◌≡◌, ◌∙◌, ℕ, List, [], ◌∷◌, �
 use Rattle.std.specs.Prelude.{replicate}
 use Rattle.line_statement.specs.declared.who.Who.{Who}
 use Rattle.line_report.specs.declared.record.Line.{Line}
+use Rattle.line_report.specs.Report.{sent_lines}
 use Rattle.line_cells.specs.Cells.{LaneCell}
 use Rattle.line_cells.specs.Cells.{bare}
 use Rattle.duplex_line.specs.Acts.{SideState, LineState, Deed, Take, Deliver, Lose, Foreign, Tick, after_cell, deceptions_at, cell_lines, after_deed, after_deeds, lines_over, given_over}
 use Rattle.duplex_line.specs.Steps.{near_over, near_lines_over}
-use Rattle.duplex_line.specs.Run.{other, sent_lines, deed_lines}
+use Rattle.duplex_line.specs.Run.{other, deed_lines}
 use Rattle.duplex_line.proofs.Steps.UnitSteps.{nearer, stays, stays-lines, silent, gives-none}
 
 -- what follows of a success

@@ -23,6 +23,7 @@ use Rattle.script_parts.specs.declared.script.Script.{Script}
 use Rattle.script_parts.specs.HalfPlayable.{IsHalfPossible, IsHalfPlayable, is_declared, is_issue, station_plans}
 use Rattle.script_parts.specs.Plans.{first_plan}
 use Rattle.line_report.specs.declared.record.Line.{Line}
+use Rattle.line_report.specs.Report.{sent_lines}
 use Rattle.outset.specs.Outset.{first_station}
 use Rattle.each_once.specs.Tells.{executed_in, answers_in}
 use Rattle.each_once.specs.OfStation.{lines_of as own_lines}
@@ -32,7 +33,7 @@ use Rattle.half_line.specs.Acts.{StationSide, HalfState, LinkDeed, Give, Tick, S
 use Rattle.half_line.specs.Complete.{is_to, numbered, answers_of, AllDoneAt, IsComplete}
 use Rattle.half_line.specs.Issues.{commands_of_m, issued_of, bodies_of}
 use Rattle.half_line.specs.Prompt.{is_quiet, ticks_at, late_event, IsPromptOver, IsPromptAfter, KeepsNone, IsUndisturbed}
-use Rattle.half_line.specs.Run.{plan_of_m, start, station_at, number_of, station_between, place_of, link_deeds, steps_with, steps_at, steps_of, after_event, giver, sent_lines, lines_of, state_after, lines_after, last_state, record_from}
+use Rattle.half_line.specs.Run.{plan_of_m, start, station_at, number_of, station_between, place_of, link_deeds, steps_with, steps_at, steps_of, after_event, giver, lines_of, state_after, lines_after, last_state, record_from}
 use Rattle.half_line.specs.Steps.{AtMaster, AtStation, bytes_over, lines_over}
 use Rattle.half_line.proofs.Once.EachStation.{plan_at, setting_of, holds-start, side-of}
 use Rattle.half_line.proofs.Once.Invariant.{Setting, Holds}

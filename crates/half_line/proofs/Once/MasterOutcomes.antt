@@ -33,6 +33,7 @@ use Rattle.script_parts.specs.declared.script.Event.TheVariants as event
 use Rattle.script_parts.specs.declared.script.Script.{Script}
 use Rattle.script_parts.specs.HalfPlayable.{IsHalfPossible, IsHalfPlayable, is_declared, numbers_of}
 use Rattle.line_report.specs.declared.record.Line.{Line}
+use Rattle.line_report.specs.Report.{sent_lines}
 use Rattle.line_cells.specs.Cells.{LaneCell}
 use Rattle.told_lines.specs.NodeLines.{did_lines, act_lines, news_lines, step_lines, turn_lines, gone_lines}
 use Rattle.each_once.specs.Commands.{AreOutcomesTold}
@@ -46,7 +47,7 @@ use Rattle.half_line.specs.declared.way.Way.{Way}
 use Rattle.half_line.specs.declared.way.Way.TheVariants.{ToStation, ToMaster}
 use Rattle.half_line.specs.Acts.{StationSide, HalfState, LinkState, LinkDeed, Issue, Give, Tick, StationGives, OnLane, Deliver, Lose, Alter, Foreign, moved, lane_of, arriving, master_after, master_lines, after_arrival, arrival_lines, after_link_deed, link_lines, step_of, body_heard}
 use Rattle.half_line.specs.Issues.{issued_of, bodies_of}
-use Rattle.half_line.specs.Run.{station_at, number_of, station_between, way_from, place_of, steps_of, after_event, giver, sent_lines, lines_of, state_after, lines_after, start, last_state}
+use Rattle.half_line.specs.Run.{station_at, number_of, station_between, way_from, place_of, steps_of, after_event, giver, lines_of, state_after, lines_after, start, last_state}
 use Rattle.half_line.specs.Steps.{UnitStep, AtMaster, AtStation, link_of, after_with, after_step, lines_with, lines_at, bytes_over, after_steps, lines_over}
 
 -- ---- lines of others, and of no outcome

@@ -15,10 +15,10 @@ use Rattle.line_statement.specs.declared.who.Who.{Who}
 use Rattle.line_statement.specs.declared.who.Who.TheVariants.{M, S}
 use Rattle.line_report.specs.declared.record.Line.{Line}
 use Rattle.line_report.specs.declared.record.Line.TheVariants as line
+use Rattle.line_report.specs.Report.{sent_lines}
 use Rattle.told_lines.specs.NodeLines.{act_lines, news_lines, step_lines, turn_lines, gone_lines}
 use Rattle.each_once.specs.OfStation.{is_line_of, lines_of}
 use Rattle.each_once.proofs.ToldLines.{IsTold, AreSilent, silent-none, silent-both, told-silent}
-use Rattle.half_line.specs.Run.{sent_lines}
 
 -- the lines of a station, with more
 pub lines-both : (station : ℕ) (lines more : List Line) → lines_of station (lines ++ more) ≡ lines_of station lines ++ lines_of station more

@@ -9,9 +9,10 @@ use Rattle.script_parts.specs.declared.script.Event.{Event}
 use Rattle.script_parts.specs.declared.script.Event.TheVariants as event
 use Rattle.script_parts.specs.HalfPlayable.{IsHalfPossible, is_issue}
 use Rattle.line_report.specs.declared.record.Line.{Line}
+use Rattle.line_report.specs.Report.{sent_lines}
 use Rattle.half_line.specs.Acts.{StationSide, HalfState, MasterDeed, LinkDeed, Issue, Give, Tick, StationGives, OnLane, Deliver, Lose, Alter, Foreign, after_link_deed, link_lines}
 use Rattle.half_line.specs.Steps.{UnitStep, AtMaster, AtStation, link_of, after_with, after_step, lines_with, lines_at, bytes_over, after_steps, lines_over}
-use Rattle.half_line.specs.Run.{station_at, number_of, station_between, way_from, place_of, steps_with, steps_at, steps_of, after_event, giver, sent_lines, lines_of, state_after, lines_after}
+use Rattle.half_line.specs.Run.{station_at, number_of, station_between, way_from, place_of, steps_with, steps_at, steps_of, after_event, giver, lines_of, state_after, lines_after}
 use Rattle.half_line.proofs.Once.Invariant.{side-lines, Setting, Holds, entered, left}
 use Rattle.half_line.proofs.Once.LinkSteps.{link-deed, earlier}
 use Rattle.half_line.proofs.Once.MasterSteps.{holds-issue, holds-give, holds-tick}

@@ -7,9 +7,9 @@ use Rattle.df1_node.specs.Node.{NodeState}
 use Rattle.half_slave.specs.Slave.{SlaveState, out_at_take}
 use Rattle.half_slave.proofs.Draining.{quiet-same}
 use Rattle.line_report.specs.declared.record.Line.{Line}
+use Rattle.line_report.specs.Report.{sent_lines}
 use Rattle.line_cells.specs.Cells.{LaneCell, cell_of, bare}
 use Rattle.line_statement.specs.declared.who.Who.TheVariants.{S}
-use Rattle.half_line.specs.Run.{sent_lines}
 use Rattle.half_line.specs.declared.way.Way.{Way}
 use Rattle.half_line.specs.declared.way.Way.TheVariants.{ToStation, ToMaster}
 use Rattle.half_line.specs.Acts.{StationSide, LinkState, link_state, LinkDeed, StationGives, OnLane, Deliver, Lose, Foreign, LaneDeed, lane_of, with_lane, side_moved, moved, after_cell, cell_lines, deceptions_at, byte_taken, after_take, after_arrival, arrival_lines, after_link_deed}

@@ -9,10 +9,10 @@ use Rattle.half_mouth.specs.Giving.{Giving, is_done, take}
 use Rattle.half_master.specs.Master.{MasterState, is_idle, is_quiet, begun_of, begun, given_next, master_after_take, out_at_take}
 use Rattle.half_master.proofs.Draining.{done-none, none-done}
 use Rattle.line_report.specs.declared.record.Line.{Line}
+use Rattle.line_report.specs.Report.{sent_lines}
 use Rattle.line_cells.specs.Cells.{LaneCell, cell_of}
 use Rattle.each_once.specs.NodeHost.{node_host}
 use Rattle.line_statement.specs.declared.who.Who.TheVariants.{M}
-use Rattle.half_line.specs.Run.{sent_lines}
 use Rattle.half_line.specs.Acts.{StationSide, HalfState, MasterDeed, Give, Tick, half_state, byte_given, joined, master_after, after_master_deed}
 use Rattle.half_line.specs.Steps.{after_master_deeds, master_bytes_over, master_lines_over}
 

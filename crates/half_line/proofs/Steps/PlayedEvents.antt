@@ -4,9 +4,10 @@ use Rattle.std.specs.Prelude.{slice_get}
 use Rattle.line_statement.specs.declared.who.Who.TheVariants.{M, S}
 use Rattle.script_parts.specs.declared.script.Event.{Event}
 use Rattle.line_report.specs.declared.record.Line.{Line}
+use Rattle.line_report.specs.Report.{sent_lines}
 use Rattle.half_line.specs.Acts.{StationSide, HalfState, LinkState}
 use Rattle.half_line.specs.Steps.{AtMaster, AtStation, UnitStep, link_of, rejoined, after_steps, lines_over, bytes_over, after_master_deeds, master_lines_over, master_bytes_over, after_link_deeds, link_lines_over, link_bytes_over}
-use Rattle.half_line.specs.Run.{place_of, station_at, master_deeds, link_deeds, steps_with, steps_at, giver, sent_lines, after_event, lines_of}
+use Rattle.half_line.specs.Run.{place_of, station_at, master_deeds, link_deeds, steps_with, steps_at, giver, after_event, lines_of}
 use Rattle.half_line.specs.Plays.{Played, played, weight}
 use Rattle.half_line.proofs.Steps.WholeLine.{master-steps, master-lines, master-bytes, station-steps, station-lines, station-bytes}
 

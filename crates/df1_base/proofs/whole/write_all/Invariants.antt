@@ -1,11 +1,12 @@
 use Rattle.std.proofs.Common.{◌≡◌, length}
-use Rattle.df1_base.specs.Outside.{Wrote}
+use Rattle.df1_base.specs.Outside.{Wrote, Later}
 use Rattle.df1_base.proofs.whole.write_all.Given as goal
 
 abbrev pub invariant-loop-rest : goal.invariant-loop-rest
 invariant-loop-rest g l = record {
   wrote : Wrote (g.K.Sink.held l.initial.sink) (g.K.Sink.held l.sink) l.bytes l.rest;
   calm : g.K.Sink.faults l.sink ≡ g.K.Sink.faults l.initial.sink;
+  later : Later (g.K.Sink.mark l.initial.sink) (g.K.Sink.mark l.sink) (g.K.Sink.faults l.initial.sink) (g.K.Sink.faults l.sink);
 }
 
 abbrev pub decreases-loop-rest : goal.decreases-loop-rest

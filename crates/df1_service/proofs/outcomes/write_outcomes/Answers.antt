@@ -1,5 +1,5 @@
 use Rattle.std.proofs.Common.{◌≡◌, ◌∙◌, ◌+◌, ◌-◌, None, drop, sym, ap, arith}
-use Rattle.df1_base.proofs.Laws.{wrote_all}
+use Rattle.df1_base.proofs.Laws.{later_then, wrote_all}
 use Rattle.df1_node.specs.Initiator.{outcome_of, reply_of}
 use Rattle.df1_service.specs.Service.{outcome_line, outcome_lines, outcomes_text}
 use Rattle.df1_service.proofs.OutcomeLines.{next_line, last_line, line_put, line_part}
@@ -27,6 +27,7 @@ loop-outcome-preserved g c =
       some = omega arith;
       wrote = line_put _ _ _ (outcomes_text s) line (outcome_lines (n + 1) (drop (n + 1 - 1) s.issued)) wrote (rw text at c.in_ok-write_all.ensures.ok);
       calm = c.in_ok-write_all.ensures.calm ∙ c.loop-outcome.invariant.calm;
+      later = later_then _ _ _ _ _ _ c.loop-outcome.invariant.later c.in_ok-write_all.ensures.later;
     }
 
 pub returns-clause-ok : goal.returns-clause-ok

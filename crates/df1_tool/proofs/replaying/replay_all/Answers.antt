@@ -6,6 +6,7 @@ use Rattle.std.proofs.lemmas.Result.{on_ok_weaker}
 use Rattle.df1_base.specs.Outside.{Took}
 use Rattle.line_script.specs.ScriptText.{script_of}
 use Rattle.line_replay.specs.Fed.{ShowsMore, shown, told}
+use Rattle.df1_buffer.specs.Buffered.{buffer_out}
 use Rattle.df1_tool.specs.declared.trouble.Trouble.TheVariants.{Output}
 use Rattle.df1_tool.proofs.Taken.{at_output, broken-off, broken-written, end-answered, end-cut, end-refused, end-written, fed-is, none-taken, piece-cut, piece-refused, piece-taken, piece-written, rose-from, tells-more, tells-one}
 use Rattle.df1_tool.proofs.replaying.replay_all.Goals as goal
@@ -13,7 +14,8 @@ use Rattle.df1_tool.proofs.replaying.replay_all.Goals as goal
 pub loop-piece-init : goal.loop-piece-init
 loop-piece-init g c = record {
   none = c.requires.none;
-  so_far = none-taken (g.S.Source.left c.args.input.now) (g.K.Sink.held c.args.out.now) c.args.replayer.now c.requires.nothing;
+  same = refl;
+  so_far = none-taken (g.S.Source.left c.args.input.now) (g.K.Sink.held (buffer_out c.args.report.now)) c.args.replayer.now c.requires.nothing;
   input_calm = refl;
   out_calm = refl;
 }
@@ -25,9 +27,9 @@ returns-in-Ok-eq0-clause-done g c =
     let left = g.S.Source.left c.args.input.now in
     let left' = g.S.Source.left l.input in
     let left'' = g.S.Source.left c.read.new.self in
-    let held = g.K.Sink.held c.args.out.now in
-    let held' = g.K.Sink.held l.out in
-    let held'' = g.K.Sink.held c.close.new.out in
+    let held = g.K.Sink.held (buffer_out c.args.report.now) in
+    let held' = g.K.Sink.held (buffer_out l.report) in
+    let held'' = g.K.Sink.held (buffer_out c.close.new.report) in
     let e = c.in-Ok-eq0.ensures in
     let took : Took left' left'' [] = subst (λ n. Took left' left'' (take n c.read.new.into)) c.in-Ok-eq0.field-0-test e.took in
     let some : 0 < length c.read.new.into = grind (arith, common_steps) in
@@ -41,9 +43,9 @@ returns-in-Ok-eq0-clause-refusal g c =
     let left = g.S.Source.left c.args.input.now in
     let left' = g.S.Source.left l.input in
     let left'' = g.S.Source.left c.read.new.self in
-    let held = g.K.Sink.held c.args.out.now in
-    let held' = g.K.Sink.held l.out in
-    let held'' = g.K.Sink.held c.close.new.out in
+    let held = g.K.Sink.held (buffer_out c.args.report.now) in
+    let held' = g.K.Sink.held (buffer_out l.report) in
+    let held'' = g.K.Sink.held (buffer_out c.close.new.report) in
     let e = c.in-Ok-eq0.ensures in
     let took : Took left' left'' [] = subst (λ n. Took left' left'' (take n c.read.new.into)) c.in-Ok-eq0.field-0-test e.took in
     let some : 0 < length c.read.new.into = grind (arith, common_steps) in
@@ -59,12 +61,12 @@ returns-in-Ok-eq0-clause-output g c is =
     let left = g.S.Source.left c.args.input.now in
     let left' = g.S.Source.left l.input in
     let left'' = g.S.Source.left c.read.new.self in
-    let held = g.K.Sink.held c.args.out.now in
-    let held' = g.K.Sink.held l.out in
-    let held'' = g.K.Sink.held c.close.new.out in
+    let held = g.K.Sink.held (buffer_out c.args.report.now) in
+    let held' = g.K.Sink.held (buffer_out l.report) in
+    let held'' = g.K.Sink.held (buffer_out c.close.new.report) in
     let e = c.in-Ok-eq0.ensures in
     let took : Took left' left'' [] = subst (λ n. Took left' left'' (take n c.read.new.into)) c.in-Ok-eq0.field-0-test e.took in (
-      rose-from (g.K.Sink.faults c.args.out.now) (g.K.Sink.faults l.out) (g.K.Sink.faults c.close.new.out) l.invariant.out_calm (c.close.ensures.output is),
+      rose-from (g.K.Sink.faults (buffer_out c.args.report.now)) (g.K.Sink.faults (buffer_out l.report)) (g.K.Sink.faults (buffer_out c.close.new.report)) l.invariant.out_calm (c.close.ensures.output is),
       e.calm ∙ l.invariant.input_calm,
       end-cut left left' left'' held held' held'' l.replayer s took (at_output c.close.result Output is (c.close.ensures.front s.text s.replay)),
     )
@@ -76,9 +78,9 @@ returns-in-Ok-eq0-clause-written g c =
     let left = g.S.Source.left c.args.input.now in
     let left' = g.S.Source.left l.input in
     let left'' = g.S.Source.left c.read.new.self in
-    let held = g.K.Sink.held c.args.out.now in
-    let held' = g.K.Sink.held l.out in
-    let held'' = g.K.Sink.held c.close.new.out in
+    let held = g.K.Sink.held (buffer_out c.args.report.now) in
+    let held' = g.K.Sink.held (buffer_out l.report) in
+    let held'' = g.K.Sink.held (buffer_out c.close.new.report) in
     let e = c.in-Ok-eq0.ensures in
     let took : Took left' left'' [] = subst (λ n. Took left' left'' (take n c.read.new.into)) c.in-Ok-eq0.field-0-test e.took in
     let fed = fed-is s.text l.replayer s.replay in
@@ -94,9 +96,9 @@ loop-piece-smaller g c =
     let left = g.S.Source.left c.args.input.now in
     let left' = g.S.Source.left l.input in
     let left'' = g.S.Source.left c.read.new.self in
-    let held = g.K.Sink.held c.args.out.now in
-    let held' = g.K.Sink.held l.out in
-    let held'' = g.K.Sink.held c.go_on.new.out in
+    let held = g.K.Sink.held (buffer_out c.args.report.now) in
+    let held' = g.K.Sink.held (buffer_out l.report) in
+    let held'' = g.K.Sink.held (buffer_out c.go_on.new.report) in
     let e = c.in-Ok.ensures in
     let piece = take c.in-Ok.count c.read.new.into in
     let on = c.in-Ok-go_on.ensures.ok s.text s.replay in
@@ -118,13 +120,14 @@ loop-piece-preserved g c =
     let left = g.S.Source.left c.args.input.now in
     let left' = g.S.Source.left l.input in
     let left'' = g.S.Source.left c.read.new.self in
-    let held = g.K.Sink.held c.args.out.now in
-    let held' = g.K.Sink.held l.out in
-    let held'' = g.K.Sink.held c.go_on.new.out in
+    let held = g.K.Sink.held (buffer_out c.args.report.now) in
+    let held' = g.K.Sink.held (buffer_out l.report) in
+    let held'' = g.K.Sink.held (buffer_out c.go_on.new.report) in
     let e = c.in-Ok.ensures in
     let piece = take c.in-Ok.count c.read.new.into in
     record {
       none = c.in-Ok-go_on.ensures.none;
+      same = c.go_on.ensures.same_reference ∙ l.invariant.same;
       so_far = piece-taken left left' left'' held held' held'' l.replayer c.go_on.new.replayer piece s e.took (c.in-Ok-go_on.ensures.ok s.text s.replay);
       input_calm = e.calm ∙ l.invariant.input_calm;
       out_calm = c.in-Ok-go_on.ensures.steady ∙ l.invariant.out_calm;
@@ -137,9 +140,9 @@ returns-in-Err-go_on-clause-refusal g c =
     let left = g.S.Source.left c.args.input.now in
     let left' = g.S.Source.left l.input in
     let left'' = g.S.Source.left c.read.new.self in
-    let held = g.K.Sink.held c.args.out.now in
-    let held' = g.K.Sink.held l.out in
-    let held'' = g.K.Sink.held c.go_on.new.out in
+    let held = g.K.Sink.held (buffer_out c.args.report.now) in
+    let held' = g.K.Sink.held (buffer_out l.report) in
+    let held'' = g.K.Sink.held (buffer_out c.go_on.new.report) in
     let e = c.in-Ok.ensures in
     let piece = take c.in-Ok.count c.read.new.into in
     tells-one c.in-Err-go_on.trouble (λ line cause. (more : List ℕ) → (script_of ((s.text ++ piece) ++ more) ≡ Err (line, cause)) × ShowsMore (shown s.text) (told ((s.text ++ piece) ++ more)) held' held'') _
@@ -153,13 +156,13 @@ returns-in-Err-go_on-clause-output g c is =
     let left = g.S.Source.left c.args.input.now in
     let left' = g.S.Source.left l.input in
     let left'' = g.S.Source.left c.read.new.self in
-    let held = g.K.Sink.held c.args.out.now in
-    let held' = g.K.Sink.held l.out in
-    let held'' = g.K.Sink.held c.go_on.new.out in
+    let held = g.K.Sink.held (buffer_out c.args.report.now) in
+    let held' = g.K.Sink.held (buffer_out l.report) in
+    let held'' = g.K.Sink.held (buffer_out c.go_on.new.report) in
     let e = c.in-Ok.ensures in
     let piece = take c.in-Ok.count c.read.new.into in
     let few : length piece ≤ 4096 = grind (arith, length-take-le) in (
-      rose-from (g.K.Sink.faults c.args.out.now) (g.K.Sink.faults l.out) (g.K.Sink.faults c.go_on.new.out) l.invariant.out_calm (c.in-Err-go_on.ensures.output is),
+      rose-from (g.K.Sink.faults (buffer_out c.args.report.now)) (g.K.Sink.faults (buffer_out l.report)) (g.K.Sink.faults (buffer_out c.go_on.new.report)) l.invariant.out_calm (c.in-Err-go_on.ensures.output is),
       e.calm ∙ l.invariant.input_calm,
       piece-cut left left' left'' held held' held'' l.replayer piece (told (s.text ++ piece)) s e.took few (c.in-Err-go_on.ensures.front s.text s.replay),
     )
@@ -171,9 +174,9 @@ returns-in-Err-go_on-clause-written g c =
     let left = g.S.Source.left c.args.input.now in
     let left' = g.S.Source.left l.input in
     let left'' = g.S.Source.left c.read.new.self in
-    let held = g.K.Sink.held c.args.out.now in
-    let held' = g.K.Sink.held l.out in
-    let held'' = g.K.Sink.held c.go_on.new.out in
+    let held = g.K.Sink.held (buffer_out c.args.report.now) in
+    let held' = g.K.Sink.held (buffer_out l.report) in
+    let held'' = g.K.Sink.held (buffer_out c.go_on.new.report) in
     let e = c.in-Ok.ensures in
     let piece = take c.in-Ok.count c.read.new.into in
     let fed = fed-is s.text l.replayer s.replay in
@@ -190,8 +193,8 @@ returns-in-Err-clause-input g c is =
     let left = g.S.Source.left c.args.input.now in
     let left' = g.S.Source.left l.input in
     let left'' = g.S.Source.left c.read.new.self in
-    let held = g.K.Sink.held c.args.out.now in
-    let held' = g.K.Sink.held l.out in
+    let held = g.K.Sink.held (buffer_out c.args.report.now) in
+    let held' = g.K.Sink.held (buffer_out l.report) in
     let value = c.held-begun.ensures.value in
     let limit = c.held-begun.ensures.most in
     broken-off left left' left'' held held' (g.S.Source.faults c.args.input.now) (g.S.Source.faults c.read.new.self) l.replayer s c.in-Err.ensures.failed (omega (arith, value, limit))
@@ -204,8 +207,8 @@ returns-in-Err-clause-written g c =
     let left = g.S.Source.left c.args.input.now in
     let left' = g.S.Source.left l.input in
     let left'' = g.S.Source.left c.read.new.self in
-    let held = g.K.Sink.held c.args.out.now in
-    let held' = g.K.Sink.held l.out in
+    let held = g.K.Sink.held (buffer_out c.args.report.now) in
+    let held' = g.K.Sink.held (buffer_out l.report) in
     let fed = fed-is s.text l.replayer s.replay in
     let value = c.fed.ensures.value in
     let limit = c.fed.ensures.most in

@@ -2,6 +2,7 @@ use Rattle.std.proofs.Common.{◌≡◌, ◌∙◌, ℕ, List, [], ◌∷◌, ap
 use Rattle.std.proofs.lemmas.Bool.Decides.{nat_tests}
 use Rattle.std.proofs.lemmas.Grind.{common_steps}
 use Rattle.hex.specs.Hex.{encode_upper}
+use Rattle.df1_base.proofs.Laws.{later_then}
 use Rattle.line_report.proofs.Pairs.{piece_part, piece_put, pieces_put}
 use Rattle.line_report.proofs.digits.put_hex.Goals as goal
 
@@ -20,6 +21,7 @@ loop-rest-preserved g c =
     record {
       wrote = rw c.split_at.ensures.back (piece_put _ _ _ c.args.bytes.now c.loop-rest.rest.now c.min.result c.loop-rest.invariant.wrote (rw same at c.in_ok-write_all.ensures.ok));
       calm = c.in_ok-write_all.ensures.calm ∙ c.loop-rest.invariant.calm;
+      later = later_then _ _ _ _ _ _ c.loop-rest.invariant.later c.in_ok-write_all.ensures.later;
     }
 
 pub returns-clause-ok : goal.returns-clause-ok

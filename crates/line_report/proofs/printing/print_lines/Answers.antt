@@ -1,4 +1,5 @@
 use Rattle.std.proofs.Common.{◌∙◌}
+use Rattle.df1_base.proofs.Laws.{later_then}
 use Rattle.line_report.specs.Report.{line_text}
 use Rattle.line_report.proofs.Writing.{put_item, put_items, part_item, part_so_far}
 use Rattle.line_report.proofs.printing.print_lines.Goals as goal
@@ -7,6 +8,7 @@ pub loop-line-preserved : goal.loop-line-preserved
 loop-line-preserved g c = record {
   put = put_item line_text _ _ _ c.args.lines.now c.loop-line.line-index c.line-item.result c.loop-line-test.true c.loop-line.invariant.put (rw c.line-item.is at c.in_ok-put_line.ensures.ok);
   calm = c.in_ok-put_line.ensures.calm ∙ c.loop-line.invariant.calm;
+  later = later_then _ _ _ _ _ _ c.loop-line.invariant.later c.in_ok-put_line.ensures.later;
 }
 
 pub returns-in_err-put_line-clause-part : goal.returns-in_err-put_line-clause-part

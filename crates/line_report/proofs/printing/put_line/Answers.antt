@@ -1,4 +1,4 @@
--- The line of an unanswered command.
+-- The lines of an answered and of an unanswered command.
 use Rattle.line_report.proofs.printing.put_line.Goals as goal
 
 pub returns-in-Unanswered-clause-ok : goal.returns-in-Unanswered-clause-ok
@@ -6,3 +6,6 @@ returns-in-Unanswered-clause-ok g c = rw c.in-Unanswered.is c.put_number-in-Unan
 
 pub returns-in-Unanswered-clause-part : goal.returns-in-Unanswered-clause-part
 returns-in-Unanswered-clause-part g c = rw c.in-Unanswered.is c.put_number-in-Unanswered.ensures.part
+
+pub returns-in-Answered-clause-part : goal.returns-in-Answered-clause-part
+returns-in-Answered-clause-part g c = rw c.in-Answered.is (rw c.as_slice-in-Answered.ensures at c.put_answer.ensures.part)

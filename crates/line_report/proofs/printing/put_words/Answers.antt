@@ -1,4 +1,5 @@
 use Rattle.std.proofs.Common.{◌∙◌}
+use Rattle.df1_base.proofs.Laws.{later_then}
 use Rattle.line_report.specs.Report.{word_text}
 use Rattle.line_report.proofs.Writing.{put_item, put_items, part_item, part_so_far}
 use Rattle.line_report.proofs.printing.put_words.Goals as goal
@@ -7,6 +8,7 @@ pub loop-word-preserved : goal.loop-word-preserved
 loop-word-preserved g c = record {
   put = put_item word_text _ _ _ c.args.words.now c.loop-word.word-index _ c.loop-word-test.true c.loop-word.invariant.put c.in_ok-put_word.ensures.ok;
   calm = c.in_ok-put_word.ensures.calm ∙ c.loop-word.invariant.calm;
+  later = later_then _ _ _ _ _ _ c.loop-word.invariant.later c.in_ok-put_word.ensures.later;
 }
 
 pub returns-in_err-put_word-clause-part : goal.returns-in_err-put_word-clause-part

@@ -1,6 +1,5 @@
 -- A run on each side.
-use Rattle.std.proofs.Common.{◌≡◌, ◌∙◌, ap, sym, take}
-use Rattle.df1_dissect.specs.declared.ear.Ear.{Ear}
+use Rattle.std.proofs.Common.{◌∙◌, ap, sym, take}
 use Rattle.df1_dissect.specs.declared.ear.Ear.TheVariants as ear
 use Rattle.df1_dissect.proofs.RunLemmas.{full-turns, full-value, master-turns, master-value, slave-turns, slave-value}
 use Rattle.df1_dissect.proofs.ear.Ear.hear_run.Goals as goal

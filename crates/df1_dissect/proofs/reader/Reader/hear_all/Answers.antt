@@ -1,5 +1,5 @@
 -- A run more, or a byte.
-use Rattle.std.proofs.Common.{◌≡◌, ◌≤◌, ◌∙◌, ℕ, ◌+◌, ◌-◌, List, ◌++◌, drop, length, take, refl, sym, ap, arith}
+use Rattle.std.proofs.Common.{◌≡◌, ◌≤◌, ◌∙◌, ℕ, ◌+◌, ◌-◌, List, drop, length, take, refl, sym, ap, arith}
 use Rattle.std.proofs.lemmas.List.{at_drop_all, drop-drop, length-drop, length-take-le, take-append-drop, take_rest}
 use Rattle.std.proofs.lemmas.List.Sums.{fold-append}
 use Rattle.df1_dissect.specs.Reading.{Reading}

@@ -1,5 +1,5 @@
 -- A run outside, and one in a body.
-use Rattle.std.proofs.Common.{◌≡◌, ◌<◌, ◌∙◌, Bool, true, false, length, take, sym, arith}
+use Rattle.std.proofs.Common.{◌≡◌, ◌<◌, ◌∙◌, true, false, length, take, sym, arith}
 use Rattle.std.proofs.lemmas.List.{length-take-le}
 use Rattle.df1_dissect.specs.Runs.{ear_inside}
 use Rattle.df1_dissect.proofs.RunLemmas.{after-goes, after-outside}

@@ -3,6 +3,7 @@ use Rattle.std.proofs.Common.{◌∙◌, ℕ, List, [], ◌++◌, Option, ap, ap
 use Rattle.std.proofs.KnownBytes.{Appends-nil}
 use Rattle.std.proofs.lemmas.List.{take_rest}
 use Rattle.std.proofs.lemmas.Result.{IfErr-weaker, on_ok_weaker}
+use Rattle.df1_base.proofs.Laws.{later_same, later_then}
 use Rattle.line_replay.specs.declared.replayer.StreamFault.{StreamFault}
 use Rattle.line_replay.specs.Fed.{IsReplayOf, IsRefusedHere, IsRefusedWith, ShowsFront, ShowsMore, shown, told}
 use Rattle.line_replay.proofs.Fed.{at_err, front-behind, front-without, none-taken, some-taken, stops-here, unchanged}
@@ -26,6 +27,7 @@ loop-self-preserved g c =
           let so_far = l.invariant.shows text h in
           some-taken text front rest taken c.feed_front.new.self (g.K.Sink.held c.args.sink.now) (g.K.Sink.held l.sink) (g.K.Sink.held c.feed_front.new.sink) so_far.1 (c.in-Ok.ensures.ok (text ++ front) so_far.0);
       calm = c.in-Ok.ensures.calm ∙ l.invariant.calm;
+      later = later_then _ _ _ _ _ _ l.invariant.later c.in-Ok.ensures.later;
     }
 
 pub returns-in-Err-clause-refused : goal.returns-in-Err-clause-refused
@@ -67,6 +69,7 @@ loop-self-init g c = record {
         record { more = []; shows = ap shown (append-nil text) ∙ sym (append-nil (shown text)); put = Appends-nil (g.K.Sink.held c.args.sink.now) },
       );
   calm = refl;
+  later = later_same _ _;
 }
 
 pub returns-in-Ok-eq0-clause-replay : goal.returns-in-Ok-eq0-clause-replay

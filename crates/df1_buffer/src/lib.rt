@@ -1,0 +1,8 @@
+//! What is written in small parts is handed on in large ones: a sink that stands before another.
+#![tactic(auto)]
+
+mod buffered;
+#[cfg(test)]
+mod tests;
+
+pub use buffered::{Buffered, PIECE};
