@@ -61,6 +61,7 @@ impl<K: Sink> Sink for Buffered<'_, K> {
     fn write(&mut self, from: &[u8]) -> Result<usize, Failed>
         ensures waits { length (buffer_waiting self.old) < 4096 → buffer_out self.new ≡ buffer_out self.old }
         ensures takes { length (buffer_waiting self.old) < 4096 → result ≡ Ok (min (length from.now) (4096 - length (buffer_waiting self.old))) }
+        ensures full { length (buffer_waiting self.old) ≡ 4096 → 0 < length from.now → IfOk result (λ count. (count ≡ min (length from.now) 4096) × (buffer_waiting self.new ≡ take count from.now)) }
         ensures bound { IfOk result (λ count. count ≤ length from.now) }
         ensures some { IfOk result (λ count. 0 < length from.now → 0 < count) }
         ensures put { IfOk result (λ count. Put (buffer_held K.held self.old) (buffer_held K.held self.new) (take count from.now)) }
