@@ -1,5 +1,5 @@
 //! A sink before another one, to which it hands on what it takes by pieces of 4,096 bytes.
-ghost use Rattle.std.specs.Prelude.{◌≡◌, ◌<◌, ◌≤◌, ◌-◌, [], Ok, OnOk, OnErr, IfOk, length, min, take, drop};
+ghost use Rattle.std.specs.Prelude.{◌≡◌, ◌<◌, ◌≤◌, ◌-◌, ◌++◌, [], IsOk, OnOk, OnErr, IfOk, length, min, take, drop};
 ghost use Rattle.std.specs.Io.KnownBytes.{Keeps};
 ghost use Rattle.df1_base.specs.Outside.{Rose, Put, Later};
 
@@ -60,7 +60,8 @@ impl<K: Sink> Sink for Buffered<'_, K> {
 
     fn write(&mut self, from: &[u8]) -> Result<usize, Failed>
         ensures waits { length (buffer_waiting self.old) < 4096 → buffer_out self.new ≡ buffer_out self.old }
-        ensures takes { length (buffer_waiting self.old) < 4096 → result ≡ Ok (min (length from.now) (4096 - length (buffer_waiting self.old))) }
+        ensures takes { length (buffer_waiting self.old) < 4096 → IfOk result (λ count. (count ≡ min (length from.now) (4096 - length (buffer_waiting self.old))) × (buffer_waiting self.new ≡ buffer_waiting self.old ++ take count from.now)) }
+        ensures succeeds { length (buffer_waiting self.old) < 4096 → IsOk result }
         ensures full { length (buffer_waiting self.old) ≡ 4096 → 0 < length from.now → IfOk result (λ count. (count ≡ min (length from.now) 4096) × (buffer_waiting self.new ≡ take count from.now)) }
         ensures bound { IfOk result (λ count. count ≤ length from.now) }
         ensures some { IfOk result (λ count. 0 < length from.now → 0 < count) }
