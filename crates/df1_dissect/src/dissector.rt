@@ -27,7 +27,7 @@ pub const LINES: usize = 8192;
 pub const LINE: usize = ROOM;
 
 /// Lines that are collected, until they go to a sink.
-pub type Lines = ArrayVec<u8, LINES>;
+pub type CollectedLines = ArrayVec<u8, LINES>;
 
 /// Takes the bytes of a capture one by one, and writes the line of each thing at its last byte. After `Failed` it is only
 /// dropped.
@@ -78,7 +78,7 @@ impl Dissector {
 
     /// Takes a byte, after fewer than 268,435,456, and adds the line that it completes, where it does, to lines that have
     /// room for one more.
-    pub fn collect(&mut self, b: u8, lines: &mut Lines)
+    pub fn collect(&mut self, b: u8, lines: &mut CollectedLines)
         requires few { self.old.fed < 268435456 }
         requires room { array_vec_len lines.old + 700 ≤ 8192 }
         ensures stands { (side : Captured) (check : CheckKind) (bytes : List ℕ) → StandsFor side check bytes self.old

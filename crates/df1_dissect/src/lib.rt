@@ -19,7 +19,7 @@ mod reader;
 #[cfg(test)]
 mod tests;
 
-pub use dissector::{Dissector, LINE, LINES, Lines};
+pub use dissector::{CollectedLines, Dissector, LINE, LINES};
 pub use ear::Side;
 pub use kind::Kind;
 pub use laws::{one_dissection, worked_captures};

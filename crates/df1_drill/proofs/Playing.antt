@@ -6,8 +6,8 @@ use Rattle.std.specs.List.{flat_map, range_with_len}
 use Rattle.std.proofs.lemmas.Bool.{false≢true}
 use Rattle.std.proofs.lemmas.List.Elements.{All-nil, All-cons, All-append}
 use Rattle.std.proofs.lemmas.List.Sums.{sum_by-append}
-use Rattle.line_statement.specs.declared.who.Who.TheVariants.{A, B}
-use Rattle.line_statement.specs.Statements.{is_payload}
+use Rattle.script_statement.specs.declared.who.Who.TheVariants.{A, B}
+use Rattle.script_statement.specs.Statements.{is_payload}
 use Rattle.script_parts.specs.declared.script.Event.{Event}
 use Rattle.script_parts.specs.declared.script.Event.TheVariants.{Issue}
 use Rattle.script_parts.specs.Playable.{IsBetween, IsPossible, IsPlayable, issues, count_of}

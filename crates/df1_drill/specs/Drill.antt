@@ -4,7 +4,7 @@ use Rattle.std.specs.List.{flat_map, range_with_len}
 use Rattle.df1_base.specs.declared.file_type.FileType.TheVariants.{Integer}
 use Rattle.df1_check.specs.declared.Check.TheVariants.{Bcc}
 use Rattle.data_files.specs.declared.file_spec.FileSpec.{FileSpec}
-use Rattle.line_statement.specs.declared.who.Who.TheVariants.{A, B}
+use Rattle.script_statement.specs.declared.who.Who.TheVariants.{A, B}
 use Rattle.script_parts.specs.declared.script.Lane.{Lane}
 use Rattle.script_parts.specs.declared.script.Event.{Event}
 use Rattle.script_parts.specs.declared.script.Event.TheVariants.{Issue, Take, Deliver, Lose, Alter, Foreign, Tick}
@@ -13,8 +13,8 @@ use Rattle.script_parts.specs.declared.script.Script.{Script}
 use Rattle.script_parts.specs.Plans.{first_plan}
 use Rattle.df1_drill.specs.declared.course.Pattern.{Pattern}
 use Rattle.df1_drill.specs.declared.course.Pattern.TheVariants.{Plain, DamagedFrame, LostAck, FalseNak}
-use Rattle.df1_drill.specs.declared.course.Step.{Step}
-use Rattle.df1_drill.specs.declared.course.Step.TheVariants as step
+use Rattle.df1_drill.specs.declared.course.CourseEvent.{CourseEvent}
+use Rattle.df1_drill.specs.declared.course.CourseEvent.TheVariants as step
 
 -- ---- the ends
 
@@ -85,7 +85,7 @@ course_of FalseNak =
     ∷ []
 
 -- the event that a step is
-abbrev pub event_of : Step → Event
+abbrev pub event_of : CourseEvent → Event
 event_of (step.Take who n) = Take who n
 event_of (step.Deliver lane n) = Deliver lane n
 event_of (step.Lose lane n) = Lose lane n

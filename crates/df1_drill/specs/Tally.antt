@@ -3,10 +3,10 @@ use Rattle.std.specs.Prelude.{ℕ, Bool, true, false, List, ◌++◌, codes, cou
 use Rattle.df1_check.specs.Checks.{crc}
 use Rattle.script_parts.specs.declared.script.Script.{Script}
 use Rattle.script_parts.specs.HalfPlayable.{is_issue}
-use Rattle.line_report.specs.declared.record.Line.{Line}
-use Rattle.line_report.specs.declared.record.Line.TheVariants.{Exec, Answered, Damaged, Repeat, Enquiry}
-use Rattle.line_report.specs.declared.record.Record.{Record}
-use Rattle.line_report.specs.Report.{report, word_digits}
+use Rattle.replay_report.specs.declared.record.Line.{Line}
+use Rattle.replay_report.specs.declared.record.Line.TheVariants.{Exec, Answered, Damaged, Repeat, Enquiry}
+use Rattle.replay_report.specs.declared.record.Record.{Record}
+use Rattle.replay_report.specs.Report.{report, word_digits}
 use Rattle.line_replay.specs.Runs.{record_of}
 use Rattle.df1_drill.specs.declared.drilled.Drilled.{Drilled}
 use Rattle.df1_drill.specs.Drill.{drill_script}

@@ -24,7 +24,7 @@ pub(crate) enum Pattern {
 
 /// An event of a round behind its command, with how many bytes or ticks it counts.
 #[derive(Clone, Copy, Debug, PartialEq, Eq)]
-pub(crate) enum Step {
+pub(crate) enum CourseEvent {
     /// An end gives bytes.
     Take(Who, u32),
     /// Bytes of a queue arrive.
@@ -51,56 +51,56 @@ const TO_A: Lane = Lane {
     to: Who::A,
 };
 
-const PLAIN: [Step; 6] = [
-    Step::Take(Who::A, 23),
-    Step::Deliver(TO_B, 23),
-    Step::Take(Who::B, 15),
-    Step::Deliver(TO_A, 15),
-    Step::Take(Who::A, 2),
-    Step::Deliver(TO_B, 2),
+const PLAIN: [CourseEvent; 6] = [
+    CourseEvent::Take(Who::A, 23),
+    CourseEvent::Deliver(TO_B, 23),
+    CourseEvent::Take(Who::B, 15),
+    CourseEvent::Deliver(TO_A, 15),
+    CourseEvent::Take(Who::A, 2),
+    CourseEvent::Deliver(TO_B, 2),
 ];
 
-const DAMAGED_FRAME: [Step; 12] = [
-    Step::Take(Who::A, 23),
-    Step::Deliver(TO_B, 2),
-    Step::Alter(TO_B, 0x01),
-    Step::Deliver(TO_B, 21),
-    Step::Take(Who::B, 2),
-    Step::Deliver(TO_A, 2),
-    Step::Take(Who::A, 23),
-    Step::Deliver(TO_B, 23),
-    Step::Take(Who::B, 15),
-    Step::Deliver(TO_A, 15),
-    Step::Take(Who::A, 2),
-    Step::Deliver(TO_B, 2),
+const DAMAGED_FRAME: [CourseEvent; 12] = [
+    CourseEvent::Take(Who::A, 23),
+    CourseEvent::Deliver(TO_B, 2),
+    CourseEvent::Alter(TO_B, 0x01),
+    CourseEvent::Deliver(TO_B, 21),
+    CourseEvent::Take(Who::B, 2),
+    CourseEvent::Deliver(TO_A, 2),
+    CourseEvent::Take(Who::A, 23),
+    CourseEvent::Deliver(TO_B, 23),
+    CourseEvent::Take(Who::B, 15),
+    CourseEvent::Deliver(TO_A, 15),
+    CourseEvent::Take(Who::A, 2),
+    CourseEvent::Deliver(TO_B, 2),
 ];
 
-const LOST_ACK: [Step; 11] = [
-    Step::Take(Who::A, 23),
-    Step::Deliver(TO_B, 23),
-    Step::Take(Who::B, 2),
-    Step::Lose(TO_A, 2),
-    Step::Tick(Who::A, 10),
-    Step::Take(Who::A, 2),
-    Step::Deliver(TO_B, 2),
-    Step::Take(Who::B, 15),
-    Step::Deliver(TO_A, 15),
-    Step::Take(Who::A, 2),
-    Step::Deliver(TO_B, 2),
+const LOST_ACK: [CourseEvent; 11] = [
+    CourseEvent::Take(Who::A, 23),
+    CourseEvent::Deliver(TO_B, 23),
+    CourseEvent::Take(Who::B, 2),
+    CourseEvent::Lose(TO_A, 2),
+    CourseEvent::Tick(Who::A, 10),
+    CourseEvent::Take(Who::A, 2),
+    CourseEvent::Deliver(TO_B, 2),
+    CourseEvent::Take(Who::B, 15),
+    CourseEvent::Deliver(TO_A, 15),
+    CourseEvent::Take(Who::A, 2),
+    CourseEvent::Deliver(TO_B, 2),
 ];
 
-const FALSE_NAK: [Step; 11] = [
-    Step::Take(Who::A, 23),
-    Step::Deliver(TO_B, 23),
-    Step::Take(Who::B, 2),
-    Step::Lose(TO_A, 2),
-    Step::Nak(TO_A),
-    Step::Take(Who::A, 23),
-    Step::Deliver(TO_B, 23),
-    Step::Take(Who::B, 15),
-    Step::Deliver(TO_A, 15),
-    Step::Take(Who::A, 2),
-    Step::Deliver(TO_B, 2),
+const FALSE_NAK: [CourseEvent; 11] = [
+    CourseEvent::Take(Who::A, 23),
+    CourseEvent::Deliver(TO_B, 23),
+    CourseEvent::Take(Who::B, 2),
+    CourseEvent::Lose(TO_A, 2),
+    CourseEvent::Nak(TO_A),
+    CourseEvent::Take(Who::A, 23),
+    CourseEvent::Deliver(TO_B, 23),
+    CourseEvent::Take(Who::B, 15),
+    CourseEvent::Deliver(TO_A, 15),
+    CourseEvent::Take(Who::A, 2),
+    CourseEvent::Deliver(TO_B, 2),
 ];
 
 impl Pattern {
@@ -117,7 +117,7 @@ impl Pattern {
     }
 
     /// What happens behind the command of a round.
-    pub fn course(self) -> &'static [Step]
+    pub fn course(self) -> &'static [CourseEvent]
         ensures { map event_of result.now ≡ course_of self }
     {
         match self {
@@ -129,21 +129,21 @@ impl Pattern {
     }
 }
 
-impl Step {
+impl CourseEvent {
     /// The event of a script.
     pub fn event(self, alloc: Global) -> Result<Event, NoMemory>
         ensures { IfOk result (λ event. event ≡ event_of self) }
     {
         Ok(match self {
-            Step::Take(who, n) => Event::Take { who, n },
-            Step::Deliver(lane, n) => Event::Deliver { lane, n },
-            Step::Lose(lane, n) => Event::Lose { lane, n },
-            Step::Alter(lane, mask) => Event::Alter { lane, mask },
-            Step::Nak(lane) => Event::Foreign {
+            CourseEvent::Take(who, n) => Event::Take { who, n },
+            CourseEvent::Deliver(lane, n) => Event::Deliver { lane, n },
+            CourseEvent::Lose(lane, n) => Event::Lose { lane, n },
+            CourseEvent::Alter(lane, mask) => Event::Alter { lane, mask },
+            CourseEvent::Nak(lane) => Event::Foreign {
                 lane,
                 bytes: Items::copy_of(alloc, &[DLE, NAK])?,
             },
-            Step::Tick(who, n) => Event::Tick { who, n },
+            CourseEvent::Tick(who, n) => Event::Tick { who, n },
         })
     }
 }

@@ -1,7 +1,7 @@
 //! A drill that was run: what it came to, and the line that tells it.
 ghost use Rattle.std.specs.Prelude.{◌≡◌, ◌≤◌, ◌+◌, ◌++◌, IfOk, decimal, length};
 ghost use Rattle.arrayvec.specs.ArrayVec.{array_vec_len};
-ghost use Rattle.line_report.specs.Report.{word_digits};
+ghost use Rattle.replay_report.specs.Report.{word_digits};
 ghost use Rattle.df1_drill.specs.Tally.{drilled, line_of};
 
 use crate::report_text::text_of;
@@ -11,7 +11,7 @@ use arrayvec::ArrayVec;
 use df1_base::NoMemory;
 use df1_check::crc;
 use line_replay::replay;
-use line_report::pair;
+use replay_report::pair;
 use std::alloc::Global;
 
 /// Room for the line, in bytes: seven numbers of at most 20 digits, four hexadecimal digits, and the words.

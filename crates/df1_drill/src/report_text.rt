@@ -1,9 +1,9 @@
 //! The report of a drill, as one text in memory.
 ghost use Rattle.std.specs.Prelude.{◌≡◌, IfOk};
-ghost use Rattle.line_report.specs.Report.{report};
+ghost use Rattle.replay_report.specs.Report.{report};
 
 use df1_base::{Collected, Failed, NoMemory};
-use line_report::{Record, print};
+use replay_report::{Record, print};
 use std::alloc::Global;
 
 /// The text of the report of a run. An error is a growth that was refused.

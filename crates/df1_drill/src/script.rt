@@ -4,13 +4,13 @@ ghost use Rattle.std.specs.Prelude.{◌≡◌, ◌≤◌, ◌+◌, ◌∷◌, �
 ghost use Rattle.script_parts.specs.HalfPlayable.{CanBePlayed};
 ghost use Rattle.df1_drill.specs.Drill.{drill_script as the_script, event_of, payload_of, plan_of_b, round_of, setup};
 
-use crate::course::{Pattern, Step};
+use crate::course::{CourseEvent, Pattern};
 use data_files::FileSpec;
 use df1_base::{FileType, NoMemory};
 use duplex_script::DuplexReader;
 use end_drafts::StatementFault;
-use line_statement::{EndName, SetupLine, Side, Statement};
 use script_parts::{Bytes, Event, Events, Items, Script, Who};
+use script_statement::{EndLetter, EndName, SetupStatement, Statement};
 use std::alloc::Global;
 
 /// The most rounds of a drill.
@@ -43,8 +43,8 @@ fn setup(alloc: Global) -> Result<Script, NoMemory>
 {
     let mut reader = DuplexReader::new(alloc);
     let file = Statement::Setup {
-        end: EndName::Known(Side::B),
-        line: SetupLine::File(Some(FILE)),
+        end: EndName::Known(EndLetter::B),
+        line: SetupStatement::File(Some(FILE)),
     };
     match reader.take(file) {
         Ok(_) => reader.setup(alloc),
@@ -73,7 +73,7 @@ fn put_round(
 }
 
 /// Puts what happens behind a command.
-fn put_course(alloc: Global, events: &mut Events, course: &[Step]) -> Result<(), NoMemory>
+fn put_course(alloc: Global, events: &mut Events, course: &[CourseEvent]) -> Result<(), NoMemory>
     ensures { OnOk result (events.new ≡ events.old ++ map event_of course.now) }
 {
     for step in course {

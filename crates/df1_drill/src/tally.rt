@@ -3,7 +3,7 @@ ghost use Rattle.std.specs.Prelude.{◌≡◌, count_by};
 ghost use Rattle.script_parts.specs.HalfPlayable.{is_issue as the_issue_test};
 ghost use Rattle.df1_drill.specs.Tally.{is_answered as the_answered_test, is_damaged as the_damaged_test, is_enquiry as the_enquiry_test, is_exec as the_exec_test, is_repeat as the_repeat_test};
 
-use line_report::Line;
+use replay_report::Line;
 use script_parts::Event;
 
 /// How many commands are issued.

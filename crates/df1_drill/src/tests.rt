@@ -6,7 +6,7 @@ use crate::{MOST_ROUNDS, drill, drill_script, report_text};
 use df1_base::Collected;
 use df1_check::crc;
 use line_replay::{read_script, replay};
-use line_report::pair;
+use replay_report::pair;
 use script_parts::Script;
 use std::alloc::{AllocError, Global};
 use std::test::Fail;

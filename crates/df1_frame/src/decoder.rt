@@ -21,7 +21,7 @@ use std::marker::Model;
 
 /// Where in an item the bytes so far end.
 #[derive(Clone, Copy)]
-enum Place {
+enum DecoderPlace {
     /// Outside a frame.
     Outside,
     /// Directly after a frame whose body is lent.
@@ -44,7 +44,7 @@ enum Place {
 #[derive(Drop)]
 pub struct Decoder<const N: usize> {
     check: Check,
-    place: Place,
+    place: DecoderPlace,
     gathered: Gathered<N>,
 }
 
@@ -67,7 +67,7 @@ impl<const N: usize> Decoder<N> {
     {
         Decoder {
             check,
-            place: Place::Outside,
+            place: DecoderPlace::Outside,
             gathered: Gathered::new(check),
         }
     }
@@ -98,16 +98,16 @@ impl<const N: usize> Decoder<N> {
         ensures value { self.new ≡ (steps (next N) self.old (take result bytes.now)).0 }
     {
         match self.place {
-            Place::Inside => {
+            DecoderPlace::Inside => {
                 let count = plain_len(bytes);
                 self.gathered.gather_all(&bytes[..count]);
                 count
             }
-            Place::Outside => plain_len(bytes),
-            Place::Ended => {
+            DecoderPlace::Outside => plain_len(bytes),
+            DecoderPlace::Ended => {
                 let count = plain_len(bytes);
                 if count > 0 {
-                    self.place = Place::Outside;
+                    self.place = DecoderPlace::Outside;
                 }
                 count
             }
@@ -133,7 +133,7 @@ impl<const N: usize> Decoder<N> {
         ensures fits { length result.now ≤ N }
     {
         match self.place {
-            Place::Ended => self.gathered.bytes(),
+            DecoderPlace::Ended => self.gathered.bytes(),
             _ => &[],
         }
     }
@@ -146,7 +146,7 @@ impl<const N: usize> Decoder<N> {
         ensures most { result ≤ N }
     {
         match self.place {
-            Place::Outside | Place::AfterDle => 0,
+            DecoderPlace::Outside | DecoderPlace::AfterDle => 0,
             _ => self.gathered.bytes().len(),
         }
     }
@@ -164,9 +164,9 @@ impl<const N: usize> Decoder<N> {
         ensures { result ≡ is_inside self.now.standing }
     {
         match self.place {
-            Place::Outside | Place::Ended | Place::AfterDle => false,
-            Place::Inside | Place::InsideDle => true,
-            Place::AtCheck | Place::AtSecondCheck(_) => true,
+            DecoderPlace::Outside | DecoderPlace::Ended | DecoderPlace::AfterDle => false,
+            DecoderPlace::Inside | DecoderPlace::InsideDle => true,
+            DecoderPlace::AtCheck | DecoderPlace::AtSecondCheck(_) => true,
         }
     }
 }
@@ -174,30 +174,30 @@ impl<const N: usize> Decoder<N> {
 /// What a byte leads to, and what is heard at it.
 #[inline(always)]
 fn step<const N: usize>(
-    place: Place,
+    place: DecoderPlace,
     gathered: &mut Gathered<N>,
     check: Check,
     b: u8,
-) -> (Place, Option<Heard>)
+) -> (DecoderPlace, Option<Heard>)
     ensures { (standing_of result.0 gathered.new, result.1) ≡ step check N (standing_of place gathered.old) b }
 {
     match place {
-        Place::Outside | Place::Ended => outside(gathered, b),
-        Place::AfterDle => pair_outside(gathered, check, b),
-        Place::Inside => inside(gathered, b),
-        Place::InsideDle => pair_inside(gathered, check, b),
-        Place::AtCheck => first_check(gathered, check, b),
-        Place::AtSecondCheck(first) => end(gathered, check, &[first, b]),
+        DecoderPlace::Outside | DecoderPlace::Ended => outside(gathered, b),
+        DecoderPlace::AfterDle => pair_outside(gathered, check, b),
+        DecoderPlace::Inside => inside(gathered, b),
+        DecoderPlace::InsideDle => pair_inside(gathered, check, b),
+        DecoderPlace::AtCheck => first_check(gathered, check, b),
+        DecoderPlace::AtSecondCheck(first) => end(gathered, check, &[first, b]),
     }
 }
 
-fn outside<const N: usize>(gathered: &Gathered<N>, b: u8) -> (Place, Option<Heard>)
+fn outside<const N: usize>(gathered: &Gathered<N>, b: u8) -> (DecoderPlace, Option<Heard>)
     ensures { (standing_of result.0 gathered.now, result.1) ≡ outside_next b }
 {
     if b == DLE {
-        (Place::AfterDle, None)
+        (DecoderPlace::AfterDle, None)
     } else {
-        (Place::Outside, Some(Heard::Stray(b)))
+        (DecoderPlace::Outside, Some(Heard::Stray(b)))
     }
 }
 
@@ -205,25 +205,25 @@ fn pair_outside<const N: usize>(
     gathered: &mut Gathered<N>,
     check: Check,
     b: u8,
-) -> (Place, Option<Heard>)
+) -> (DecoderPlace, Option<Heard>)
     ensures { (standing_of result.0 gathered.new, result.1) ≡ step check N AfterDle b }
 {
     if b == STX {
         gathered.clear(check);
-        (Place::Inside, None)
+        (DecoderPlace::Inside, None)
     } else {
-        (Place::Outside, Some(stray_pair(b)))
+        (DecoderPlace::Outside, Some(stray_pair(b)))
     }
 }
 
-fn inside<const N: usize>(gathered: &mut Gathered<N>, b: u8) -> (Place, Option<Heard>)
+fn inside<const N: usize>(gathered: &mut Gathered<N>, b: u8) -> (DecoderPlace, Option<Heard>)
     ensures { (check : CheckKind) → (standing_of result.0 gathered.new, result.1) ≡ step check N (Inside gathered.old) b }
 {
     if b == DLE {
-        (Place::InsideDle, None)
+        (DecoderPlace::InsideDle, None)
     } else {
         gathered.gather(b);
-        (Place::Inside, None)
+        (DecoderPlace::Inside, None)
     }
 }
 
@@ -231,25 +231,25 @@ fn pair_inside<const N: usize>(
     gathered: &mut Gathered<N>,
     check: Check,
     b: u8,
-) -> (Place, Option<Heard>)
+) -> (DecoderPlace, Option<Heard>)
     ensures { (standing_of result.0 gathered.new, result.1) ≡ step check N (InsideDle gathered.old) b }
 {
     match b {
         STX => {
             gathered.clear(check);
-            (Place::Inside, Some(Heard::Restart))
+            (DecoderPlace::Inside, Some(Heard::Restart))
         }
         ETX => {
             gathered.close(check);
-            (Place::AtCheck, None)
+            (DecoderPlace::AtCheck, None)
         }
         DLE => {
             gathered.gather(b);
-            (Place::Inside, None)
+            (DecoderPlace::Inside, None)
         }
         _ => match response(b) {
-            Some(heard) => (Place::Inside, Some(heard)),
-            None => (Place::Outside, Some(Heard::Broken(b))),
+            Some(heard) => (DecoderPlace::Inside, Some(heard)),
+            None => (DecoderPlace::Outside, Some(Heard::Broken(b))),
         },
     }
 }
@@ -258,24 +258,28 @@ fn first_check<const N: usize>(
     gathered: &Gathered<N>,
     check: Check,
     b: u8,
-) -> (Place, Option<Heard>)
+) -> (DecoderPlace, Option<Heard>)
     ensures { (standing_of result.0 gathered.now, result.1) ≡ step check N (AtCheck gathered.now []) b }
 {
     match check {
         Check::Bcc => end(gathered, check, &[b]),
-        Check::Crc => (Place::AtSecondCheck(b), None),
+        Check::Crc => (DecoderPlace::AtSecondCheck(b), None),
     }
 }
 
 /// After the last of the check bytes.
-fn end<const N: usize>(gathered: &Gathered<N>, check: Check, bytes: &[u8]) -> (Place, Option<Heard>)
+fn end<const N: usize>(
+    gathered: &Gathered<N>,
+    check: Check,
+    bytes: &[u8],
+) -> (DecoderPlace, Option<Heard>)
     ensures place { standing_of result.0 gathered.now ≡ left_by gathered.now }
     ensures heard { result.1 ≡ Some (verdict check gathered.now bytes.now) }
 {
     let heard = Some(gathered.verdict(check, bytes));
     if gathered.is_long() {
-        (Place::Outside, heard)
+        (DecoderPlace::Outside, heard)
     } else {
-        (Place::Ended, heard)
+        (DecoderPlace::Ended, heard)
     }
 }

@@ -13,8 +13,8 @@ use Rattle.df1_base.specs.declared.file_type.FileType.{FileType}
 use Rattle.data_files.specs.declared.file_spec.FileSpec.{FileSpec}
 use Rattle.data_files.specs.Tables.{faults, file_of, has_word, word_count}
 use Rattle.data_files.specs.WordBytes.{words_of}
-use Rattle.line_statement.specs.Statements.{file_spec}
-use Rattle.line_statement.specs.declared.who.Who.TheVariants.{A}
+use Rattle.script_statement.specs.Statements.{file_spec}
+use Rattle.script_statement.specs.declared.who.Who.TheVariants.{A}
 use Rattle.script_parts.specs.declared.script.WordOf.{WordOf}
 use Rattle.script_parts.specs.Playable.{IsBetween}
 use Rattle.script_parts.proofs.MoreFiles.{faults-push}

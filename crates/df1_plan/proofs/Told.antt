@@ -1,7 +1,7 @@
 -- What is told by a key is within its bounds.
 use Rattle.std.proofs.Common.{◌≡◌, ℕ, Option, Some, None, Result, Ok, refl, arith, pos, negsuc}
 use Rattle.std.proofs.lemmas.Bool.Decides.{nat_tests}
-use Rattle.line_statement.specs.Words.{within}
+use Rattle.script_statement.specs.Words.{within}
 use Rattle.script_parts.specs.Playable.{IsBetween}
 use Rattle.toml.specs.Data.{Data, string, integer, float, boolean, datetime, array, table, Members, get_member}
 use Rattle.df1_plan.specs.declared.key.Key.{Key}

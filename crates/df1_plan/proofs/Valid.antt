@@ -6,8 +6,8 @@ use Rattle.std.proofs.lemmas.Bool.{and_parts}
 use Rattle.std.proofs.lemmas.Bool.Decides.{nat_tests}
 use Rattle.std.proofs.lemmas.List.Elements.{All-nil, All-push}
 use Rattle.data_files.specs.Tables.{fits_compat}
-use Rattle.line_statement.specs.Statements.{is_payload}
-use Rattle.line_statement.specs.declared.who.Who.TheVariants.{A}
+use Rattle.script_statement.specs.Statements.{is_payload}
+use Rattle.script_statement.specs.declared.who.Who.TheVariants.{A}
 use Rattle.script_parts.specs.Playable.{IsPlanOf}
 use Rattle.toml.specs.Data.{Data, Items, no_items, item, Members, as_array, get_member}
 use Rattle.df1_plan.specs.declared.plan.Plan.{Plan}

@@ -6,8 +6,8 @@ use Rattle.std.specs.Str.{bytes_eq}
 use Rattle.data_files.specs.declared.file_spec.FileSpec.{FileSpec}
 use Rattle.data_files.specs.Tables.{word_count}
 use Rattle.data_files.specs.WordBytes.{words_of}
-use Rattle.line_statement.specs.Statements.{file_spec}
-use Rattle.line_statement.specs.declared.who.Who.TheVariants.{A}
+use Rattle.script_statement.specs.Statements.{file_spec}
+use Rattle.script_statement.specs.declared.who.Who.TheVariants.{A}
 use Rattle.script_parts.specs.declared.script.WordOf.{WordOf}
 use Rattle.script_parts.specs.Playable.{IsBetween}
 use Rattle.toml.specs.Data.{Data, table, Items, no_items, item, Members, get_member, as_array}

@@ -1,6 +1,6 @@
 -- The commands of a plan, by its entries in order.
 use Rattle.std.specs.Prelude.{ℕ, ◌+◌, List, [], ◌∷◌, ◌++◌, length, nat_lt, ◌&&◌, if◌then◌else◌, Option, Some, None, Result, Ok, Err}
-use Rattle.line_statement.specs.Statements.{is_payload}
+use Rattle.script_statement.specs.Statements.{is_payload}
 use Rattle.toml.specs.Data.{Data, Items, no_items, item, as_array}
 use Rattle.df1_plan.specs.declared.fault.PlanFault.{PlanFault}
 use Rattle.df1_plan.specs.declared.fault.PlanFault.TheVariants as fault

@@ -1,6 +1,6 @@
 -- The parts of a plan as they are read, and the plan that is joined of them.
 use Rattle.std.specs.Prelude.{◌≡◌, ℕ, List, Ok}
-use Rattle.line_statement.specs.declared.who.Who.TheVariants.{A}
+use Rattle.script_statement.specs.declared.who.Who.TheVariants.{A}
 use Rattle.toml.specs.Data.{Members}
 use Rattle.df1_plan.specs.declared.plan.Plan.{Plan}
 use Rattle.df1_plan.specs.declared.reading.Front.{Front}

@@ -5,7 +5,7 @@ use Rattle.std.specs.Str.{IsUtf8}
 use Rattle.df1_check.specs.declared.Check.{Check}
 use Rattle.df1_check.specs.declared.Check.TheVariants.{Bcc}
 use Rattle.data_files.specs.Tables.{fits_compat}
-use Rattle.line_statement.specs.declared.who.Who.TheVariants.{A}
+use Rattle.script_statement.specs.declared.who.Who.TheVariants.{A}
 use Rattle.script_parts.specs.declared.script.EndPlan.{EndPlan}
 use Rattle.toml.specs.Data.{Members, get_member, as_bool}
 use Rattle.toml.specs.Parse.{parse_document}

@@ -3,8 +3,8 @@ use Rattle.std.specs.Prelude.{ℕ, List, length, nat_le, Option, Some, None, pos
 use Rattle.std.specs.Option.{option_and_then}
 use Rattle.df1_base.specs.declared.file_type.FileType.{FileType}
 use Rattle.df1_check.specs.declared.Check.{Check}
-use Rattle.line_statement.specs.Words.{within, hex_of}
-use Rattle.line_statement.specs.Statements.{check_of, file_type}
+use Rattle.script_statement.specs.Words.{within, hex_of}
+use Rattle.script_statement.specs.Statements.{check_of, file_type}
 use Rattle.toml.specs.Data.{Data, integer, as_str}
 
 -- an integer within bounds

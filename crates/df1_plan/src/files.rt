@@ -11,8 +11,8 @@ use crate::values::{hex_in, integer_in, kind_in, value_at};
 use crate::{Key, PlanFault};
 use data_files::FileSpec;
 use df1_base::NoMemory;
-use line_statement::{Items, Who};
 use script_parts::{Specs, WordOf, Words};
+use script_statement::{Items, Who};
 use std::alloc::Global;
 use toml::{Table, Value};
 

@@ -1,6 +1,6 @@
 //! The commands of a plan.
 ghost use Rattle.std.specs.Prelude.{◌≡◌, ◌≢◌, [], Ok, Err, IfOk, IfErr};
-ghost use Rattle.line_statement.specs.Statements.{is_payload as the_payload_test};
+ghost use Rattle.script_statement.specs.Statements.{is_payload as the_payload_test};
 ghost use Rattle.toml.specs.View.{items_view, table_view, view};
 ghost use Rattle.df1_plan.specs.Plans.{issue};
 ghost use Rattle.df1_plan.specs.Issues.{next_payload as the_next, payloads_after};
@@ -9,7 +9,7 @@ use crate::plan::Payloads;
 use crate::values::{hex_in, value_at};
 use crate::{Key, PlanFault};
 use df1_base::{MAX_PAYLOAD, NoMemory, REPLY};
-use line_statement::{Bytes, Items};
+use script_statement::{Bytes, Items};
 use std::alloc::Global;
 use toml::{Table, Value};
 

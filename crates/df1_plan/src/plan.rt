@@ -1,8 +1,8 @@
 //! What a plan says.
 
 use df1_check::Check;
-use line_statement::{Bytes, Items};
 use script_parts::EndPlan;
+use script_statement::{Bytes, Items};
 
 /// The payloads of commands, each of 1 to 245 bytes with CMD as its first, whose bit 6 is clear.
 pub type Payloads = Items<Bytes>;

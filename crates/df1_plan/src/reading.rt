@@ -1,8 +1,8 @@
 //! The reading of a plan, key by key in the order of their bytes.
 ghost use Rattle.std.specs.Prelude.{◌≡◌, ◌≢◌, ◌≤◌, Ok, Err, None, Some, IfOk, IfErr, IsTrue, All, length};
 ghost use Rattle.data_files.specs.Tables.{fits_compat as the_fitting};
-ghost use Rattle.line_statement.specs.declared.who.Who.TheVariants.{A};
-ghost use Rattle.line_statement.specs.Statements.{is_payload};
+ghost use Rattle.script_statement.specs.declared.who.Who.TheVariants.{A};
+ghost use Rattle.script_statement.specs.Statements.{is_payload};
 ghost use Rattle.script_parts.specs.Playable.{IsPlanOf};
 ghost use Rattle.toml.specs.View.{table_view};
 ghost use Rattle.df1_plan.specs.Keys.{has_other, is_known as the_known, told};
@@ -19,8 +19,8 @@ use crate::values::{check_in, hex_in, integer_in, value_at};
 use crate::{Key, Plan, PlanFault};
 use df1_base::MAX_DATA;
 use df1_check::Check;
-use line_statement::{Bytes, Items, Who};
 use script_parts::EndPlan;
+use script_statement::{Bytes, Items, Who};
 use std::alloc::Global;
 use toml::{Table, Value};
 

@@ -7,7 +7,7 @@ ghost use Rattle.df1_plan.specs.Values.{check_in as the_check, hex_in as the_byt
 use df1_base::{FileType, NoMemory};
 use df1_check::Check;
 use hex::FromHexError;
-use line_statement::{Bytes, Items};
+use script_statement::{Bytes, Items};
 use std::alloc::Global;
 use toml::{Table, Value};
 

@@ -3,12 +3,12 @@
 ghost use Rattle.std.specs.Prelude.{◌≡◌, ◌+◌, ◌≤◌, All, IsTrue, None, OnOk, length};
 ghost use Rattle.df1_node.specs.Initiator.{issue_fault};
 ghost use Rattle.df1_node.specs.Node.{after_node_issue};
-ghost use Rattle.line_statement.specs.Statements.{is_payload};
+ghost use Rattle.script_statement.specs.Statements.{is_payload};
 ghost use Rattle.df1_service.specs.Service.{all_issued};
 
 use df1_base::NoMemory;
 use df1_node::{IssueFault, Node};
-use line_statement::Bytes;
+use script_statement::Bytes;
 
 /// Issues commands to the node `dst`, in order. Each payload has 1 to 245 bytes with bit 6 of its CMD clear, and at most
 /// 65,535 commands are issued in all. An error is want of memory; the node is then only dropped.

@@ -17,7 +17,7 @@ ghost use Rattle.df1_service.specs.Service.{outcome_line, outcomes_text};
 use arrayvec::ArrayVec;
 use df1_base::{Failed, Sink, write_all};
 use df1_node::{Initiator, Outcome};
-use line_report::pair;
+use replay_report::pair;
 
 /// The most bytes of a line: a number of 10 digits, a word with its blanks, the digits of a body and a line feed.
 const LINE: usize = 521;

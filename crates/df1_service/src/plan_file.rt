@@ -2,8 +2,8 @@
 ghost use Rattle.std.specs.Prelude.{◌≡◌, ◌≤◌, ℕ, List, All, IsTrue, length, true, IfOk, IfErr, IsErrOf};
 ghost use Rattle.df1_base.specs.Outside.{Rose};
 ghost use Rattle.df1_shelf.specs.Shelves.{IsLonger, is_sound};
-ghost use Rattle.line_statement.specs.declared.who.Who.TheVariants.{A};
-ghost use Rattle.line_statement.specs.Statements.{is_payload};
+ghost use Rattle.script_statement.specs.declared.who.Who.TheVariants.{A};
+ghost use Rattle.script_statement.specs.Statements.{is_payload};
 ghost use Rattle.script_parts.specs.Playable.{IsPlanOf};
 ghost use Rattle.df1_service.specs.Plans.{IsOfPlan, SaysNone, SaysPlan, TellsNone, plan_limit};
 

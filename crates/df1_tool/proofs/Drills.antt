@@ -2,7 +2,7 @@
 use Rattle.std.proofs.Common.{◌≡◌, ◌≤◌, ℕ, Bool, true, false, List, [], ◌∷◌, Option, None, Some, Result, Ok, Err, inl, inr, refl, ap, arith}
 use Rattle.std.specs.Prelude.{MatchResult, IfSome, if◌then◌else◌, codes, option_map}
 use Rattle.std.specs.Str.{bytes_eq}
-use Rattle.line_statement.specs.Words.{within}
+use Rattle.script_statement.specs.Words.{within}
 use Rattle.df1_tool.specs.declared.form.Form.{Form}
 use Rattle.df1_tool.specs.declared.form.Form.TheVariants.{Replay, Serve, Issue, Dissect, Check as Count, Drill}
 use Rattle.df1_tool.specs.declared.capture.Capture.{Capture}

@@ -6,7 +6,7 @@ use Rattle.script_parts.specs.declared.script.Script.{Script}
 use Rattle.line_script.specs.ScriptText.{script_of}
 use Rattle.script_parts.specs.HalfPlayable.{CanBePlayed}
 use Rattle.line_script.proofs.Standing.{CanBePlayed-script_of}
-use Rattle.line_report.specs.Report.{report}
+use Rattle.replay_report.specs.Report.{report}
 use Rattle.line_replay.specs.Complete.{IsUndisturbed, IsComplete}
 use Rattle.line_replay.specs.Once.{EachCommandOnce}
 use Rattle.line_replay.specs.Runs.{record_of}

@@ -5,7 +5,7 @@ use Rattle.std.specs.Io.KnownBytes.{IsAtEnd}
 use Rattle.df1_base.specs.Outside.{Took, Put}
 use Rattle.script_parts.specs.declared.script.Script.{Script}
 use Rattle.line_script.specs.ScriptText.{script_of}
-use Rattle.line_report.specs.Report.{report}
+use Rattle.replay_report.specs.Report.{report}
 use Rattle.line_replay.specs.Complete.{IsUndisturbed, IsComplete}
 use Rattle.line_replay.specs.Once.{EachCommandOnce}
 use Rattle.line_replay.specs.Runs.{record_of}

@@ -4,14 +4,14 @@ use Rattle.std.specs.Str.{bytes_eq}
 use Rattle.std.specs.Str.Parse.{digits_value}
 use Rattle.std.specs.Char.{is_ascii_digit}
 use Rattle.std.specs.List.{list_all}
-use Rattle.line_statement.specs.Words.{within}
+use Rattle.script_statement.specs.Words.{within}
 use Rattle.line_script.specs.declared.fault.Cause.{Cause}
 use Rattle.line_replay.specs.declared.replayer.StreamFault.{StreamFault}
 use Rattle.line_replay.specs.declared.replayer.StreamFault.TheVariants as stream
 use Rattle.line_script.specs.declared.fault.Cause.TheVariants as cause
 use Rattle.script_parts.specs.declared.script.Script.{Script}
 use Rattle.line_script.specs.ScriptText.{script_of}
-use Rattle.line_report.specs.Report.{report}
+use Rattle.replay_report.specs.Report.{report}
 use Rattle.line_replay.specs.Runs.{record_of}
 use Rattle.df1_tool.specs.Notes.{input_failed, output_failed, no_memory}
 use Rattle.df1_tool.specs.declared.form.Form.{Form}

@@ -10,7 +10,7 @@ ghost use Rattle.df1_tool.specs.Dissected.{CloseEnd, DissectEnd, DissectRun, Has
 
 use crate::capture::{Capture, CaptureFault, PIECE, refuse, within_limit};
 use df1_base::{Failed, Sink, Source, write_all};
-use df1_dissect::{Dissector, LINE, Lines};
+use df1_dissect::{CollectedLines, Dissector, LINE};
 
 /// Dissects the input to the output, and answers the status. Where it isn't 0, the note is written.
 pub(crate) fn run<S: Source, K: Sink, N: Sink>(
@@ -40,14 +40,14 @@ fn dissect<S: Source, K: Sink>(
         (K.held out.old) (K.held out.new) (K.faults out.old) (K.faults out.new) result }
 {
     let mut dissector = Dissector::new(capture.side, capture.check);
-    let mut lines = Lines::new();
+    let mut lines = CollectedLines::new();
     dissect_all(&mut dissector, &mut lines, input, out)
 }
 
 /// Reads the whole input, piece by piece, with a dissector that has taken no byte.
 fn dissect_all<S: Source, K: Sink>(
     dissector: &mut Dissector,
-    lines: &mut Lines,
+    lines: &mut CollectedLines,
     input: &mut S,
     out: &mut K,
 ) -> Result<(), CaptureFault>
@@ -85,7 +85,7 @@ fn close<K: Sink>(dissector: &mut Dissector, out: &mut K) -> Result<(), CaptureF
 fn dissect_piece<K: Sink>(
     dissector: &mut Dissector,
     piece: &[u8],
-    lines: &mut Lines,
+    lines: &mut CollectedLines,
     out: &mut K,
 ) -> Result<(), CaptureFault>
     requires none { lines.old.items ≡ [] }
@@ -109,7 +109,7 @@ fn dissect_piece<K: Sink>(
 fn put_lines<K: Sink>(
     dissector: &mut Dissector,
     heard: &[u8],
-    lines: &mut Lines,
+    lines: &mut CollectedLines,
     out: &mut K,
 ) -> Result<(), Failed>
     requires none { lines.old.items ≡ [] }
@@ -130,7 +130,7 @@ fn put_lines<K: Sink>(
 }
 
 /// Writes the lines that were collected, where there is no room for one more.
-fn make_room<K: Sink>(lines: &mut Lines, out: &mut K) -> Result<(), Failed>
+fn make_room<K: Sink>(lines: &mut CollectedLines, out: &mut K) -> Result<(), Failed>
     ensures room { OnOk result (array_vec_len lines.new + 700 ≤ 8192) }
     ensures moved { OnOk result (IsMoved (K.held out.old) (K.held out.new) lines.old.items lines.new.items) }
     ensures part { OnErr result (WrotePart (K.held out.old) (K.held out.new) lines.old.items) }
@@ -145,7 +145,7 @@ fn make_room<K: Sink>(lines: &mut Lines, out: &mut K) -> Result<(), Failed>
 }
 
 /// Writes the lines that were collected.
-fn hand_on<K: Sink>(lines: &mut Lines, out: &mut K) -> Result<(), Failed>
+fn hand_on<K: Sink>(lines: &mut CollectedLines, out: &mut K) -> Result<(), Failed>
     ensures none { OnOk result (lines.new.items ≡ []) }
     ensures ok { OnOk result (Put (K.held out.old) (K.held out.new) lines.old.items) }
     ensures part { OnErr result (WrotePart (K.held out.old) (K.held out.new) lines.old.items) }

@@ -1,6 +1,6 @@
 //! Numbers among the words of a call.
 ghost use Rattle.std.specs.Prelude.{◌≡◌};
-ghost use Rattle.line_statement.specs.Words.{within};
+ghost use Rattle.script_statement.specs.Words.{within};
 ghost use Rattle.df1_tool.specs.Tool.{number_of as the_number};
 
 /// The most decimal digits that a number has.

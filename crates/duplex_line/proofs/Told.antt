@@ -5,11 +5,11 @@ use Rattle.std.proofs.KnownBytes.{Appends-trans}
 use Rattle.std.proofs.lemmas.Grind.{flat_map-append}
 use Rattle.df1_base.specs.Outside.{Put, WrotePart}
 use Rattle.df1_base.proofs.Laws.{part_of_more}
-use Rattle.line_statement.specs.declared.who.Who.{Who}
-use Rattle.line_report.specs.declared.record.Line.{Line}
-use Rattle.line_report.specs.declared.record.Line.TheVariants as line
-use Rattle.line_report.specs.Report.{line_text, sent_lines}
-use Rattle.line_report.proofs.Writing.{part_behind}
+use Rattle.script_statement.specs.declared.who.Who.{Who}
+use Rattle.replay_report.specs.declared.record.Line.{Line}
+use Rattle.replay_report.specs.declared.record.Line.TheVariants as line
+use Rattle.replay_report.specs.Report.{line_text, sent_lines}
+use Rattle.replay_report.proofs.Writing.{part_behind}
 use Rattle.duplex_line.specs.declared.sent.Sent.{Sent}
 use Rattle.duplex_line.specs.Told.{with_sent}
 

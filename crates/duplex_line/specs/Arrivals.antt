@@ -1,15 +1,15 @@
 -- The bytes that arrive at the ends of a line, and whether a whole frame is heard at each.
 use Rattle.std.specs.Prelude.{List, [], ◌∷◌, ◌++◌, Option, Some, None, if◌then◌else◌}
 use Rattle.duplex_end.specs.Arrived.{Arrival}
-use Rattle.line_statement.specs.declared.who.Who.{Who}
+use Rattle.script_statement.specs.declared.who.Who.{Who}
 use Rattle.script_parts.specs.declared.script.Event.{Event}
-use Rattle.line_cells.specs.Cells.{LaneCell}
+use Rattle.lane_cells.specs.Cells.{LaneCell}
 use Rattle.each_once.specs.Tells.{is_who}
-use Rattle.duplex_line.specs.Acts.{SideState, LineState, Deed, arriving, step_of, after_deed}
+use Rattle.duplex_line.specs.Acts.{LineEndState, LineState, Deed, arriving, step_of, after_deed}
 use Rattle.duplex_line.specs.Run.{who_of, deeds_of, seen_from, other, after_event}
 
 -- what arrives at an end with a cell
-abbrev pub arrived : SideState → Option LaneCell → List Arrival
+abbrev pub arrived : LineEndState → Option LaneCell → List Arrival
 arrived side None = []
 arrived side (Some cell) = record { byte = cell.byte; whole = (step_of side cell).whole } ∷ []
 

@@ -1,16 +1,16 @@
 -- Each command once, both ways, in the record of a full-duplex script.
 use Rattle.std.specs.Prelude.{◌≡◌, ◌++◌}
-use Rattle.line_statement.specs.declared.who.Who.{Who}
-use Rattle.line_statement.specs.declared.who.Who.TheVariants.{A, B}
+use Rattle.script_statement.specs.declared.who.Who.{Who}
+use Rattle.script_statement.specs.declared.who.Who.TheVariants.{A, B}
 use Rattle.script_parts.specs.declared.script.EndPlan.{EndPlan}
 use Rattle.script_parts.specs.declared.script.Script.{Script}
-use Rattle.line_report.specs.declared.record.Record.{Record}
+use Rattle.replay_report.specs.declared.record.Record.{Record}
 use Rattle.data_files.specs.Tables.{DataTables}
 use Rattle.each_once.specs.Once.{Once}
 use Rattle.each_once.specs.Exchanges.{station_after}
 use Rattle.each_once.specs.Tells.{executed_in}
 use Rattle.duplex_line.specs.Issues.{commands_of_a, commands_of_b}
-use Rattle.told_lines.specs.Words.{words_of}
+use Rattle.report_lines.specs.Words.{words_of}
 use Rattle.duplex_line.specs.Run.{first_station, plan_of_a, plan_of_b}
 
 -- the tables that the commands which an end is told to have executed make of its first ones

@@ -4,8 +4,8 @@ use Rattle.script_parts.specs.declared.script.Event.{Event}
 use Rattle.script_parts.specs.declared.script.Event.TheVariants as event
 use Rattle.script_parts.specs.declared.script.Script.{Script}
 use Rattle.script_parts.specs.Playable.{IsPossible, count_of}
-use Rattle.line_report.specs.declared.record.Line.{Line}
-use Rattle.duplex_line.specs.Acts.{SideState, LineState}
+use Rattle.replay_report.specs.declared.record.Line.{Line}
+use Rattle.duplex_line.specs.Acts.{LineEndState, LineState}
 use Rattle.duplex_line.specs.Run.{start, after_event, lines_of, seen_from, who_of}
 
 -- the state, the lines of the report so far, and the sum of the events so far
@@ -31,11 +31,11 @@ abbrev pub most_events : ℕ
 most_events = 5000000
 
 -- how many commands an end has issued
-abbrev pub issued_by : SideState → ℕ
+abbrev pub issued_by : LineEndState → ℕ
 issued_by side = length side.end.host.initiator.issued
 
 -- a command is not the 65,536th of its end
-abbrev pub IsUnspent : SideState → Event → Type 0
+abbrev pub IsUnspent : LineEndState → Event → Type 0
 IsUnspent side (event.Issue who dst payload) = issued_by side < 65535
 IsUnspent side (event.Take who n) = Unit {0}
 IsUnspent side (event.Deliver lane n) = Unit {0}

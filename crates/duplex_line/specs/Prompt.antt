@@ -1,16 +1,16 @@
 -- Runs that nothing disturbs: no byte is lost, altered or foreign, and few ticks come between two states in which nothing is under way.
 use Rattle.std.specs.Prelude.{◌≡◌, ℕ, ◌+◌, ◌<◌, Bool, ◌&&◌, List, [], ◌∷◌, slice_get, is_none, min, None, IsTrue, if◌then◌else◌}
 use Rattle.duplex_end.specs.End.{out_at_take}
-use Rattle.line_statement.specs.declared.who.Who.{Who}
-use Rattle.line_statement.specs.declared.who.Who.TheVariants.{A, B, M, S}
+use Rattle.script_statement.specs.declared.who.Who.{Who}
+use Rattle.script_statement.specs.declared.who.Who.TheVariants.{A, B, M, S}
 use Rattle.script_parts.specs.declared.script.Event.{Event}
 use Rattle.script_parts.specs.declared.script.Script.{Script}
 use Rattle.each_once.specs.NodeHost.{node_host}
-use Rattle.duplex_line.specs.Acts.{SideState, LineState, Deed, Issue, Take, Deliver, Lose, Alter, Foreign, Tick, after_deed}
+use Rattle.duplex_line.specs.Acts.{LineEndState, LineState, Deed, Issue, Take, Deliver, Lose, Alter, Foreign, Tick, after_deed}
 use Rattle.duplex_line.specs.Run.{start, who_of, deeds_of, seen_from, after_event, last_state}
 
 -- an end gives nothing, and nothing of it is on its way
-abbrev pub is_idle : SideState → Bool
+abbrev pub is_idle : LineEndState → Bool
 is_idle side = is_none (slice_get side.lane 0) && is_none (out_at_take node_host side.end)
 
 -- nothing is under way
@@ -49,14 +49,14 @@ abbrev pub late_after : Late → LineState → Deed → Late
 late_after late s deed = if is_quiet (after_deed s deed) then none_late else late_with late (is_quiet s) deed
 
 -- fewer than an end waits for a response, and for a reply
-abbrev pub patience : SideState → ℕ
+abbrev pub patience : LineEndState → ℕ
 patience side = min side.end.sender.limits.ack_ticks side.end.host.initiator.reply_ticks
 
 abbrev pub AreFew : Late → LineState → Type 0
 AreFew late s = (late.a < patience s.a) × (late.b < patience s.b)
 
 -- a step loses, alters and adds no byte
-abbrev pub IsGentle : SideState → Deed → Type 0
+abbrev pub IsGentle : LineEndState → Deed → Type 0
 IsGentle side (Issue dst payload) = Unit {0}
 IsGentle side Take = Unit {0}
 IsGentle side Deliver = Unit {0}

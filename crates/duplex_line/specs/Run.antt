@@ -3,24 +3,24 @@ use Rattle.std.specs.Prelude.{List, [], ◌∷◌, ◌++◌, map, replicate, sli
 use Rattle.df1_check.specs.declared.Check.{Check}
 use Rattle.data_files.specs.Tables.{DataTables}
 use Rattle.duplex_end.specs.End.{new_end}
-use Rattle.line_statement.specs.declared.who.Who.{Who}
-use Rattle.line_statement.specs.declared.who.Who.TheVariants.{A, B, M, S}
+use Rattle.script_statement.specs.declared.who.Who.{Who}
+use Rattle.script_statement.specs.declared.who.Who.TheVariants.{A, B, M, S}
 use Rattle.script_parts.specs.declared.script.Event.{Event}
 use Rattle.script_parts.specs.declared.script.Event.TheVariants as event
 use Rattle.script_parts.specs.declared.script.EndPlan.{EndPlan}
 use Rattle.script_parts.specs.declared.script.Script.{Script}
 use Rattle.script_parts.specs.declared.script.WordOf.{WordOf}
 use Rattle.script_parts.specs.Plans.{first_plan}
-use Rattle.line_report.specs.declared.record.Line.{Line}
-use Rattle.line_report.specs.declared.record.Record.{Record}
-use Rattle.line_report.specs.Report.{sent_lines}
+use Rattle.replay_report.specs.declared.record.Line.{Line}
+use Rattle.replay_report.specs.declared.record.Record.{Record}
+use Rattle.replay_report.specs.Report.{sent_lines}
 pub use Rattle.outset.specs.Outset.{with_first, with_all, first_tables, first_station, first_node, limits_of, setup_of}
-use Rattle.told_lines.specs.Words.{words_of}
-use Rattle.duplex_line.specs.Acts.{SideState, LineState, swapped, Deed, Issue, Take, Deliver, Lose, Alter, Foreign, Tick, after_deeds, lines_over, given_over}
+use Rattle.report_lines.specs.Words.{words_of}
+use Rattle.duplex_line.specs.Acts.{LineEndState, LineState, swapped, Deed, Issue, Take, Deliver, Lose, Alter, Foreign, Tick, after_deeds, lines_over, given_over}
 
 -- ---- the first state
 
-abbrev pub first_side : Check → EndPlan → SideState
+abbrev pub first_side : Check → EndPlan → LineEndState
 first_side check plan = record { end = new_end (setup_of check plan) (first_node plan); lane = [] }
 
 -- the plan of end a, and of end b; where a script has none, an end is as it is where no line tells of it
@@ -98,7 +98,7 @@ last_state script = state_after (start script) script.events
 -- ---- the record
 
 -- the tables of an end
-abbrev pub tables_of : SideState → DataTables
+abbrev pub tables_of : LineEndState → DataTables
 tables_of side = side.end.host.station.tables
 
 -- the words of both ends

@@ -1,24 +1,24 @@
 //! Events at one end of the line, or with the bytes from it.
 
 ghost use Rattle.std.specs.Prelude.{◌≡◌, ◌+◌, ◌≤◌, ◌<◌, ◌++◌, [], OnOk, IsOk, IsTrue, map, length, replicate};
-ghost use Rattle.duplex_line.specs.Acts.{Deed, Take, Deliver, Lose, Foreign, Tick, SideState, after_deeds, line_state, lines_over, given_over, tick_lines, after_tick};
+ghost use Rattle.duplex_line.specs.Acts.{Deed, Take, Deliver, Lose, Foreign, Tick, LineEndState, after_deeds, line_state, lines_over, given_over, tick_lines, after_tick};
 ghost use Rattle.duplex_line.specs.Run.{other, deeds_of, deed_lines};
 ghost use Rattle.duplex_line.specs.Told.{with_sent};
 ghost use Rattle.duplex_line.specs.Plays.{IsUnspent, most_events, takes_no_memory};
 ghost use Rattle.duplex_line.specs.Steps.{near_over, near_lines_over};
 ghost use Rattle.script_parts.specs.Playable.{IsPossible, count_of};
 
+use crate::line_end::LineEnd;
 use crate::reported::{Reported, arrive};
 use crate::sent::Sent;
-use crate::side::Side;
 use arrayvec::ArrayVec;
 use df1_base::NoMemory;
-use line_cells::Cell;
-use line_report::Page;
-use line_statement::{Bytes, Who};
+use lane_cells::Cell;
+use replay_report::Page;
+use report_lines::{tell_gone, tell_turn};
 use script_parts::Event;
+use script_statement::{Bytes, Who};
 use std::alloc::Global;
-use told_lines::{tell_gone, tell_turn};
 
 /// The end at the other end of the line.
 fn other(who: Who) -> Who
@@ -37,8 +37,8 @@ pub(crate) fn deal(
     alloc: Global,
     event: &Event,
     who: Who,
-    near: &mut Side,
-    far: &mut Side,
+    near: &mut LineEnd,
+    far: &mut LineEnd,
     reported: &mut Reported,
     sent: &mut Sent,
 ) -> Result<(), NoMemory>
@@ -82,7 +82,13 @@ pub(crate) fn deal(
 }
 
 /// Takes up to `n` bytes, and keeps them, where none are kept.
-fn give(alloc: Global, who: Who, near: &mut Side, n: u32, sent: &mut Sent) -> Result<(), NoMemory>
+fn give(
+    alloc: Global,
+    who: Who,
+    near: &mut LineEnd,
+    n: u32,
+    sent: &mut Sent,
+) -> Result<(), NoMemory>
     requires { sent.old.bytes ≡ [] }
     ensures near { OnOk result (near.new ≡ near_over near.old (replicate n Take)) }
     ensures sent { OnOk result (sent.new ≡ record { who = who; bytes = given_over near.old (replicate n Take) }) }
@@ -92,7 +98,7 @@ fn give(alloc: Global, who: Who, near: &mut Side, n: u32, sent: &mut Sent) -> Re
 }
 
 /// Takes up to `n` bytes, which stand behind those that are there.
-fn take_all(alloc: Global, near: &mut Side, n: u32, bytes: &mut Bytes) -> Result<(), NoMemory>
+fn take_all(alloc: Global, near: &mut LineEnd, n: u32, bytes: &mut Bytes) -> Result<(), NoMemory>
     ensures near { OnOk result (near.new ≡ near_over near.old (replicate n Take)) }
     ensures bytes { OnOk result (bytes.new ≡ bytes.old ++ given_over near.old (replicate n Take)) }
 {
@@ -109,8 +115,8 @@ fn take_all(alloc: Global, near: &mut Side, n: u32, bytes: &mut Bytes) -> Result
 fn deliver(
     alloc: Global,
     to: Who,
-    near: &mut Side,
-    far: &mut Side,
+    near: &mut LineEnd,
+    far: &mut LineEnd,
     n: u32,
     reported: &mut Reported,
 ) -> Result<(), NoMemory>
@@ -132,7 +138,7 @@ fn deliver(
 }
 
 /// Up to `n` bytes of the queue are lost.
-fn lose(near: &mut Side, n: u32)
+fn lose(near: &mut LineEnd, n: u32)
     ensures { near.new ≡ near_over near.old (replicate n Lose) }
 {
     for _ in 0..n {
@@ -148,14 +154,14 @@ fn lose(near: &mut Side, n: u32)
 fn intrude(
     alloc: Global,
     to: Who,
-    far: &mut Side,
+    far: &mut LineEnd,
     bytes: &[u8],
     reported: &mut Reported,
 ) -> Result<(), NoMemory>
     requires { reported.old.deceived + length bytes.now ≤ most_events }
-    ensures state { (near : SideState) → OnOk result (line_state near far.new reported.new.deceived
+    ensures state { (near : LineEndState) → OnOk result (line_state near far.new reported.new.deceived
         ≡ after_deeds (line_state near far.old reported.old.deceived) (map Foreign bytes.now)) }
-    ensures lines { (from : Who) (near : SideState) → OnOk result (reported.new.lines
+    ensures lines { (from : Who) (near : LineEndState) → OnOk result (reported.new.lines
         ≡ reported.old.lines ++ lines_over from to (line_state near far.old reported.old.deceived) (map Foreign bytes.now)) }
     ensures few { reported.new.deceived ≤ reported.old.deceived + length bytes.now }
 {
@@ -168,7 +174,7 @@ fn intrude(
 
 /// `n` units of time pass.
 #[inline(never)]
-fn pass(who: Who, near: &mut Side, n: u32, lines: &mut Page) -> Result<(), NoMemory>
+fn pass(who: Who, near: &mut LineEnd, n: u32, lines: &mut Page) -> Result<(), NoMemory>
     ensures near { OnOk result (near.new ≡ near_over near.old (replicate n Tick)) }
     ensures lines { OnOk result (lines.new ≡ lines.old ++ near_lines_over who near.old (replicate n Tick)) }
 {
@@ -182,7 +188,7 @@ fn pass(who: Who, near: &mut Side, n: u32, lines: &mut Page) -> Result<(), NoMem
 /// A unit of time passes: first the sender's line is told, then the unanswered commands, which replace those in `gone`.
 fn tick(
     who: Who,
-    near: &mut Side,
+    near: &mut LineEnd,
     gone: &mut ArrayVec<u32, 16>,
     lines: &mut Page,
 ) -> Result<(), NoMemory>

@@ -1,7 +1,7 @@
 //! Laws of the run of a script. The functions do nothing.
 ghost use Rattle.std.specs.Prelude.{◌≡◌, ◌∷◌, []};
 ghost use Rattle.script_parts.specs.declared.script.Script.{Script};
-ghost use Rattle.line_statement.specs.declared.who.Who.TheVariants.{A, B};
+ghost use Rattle.script_statement.specs.declared.who.Who.TheVariants.{A, B};
 ghost use Rattle.script_parts.specs.Playable.{IsPlayable};
 ghost use Rattle.each_once.specs.Commands.{AreOutcomesTold};
 ghost use Rattle.duplex_end.specs.Arrived.{HeardByGrammar};

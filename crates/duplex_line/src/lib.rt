@@ -17,9 +17,9 @@
 
 mod deal;
 pub mod laws;
+mod line_end;
 mod reported;
 mod sent;
-mod side;
 mod world;
 
-pub use world::World;
+pub use world::DuplexWorld;

@@ -3,16 +3,16 @@
 ghost use Rattle.std.specs.Prelude.{◌≡◌, ◌+◌, ◌≤◌, ◌<◌, ◌^◌, ◌++◌, [], OnOk, OnErr};
 ghost use Rattle.std.specs.List.{flat_map};
 ghost use Rattle.df1_base.specs.Outside.{Rose, Put, WrotePart, Later};
-ghost use Rattle.line_report.specs.Report.{line_text};
+ghost use Rattle.replay_report.specs.Report.{line_text};
 ghost use Rattle.duplex_line.specs.Acts.{after_cell, cell_lines, deceptions_at};
 
-use crate::side::Side;
+use crate::line_end::LineEnd;
 use df1_base::{Act, Failed, NoMemory, Sink};
-use line_cells::{Cell, is_deceived};
-use line_report::{Page, print_lines};
-use line_statement::Who;
+use lane_cells::{Cell, is_deceived};
+use replay_report::{Page, print_lines};
+use report_lines::{tell_act, tell_news};
+use script_statement::Who;
 use std::alloc::Global;
-use told_lines::{tell_act, tell_news};
 
 /// The lines so far, and how often an end was deceived.
 #[derive(Drop)]
@@ -64,7 +64,7 @@ impl Reported {
 pub(crate) fn arrive(
     alloc: Global,
     who: Who,
-    side: &mut Side,
+    side: &mut LineEnd,
     cell: &Cell,
     reported: &mut Reported,
 ) -> Result<(), NoMemory>

@@ -3,12 +3,12 @@
 ghost use Rattle.std.specs.Prelude.{◌≡◌, ◌<◌, [], length, OnOk, OnErr};
 ghost use Rattle.std.specs.List.{flat_map};
 ghost use Rattle.df1_base.specs.Outside.{Rose, Put, WrotePart, Later};
-ghost use Rattle.line_report.specs.Report.{line_text, sent_lines};
+ghost use Rattle.replay_report.specs.Report.{line_text, sent_lines};
 ghost use Rattle.duplex_line.specs.Told.{with_sent};
 
 use df1_base::{Failed, NoMemory, Sink};
-use line_report::{Line, Page, put_sent};
-use line_statement::{Bytes, Who};
+use replay_report::{Line, Page, put_sent};
+use script_statement::{Bytes, Who};
 use std::alloc::Global;
 use std::mem;
 

@@ -3,35 +3,35 @@
 ghost use Rattle.std.specs.Prelude.{◌≡◌, ◌≤◌, ◌++◌, IfOk, OnOk, OnErr, IsOk, IsTrue};
 ghost use Rattle.std.specs.List.{flat_map};
 ghost use Rattle.df1_base.specs.Outside.{Rose, Put, WrotePart, Later};
-ghost use Rattle.line_report.specs.Report.{line_text};
+ghost use Rattle.replay_report.specs.Report.{line_text};
 ghost use Rattle.script_parts.specs.Playable.{IsPlayable, IsPossible, count_of};
 ghost use Rattle.duplex_line.specs.Run.{record_from, all_words, who_of};
 ghost use Rattle.duplex_line.specs.Plays.{IsNext, begun, played, printed, takes_no_memory};
 
 use crate::deal::deal;
+use crate::line_end::{LineEnd, side_of};
 use crate::reported::Reported;
 use crate::sent::Sent;
-use crate::side::{Side, side_of};
 use df1_base::{Failed, NoMemory, Sink};
-use line_report::{Page, Record};
-use line_statement::Who;
+use replay_report::{Page, Record};
+use report_lines::push_all;
 use script_parts::{Event, Script, Words};
+use script_statement::Who;
 use std::alloc::Global;
 use std::marker::Model;
-use told_lines::push_all;
 
 /// Two ends with their nodes, and the bytes on their way between them. After want of memory it is only dropped.
 #[derive(Drop)]
-pub struct World {
+pub struct DuplexWorld {
     alloc: Global,
-    a: Side,
-    b: Side,
+    a: LineEnd,
+    b: LineEnd,
     reported: Reported,
     sent: Sent,
     events: u32,
 }
 
-impl Model for World {
+impl Model for DuplexWorld {
     ghost use Rattle.std.specs.Prelude.{◌≤◌};
     ghost use Rattle.std.specs.Coded.{codes};
     ghost use Rattle.df1_node.specs.contracts.node.Node as node_row;
@@ -48,16 +48,16 @@ impl Model for World {
     ghost invariant = { λ w. w.reported.deceived ≤ w.events };
 }
 
-impl World {
+impl DuplexWorld {
     /// The world before the first event of a script.
-    pub fn new(alloc: Global, script: &Script) -> Result<World, NoMemory>
+    pub fn new(alloc: Global, script: &Script) -> Result<DuplexWorld, NoMemory>
         requires { IsPlayable script.now }
         ensures { IfOk result (λ world. world ≡ begun script.now) }
     {
         let [a, b] = script.ends.as_slice() else {
             unreachable!();
         };
-        Ok(World {
+        Ok(DuplexWorld {
             alloc,
             a: side_of(alloc, script.check, a)?,
             b: side_of(alloc, script.check, b)?,
@@ -123,7 +123,7 @@ impl World {
         ensures { IfOk result (λ r. r ≡ record_from self.state self.lines) }
     {
         let words = self.words()?;
-        let World {
+        let DuplexWorld {
             alloc,
             mut reported,
             mut sent,

@@ -5,18 +5,18 @@ use Rattle.std.specs.Option.{option_to_list}
 use Rattle.std.proofs.lemmas.Bool.Decides.{nat_tests}
 use Rattle.std.proofs.lemmas.List.Elements.{All-nil, All-push}
 use Rattle.std.proofs.lemmas.List.Sums.{sum_by-append}
-use Rattle.line_statement.specs.declared.who.Who.{Who}
-use Rattle.line_statement.specs.declared.who.Who.TheVariants as who
+use Rattle.script_statement.specs.declared.who.Who.{Who}
+use Rattle.script_statement.specs.declared.who.Who.TheVariants as who
 use Rattle.script_parts.specs.declared.script.Event.{Event}
 use Rattle.script_parts.specs.declared.script.Event.TheVariants as event
-use Rattle.line_statement.specs.declared.statement.Side.{Side}
-use Rattle.line_statement.specs.declared.statement.Side.TheVariants.{A, B}
-use Rattle.line_statement.specs.declared.statement.EndName.TheVariants.{Known, Master, Station}
-use Rattle.line_statement.specs.declared.statement.Verb.{Verb}
-use Rattle.line_statement.specs.declared.statement.Verb.TheVariants.{Take, Tick, Deliver, Lose}
-use Rattle.line_statement.specs.declared.statement.Statement.{Statement}
-use Rattle.line_statement.specs.declared.statement.Statement.TheVariants as statement
-use Rattle.line_statement.specs.declared.statement.Statement.TheVariants.{Mode, Check, Setup, Issue, Times, Alter, Foreign, Half, End}
+use Rattle.script_statement.specs.declared.statement.EndLetter.{EndLetter}
+use Rattle.script_statement.specs.declared.statement.EndLetter.TheVariants.{A, B}
+use Rattle.script_statement.specs.declared.statement.EndName.TheVariants.{Known, Master, Station}
+use Rattle.script_statement.specs.declared.statement.Verb.{Verb}
+use Rattle.script_statement.specs.declared.statement.Verb.TheVariants.{Take, Tick, Deliver, Lose}
+use Rattle.script_statement.specs.declared.statement.Statement.{Statement}
+use Rattle.script_statement.specs.declared.statement.Statement.TheVariants as statement
+use Rattle.script_statement.specs.declared.statement.Statement.TheVariants.{Mode, Check, Setup, Issue, Times, Alter, Foreign, Half, End}
 use Rattle.end_drafts.specs.declared.flaw.Flaw.{Flaw}
 use Rattle.end_drafts.specs.declared.flaw.Flaw.TheVariants as flaw
 use Rattle.end_drafts.specs.declared.role.Role.TheVariants.{Duplex}
@@ -27,7 +27,7 @@ use Rattle.duplex_script.specs.Left.{IsLeft}
 use Rattle.duplex_script.specs.declared.reader.DuplexReader.{DuplexReader}
 use Rattle.duplex_script.specs.Drafts.{after_statement, script_with, fresh, is_misplaced, is_missing, is_out_of_range, is_twice, is_spent, is_too_many, flaw_of, settled, counted, times_event, with_statement}
 use Rattle.script_parts.specs.Playable.{IsBetween, IsPossible, IsPlayable, issues, count_of, joins}
-use Rattle.line_statement.specs.Statements.{who_of, other_end, is_payload}
+use Rattle.script_statement.specs.Statements.{who_of, other_end, is_payload}
 use Rattle.end_drafts.proofs.Ranges.{IsSound}
 use Rattle.end_drafts.proofs.EndStanding.{IsRight, right_at_first, right_with_commands, right_with_line, same_commands, plan_is_right}
 
@@ -95,7 +95,7 @@ eventful d e events x h possible no_a no_b few same_a same_b left begun = record
   begun = inr begun;
 }
 
-possible_times : (side : Side) (verb : Verb) (n : ℕ) → IsBetween 1 4000000 n → IsPossible (times_event side verb n)
+possible_times : (side : EndLetter) (verb : Verb) (n : ℕ) → IsBetween 1 4000000 n → IsPossible (times_event side verb n)
 possible_times A Take n h = (refl, h)
 possible_times A Tick n h = (refl, h)
 possible_times A Deliver n h = (refl, h)
@@ -105,19 +105,19 @@ possible_times B Tick n h = (refl, h)
 possible_times B Deliver n h = (refl, h)
 possible_times B Lose n h = (refl, h)
 
-times_count : (side : Side) (verb : Verb) (n : ℕ) → count_of (times_event side verb n) ≡ n
+times_count : (side : EndLetter) (verb : Verb) (n : ℕ) → count_of (times_event side verb n) ≡ n
 times_count side Take n = refl
 times_count side Tick n = refl
 times_count side Deliver n = refl
 times_count side Lose n = refl
 
-times_no_command : (by : Who) (side : Side) (verb : Verb) (n : ℕ) → issues by (times_event side verb n) ≡ false
+times_no_command : (by : Who) (side : EndLetter) (verb : Verb) (n : ℕ) → issues by (times_event side verb n) ≡ false
 times_no_command by side Take n = refl
 times_no_command by side Tick n = refl
 times_no_command by side Deliver n = refl
 times_no_command by side Lose n = refl
 
-joined : (side : Side) → IsTrue (joins (who_of side) (who_of (other_end side)))
+joined : (side : EndLetter) → IsTrue (joins (who_of side) (who_of (other_end side)))
 joined A = refl
 joined B = refl
 

@@ -10,33 +10,33 @@ use Rattle.end_drafts.specs.Drafts.{fresh_end, node_of, plan_of, lacks, exceeds,
 use Rattle.end_drafts.specs.Flaws.{first_of, unless_wrong}
 use Rattle.end_drafts.specs.Stages.{is_fresh, is_set_up, stage_after}
 use Rattle.df1_check.specs.declared.Check.TheVariants.{Bcc}
-use Rattle.line_statement.specs.declared.who.Who.TheVariants as who
+use Rattle.script_statement.specs.declared.who.Who.TheVariants as who
 use Rattle.script_parts.specs.declared.script.EndPlan.{EndPlan}
 use Rattle.script_parts.specs.declared.script.Script.{Script}
 use Rattle.script_parts.specs.declared.script.Lane.{Lane}
 use Rattle.script_parts.specs.declared.script.Event.{Event}
 use Rattle.script_parts.specs.declared.script.Event.TheVariants as event
-use Rattle.line_statement.specs.declared.statement.Side.{Side}
-use Rattle.line_statement.specs.declared.statement.Side.TheVariants.{A, B}
-use Rattle.line_statement.specs.declared.setup_line.SetupLine.TheVariants.{Word}
-use Rattle.line_statement.specs.declared.statement.EndName.TheVariants.{Known}
-use Rattle.line_statement.specs.declared.statement.Verb.{Verb}
-use Rattle.line_statement.specs.declared.statement.Verb.TheVariants.{Take, Tick, Deliver, Lose}
-use Rattle.line_statement.specs.declared.statement.Statement.{Statement}
-use Rattle.line_statement.specs.declared.statement.Statement.TheVariants.{Mode, Check, Station, Setup, Issue, Times, Alter, Foreign, Half}
+use Rattle.script_statement.specs.declared.statement.EndLetter.{EndLetter}
+use Rattle.script_statement.specs.declared.statement.EndLetter.TheVariants.{A, B}
+use Rattle.script_statement.specs.declared.setup_statement.SetupStatement.TheVariants.{Word}
+use Rattle.script_statement.specs.declared.statement.EndName.TheVariants.{Known}
+use Rattle.script_statement.specs.declared.statement.Verb.{Verb}
+use Rattle.script_statement.specs.declared.statement.Verb.TheVariants.{Take, Tick, Deliver, Lose}
+use Rattle.script_statement.specs.declared.statement.Statement.{Statement}
+use Rattle.script_statement.specs.declared.statement.Statement.TheVariants.{Mode, Check, Station, Setup, Issue, Times, Alter, Foreign, Half}
 use Rattle.duplex_script.specs.declared.reader.DuplexReader.{DuplexReader}
-use Rattle.line_statement.specs.Statements.{who_of, other_end}
+use Rattle.script_statement.specs.Statements.{who_of, other_end}
 
 -- before any line: 4,000,000 events may come
 abbrev pub fresh : DuplexReader
 fresh = record { stage = Fresh; check = None; a = fresh_end; b = fresh_end; events_left = 4000000 }
 
 -- what is known of an end
-abbrev pub end_at : DuplexReader → Side → EndDraft
+abbrev pub end_at : DuplexReader → EndLetter → EndDraft
 end_at d A = d.a
 end_at d B = d.b
 
-abbrev pub with_end : DuplexReader → Side → EndDraft → DuplexReader
+abbrev pub with_end : DuplexReader → EndLetter → EndDraft → DuplexReader
 with_end d A end = record d { a = end }
 with_end d B end = record d { b = end }
 
@@ -117,22 +117,22 @@ settled d (Issue side payload) = with_end d side (record (end_at d side) { comma
 settled d statement = d
 
 -- the address of an end
-abbrev pub address_of : DuplexReader → Side → ℕ
+abbrev pub address_of : DuplexReader → EndLetter → ℕ
 address_of d A = node_of d.a 0
 address_of d B = node_of d.b 1
 
 -- the queue of an end
-abbrev pub lane_from : Side → Lane
+abbrev pub lane_from : EndLetter → Lane
 lane_from side = record { from = who_of side; to = who_of (other_end side) }
 
-abbrev pub times_event : Side → Verb → ℕ → Event
+abbrev pub times_event : EndLetter → Verb → ℕ → Event
 times_event side Take n = event.Take (who_of side) n
 times_event side Tick n = event.Tick (who_of side) n
 times_event side Deliver n = event.Deliver (lane_from side) n
 times_event side Lose n = event.Lose (lane_from side) n
 
 -- the statement that gives the first value of a word of a file of an end
-abbrev pub word_given : Side → ℕ → ℕ → ℕ → Statement
+abbrev pub word_given : EndLetter → ℕ → ℕ → ℕ → Statement
 word_given side file index value = Setup (Known side) (Word (Some file) index value)
 
 -- the event that a statement is

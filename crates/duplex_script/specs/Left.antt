@@ -1,6 +1,6 @@
 -- What is left, after some lines, of the commands that an end may issue and of the events that a script may have.
 use Rattle.std.specs.Prelude.{◌≡◌, ◌-◌, List, count_by, sum_by}
-use Rattle.line_statement.specs.declared.who.Who.TheVariants.{A, B}
+use Rattle.script_statement.specs.declared.who.Who.TheVariants.{A, B}
 use Rattle.script_parts.specs.declared.script.Event.{Event}
 use Rattle.script_parts.specs.Playable.{issues, count_of}
 use Rattle.duplex_script.specs.declared.reader.DuplexReader.{DuplexReader}

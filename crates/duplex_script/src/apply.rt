@@ -3,16 +3,16 @@ ghost use Rattle.std.specs.Prelude.{◌≡◌, IfOk, MatchResult, OnOk, Ok, Err,
 ghost use Rattle.end_drafts.specs.declared.flaw.Flaw.{Flaw as TheFlaw};
 ghost use Rattle.end_drafts.specs.Flaws.{IsFlawed};
 ghost use Rattle.duplex_script.specs.Drafts.{after_statement, with_statement as the_draft, settled, sets_up as the_setup_test, event_of as the_event, address_of as the_address, lane_from, times_event as the_times, word_given};
-ghost use Rattle.line_statement.specs.declared.statement.Side.{Side as End};
-ghost use Rattle.line_statement.specs.declared.statement.Verb.{Verb as Happening};
+ghost use Rattle.script_statement.specs.declared.statement.EndLetter.{EndLetter as End};
+ghost use Rattle.script_statement.specs.declared.statement.Verb.{Verb as Happening};
 
 use crate::DuplexReader;
 use crate::first_flaw::steps_of;
 use crate::reader::{NODE_OF_A, NODE_OF_B};
 use df1_base::NoMemory;
 use end_drafts::{Flaw, Stage, StatementFault};
-use line_statement::{Bytes, EndName, SetupLine, Side, Statement, Verb};
 use script_parts::{Event, Lane, WordOf};
+use script_statement::{Bytes, EndLetter, EndName, SetupStatement, Statement, Verb};
 
 impl DuplexReader {
     /// Takes a statement, and answers its event, if it is one.
@@ -49,7 +49,7 @@ impl DuplexReader {
     /// Takes a statement that gives the first value of a word, as `take` takes it; it is no event.
     pub fn take_word(
         &mut self,
-        side: Side,
+        side: EndLetter,
         file: u16,
         index: u32,
         value: u16,
@@ -68,8 +68,8 @@ impl DuplexReader {
             value,
         };
         match side {
-            Side::A => self.a.take_word(word)?,
-            Side::B => self.b.take_word(word)?,
+            EndLetter::A => self.a.take_word(word)?,
+            EndLetter::B => self.b.take_word(word)?,
         }
         self.stage = Stage::Settings;
         Ok(())
@@ -77,7 +77,7 @@ impl DuplexReader {
 
     /// Takes a statement that issues a command with this payload at an end, as `take` takes it, and answers its event. The flaw is
     /// Spent where the end may issue no more, and else Events where the sum of events would pass its most.
-    pub fn take_issue(&mut self, side: Side, payload: Bytes) -> Result<Event, Flaw>
+    pub fn take_issue(&mut self, side: EndLetter, payload: Bytes) -> Result<Event, Flaw>
         ensures { MatchResult result (λ event. after_statement self.old (Statement.Issue side (Some payload)) ≡ Ok (self.new, Some event))
             (λ flaw. after_statement self.old (Statement.Issue side (Some payload)) ≡ Err flaw) }
     {
@@ -106,12 +106,12 @@ impl DuplexReader {
 
     /// Takes a line of an end. A file and a word alone take memory.
     #[inline(never)]
-    fn set_up(&mut self, end: EndName, line: SetupLine) -> Result<(), NoMemory>
+    fn set_up(&mut self, end: EndName, line: SetupStatement) -> Result<(), NoMemory>
         ensures { OnOk result (self.new ≡ settled self.old (Statement.Setup end line)) }
     {
         match end {
-            EndName::Known(Side::A) => self.a.take(Side::A.who(), line),
-            EndName::Known(Side::B) => self.b.take(Side::B.who(), line),
+            EndName::Known(EndLetter::A) => self.a.take(EndLetter::A.who(), line),
+            EndName::Known(EndLetter::B) => self.b.take(EndLetter::B.who(), line),
             EndName::Master | EndName::Station(_) => Ok(()),
         }
     }
@@ -129,12 +129,12 @@ impl DuplexReader {
     }
 
     /// Counts a command of an end.
-    fn count_command(&mut self, side: Side)
+    fn count_command(&mut self, side: EndLetter)
         ensures { self.new ≡ settled self.old (Statement.Issue side None) }
     {
         match side {
-            Side::A => self.a.count_command(),
-            Side::B => self.b.count_command(),
+            EndLetter::A => self.a.count_command(),
+            EndLetter::B => self.b.count_command(),
         }
     }
 
@@ -171,7 +171,7 @@ impl DuplexReader {
     }
 
     /// The event that issues a command at an end, for the other one.
-    fn command(&self, side: Side, payload: Bytes) -> Event
+    fn command(&self, side: EndLetter, payload: Bytes) -> Event
         ensures { Some result ≡ the_event self.now (Statement.Issue side (Some payload)) }
     {
         Event::Issue {
@@ -182,12 +182,12 @@ impl DuplexReader {
     }
 
     /// The address of an end.
-    fn address_of(&self, side: Side) -> u8
+    fn address_of(&self, side: EndLetter) -> u8
         ensures { result ≡ the_address self.now side }
     {
         match side {
-            Side::A => self.a.node(NODE_OF_A),
-            Side::B => self.b.node(NODE_OF_B),
+            EndLetter::A => self.a.node(NODE_OF_A),
+            EndLetter::B => self.b.node(NODE_OF_B),
         }
     }
 }
@@ -200,7 +200,7 @@ fn sets_up(statement: &Statement) -> bool
 }
 
 /// The event that happens `n` times at an end, or at its queue.
-pub fn times_event(side: Side, verb: Verb, n: u32) -> Event
+pub fn times_event(side: EndLetter, verb: Verb, n: u32) -> Event
     ensures { result ≡ the_times side verb n }
 {
     match verb {
@@ -218,7 +218,7 @@ pub fn times_event(side: Side, verb: Verb, n: u32) -> Event
 }
 
 /// The queue of an end.
-fn lane_of(side: Side) -> Lane
+fn lane_of(side: EndLetter) -> Lane
     ensures { result ≡ lane_from side }
 {
     Lane {

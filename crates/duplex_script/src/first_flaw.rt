@@ -4,7 +4,7 @@ ghost use Rattle.duplex_script.specs.Drafts.{flaw_of as the_flaw, is_misplaced a
 
 use crate::DuplexReader;
 use end_drafts::{Flaw, Role, Stage};
-use line_statement::{EndName, Statement};
+use script_statement::{EndName, Statement};
 
 impl DuplexReader {
     /// The first flaw that a statement has, in the order of the flaws.

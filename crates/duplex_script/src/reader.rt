@@ -7,8 +7,8 @@ ghost use Rattle.duplex_script.specs.Drafts.{fresh, after_statement, end_at as t
 use df1_base::NoMemory;
 use df1_check::Check;
 use end_drafts::{EndDraft, Stage, StatementFault};
-use line_statement::{EVENTS, Items, Side, Statement, Who};
 use script_parts::{Ends, Event, Events, Script};
+use script_statement::{EVENTS, EndLetter, Items, Statement, Who};
 use std::alloc::Global;
 
 /// The address of end a, where no line sets it.
@@ -55,12 +55,12 @@ impl DuplexReader {
     }
 
     /// What is known of an end.
-    pub(crate) fn end(&self, side: Side) -> &EndDraft
+    pub(crate) fn end(&self, side: EndLetter) -> &EndDraft
         ensures { result.now ≡ the_end self.now side }
     {
         match side {
-            Side::A => &self.a,
-            Side::B => &self.b,
+            EndLetter::A => &self.a,
+            EndLetter::B => &self.b,
         }
     }
 

@@ -12,7 +12,7 @@ use Rattle.df1_node.specs.HostLaws.{reply-body}
 use Rattle.df1_node.specs.Initiator.{Issued, InitiatorState, is_waiting, is_out, next_issued, next_command, after_issue}
 use Rattle.df1_node.specs.Node.{NodeState, next_body}
 use Rattle.pccc_envelope.specs.Envelope.{is_reply}
-use Rattle.line_statement.specs.Statements.{is_payload}
+use Rattle.script_statement.specs.Statements.{is_payload}
 use Rattle.each_once.specs.Exchanges.{exchanges}
 use Rattle.each_once.proofs.HandedOut.{is_command, Hosts}
 

@@ -5,8 +5,8 @@ use Rattle.std.specs.List.{filter_map}
 use Rattle.std.proofs.lemmas.List.Elements.{filter_map-append, All-push, All-nil, Contains-append_left}
 use Rattle.df1_node.specs.Answer.{StationState, reply_to}
 use Rattle.df1_node.specs.Initiator.{Issued}
-use Rattle.line_statement.specs.declared.who.Who.{Who}
-use Rattle.line_report.specs.declared.record.Line.{Line}
+use Rattle.script_statement.specs.declared.who.Who.{Who}
+use Rattle.replay_report.specs.declared.record.Line.{Line}
 use Rattle.each_once.specs.Exchanges.{exchanges, station_after}
 use Rattle.each_once.specs.Tells.{executed_at, answer_at, stray_at, executed_in, answers_in, strays_in}
 use Rattle.each_once.proofs.KeptCommands.{is_given_up, IsReplyOf, IsOfLost}

@@ -16,11 +16,11 @@ use Rattle.df1_node.specs.declared.handed.Handed.TheVariants as handed
 use Rattle.df1_node.specs.Initiator.{Issued, Standing, Waiting, Out, Answered, Undelivered, Unanswered, InitiatorState, is_waiting, is_out, restated, answered_place, after_reply, is_out_at, after_hand_out, next_place, ticked, is_last_tick, unanswered_from}
 use Rattle.df1_node.specs.Node.{NodeState, did_accept, after_accept, after_next, news_of, news_told, after_told, after_tick, gone_unanswered, initiator_after}
 use Rattle.df1_node.proofs.Final.{get-restated, get-map}
-use Rattle.line_statement.specs.declared.who.Who.{Who}
-use Rattle.line_report.specs.declared.record.Line.{Line}
-use Rattle.line_report.specs.declared.record.Line.TheVariants as line
+use Rattle.script_statement.specs.declared.who.Who.{Who}
+use Rattle.replay_report.specs.declared.record.Line.{Line}
+use Rattle.replay_report.specs.declared.record.Line.TheVariants as line
 use Rattle.each_once.specs.Commands.{told_of, told_of_command, AreOutcomesTold}
-use Rattle.told_lines.specs.NodeLines.{did_lines, news_lines, gone_lines}
+use Rattle.report_lines.specs.NodeLines.{did_lines, news_lines, gone_lines}
 use Rattle.each_once.specs.Tells.{is_who, outcome_at, outcomes_in}
 use Rattle.each_once.proofs.CommandBodies.{answered-some, first-waiting}
 

@@ -1,8 +1,8 @@
 -- What the lines of a report tell of one of several stations.
 use Rattle.std.specs.Prelude.{ℕ, Bool, true, List, slice_index, ◌==◌}
 use Rattle.std.specs.List.{filter}
-use Rattle.line_report.specs.declared.record.Line.{Line}
-use Rattle.line_report.specs.declared.record.Line.TheVariants as line
+use Rattle.replay_report.specs.declared.record.Line.{Line}
+use Rattle.replay_report.specs.declared.record.Line.TheVariants as line
 
 -- a reply is from this station: its SRC, the second byte, is the station's number
 abbrev pub is_from : ℕ → List ℕ → Bool

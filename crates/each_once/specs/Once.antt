@@ -2,8 +2,8 @@
 -- the station at the other. It knows nothing of frames, checks, acknowledgements, timers and repeats.
 use Rattle.std.specs.Prelude.{◌≡◌, ◌≤◌, ℕ, List, slice_get, length, All, Contains, Some}
 use Rattle.df1_node.specs.Answer.{StationState}
-use Rattle.line_statement.specs.declared.who.Who.{Who}
-use Rattle.line_report.specs.declared.record.Line.{Line}
+use Rattle.script_statement.specs.declared.who.Who.{Who}
+use Rattle.replay_report.specs.declared.record.Line.{Line}
 use Rattle.each_once.specs.Commands.{command_at}
 use Rattle.each_once.specs.Direction.{AreSomeOf}
 use Rattle.each_once.specs.Exchanges.{exchanges}

@@ -8,14 +8,14 @@ use Rattle.std.proofs.lemmas.List.Elements.{All-nil, All-push, All-weaker}
 use Rattle.data_files.specs.declared.file_spec.FileSpec.{FileSpec}
 use Rattle.data_files.specs.Tables.{faults, fits_compat, has_word, word_count}
 use Rattle.data_files.specs.Words.{holds_words}
-use Rattle.line_statement.specs.declared.who.Who.{Who}
+use Rattle.script_statement.specs.declared.who.Who.{Who}
 use Rattle.script_parts.specs.declared.script.WordOf.{WordOf}
-use Rattle.line_statement.specs.declared.setup_line.Setting.{Setting}
-use Rattle.line_statement.specs.declared.setup_line.Setting.TheVariants.{Embed, Node, Tns, AckTicks, MaxNaks, MaxEnqs, ReplyTicks, MaxResends, PollTicks, MaxSends, Room}
+use Rattle.script_statement.specs.declared.setup_statement.Setting.{Setting}
+use Rattle.script_statement.specs.declared.setup_statement.Setting.TheVariants.{Embed, Node, Tns, AckTicks, MaxNaks, MaxEnqs, ReplyTicks, MaxResends, PollTicks, MaxSends, Room}
 use Rattle.end_drafts.specs.declared.settings.Settings.{Settings}
 use Rattle.end_drafts.specs.declared.end_draft.EndDraft.{EndDraft}
-use Rattle.line_statement.specs.declared.setup_line.SetupLine.{SetupLine}
-use Rattle.line_statement.specs.declared.setup_line.SetupLine.TheVariants.{Set, Compat, Block, File, Word}
+use Rattle.script_statement.specs.declared.setup_statement.SetupStatement.{SetupStatement}
+use Rattle.script_statement.specs.declared.setup_statement.SetupStatement.TheVariants.{Set, Compat, Block, File, Word}
 use Rattle.end_drafts.specs.declared.role.Role.{Role}
 use Rattle.end_drafts.specs.declared.role.Role.TheVariants.{Station}
 use Rattle.end_drafts.specs.Drafts.{fresh_end, with_setting, station_key, plan_of, lacks, exceeds, repeats, with_line}
@@ -134,7 +134,7 @@ room_for_file false full h = h
 fewer : (n : ℕ) → nat_le 256 n ≡ false → n < 256
 fewer n h = grind (arith, nat_tests)
 
-pub right_with_line : (who : Who) (role : Role) (end : EndDraft) (line : SetupLine) → IsRight end → IsSoundLine line → lacks role end line ≡ false → exceeds end line ≡ false → repeats end line ≡ false → IsRight (with_line who end line)
+pub right_with_line : (who : Who) (role : Role) (end : EndDraft) (line : SetupStatement) → IsRight end → IsSoundLine line → lacks role end line ≡ false → exceeds end line ≡ false → repeats end line ≡ false → IsRight (with_line who end line)
 right_with_line who role end (Set x) h sound there inside new = right_with_setting end x h sound
 right_with_line who role end (Compat None) h sound there inside new = h
 right_with_line who role end (Compat (Some None)) h sound there inside new = h
@@ -147,7 +147,7 @@ right_with_line who role end (Word None index value) h sound there inside new = 
 right_with_line who role end (Word (Some file) index value) h sound there inside new = right_with_word end (record { who = who; file = file; index = index; value = value }) h there inside
 
 -- a line of an end is no command
-pub same_commands : (who : Who) (end : EndDraft) (line : SetupLine) → (with_line who end line).commands_left ≡ end.commands_left
+pub same_commands : (who : Who) (end : EndDraft) (line : SetupStatement) → (with_line who end line).commands_left ≡ end.commands_left
 same_commands who end (Set x) = refl
 same_commands who end (Compat None) = refl
 same_commands who end (Compat (Some None)) = refl
@@ -173,7 +173,7 @@ node_kept s (MaxSends v) is = refl
 node_kept s (Room v) is = refl
 
 -- no line sets the address of a station
-pub same_node : (who : Who) (end : EndDraft) (line : SetupLine) → lacks Station end line ≡ false → (with_line who end line).settings.node ≡ end.settings.node
+pub same_node : (who : Who) (end : EndDraft) (line : SetupStatement) → lacks Station end line ≡ false → (with_line who end line).settings.node ≡ end.settings.node
 same_node who end (Set x) there = node_kept end.settings x (no_other (station_key x) there)
 same_node who end (Compat None) there = refl
 same_node who end (Compat (Some None)) there = refl

@@ -5,24 +5,24 @@ use Rattle.std.specs.Str.{bytes_eq}
 use Rattle.std.proofs.lemmas.Bool.{cond_both}
 use Rattle.std.proofs.lemmas.Bool.Decides.{nat_tests}
 use Rattle.df1_base.specs.declared.file_type.FileType.{FileType}
-use Rattle.line_statement.specs.declared.setup_line.Setting.{Setting}
-use Rattle.line_statement.specs.declared.setup_line.Setting.TheVariants.{Embed, Node, Tns, AckTicks, MaxNaks, MaxEnqs, ReplyTicks, MaxResends, PollTicks, MaxSends, Room}
-use Rattle.line_statement.specs.declared.setup_line.SetupLine.{SetupLine}
-use Rattle.line_statement.specs.declared.setup_line.SetupLine.TheVariants.{Set, Block, File}
-use Rattle.line_statement.specs.declared.half_event.Way.{Way}
-use Rattle.line_statement.specs.declared.half_event.Way.TheVariants.{ToStation, ToMaster}
-use Rattle.line_statement.specs.declared.half_event.HalfEvent.{HalfEvent}
-use Rattle.line_statement.specs.declared.half_event.HalfEvent.TheVariants as half
-use Rattle.line_statement.specs.declared.statement.Side.{Side}
-use Rattle.line_statement.specs.declared.statement.EndName.{EndName}
-use Rattle.line_statement.specs.declared.statement.EndName.TheVariants.{Known, Master, Station}
-use Rattle.line_statement.specs.declared.statement.Verb.{Verb}
-use Rattle.line_statement.specs.declared.statement.Statement.{Statement}
-use Rattle.line_statement.specs.declared.statement.Statement.TheVariants as statement
+use Rattle.script_statement.specs.declared.setup_statement.Setting.{Setting}
+use Rattle.script_statement.specs.declared.setup_statement.Setting.TheVariants.{Embed, Node, Tns, AckTicks, MaxNaks, MaxEnqs, ReplyTicks, MaxResends, PollTicks, MaxSends, Room}
+use Rattle.script_statement.specs.declared.setup_statement.SetupStatement.{SetupStatement}
+use Rattle.script_statement.specs.declared.setup_statement.SetupStatement.TheVariants.{Set, Block, File}
+use Rattle.script_statement.specs.declared.half_event.Way.{Way}
+use Rattle.script_statement.specs.declared.half_event.Way.TheVariants.{ToStation, ToMaster}
+use Rattle.script_statement.specs.declared.half_event.HalfEvent.{HalfEvent}
+use Rattle.script_statement.specs.declared.half_event.HalfEvent.TheVariants as half
+use Rattle.script_statement.specs.declared.statement.EndLetter.{EndLetter}
+use Rattle.script_statement.specs.declared.statement.EndName.{EndName}
+use Rattle.script_statement.specs.declared.statement.EndName.TheVariants.{Known, Master, Station}
+use Rattle.script_statement.specs.declared.statement.Verb.{Verb}
+use Rattle.script_statement.specs.declared.statement.Statement.{Statement}
+use Rattle.script_statement.specs.declared.statement.Statement.TheVariants as statement
 use Rattle.script_parts.specs.Playable.{IsBetween}
 use Rattle.script_parts.specs.HalfPlayable.{IsStationNumber}
-use Rattle.line_statement.specs.Words.{number_of, within, hex_of, byte_of, register_of}
-use Rattle.line_statement.specs.Statements.{statement_of, end_of, switch_of, check_of, setting_of, set_statement, file_number, compat_line, is_block, block_of, block_line, setting_at, end_setting, set_line, file_type, file_spec, file_line, word_line, station_number, station_line, times_of, is_payload, payload_of, mask_of, foreign_of, verb_of, times_line, issue_line, alter_line, foreign_line, half_issue, master_take, master_tick, station_take, half_deliver, half_lose, half_alter, half_foreign, way_event, way_once, master_times, once_to_station, master_event, to_station, station_once, station_event, half_line, end_in, letter_in, event_alone, event_with, event_to, bare_event, operand_event, station_operand_event, one_word, two_words, three_words, five_words}
+use Rattle.script_statement.specs.Words.{number_of, within, hex_of, byte_of, register_of}
+use Rattle.script_statement.specs.Statements.{statement_of, end_of, switch_of, check_of, setting_of, set_statement, file_number, compat_line, is_block, block_of, block_line, setting_at, end_setting, set_line, file_type, file_spec, file_line, word_line, station_number, station_line, times_of, is_payload, payload_of, mask_of, foreign_of, verb_of, times_line, issue_line, alter_line, foreign_line, half_issue, master_take, master_tick, station_take, half_deliver, half_lose, half_alter, half_foreign, way_event, way_once, master_times, once_to_station, master_event, to_station, station_once, station_event, half_line, end_in, letter_in, event_alone, event_with, event_to, bare_event, operand_event, station_operand_event, one_word, two_words, three_words, five_words}
 
 -- a number within bounds, if there is one
 abbrev pub IfBetween : ℕ → ℕ → Option ℕ → Type 0
@@ -42,7 +42,7 @@ IsAllowed (PollTicks n) = IfBetween 1 1000000 n
 IsAllowed (MaxSends n) = IfBetween 1 255 n
 IsAllowed (Room n) = IfBetween 2 64 n
 
-abbrev pub IsSoundLine : SetupLine → Type 0
+abbrev pub IsSoundLine : SetupStatement → Type 0
 IsSoundLine (Set setting) = IsAllowed setting
 IsSoundLine (Block (Some bytes)) = IsBetween 1 244 (length bytes)
 IsSoundLine (File (Some spec)) = IsBetween 1 1000 spec.count
@@ -205,24 +205,24 @@ sound_bytes F bytes some none = cond_both (nat_le 1 (length bytes) && nat_le (le
 
 -- ---- events of a full-duplex link
 
-sound_times_line : (side : Side) (verb : Option Verb) (n : Option ℕ) → IfSound (times_line side verb n)
+sound_times_line : (side : EndLetter) (verb : Option Verb) (n : Option ℕ) → IfSound (times_line side verb n)
 sound_times_line side None n = tt
 sound_times_line side (Some verb) None = tt
 sound_times_line side (Some verb) (Some n) = IfBetween-within 1 4000000 (Some n)
 
-sound_issue_line : (side : Side) (bytes : Option (List ℕ)) → IfSound (issue_line side bytes)
+sound_issue_line : (side : EndLetter) (bytes : Option (List ℕ)) → IfSound (issue_line side bytes)
 sound_issue_line side None = tt
 sound_issue_line side (Some bytes) = sound_payload (λ o. IsSound (statement.Issue side o)) bytes (λ e. e) tt
 
-sound_alter_line : (side : Side) (mask : Option ℕ) → IfSound (alter_line side mask)
+sound_alter_line : (side : EndLetter) (mask : Option ℕ) → IfSound (alter_line side mask)
 sound_alter_line side None = tt
 sound_alter_line side (Some mask) = sound_mask (λ o. IsSound (statement.Alter side o)) mask (λ e. e) tt
 
-sound_foreign_line : (side : Side) (bytes : Option (List ℕ)) → IfSound (foreign_line side bytes)
+sound_foreign_line : (side : EndLetter) (bytes : Option (List ℕ)) → IfSound (foreign_line side bytes)
 sound_foreign_line side None = tt
 sound_foreign_line side (Some bytes) = sound_bytes (λ o. IsSound (statement.Foreign side o)) bytes (λ e. e) tt
 
-events : (issue alter foreign : Bool) (side : Side) (letter : ℕ) (operand : List ℕ) → IfSound (
+events : (issue alter foreign : Bool) (side : EndLetter) (letter : ℕ) (operand : List ℕ) → IfSound (
     if issue then issue_line side (hex_of operand)
     else if alter then alter_line side (byte_of operand)
     else if foreign then foreign_line side (hex_of operand)

@@ -5,11 +5,11 @@ use Rattle.std.specs.Option.{option_map_or}
 use Rattle.data_files.specs.declared.file_spec.FileSpec.{FileSpec}
 use Rattle.data_files.specs.Tables.{word_count}
 use Rattle.data_files.specs.Words.{holds_words}
-use Rattle.line_statement.specs.declared.who.Who.{Who}
-use Rattle.line_statement.specs.declared.setup_line.Setting.{Setting}
-use Rattle.line_statement.specs.declared.setup_line.Setting.TheVariants.{Embed, Node, Tns, AckTicks, MaxNaks, MaxEnqs, ReplyTicks, MaxResends, PollTicks, MaxSends, Room}
-use Rattle.line_statement.specs.declared.setup_line.SetupLine.{SetupLine}
-use Rattle.line_statement.specs.declared.setup_line.SetupLine.TheVariants.{Set, Compat, Block, File, Word}
+use Rattle.script_statement.specs.declared.who.Who.{Who}
+use Rattle.script_statement.specs.declared.setup_statement.Setting.{Setting}
+use Rattle.script_statement.specs.declared.setup_statement.Setting.TheVariants.{Embed, Node, Tns, AckTicks, MaxNaks, MaxEnqs, ReplyTicks, MaxResends, PollTicks, MaxSends, Room}
+use Rattle.script_statement.specs.declared.setup_statement.SetupStatement.{SetupStatement}
+use Rattle.script_statement.specs.declared.setup_statement.SetupStatement.TheVariants.{Set, Compat, Block, File, Word}
 use Rattle.script_parts.specs.declared.script.EndPlan.{EndPlan}
 use Rattle.script_parts.specs.declared.script.WordOf.{WordOf}
 use Rattle.end_drafts.specs.declared.end_draft.EndDraft.{EndDraft}
@@ -119,7 +119,7 @@ declared end None = None
 declared end (Some number) = find (λ spec. spec.number == number) end.files
 
 -- it names a key that an end of this kind hasn't, or a file that isn't declared
-abbrev pub lacks : Role → EndDraft → SetupLine → Bool
+abbrev pub lacks : Role → EndDraft → SetupStatement → Bool
 lacks role end (Set setting) = not (has_key role setting)
 lacks role end (Compat None) = false
 lacks role end (Compat (Some file)) = is_none (declared end file)
@@ -128,7 +128,7 @@ lacks role end (File spec) = false
 lacks role end (Word file index value) = is_none (declared end file)
 
 -- a number, a word or a length is out of its range, the file is the 257th, or a compatibility file is of another type than bit or integer
-abbrev pub exceeds : EndDraft → SetupLine → Bool
+abbrev pub exceeds : EndDraft → SetupStatement → Bool
 exceeds end (Set setting) = is_outside setting
 exceeds end (Compat None) = true
 exceeds end (Compat (Some file)) = option_map_or (λ spec. not (holds_words spec.kind)) (declared end file) false
@@ -137,7 +137,7 @@ exceeds end (File spec) = is_none spec || nat_le 256 (length end.files)
 exceeds end (Word file index value) = option_map_or (λ spec. nat_le (word_count spec) index) (declared end file) false
 
 -- an earlier line gave the key, the file or the word
-abbrev pub repeats : EndDraft → SetupLine → Bool
+abbrev pub repeats : EndDraft → SetupStatement → Bool
 repeats end (Set setting) = is_given end.settings setting
 repeats end (Compat file) = is_some end.compat
 repeats end (Block bytes) = is_some end.block
@@ -147,7 +147,7 @@ repeats end (Word None index value) = false
 repeats end (Word (Some file) index value) = list_any (is_at file index) end.words
 
 -- what is wrong with a line of an end, wherever it stands
-abbrev pub line_flaw : Role → EndDraft → SetupLine → Option Flaw
+abbrev pub line_flaw : Role → EndDraft → SetupStatement → Option Flaw
 line_flaw role end line = first_of (
     (lacks role end line, flaw.Missing)
     ∷ (exceeds end line, flaw.Value)
@@ -156,7 +156,7 @@ line_flaw role end line = first_of (
 
 -- ---- what a line changes
 
-abbrev pub with_line : Who → EndDraft → SetupLine → EndDraft
+abbrev pub with_line : Who → EndDraft → SetupStatement → EndDraft
 with_line who end (Set setting) = record end { settings = with_setting end.settings setting }
 with_line who end (Compat (Some (Some file))) = record end { compat = Some file }
 with_line who end (Block (Some bytes)) = record end { block = Some bytes }

@@ -1,7 +1,7 @@
 -- What the lines so far allow.
 use Rattle.std.specs.Prelude.{Bool, true, false}
-use Rattle.line_statement.specs.declared.statement.Statement.{Statement}
-use Rattle.line_statement.specs.declared.statement.Statement.TheVariants.{Mode, Check, Station, Setup, Issue, Times, Alter, Foreign, Half, End}
+use Rattle.script_statement.specs.declared.statement.Statement.{Statement}
+use Rattle.script_statement.specs.declared.statement.Statement.TheVariants.{Mode, Check, Station, Setup, Issue, Times, Alter, Foreign, Half, End}
 use Rattle.end_drafts.specs.declared.stage.Stage.{Stage}
 use Rattle.end_drafts.specs.declared.stage.Stage.TheVariants.{Fresh, Settings, Events, Ended}
 

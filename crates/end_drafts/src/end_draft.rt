@@ -11,8 +11,8 @@ use crate::role::Role;
 use crate::settings::{Settings, is_outside};
 use data_files::{FileSpec, MAX_FILES};
 use df1_base::NoMemory;
-use line_statement::{Bytes, Items, SetupLine, Who};
 use script_parts::{EndPlan, WordOf};
+use script_statement::{Bytes, Items, SetupStatement, Who};
 use std::alloc::Global;
 
 /// The most commands of an end.
@@ -61,33 +61,34 @@ impl EndDraft {
     }
 
     /// Whether a line names a key that an end of this kind hasn't, or a file that isn't declared.
-    pub fn lacks(&self, role: Role, line: &SetupLine) -> bool
+    pub fn lacks(&self, role: Role, line: &SetupStatement) -> bool
         ensures { result ≡ the_lacks role self.now line.now }
     {
         match line {
-            SetupLine::Set(setting) => !role.has_key(*setting),
-            SetupLine::Compat(Some(file)) | SetupLine::Word { file, .. } => {
+            SetupStatement::Set(setting) => !role.has_key(*setting),
+            SetupStatement::Compat(Some(file)) | SetupStatement::Word { file, .. } => {
                 self.declared(*file).is_none()
             }
-            SetupLine::Compat(None) | SetupLine::Block(_) | SetupLine::File(_) => false,
+            SetupStatement::Compat(None) | SetupStatement::Block(_) | SetupStatement::File(_) =>
+                false,
         }
     }
 
     /// Whether a number, a word or a length of a line is out of its range, or a compatibility file is of another type than
     /// bit or integer.
-    pub fn exceeds(&self, line: &SetupLine) -> bool
+    pub fn exceeds(&self, line: &SetupStatement) -> bool
         ensures { result ≡ the_exceeds self.now line.now }
     {
         match line {
-            SetupLine::Set(setting) => is_outside(*setting),
-            SetupLine::Compat(None) => true,
-            SetupLine::Compat(Some(file)) => match self.declared(*file) {
+            SetupStatement::Set(setting) => is_outside(*setting),
+            SetupStatement::Compat(None) => true,
+            SetupStatement::Compat(Some(file)) => match self.declared(*file) {
                 Some(spec) => !spec.holds_words(),
                 None => false,
             },
-            SetupLine::Block(bytes) => bytes.is_none(),
-            SetupLine::File(spec) => spec.is_none() || self.files.len() >= MAX_FILES,
-            SetupLine::Word { file, index, .. } => match self.declared(*file) {
+            SetupStatement::Block(bytes) => bytes.is_none(),
+            SetupStatement::File(spec) => spec.is_none() || self.files.len() >= MAX_FILES,
+            SetupStatement::Word { file, index, .. } => match self.declared(*file) {
                 Some(spec) => spec.words() <= *index,
                 None => false,
             },
@@ -95,33 +96,33 @@ impl EndDraft {
     }
 
     /// Whether an earlier line gave the key, the file or the word.
-    pub fn repeats(&self, line: &SetupLine) -> bool
+    pub fn repeats(&self, line: &SetupStatement) -> bool
         ensures { result ≡ the_repeats self.now line.now }
     {
         match line {
-            SetupLine::Set(setting) => self.settings.is_given(*setting),
-            SetupLine::Compat(_) => self.compat.is_some(),
-            SetupLine::Block(_) => self.block.is_some(),
-            SetupLine::File(Some(spec)) => self.files.has(spec.number),
-            SetupLine::Word {
+            SetupStatement::Set(setting) => self.settings.is_given(*setting),
+            SetupStatement::Compat(_) => self.compat.is_some(),
+            SetupStatement::Block(_) => self.block.is_some(),
+            SetupStatement::File(Some(spec)) => self.files.has(spec.number),
+            SetupStatement::Word {
                 file: Some(file),
                 index,
                 ..
             } => self.words.has(*file, *index),
-            SetupLine::File(None) | SetupLine::Word { file: None, .. } => false,
+            SetupStatement::File(None) | SetupStatement::Word { file: None, .. } => false,
         }
     }
 
     /// Takes a line of the end `who`. Where there is no memory for it, the draft is only dropped.
-    pub fn take(&mut self, who: Who, line: SetupLine) -> Result<(), NoMemory>
+    pub fn take(&mut self, who: Who, line: SetupStatement) -> Result<(), NoMemory>
         ensures { OnOk result (self.new ≡ with_line who self.old line) }
     {
         match line {
-            SetupLine::Set(setting) => self.settings.set(setting),
-            SetupLine::Compat(Some(Some(file))) => self.compat = Some(file),
-            SetupLine::Block(Some(bytes)) => self.block = Some(bytes),
-            SetupLine::File(Some(spec)) => self.files.push(spec)?,
-            SetupLine::Word {
+            SetupStatement::Set(setting) => self.settings.set(setting),
+            SetupStatement::Compat(Some(Some(file))) => self.compat = Some(file),
+            SetupStatement::Block(Some(bytes)) => self.block = Some(bytes),
+            SetupStatement::File(Some(spec)) => self.files.push(spec)?,
+            SetupStatement::Word {
                 file: Some(file),
                 index,
                 value,

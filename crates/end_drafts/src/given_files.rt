@@ -4,8 +4,8 @@ ghost use Rattle.std.specs.List.{list_any};
 
 use data_files::FileSpec;
 use df1_base::NoMemory;
-use line_statement::Items;
 use script_parts::Specs;
+use script_statement::Items;
 use std::alloc::Global;
 use std::marker::Model;
 

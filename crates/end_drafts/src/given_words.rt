@@ -5,8 +5,8 @@ ghost use Rattle.end_drafts.specs.Places.{is_at};
 
 use crate::given_places::GivenPlaces;
 use df1_base::NoMemory;
-use line_statement::Items;
 use script_parts::{WordOf, Words};
+use script_statement::Items;
 use std::alloc::Global;
 use std::marker::Model;
 

@@ -2,7 +2,7 @@
 ghost use Rattle.std.specs.Prelude.{◌≡◌};
 ghost use Rattle.end_drafts.specs.Drafts.{duplex_key, master_key, station_key, has_key as the_test};
 
-use line_statement::Setting;
+use script_statement::Setting;
 
 /// A kind of end.
 #[derive(Clone, Copy, Debug, PartialEq, Eq)]

@@ -2,7 +2,7 @@
 ghost use Rattle.std.specs.Prelude.{◌≡◌};
 ghost use Rattle.end_drafts.specs.Drafts.{is_given as the_given, is_outside as the_outside, no_settings, with_setting as the_settings};
 
-use line_statement::Setting;
+use script_statement::Setting;
 
 /// The settings of an end, each None where no line gave it.
 #[derive(Clone, Copy, Debug, PartialEq, Eq)]

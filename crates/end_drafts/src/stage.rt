@@ -2,7 +2,7 @@
 ghost use Rattle.std.specs.Prelude.{◌≡◌};
 ghost use Rattle.end_drafts.specs.Stages.{is_fresh as the_fresh_test, is_set_up as the_set_up_test, stage_after};
 
-use line_statement::Statement;
+use script_statement::Statement;
 
 /// What kinds of lines were there.
 #[derive(Clone, Copy, Debug, PartialEq, Eq)]

@@ -1,13 +1,13 @@
 -- Where in a text an ear is, by its fields, and what a byte led it to.
 use Rattle.std.specs.Prelude.{[], ◌∷◌}
 use Rattle.df1_frame.specs.Gathered.{Gathered}
-use Rattle.half_frame.specs.declared.text.Place.{Place}
-use Rattle.half_frame.specs.declared.text.Place.TheVariants as place
+use Rattle.half_frame.specs.declared.text.TextPlace.{TextPlace}
+use Rattle.half_frame.specs.declared.text.TextPlace.TheVariants as place
 use Rattle.half_frame.specs.declared.text.Progress.{Progress}
 use Rattle.half_frame.specs.declared.text.Progress.TheVariants as progress
 use Rattle.half_frame.specs.TextStep.{Within, Inside, InsideDle, AtCheck, Onward, Goes, Ends, Breaks}
 
-abbrev pub within_of : Place → Gathered → Within
+abbrev pub within_of : TextPlace → Gathered → Within
 within_of place.Inside so_far = Inside so_far
 within_of place.InsideDle so_far = InsideDle so_far
 within_of place.AtCheck so_far = AtCheck so_far []

@@ -14,7 +14,7 @@ ghost use Rattle.half_frame.specs.TextView.{within_of};
 ghost use Rattle.half_frame.specs.MasterView.{standing_of};
 
 use crate::heard::master_pair;
-use crate::text::{Place as TextPlace, Progress};
+use crate::text::{Progress, TextPlace};
 use crate::{MasterHeard, text};
 use df1_base::{DLE, STX};
 use df1_check::Check;
@@ -23,7 +23,7 @@ use std::marker::Model;
 
 /// Where in an item the bytes so far end.
 #[derive(Clone, Copy)]
-enum Place {
+enum MasterPlace {
     /// Outside.
     Outside,
     /// Directly after a message whose body is lent.
@@ -40,7 +40,7 @@ enum Place {
 #[derive(Drop)]
 pub struct MasterEar<const N: usize> {
     check: Check,
-    place: Place,
+    place: MasterPlace,
     gathered: Gathered<N>,
 }
 
@@ -63,7 +63,7 @@ impl<const N: usize> MasterEar<N> {
     {
         MasterEar {
             check,
-            place: Place::Outside,
+            place: MasterPlace::Outside,
             gathered: Gathered::new(check),
         }
     }
@@ -94,16 +94,16 @@ impl<const N: usize> MasterEar<N> {
         ensures value { self.new ≡ (steps (next N) self.old (take result bytes.now)).0 }
     {
         match self.place {
-            Place::InText(TextPlace::Inside) => {
+            MasterPlace::InText(TextPlace::Inside) => {
                 let count = plain_len(bytes);
                 self.gathered.gather_all(&bytes[..count]);
                 count
             }
-            Place::Outside => plain_len(bytes),
-            Place::Ended => {
+            MasterPlace::Outside => plain_len(bytes),
+            MasterPlace::Ended => {
                 let count = plain_len(bytes);
                 if count > 0 {
-                    self.place = Place::Outside;
+                    self.place = MasterPlace::Outside;
                 }
                 count
             }
@@ -129,7 +129,7 @@ impl<const N: usize> MasterEar<N> {
         ensures fits { length result.now ≤ N }
     {
         match self.place {
-            Place::Ended => self.gathered.bytes(),
+            MasterPlace::Ended => self.gathered.bytes(),
             _ => &[],
         }
     }
@@ -142,7 +142,7 @@ impl<const N: usize> MasterEar<N> {
         ensures most { result ≤ N }
     {
         match self.place {
-            Place::Ended | Place::InText(_) => self.gathered.bytes().len(),
+            MasterPlace::Ended | MasterPlace::InText(_) => self.gathered.bytes().len(),
             _ => 0,
         }
     }
@@ -160,8 +160,8 @@ impl<const N: usize> MasterEar<N> {
         ensures { result ≡ is_inside self.now.standing }
     {
         match self.place {
-            Place::Outside | Place::Ended | Place::AfterDle => false,
-            Place::InText(_) => true,
+            MasterPlace::Outside | MasterPlace::Ended | MasterPlace::AfterDle => false,
+            MasterPlace::InText(_) => true,
         }
     }
 }
@@ -169,27 +169,27 @@ impl<const N: usize> MasterEar<N> {
 /// What a byte leads to, and what is heard at it.
 #[inline(always)]
 fn step<const N: usize>(
-    place: Place,
+    place: MasterPlace,
     gathered: &mut Gathered<N>,
     check: Check,
     b: u8,
-) -> (Place, Option<MasterHeard>)
+) -> (MasterPlace, Option<MasterHeard>)
     ensures { (standing_of result.0 gathered.new, result.1) ≡ step check N (standing_of place gathered.old) b }
 {
     match place {
-        Place::Outside | Place::Ended => outside(gathered, b),
-        Place::AfterDle => pair_outside(gathered, check, b),
-        Place::InText(at) => in_text(gathered, check, at, b),
+        MasterPlace::Outside | MasterPlace::Ended => outside(gathered, b),
+        MasterPlace::AfterDle => pair_outside(gathered, check, b),
+        MasterPlace::InText(at) => in_text(gathered, check, at, b),
     }
 }
 
-fn outside<const N: usize>(gathered: &Gathered<N>, b: u8) -> (Place, Option<MasterHeard>)
+fn outside<const N: usize>(gathered: &Gathered<N>, b: u8) -> (MasterPlace, Option<MasterHeard>)
     ensures { (standing_of result.0 gathered.now, result.1) ≡ outside_next b }
 {
     if b == DLE {
-        (Place::AfterDle, None)
+        (MasterPlace::AfterDle, None)
     } else {
-        (Place::Outside, Some(MasterHeard::Stray(b)))
+        (MasterPlace::Outside, Some(MasterHeard::Stray(b)))
     }
 }
 
@@ -197,14 +197,14 @@ fn pair_outside<const N: usize>(
     gathered: &mut Gathered<N>,
     check: Check,
     code: u8,
-) -> (Place, Option<MasterHeard>)
+) -> (MasterPlace, Option<MasterHeard>)
     ensures { (standing_of result.0 gathered.new, result.1) ≡ pair_next check code }
 {
     if code == STX {
         gathered.clear(check);
-        (Place::InText(TextPlace::Inside), None)
+        (MasterPlace::InText(TextPlace::Inside), None)
     } else {
-        (Place::Outside, Some(master_pair(code)))
+        (MasterPlace::Outside, Some(master_pair(code)))
     }
 }
 
@@ -213,25 +213,25 @@ fn in_text<const N: usize>(
     check: Check,
     at: TextPlace,
     b: u8,
-) -> (Place, Option<MasterHeard>)
+) -> (MasterPlace, Option<MasterHeard>)
     ensures { (standing_of result.0 gathered.new, result.1) ≡ text_next check (text_step check N (within_of at gathered.old) b) }
 {
     match text::step(at, gathered, check, b) {
-        Progress::Goes(to) => (Place::InText(to), None),
-        Progress::Ends(true) => (Place::Ended, Some(MasterHeard::Good)),
-        Progress::Ends(false) => (Place::Outside, Some(MasterHeard::Damaged)),
+        Progress::Goes(to) => (MasterPlace::InText(to), None),
+        Progress::Ends(true) => (MasterPlace::Ended, Some(MasterHeard::Good)),
+        Progress::Ends(false) => (MasterPlace::Outside, Some(MasterHeard::Damaged)),
         Progress::Breaks(code) => (begun_by(gathered, check, code), Some(MasterHeard::Damaged)),
     }
 }
 
 /// Where a pair leads that ended what was there.
-fn begun_by<const N: usize>(gathered: &mut Gathered<N>, check: Check, code: u8) -> Place
+fn begun_by<const N: usize>(gathered: &mut Gathered<N>, check: Check, code: u8) -> MasterPlace
     ensures { standing_of result gathered.new ≡ begun_by check code }
 {
     if code == STX {
         gathered.clear(check);
-        Place::InText(TextPlace::Inside)
+        MasterPlace::InText(TextPlace::Inside)
     } else {
-        Place::Outside
+        MasterPlace::Outside
     }
 }

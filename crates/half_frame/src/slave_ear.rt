@@ -17,7 +17,7 @@ ghost use Rattle.half_frame.specs.TextView.{within_of};
 ghost use Rattle.half_frame.specs.SlaveView.{standing_of};
 
 use crate::heard::{poll, slave_pair};
-use crate::text::{Place as TextPlace, Progress};
+use crate::text::{Progress, TextPlace};
 use crate::{SOH, SlaveHeard, text};
 use df1_base::{DLE, ENQ, STX};
 use df1_check::Check;
@@ -26,7 +26,7 @@ use std::marker::Model;
 
 /// Where in an item the bytes so far end.
 #[derive(Clone, Copy)]
-enum Place {
+enum SlavePlace {
     /// Outside.
     Outside,
     /// Directly after a message whose body is lent.
@@ -53,7 +53,7 @@ enum Place {
 #[derive(Drop)]
 pub struct SlaveEar<const N: usize> {
     check: Check,
-    place: Place,
+    place: SlavePlace,
     gathered: Gathered<N>,
 }
 
@@ -76,7 +76,7 @@ impl<const N: usize> SlaveEar<N> {
     {
         SlaveEar {
             check,
-            place: Place::Outside,
+            place: SlavePlace::Outside,
             gathered: Gathered::new(check),
         }
     }
@@ -107,16 +107,16 @@ impl<const N: usize> SlaveEar<N> {
         ensures value { self.new ≡ (steps (next N) self.old (take result bytes.now)).0 }
     {
         match self.place {
-            Place::InText(_, TextPlace::Inside) => {
+            SlavePlace::InText(_, TextPlace::Inside) => {
                 let count = plain_len(bytes);
                 self.gathered.gather_all(&bytes[..count]);
                 count
             }
-            Place::Outside => plain_len(bytes),
-            Place::Ended => {
+            SlavePlace::Outside => plain_len(bytes),
+            SlavePlace::Ended => {
                 let count = plain_len(bytes);
                 if count > 0 {
-                    self.place = Place::Outside;
+                    self.place = SlavePlace::Outside;
                 }
                 count
             }
@@ -142,7 +142,7 @@ impl<const N: usize> SlaveEar<N> {
         ensures fits { length result.now ≤ N }
     {
         match self.place {
-            Place::Ended => self.gathered.bytes(),
+            SlavePlace::Ended => self.gathered.bytes(),
             _ => &[],
         }
     }
@@ -155,7 +155,7 @@ impl<const N: usize> SlaveEar<N> {
         ensures most { result ≤ N }
     {
         match self.place {
-            Place::Ended | Place::InText(..) => self.gathered.bytes().len(),
+            SlavePlace::Ended | SlavePlace::InText(..) => self.gathered.bytes().len(),
             _ => 0,
         }
     }
@@ -173,7 +173,7 @@ impl<const N: usize> SlaveEar<N> {
         ensures { result ≡ is_inside self.now.standing }
     {
         match self.place {
-            Place::Outside | Place::Ended | Place::AfterDle => false,
+            SlavePlace::Outside | SlavePlace::Ended | SlavePlace::AfterDle => false,
             _ => true,
         }
     }
@@ -182,42 +182,45 @@ impl<const N: usize> SlaveEar<N> {
 /// What a byte leads to, and what is heard at it.
 #[inline(always)]
 fn step<const N: usize>(
-    place: Place,
+    place: SlavePlace,
     gathered: &mut Gathered<N>,
     check: Check,
     b: u8,
-) -> (Place, Option<SlaveHeard>)
+) -> (SlavePlace, Option<SlaveHeard>)
     ensures { (standing_of result.0 gathered.new, result.1) ≡ step check N (standing_of place gathered.old) b }
 {
     match place {
-        Place::Outside | Place::Ended => outside(gathered, b),
-        Place::AfterDle => pair_outside(gathered, b),
-        Place::AfterSoh => (Place::AfterStation(b), None),
-        Place::AfterEnq => (Place::AtPollCheck(b), None),
-        Place::AtPollCheck(stn) => (Place::Outside, Some(poll(stn, b))),
-        Place::AfterStation(stn) => after_station(gathered, stn, b),
-        Place::AfterStationDle(stn) => header(gathered, check, stn, b),
-        Place::InText(stn, at) => in_text(gathered, check, stn, at, b),
+        SlavePlace::Outside | SlavePlace::Ended => outside(gathered, b),
+        SlavePlace::AfterDle => pair_outside(gathered, b),
+        SlavePlace::AfterSoh => (SlavePlace::AfterStation(b), None),
+        SlavePlace::AfterEnq => (SlavePlace::AtPollCheck(b), None),
+        SlavePlace::AtPollCheck(stn) => (SlavePlace::Outside, Some(poll(stn, b))),
+        SlavePlace::AfterStation(stn) => after_station(gathered, stn, b),
+        SlavePlace::AfterStationDle(stn) => header(gathered, check, stn, b),
+        SlavePlace::InText(stn, at) => in_text(gathered, check, stn, at, b),
     }
 }
 
-fn outside<const N: usize>(gathered: &Gathered<N>, b: u8) -> (Place, Option<SlaveHeard>)
+fn outside<const N: usize>(gathered: &Gathered<N>, b: u8) -> (SlavePlace, Option<SlaveHeard>)
     ensures { (standing_of result.0 gathered.now, result.1) ≡ outside_next b }
 {
     if b == DLE {
-        (Place::AfterDle, None)
+        (SlavePlace::AfterDle, None)
     } else {
-        (Place::Outside, Some(SlaveHeard::Stray(b)))
+        (SlavePlace::Outside, Some(SlaveHeard::Stray(b)))
     }
 }
 
-fn pair_outside<const N: usize>(gathered: &Gathered<N>, code: u8) -> (Place, Option<SlaveHeard>)
+fn pair_outside<const N: usize>(
+    gathered: &Gathered<N>,
+    code: u8,
+) -> (SlavePlace, Option<SlaveHeard>)
     ensures { (standing_of result.0 gathered.now, result.1) ≡ pair_next code }
 {
     match code {
-        SOH => (Place::AfterSoh, None),
-        ENQ => (Place::AfterEnq, None),
-        _ => (Place::Outside, Some(slave_pair(code))),
+        SOH => (SlavePlace::AfterSoh, None),
+        ENQ => (SlavePlace::AfterEnq, None),
+        _ => (SlavePlace::Outside, Some(slave_pair(code))),
     }
 }
 
@@ -225,13 +228,13 @@ fn after_station<const N: usize>(
     gathered: &Gathered<N>,
     stn: u8,
     b: u8,
-) -> (Place, Option<SlaveHeard>)
+) -> (SlavePlace, Option<SlaveHeard>)
     ensures { (standing_of result.0 gathered.now, result.1) ≡ station_next stn b }
 {
     if b == DLE {
-        (Place::AfterStationDle(stn), None)
+        (SlavePlace::AfterStationDle(stn), None)
     } else {
-        (Place::Outside, Some(SlaveHeard::Damaged(stn)))
+        (SlavePlace::Outside, Some(SlaveHeard::Damaged(stn)))
     }
 }
 
@@ -240,13 +243,13 @@ fn header<const N: usize>(
     check: Check,
     stn: u8,
     code: u8,
-) -> (Place, Option<SlaveHeard>)
+) -> (SlavePlace, Option<SlaveHeard>)
     ensures { (standing_of result.0 gathered.new, result.1) ≡ header_next check stn code }
 {
     if code == STX {
         cover_station(gathered, check, stn);
         (
-            Place::InText(stn, TextPlace::Inside),
+            SlavePlace::InText(stn, TextPlace::Inside),
             Some(SlaveHeard::Header(stn)),
         )
     } else {
@@ -272,24 +275,24 @@ fn in_text<const N: usize>(
     stn: u8,
     at: TextPlace,
     b: u8,
-) -> (Place, Option<SlaveHeard>)
+) -> (SlavePlace, Option<SlaveHeard>)
     ensures { (standing_of result.0 gathered.new, result.1) ≡ text_next stn (text_step check N (within_of at gathered.old) b) }
 {
     match text::step(at, gathered, check, b) {
-        Progress::Goes(to) => (Place::InText(stn, to), None),
-        Progress::Ends(true) => (Place::Ended, Some(SlaveHeard::Addressed(stn))),
-        Progress::Ends(false) => (Place::Outside, Some(SlaveHeard::Damaged(stn))),
+        Progress::Goes(to) => (SlavePlace::InText(stn, to), None),
+        Progress::Ends(true) => (SlavePlace::Ended, Some(SlaveHeard::Addressed(stn))),
+        Progress::Ends(false) => (SlavePlace::Outside, Some(SlaveHeard::Damaged(stn))),
         Progress::Breaks(code) => (begun_by(gathered, code), Some(SlaveHeard::Damaged(stn))),
     }
 }
 
 /// Where a pair leads that ended what was there.
-fn begun_by<const N: usize>(gathered: &Gathered<N>, code: u8) -> Place
+fn begun_by<const N: usize>(gathered: &Gathered<N>, code: u8) -> SlavePlace
     ensures { standing_of result gathered.now ≡ begun_by code }
 {
     match code {
-        SOH => Place::AfterSoh,
-        ENQ => Place::AfterEnq,
-        _ => Place::Outside,
+        SOH => SlavePlace::AfterSoh,
+        ENQ => SlavePlace::AfterEnq,
+        _ => SlavePlace::Outside,
     }
 }

@@ -12,7 +12,7 @@ use df1_frame::{Gathered, Heard};
 
 /// Where in a text the bytes so far end.
 #[derive(Clone, Copy)]
-pub(crate) enum Place {
+pub(crate) enum TextPlace {
     /// In the body.
     Inside,
     /// After a DLE in the body.
@@ -27,7 +27,7 @@ pub(crate) enum Place {
 #[derive(Clone, Copy)]
 pub(crate) enum Progress {
     /// The text goes on here.
-    Goes(Place),
+    Goes(TextPlace),
     /// It has ended with its check: true where the body has 6 to N bytes and the check is right.
     Ends(bool),
     /// It was broken off by a DLE and this byte.
@@ -36,7 +36,7 @@ pub(crate) enum Progress {
 
 /// What a byte leads to.
 pub(crate) fn step<const N: usize>(
-    place: Place,
+    place: TextPlace,
     gathered: &mut Gathered<N>,
     check: Check,
     b: u8,
@@ -44,10 +44,10 @@ pub(crate) fn step<const N: usize>(
     ensures { onward_of result gathered.new ≡ text_step check N (within_of place gathered.old) b }
 {
     match place {
-        Place::Inside => inside(gathered, b),
-        Place::InsideDle => pair_inside(gathered, check, b),
-        Place::AtCheck => first_check(gathered, check, b),
-        Place::AtSecondCheck(first) => Progress::Ends(is_good(gathered, check, &[first, b])),
+        TextPlace::Inside => inside(gathered, b),
+        TextPlace::InsideDle => pair_inside(gathered, check, b),
+        TextPlace::AtCheck => first_check(gathered, check, b),
+        TextPlace::AtSecondCheck(first) => Progress::Ends(is_good(gathered, check, &[first, b])),
     }
 }
 
@@ -55,10 +55,10 @@ fn inside<const N: usize>(gathered: &mut Gathered<N>, b: u8) -> Progress
     ensures { (check : CheckKind) → onward_of result gathered.new ≡ text_step check N (Inside gathered.old) b }
 {
     if b == DLE {
-        Progress::Goes(Place::InsideDle)
+        Progress::Goes(TextPlace::InsideDle)
     } else {
         gathered.gather(b);
-        Progress::Goes(Place::Inside)
+        Progress::Goes(TextPlace::Inside)
     }
 }
 
@@ -68,11 +68,11 @@ fn pair_inside<const N: usize>(gathered: &mut Gathered<N>, check: Check, b: u8) 
     match b {
         ETX => {
             gathered.close(check);
-            Progress::Goes(Place::AtCheck)
+            Progress::Goes(TextPlace::AtCheck)
         }
         DLE => {
             gathered.gather(b);
-            Progress::Goes(Place::Inside)
+            Progress::Goes(TextPlace::Inside)
         }
         _ => Progress::Breaks(b),
     }
@@ -83,7 +83,7 @@ fn first_check<const N: usize>(gathered: &Gathered<N>, check: Check, b: u8) -> P
 {
     match check {
         Check::Bcc => Progress::Ends(is_good(gathered, check, &[b])),
-        Check::Crc => Progress::Goes(Place::AtSecondCheck(b)),
+        Check::Crc => Progress::Goes(TextPlace::AtSecondCheck(b)),
     }
 }
 

@@ -7,18 +7,18 @@ use Rattle.half_slave.specs.Slave.{SlaveState, slave_after_byte, slave_after_tak
 use Rattle.half_slave.specs.Slave as slave
 use Rattle.half_master.specs.Master.{MasterState, with_host, master_after_byte, master_after_tick, turn_at_tick, gone_at_tick, master_after_take}
 use Rattle.half_master.specs.Master as master
-use Rattle.line_statement.specs.declared.who.Who.{Who}
-use Rattle.line_statement.specs.declared.who.Who.TheVariants.{M, S}
-use Rattle.line_report.specs.declared.record.Line.{Line}
-use Rattle.line_cells.specs.Cells.{LaneCell, altered, bare, cell_of}
-use Rattle.line_cells.specs.Deception.{deceptions, station_deceptions}
+use Rattle.script_statement.specs.declared.who.Who.{Who}
+use Rattle.script_statement.specs.declared.who.Who.TheVariants.{M, S}
+use Rattle.replay_report.specs.declared.record.Line.{Line}
+use Rattle.lane_cells.specs.Cells.{LaneCell, altered, bare, cell_of}
+use Rattle.lane_cells.specs.Deception.{deceptions, station_deceptions}
 use Rattle.each_once.specs.NodeHost.{node_host}
-use Rattle.told_lines.specs.NodeLines.{step_lines, turn_lines, gone_lines}
+use Rattle.report_lines.specs.NodeLines.{step_lines, turn_lines, gone_lines}
 use Rattle.half_line.specs.declared.way.Way.{Way}
 use Rattle.half_line.specs.declared.way.Way.TheVariants.{ToStation, ToMaster}
 
 -- a station with its number and its node, the bytes on their way to it, and those on their way from it
-pub record StationSide : Type 0 where
+pub record LineStationState : Type 0 where
   pub number : ℕ
   pub slave : SlaveState NodeState
   pub to_it : List LaneCell
@@ -27,19 +27,19 @@ pub record StationSide : Type 0 where
 -- a master, its stations, and how often an end was deceived
 pub record HalfState : Type 0 where
   pub master : MasterState NodeState
-  pub stations : List StationSide
+  pub stations : List LineStationState
   pub deceived : ℕ
 
 -- the master and one station alone
 pub record LinkState : Type 0 where
   pub master : MasterState NodeState
-  pub side : StationSide
+  pub side : LineStationState
   pub deceived : ℕ
 
-abbrev pub half_state : MasterState NodeState → List StationSide → ℕ → HalfState
+abbrev pub half_state : MasterState NodeState → List LineStationState → ℕ → HalfState
 half_state m stations deceived = record { master = m; stations = stations; deceived = deceived }
 
-abbrev pub link_state : MasterState NodeState → StationSide → ℕ → LinkState
+abbrev pub link_state : MasterState NodeState → LineStationState → ℕ → LinkState
 link_state m side deceived = record { master = m; side = side; deceived = deceived }
 
 -- ---- at the master
@@ -68,11 +68,11 @@ master_after m Give = master_after_take node_host m
 master_after m Tick = master_after_tick node_host m
 
 -- cells join the lane to a station
-abbrev pub joined : List LaneCell → StationSide → StationSide
+abbrev pub joined : List LaneCell → LineStationState → LineStationState
 joined cells side = record side { to_it = side.to_it ++ cells }
 
 -- a byte of the master joins the lane to each station
-abbrev pub stations_after : List StationSide → MasterState NodeState → MasterDeed → List StationSide
+abbrev pub stations_after : List LineStationState → MasterState NodeState → MasterDeed → List LineStationState
 stations_after stations m (Issue dst payload) = stations
 stations_after stations m Give = map (joined (cells_given m)) stations
 stations_after stations m Tick = stations
@@ -106,11 +106,11 @@ pub data LaneDeed : Type 0 where
   Foreign : (byte : ℕ) → LaneDeed
 
 -- the lane that goes this way
-abbrev pub lane_of : Way → StationSide → List LaneCell
+abbrev pub lane_of : Way → LineStationState → List LaneCell
 lane_of ToStation side = side.to_it
 lane_of ToMaster side = side.from_it
 
-abbrev pub with_lane : Way → StationSide → List LaneCell → StationSide
+abbrev pub with_lane : Way → LineStationState → List LaneCell → LineStationState
 with_lane ToStation side lane = record side { to_it = lane }
 with_lane ToMaster side lane = record side { from_it = lane }
 
@@ -129,7 +129,7 @@ arriving lane (Alter mask) = None
 arriving lane (Foreign byte) = Some (bare byte)
 
 -- the end at which bytes arrive that go this way
-abbrev pub hearer : Way → StationSide → Who
+abbrev pub hearer : Way → LineStationState → Who
 hearer ToStation side = S side.number
 hearer ToMaster side = M
 
@@ -152,10 +152,10 @@ abbrev pub deceptions_at : Way → LinkState → LaneCell → ℕ
 deceptions_at way s cell = deceptions_of way (step_of way s cell) cell (body_heard way s cell)
 
 -- the station hears a byte, or the master does
-abbrev pub station_heard : StationSide → ℕ → StationSide
+abbrev pub station_heard : LineStationState → ℕ → LineStationState
 station_heard side byte = record side { slave = slave_after_byte node_host side.slave byte }
 
-abbrev pub side_after_cell : Way → StationSide → LaneCell → StationSide
+abbrev pub side_after_cell : Way → LineStationState → LaneCell → LineStationState
 side_after_cell ToStation side cell = station_heard side cell.byte
 side_after_cell ToMaster side cell = side
 
@@ -184,7 +184,7 @@ arrival_lines way s None = []
 arrival_lines way s (Some cell) = cell_lines way s cell
 
 -- the station with what is left of a lane
-abbrev pub side_moved : Way → StationSide → LaneDeed → StationSide
+abbrev pub side_moved : Way → LineStationState → LaneDeed → LineStationState
 side_moved way side deed = with_lane way side (lane_after (lane_of way side) deed)
 
 abbrev pub moved : Way → LinkState → LaneDeed → LinkState
@@ -197,14 +197,14 @@ pub data LinkDeed : Type 0 where
   OnLane : (way : Way) (deed : LaneDeed) → LinkDeed
 
 -- the cells that a take of the station puts into its lane
-abbrev pub taken : StationSide → List LaneCell
+abbrev pub taken : LineStationState → List LaneCell
 taken side = option_to_list (option_map (cell_of (slave_after_take side.slave).sending) (slave.out_at_take side.slave))
 
 -- the byte that it gives
-abbrev pub byte_taken : StationSide → Option ℕ
+abbrev pub byte_taken : LineStationState → Option ℕ
 byte_taken side = option_map (λ out. out.byte) (slave.out_at_take side.slave)
 
-abbrev pub after_take : StationSide → StationSide
+abbrev pub after_take : LineStationState → LineStationState
 after_take side = record { number = side.number; slave = slave_after_take side.slave; to_it = side.to_it; from_it = side.from_it ++ taken side }
 
 abbrev pub after_link_deed : LinkState → LinkDeed → LinkState
@@ -216,6 +216,6 @@ link_lines s StationGives = []
 link_lines s (OnLane way deed) = arrival_lines way s (arriving (lane_of way s.side) deed)
 
 -- the bytes that the station gives
-abbrev pub link_bytes : StationSide → LinkDeed → List ℕ
+abbrev pub link_bytes : LineStationState → LinkDeed → List ℕ
 link_bytes side StationGives = option_to_list (byte_taken side)
 link_bytes side (OnLane way deed) = []

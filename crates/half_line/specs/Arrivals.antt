@@ -3,10 +3,10 @@ use Rattle.std.specs.Prelude.{ℕ, List, [], ◌∷◌, ◌++◌, Option, Some, 
 use Rattle.half_slave.specs.Arrived as slave
 use Rattle.half_master.specs.Arrived as master
 use Rattle.script_parts.specs.declared.script.Event.{Event}
-use Rattle.line_cells.specs.Cells.{LaneCell}
+use Rattle.lane_cells.specs.Cells.{LaneCell}
 use Rattle.half_line.specs.declared.way.Way.{Way}
 use Rattle.half_line.specs.declared.way.Way.TheVariants.{ToStation, ToMaster}
-use Rattle.half_line.specs.Acts.{StationSide, HalfState, LinkState, LinkDeed, StationGives, OnLane, lane_of, arriving, step_of}
+use Rattle.half_line.specs.Acts.{LineStationState, HalfState, LinkState, LinkDeed, StationGives, OnLane, lane_of, arriving, step_of}
 use Rattle.half_line.specs.Steps.{UnitStep, AtMaster, AtStation, link_of, after_step}
 use Rattle.half_line.specs.Run.{steps_of, after_event}
 
@@ -23,7 +23,7 @@ abbrev pub station_arrivals : LinkState → LinkDeed → List slave.Arrival
 station_arrivals s StationGives = []
 station_arrivals s (OnLane way deed) = station_arrived way s (arriving (lane_of way s.side) deed)
 
-abbrev pub station_arrivals_with : HalfState → LinkDeed → Option StationSide → List slave.Arrival
+abbrev pub station_arrivals_with : HalfState → LinkDeed → Option LineStationState → List slave.Arrival
 station_arrivals_with s deed None = []
 station_arrivals_with s deed (Some side) = station_arrivals (link_of s side) deed
 
@@ -52,7 +52,7 @@ abbrev pub master_arrivals : LinkState → LinkDeed → List master.Arrival
 master_arrivals s StationGives = []
 master_arrivals s (OnLane way deed) = master_arrived way s (arriving (lane_of way s.side) deed)
 
-abbrev pub master_arrivals_with : HalfState → LinkDeed → Option StationSide → List master.Arrival
+abbrev pub master_arrivals_with : HalfState → LinkDeed → Option LineStationState → List master.Arrival
 master_arrivals_with s deed None = []
 master_arrivals_with s deed (Some side) = master_arrivals (link_of s side) deed
 

@@ -2,11 +2,11 @@
 use Rattle.std.specs.Prelude.{◌≡◌, ℕ, Bool, All, List, [], ◌∷◌, map, slice_index, ◌==◌}
 use Rattle.std.specs.List.{enumerate_from, filter}
 use Rattle.df1_node.specs.Answer.{StationState, after_answer, reply_to}
-use Rattle.line_statement.specs.declared.who.Who.TheVariants.{M, S}
+use Rattle.script_statement.specs.declared.who.Who.TheVariants.{M, S}
 use Rattle.script_parts.specs.declared.script.EndPlan.{EndPlan}
 use Rattle.script_parts.specs.declared.script.Script.{Script}
 use Rattle.script_parts.specs.HalfPlayable.{station_plans}
-use Rattle.line_report.specs.declared.record.Record.{Record}
+use Rattle.replay_report.specs.declared.record.Record.{Record}
 use Rattle.outset.specs.Outset.{first_station}
 use Rattle.each_once.specs.OfStation.{lines_of}
 use Rattle.each_once.specs.Tells.{executed_in, answers_in}

@@ -2,14 +2,14 @@
 use Rattle.std.specs.Prelude.{◌≡◌, ◌≤◌, ℕ, List, [], ◌++◌, All, IsTrue, length, slice_index}
 use Rattle.std.specs.List.{flat_map}
 use Rattle.data_files.specs.Tables.{DataTables}
-use Rattle.line_statement.specs.declared.who.Who.TheVariants.{M, S}
+use Rattle.script_statement.specs.declared.who.Who.TheVariants.{M, S}
 use Rattle.script_parts.specs.declared.script.EndPlan.{EndPlan}
 use Rattle.script_parts.specs.declared.script.Script.{Script}
 use Rattle.script_parts.specs.declared.script.WordOf.{WordOf}
 use Rattle.script_parts.specs.HalfPlayable.{is_declared, numbers_of, station_plans}
-use Rattle.line_report.specs.declared.record.Record.{Record}
+use Rattle.replay_report.specs.declared.record.Record.{Record}
 use Rattle.outset.specs.Outset.{first_station, first_tables}
-use Rattle.told_lines.specs.Words.{words_of}
+use Rattle.report_lines.specs.Words.{words_of}
 use Rattle.each_once.specs.Exchanges.{station_after}
 use Rattle.each_once.specs.OfStation.{lines_of}
 use Rattle.each_once.specs.Once.{Once}

@@ -6,8 +6,8 @@ use Rattle.script_parts.specs.declared.script.Event.{Event}
 use Rattle.script_parts.specs.declared.script.Event.TheVariants as event
 use Rattle.script_parts.specs.declared.script.Script.{Script}
 use Rattle.script_parts.specs.HalfPlayable.{IsHalfPossible, half_count_of}
-use Rattle.line_report.specs.declared.record.Line.{Line}
-use Rattle.half_line.specs.Acts.{StationSide, HalfState}
+use Rattle.replay_report.specs.declared.record.Line.{Line}
+use Rattle.half_line.specs.Acts.{LineStationState, HalfState}
 use Rattle.half_line.specs.Run.{start, after_event, lines_of}
 
 -- the state, the lines of the report so far, and the sum of the events so far
@@ -17,8 +17,8 @@ pub record Played : Type 0 where
   pub events : ℕ
 
 -- the numbers of the stations
-abbrev pub numbers_at : List StationSide → List ℕ
-numbers_at stations = map (λ (side : StationSide). side.number) stations
+abbrev pub numbers_at : List LineStationState → List ℕ
+numbers_at stations = map (λ (side : LineStationState). side.number) stations
 
 -- before the first event of a script
 abbrev pub begun : Script → Played

@@ -6,16 +6,16 @@ use Rattle.half_master.specs.Master as master
 use Rattle.script_parts.specs.declared.script.Event.{Event}
 use Rattle.script_parts.specs.declared.script.Event.TheVariants as event
 use Rattle.script_parts.specs.declared.script.Script.{Script}
-use Rattle.line_cells.specs.Cells.{LaneCell}
+use Rattle.lane_cells.specs.Cells.{LaneCell}
 use Rattle.each_once.specs.NodeHost.{node_host}
-use Rattle.half_line.specs.Acts.{StationSide, HalfState, MasterDeed, Issue, Give, Tick, LaneDeed, Deliver, Lose, Alter, Foreign, lane_of, LinkDeed, StationGives, OnLane}
+use Rattle.half_line.specs.Acts.{LineStationState, HalfState, MasterDeed, Issue, Give, Tick, LaneDeed, Deliver, Lose, Alter, Foreign, lane_of, LinkDeed, StationGives, OnLane}
 use Rattle.half_line.specs.Steps.{UnitStep, AtMaster, AtStation, after_step}
 use Rattle.half_line.specs.Run.{plan_of_m, start, steps_of, after_event, last_state}
 
 -- ---- quiet
 
 -- a station gives nothing, and no byte is on its way to it or from it
-abbrev pub is_idle : StationSide → Bool
+abbrev pub is_idle : LineStationState → Bool
 is_idle side = is_none (slice_get side.to_it 0) && (is_none (slice_get side.from_it 0) && is_none (slave.out_at_take side.slave))
 
 -- nothing is under way
@@ -49,11 +49,11 @@ IsGentleOn lane Lose = slice_get lane 0 ≡ None
 IsGentleOn lane (Alter mask) = slice_get lane 0 ≡ None
 IsGentleOn lane (Foreign byte) = ⊥
 
-abbrev pub IsGentleAt : StationSide → LinkDeed → Type 0
+abbrev pub IsGentleAt : LineStationState → LinkDeed → Type 0
 IsGentleAt side StationGives = Unit {0}
 IsGentleAt side (OnLane way deed) = IsGentleOn (lane_of way side) deed
 
-abbrev pub IsGentleWith : LinkDeed → Option StationSide → Type 0
+abbrev pub IsGentleWith : LinkDeed → Option LineStationState → Type 0
 IsGentleWith deed None = Unit {0}
 IsGentleWith deed (Some side) = IsGentleAt side deed
 
@@ -99,7 +99,7 @@ abbrev pub HasFewTicks : Script → Type 0
 HasFewTicks script = sum_by ticks_at script.events < (plan_of_m script).reply_ticks
 
 -- no reply waits at a station's node, and its slave holds none
-pub record KeepsNone (side : StationSide) : Type 0 where
+pub record KeepsNone (side : LineStationState) : Type 0 where
   pub none_waits : side.slave.host.replies ≡ []
   pub none_held : side.slave.held ≡ None
 

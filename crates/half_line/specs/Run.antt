@@ -7,8 +7,8 @@ use Rattle.half_slave.specs.declared.SlaveSetup.{SlaveSetup}
 use Rattle.half_slave.specs.Slave.{new_slave}
 use Rattle.half_master.specs.declared.MasterSetup.{MasterSetup}
 use Rattle.half_master.specs.Master.{new_master}
-use Rattle.line_statement.specs.declared.who.Who.{Who}
-use Rattle.line_statement.specs.declared.who.Who.TheVariants.{M, S}
+use Rattle.script_statement.specs.declared.who.Who.{Who}
+use Rattle.script_statement.specs.declared.who.Who.TheVariants.{M, S}
 use Rattle.script_parts.specs.declared.script.Event.{Event}
 use Rattle.script_parts.specs.declared.script.Event.TheVariants as event
 use Rattle.script_parts.specs.declared.script.EndPlan.{EndPlan}
@@ -16,14 +16,14 @@ use Rattle.script_parts.specs.declared.script.Script.{Script}
 use Rattle.script_parts.specs.declared.script.WordOf.{WordOf}
 use Rattle.script_parts.specs.Plans.{first_plan}
 use Rattle.script_parts.specs.HalfPlayable.{station_plans, numbers_of}
-use Rattle.line_report.specs.declared.record.Line.{Line}
-use Rattle.line_report.specs.declared.record.Record.{Record}
-use Rattle.line_report.specs.Report.{sent_lines}
+use Rattle.replay_report.specs.declared.record.Line.{Line}
+use Rattle.replay_report.specs.declared.record.Record.{Record}
+use Rattle.replay_report.specs.Report.{sent_lines}
 use Rattle.outset.specs.Outset.{first_node}
-use Rattle.told_lines.specs.Words.{words_of}
+use Rattle.report_lines.specs.Words.{words_of}
 use Rattle.half_line.specs.declared.way.Way.{Way}
 use Rattle.half_line.specs.declared.way.Way.TheVariants.{ToStation, ToMaster}
-use Rattle.half_line.specs.Acts.{StationSide, HalfState, MasterDeed, LinkDeed, Issue, Give, Tick, StationGives, OnLane, Deliver, Lose, Alter, Foreign}
+use Rattle.half_line.specs.Acts.{LineStationState, HalfState, MasterDeed, LinkDeed, Issue, Give, Tick, StationGives, OnLane, Deliver, Lose, Alter, Foreign}
 use Rattle.half_line.specs.Steps.{UnitStep, AtMaster, AtStation, after_steps, lines_over, bytes_over}
 
 -- ---- the first state
@@ -36,7 +36,7 @@ abbrev pub slave_setup : Check → EndPlan → SlaveSetup
 slave_setup check plan = record { station = plan.node; check = check; max_sends = plan.max_sends }
 
 -- a station's number is the address of its plan
-abbrev pub first_side : Check → EndPlan → StationSide
+abbrev pub first_side : Check → EndPlan → LineStationState
 first_side check plan = record { number = plan.node; slave = new_slave (slave_setup check plan) (first_node plan); to_it = []; from_it = [] }
 
 -- the plan of the master; where a script has none, it is as it is where no line tells of it
@@ -97,14 +97,14 @@ link_deeds (event.Foreign lane bytes) = map (λ byte. OnLane (way_from lane.from
 link_deeds (event.Tick who n) = []
 
 -- the place of the station with this number
-abbrev pub place_of : List StationSide → ℕ → Option ℕ
-place_of stations number = position (λ (side : StationSide). side.number == number) stations
+abbrev pub place_of : List LineStationState → ℕ → Option ℕ
+place_of stations number = position (λ (side : LineStationState). side.number == number) stations
 
 abbrev pub steps_with : Option ℕ → List LinkDeed → List UnitStep
 steps_with None deeds = []
 steps_with (Some place) deeds = map (AtStation place) deeds
 
-abbrev pub steps_at : List StationSide → Option ℕ → Event → List UnitStep
+abbrev pub steps_at : List LineStationState → Option ℕ → Event → List UnitStep
 steps_at stations None e = map AtMaster (master_deeds e)
 steps_at stations (Some number) e = steps_with (place_of stations number) (link_deeds e)
 
@@ -143,12 +143,12 @@ last_state script = state_after (start script) script.events
 abbrev pub tables_of_m : HalfState → DataTables
 tables_of_m s = s.master.host.station.tables
 
-abbrev pub tables_of : StationSide → DataTables
+abbrev pub tables_of : LineStationState → DataTables
 tables_of side = side.slave.host.station.tables
 
 -- the words of the stations, in their order
-abbrev pub station_words : List StationSide → List WordOf
-station_words stations = flat_map (λ (side : StationSide). words_of (S side.number) (tables_of side)) stations
+abbrev pub station_words : List LineStationState → List WordOf
+station_words stations = flat_map (λ (side : LineStationState). words_of (S side.number) (tables_of side)) stations
 
 -- the words of the master, then those of the stations
 abbrev pub all_words : HalfState → List WordOf

@@ -2,8 +2,8 @@
 use Rattle.std.specs.Prelude.{ℕ, List, [], ◌∷◌, ◌++◌, Option, Some, None, slice_get, slice_set}
 use Rattle.df1_node.specs.Node.{NodeState}
 use Rattle.half_master.specs.Master.{MasterState}
-use Rattle.line_report.specs.declared.record.Line.{Line}
-use Rattle.half_line.specs.Acts.{StationSide, HalfState, LinkState, MasterDeed, LinkDeed, master_after, after_master_deed, master_lines, master_bytes, after_link_deed, link_lines, link_bytes}
+use Rattle.replay_report.specs.declared.record.Line.{Line}
+use Rattle.half_line.specs.Acts.{LineStationState, HalfState, LinkState, MasterDeed, LinkDeed, master_after, after_master_deed, master_lines, master_bytes, after_link_deed, link_lines, link_bytes}
 
 -- ---- anywhere
 
@@ -13,7 +13,7 @@ pub data UnitStep : Type 0 where
   AtStation : (place : ℕ) (deed : LinkDeed) → UnitStep
 
 -- the master and a station
-abbrev pub link_of : HalfState → StationSide → LinkState
+abbrev pub link_of : HalfState → LineStationState → LinkState
 link_of s side = record { master = s.master; side = side; deceived = s.deceived }
 
 -- the line, with the master and the station at this place as they are now
@@ -21,7 +21,7 @@ abbrev pub rejoined : HalfState → ℕ → LinkState → HalfState
 rejoined s place link = record { master = link.master; stations = slice_set s.stations place link.side; deceived = link.deceived }
 
 -- where no station is, nothing happens
-abbrev pub after_with : HalfState → ℕ → LinkDeed → Option StationSide → HalfState
+abbrev pub after_with : HalfState → ℕ → LinkDeed → Option LineStationState → HalfState
 after_with s place deed None = s
 after_with s place deed (Some side) = rejoined s place (after_link_deed (link_of s side) deed)
 
@@ -30,7 +30,7 @@ after_step s (AtMaster deed) = after_master_deed s deed
 after_step s (AtStation place deed) = after_with s place deed (slice_get s.stations place)
 
 -- the lines
-abbrev pub lines_with : HalfState → LinkDeed → Option StationSide → List Line
+abbrev pub lines_with : HalfState → LinkDeed → Option LineStationState → List Line
 lines_with s deed None = []
 lines_with s deed (Some side) = link_lines (link_of s side) deed
 
@@ -39,7 +39,7 @@ lines_at s (AtMaster deed) = master_lines s.master deed
 lines_at s (AtStation place deed) = lines_with s deed (slice_get s.stations place)
 
 -- the bytes that an end gives
-abbrev pub bytes_with : LinkDeed → Option StationSide → List ℕ
+abbrev pub bytes_with : LinkDeed → Option LineStationState → List ℕ
 bytes_with deed None = []
 bytes_with deed (Some side) = link_bytes side deed
 

@@ -1,24 +1,24 @@
 //! Events at the master, and events at a station or with the bytes between it and the master.
 
 ghost use Rattle.std.specs.Prelude.{◌≡◌, ◌+◌, ◌≤◌, ◌++◌, ℕ, List, OnOk, IsOk, IsTrue};
-ghost use Rattle.line_report.specs.Report.{sent_lines};
+ghost use Rattle.replay_report.specs.Report.{sent_lines};
 ghost use Rattle.half_line.specs.Acts.{half_state, link_state};
 ghost use Rattle.half_line.specs.Steps.{after_link_deeds, after_master_deeds, link_bytes_over, link_lines_over, master_bytes_over, master_lines_over};
 ghost use Rattle.half_line.specs.Run.{link_deeds, master_deeds};
 ghost use Rattle.half_line.specs.Plays.{IsUnspent, most_events, takes_no_memory};
 ghost use Rattle.script_parts.specs.HalfPlayable.{IsHalfPossible, half_count_of};
 
+use crate::line_station::LineStation;
 use crate::link::{self, deliver, intrude, lose};
 use crate::master::{self, issue, pass};
 use crate::reported::Reported;
-use crate::side::Side;
 use crate::way::way_from;
 use df1_base::NoMemory;
 use df1_node::Node;
 use half_master::Master;
-use line_report::Page;
-use line_statement::Who;
+use replay_report::Page;
 use script_parts::Event;
+use script_statement::Who;
 use std::alloc::Global;
 
 /// Does an event at the master.
@@ -26,7 +26,7 @@ pub(crate) fn deal_at_master(
     alloc: Global,
     event: &Event,
     master: &mut Master<Node>,
-    stations: &mut Vec<Side>,
+    stations: &mut Vec<LineStation>,
     lines: &mut Page,
 ) -> Result<(), NoMemory>
     requires possible { (numbers : List ℕ) × IsHalfPossible numbers event.now }
@@ -52,7 +52,7 @@ pub(crate) fn deal_at_station(
     event: &Event,
     number: u8,
     master: &mut Master<Node>,
-    side: &mut Side,
+    side: &mut LineStation,
     reported: &mut Reported,
 ) -> Result<(), NoMemory>
     requires few { (numbers : List ℕ) × (reported.old.deceived + half_count_of numbers event.now ≤ most_events) }

@@ -20,12 +20,12 @@
 pub mod complete_law;
 mod deal;
 pub mod laws;
+mod line_station;
 mod link;
 mod master;
 pub mod once_law;
 mod reported;
 mod setup;
-mod side;
 mod way;
 mod world;
 

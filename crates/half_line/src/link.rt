@@ -1,30 +1,30 @@
 //! Events at a station, or with the bytes between it and the master.
 
 ghost use Rattle.std.specs.Prelude.{◌≡◌, ◌+◌, ◌≤◌, ◌<◌, ◌^◌, ◌++◌, ℕ, OnOk, length, map, replicate};
-ghost use Rattle.line_report.specs.Report.{sent_lines};
+ghost use Rattle.replay_report.specs.Report.{sent_lines};
 ghost use Rattle.half_master.specs.Master.{MasterState};
 ghost use Rattle.df1_node.specs.Node.{NodeState};
-ghost use Rattle.half_line.specs.Acts.{StationSide, StationGives, OnLane, Deliver, Lose, Foreign, link_state, after_cell, cell_lines, deceptions_at};
+ghost use Rattle.half_line.specs.Acts.{LineStationState, StationGives, OnLane, Deliver, Lose, Foreign, link_state, after_cell, cell_lines, deceptions_at};
 ghost use Rattle.half_line.specs.Steps.{after_link_deeds, link_lines_over, link_bytes_over};
 ghost use Rattle.half_line.specs.Plays.{most_events};
 
+use crate::line_station::LineStation;
 use crate::reported::Reported;
-use crate::side::Side;
 use crate::way::Way;
 use df1_base::NoMemory;
 use df1_node::Node;
 use half_master::Master;
-use line_cells::{Cell, is_deceived, is_station_deceived};
-use line_report::Page;
-use line_statement::{Bytes, Who};
+use lane_cells::{Cell, is_deceived, is_station_deceived};
+use replay_report::Page;
+use report_lines::{tell_act, tell_news};
+use script_statement::{Bytes, Who};
 use std::alloc::Global;
-use told_lines::{tell_act, tell_news};
 
 /// The station of this number gives up to `n` bytes, and they are told where there is one.
 pub(crate) fn give(
     alloc: Global,
     number: u8,
-    side: &mut Side,
+    side: &mut LineStation,
     n: u32,
     lines: &mut Page,
 ) -> Result<(), NoMemory>
@@ -39,7 +39,12 @@ pub(crate) fn give(
 }
 
 /// Takes up to `n` bytes, and puts them behind the others.
-fn take_all(alloc: Global, side: &mut Side, n: u32, bytes: &mut Bytes) -> Result<(), NoMemory>
+fn take_all(
+    alloc: Global,
+    side: &mut LineStation,
+    n: u32,
+    bytes: &mut Bytes,
+) -> Result<(), NoMemory>
     ensures state { (master : MasterState NodeState) (deceived : ℕ) → OnOk result (link_state master side.new deceived
         ≡ after_link_deeds (link_state master side.old deceived) (replicate n StationGives)) }
     ensures bytes { (master : MasterState NodeState) (deceived : ℕ) → OnOk result (bytes.new
@@ -59,7 +64,7 @@ pub(crate) fn deliver(
     alloc: Global,
     way: Way,
     master: &mut Master<Node>,
-    side: &mut Side,
+    side: &mut LineStation,
     n: u32,
     reported: &mut Reported,
 ) -> Result<(), NoMemory>
@@ -81,7 +86,7 @@ pub(crate) fn deliver(
 }
 
 /// Up to `n` bytes of the queue that goes this way are lost.
-pub(crate) fn lose(way: Way, side: &mut Side, n: u32)
+pub(crate) fn lose(way: Way, side: &mut LineStation, n: u32)
     ensures { (master : MasterState NodeState) (deceived : ℕ) → link_state master side.new deceived
         ≡ after_link_deeds (link_state master side.old deceived) (replicate n (OnLane way Lose)) }
 {
@@ -98,7 +103,7 @@ pub(crate) fn intrude(
     alloc: Global,
     way: Way,
     master: &mut Master<Node>,
-    side: &mut Side,
+    side: &mut LineStation,
     bytes: &[u8],
     reported: &mut Reported,
 ) -> Result<(), NoMemory>
@@ -121,7 +126,7 @@ fn arrive(
     alloc: Global,
     way: Way,
     master: &mut Master<Node>,
-    side: &mut Side,
+    side: &mut LineStation,
     cell: &Cell,
     reported: &mut Reported,
 ) -> Result<(), NoMemory>
@@ -141,7 +146,7 @@ fn arrive(
 /// A byte arrives at a station: first the line of the act is told, then the news.
 fn arrive_at_station(
     alloc: Global,
-    side: &mut Side,
+    side: &mut LineStation,
     cell: &Cell,
     reported: &mut Reported,
 ) -> Result<(), NoMemory>
@@ -176,9 +181,9 @@ fn arrive_at_master(
     reported: &mut Reported,
 ) -> Result<(), NoMemory>
     requires { reported.old.deceived + 1 < 2 ^ 64 }
-    ensures state { (side : StationSide) → OnOk result (link_state master.new side reported.new.deceived
+    ensures state { (side : LineStationState) → OnOk result (link_state master.new side reported.new.deceived
         ≡ after_cell Way.ToMaster (link_state master.old side reported.old.deceived) cell.now) }
-    ensures lines { (side : StationSide) → OnOk result (reported.new.lines
+    ensures lines { (side : LineStationState) → OnOk result (reported.new.lines
         ≡ reported.old.lines ++ cell_lines Way.ToMaster (link_state master.old side reported.old.deceived) cell.now) }
     ensures few { reported.new.deceived ≤ reported.old.deceived + 1 }
 {

@@ -1,23 +1,23 @@
 //! The master of the line: what it issues, gives and is told of time.
 
 ghost use Rattle.std.specs.Prelude.{◌≡◌, ◌∷◌, ◌++◌, ℕ, List, [], IfOk, OnOk, None, map, replicate, option_map, option_to_list};
-ghost use Rattle.line_report.specs.Report.{sent_lines};
+ghost use Rattle.replay_report.specs.Report.{sent_lines};
 ghost use Rattle.df1_node.specs.Initiator.{issue_fault};
 ghost use Rattle.half_master.specs.Master.{master_after_take, master_after_tick, out_at_take};
-ghost use Rattle.line_cells.specs.Cells.{cell_of};
+ghost use Rattle.lane_cells.specs.Cells.{cell_of};
 ghost use Rattle.each_once.specs.NodeHost.{node_host};
-ghost use Rattle.half_line.specs.Acts.{StationSide, Give, Tick, half_state, after_issue, master_lines, byte_given, cells_given, joined};
+ghost use Rattle.half_line.specs.Acts.{LineStationState, Give, Tick, half_state, after_issue, master_lines, byte_given, cells_given, joined};
 ghost use Rattle.half_line.specs.Steps.{after_master_deeds, master_bytes_over, master_lines_over};
 
-use crate::side::Side;
+use crate::line_station::LineStation;
 use arrayvec::ArrayVec;
 use df1_base::{NoMemory, Out};
 use df1_node::{IssueFault, Node};
 use half_master::Master;
-use line_report::Page;
-use line_statement::{Bytes, Who};
+use replay_report::Page;
+use report_lines::{tell_gone, tell_turn};
+use script_statement::{Bytes, Who};
 use std::alloc::Global;
-use told_lines::{tell_gone, tell_turn};
 
 /// The master issues a command. The payload has 1 to 245 bytes, bit 6 of its CMD is clear, and the master has issued fewer
 /// than 65,535 commands.
@@ -36,7 +36,7 @@ pub(crate) fn issue(master: &mut Master<Node>, dst: u8, payload: &[u8]) -> Resul
 pub(crate) fn give(
     alloc: Global,
     master: &mut Master<Node>,
-    stations: &mut Vec<Side>,
+    stations: &mut Vec<LineStation>,
     n: u32,
     lines: &mut Page,
 ) -> Result<(), NoMemory>
@@ -53,7 +53,7 @@ pub(crate) fn give(
 fn take_all(
     alloc: Global,
     master: &mut Master<Node>,
-    stations: &mut Vec<Side>,
+    stations: &mut Vec<LineStation>,
     n: u32,
     bytes: &mut Bytes,
 ) -> Result<(), NoMemory>
@@ -76,7 +76,7 @@ fn take_all(
 fn take(
     alloc: Global,
     master: &mut Master<Node>,
-    stations: &mut Vec<Side>,
+    stations: &mut Vec<LineStation>,
 ) -> Result<Option<u8>, NoMemory>
     ensures master { OnOk result (master.new ≡ master_after_take node_host master.old) }
     ensures stations { OnOk result (stations.new.items ≡ map (joined (cells_given master.old)) stations.old.items) }
@@ -94,7 +94,7 @@ fn join_all(
     alloc: Global,
     out: &Out,
     sending: &[u8],
-    stations: &mut Vec<Side>,
+    stations: &mut Vec<LineStation>,
 ) -> Result<(), NoMemory>
     ensures { OnOk result (stations.new.items ≡ map (joined (cell_of sending.now out.now ∷ [])) stations.old.items) }
 {
@@ -106,7 +106,7 @@ fn join_all(
 
 /// `n` units of time pass at the master.
 pub(crate) fn pass(master: &mut Master<Node>, n: u32, lines: &mut Page) -> Result<(), NoMemory>
-    ensures state { (stations : List StationSide) (deceived : ℕ) → OnOk result (half_state master.new stations deceived
+    ensures state { (stations : List LineStationState) (deceived : ℕ) → OnOk result (half_state master.new stations deceived
         ≡ after_master_deeds (half_state master.old stations deceived) (replicate n Tick)) }
     ensures lines { OnOk result (lines.new ≡ lines.old ++ master_lines_over master.old (replicate n Tick)) }
 {

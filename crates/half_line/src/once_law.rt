@@ -1,6 +1,6 @@
 //! Each command once: laws of the run of a half-duplex script. The functions do nothing.
 ghost use Rattle.std.specs.Prelude.{◌≡◌};
-ghost use Rattle.line_statement.specs.declared.who.Who.TheVariants.{M};
+ghost use Rattle.script_statement.specs.declared.who.Who.TheVariants.{M};
 ghost use Rattle.script_parts.specs.declared.script.Script.{Script};
 ghost use Rattle.script_parts.specs.HalfPlayable.{IsHalfPlayable};
 ghost use Rattle.each_once.specs.Commands.{AreOutcomesTold};

@@ -1,6 +1,6 @@
 //! What is told of a run: the lines of its report, and how often an end was deceived.
 
-use line_report::Page;
+use replay_report::Page;
 
 /// The lines so far, and how often an end was deceived.
 #[derive(Drop)]

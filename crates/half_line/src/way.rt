@@ -3,7 +3,7 @@
 ghost use Rattle.std.specs.Prelude.{◌≡◌};
 ghost use Rattle.half_line.specs.Run.{station_between as the_station_between, way_from as the_way_from};
 
-use line_statement::Who;
+use script_statement::Who;
 
 /// Which way bytes go between the master and a station.
 #[derive(Clone, Copy)]

@@ -5,29 +5,29 @@ ghost use Rattle.std.specs.List.{flat_map, All};
 ghost use Rattle.df1_base.specs.Outside.{Rose, Put, WrotePart, Later};
 ghost use Rattle.df1_check.specs.declared.Check.{Check as CheckKind};
 ghost use Rattle.half_master.specs.Stations.{AreStations};
-ghost use Rattle.line_report.specs.Report.{line_text};
+ghost use Rattle.replay_report.specs.Report.{line_text};
 ghost use Rattle.script_parts.specs.declared.script.EndPlan.{EndPlan as Plan};
 ghost use Rattle.script_parts.specs.HalfPlayable.{IsHalfPlayable, IsHalfPossible, IsStationPlan, IsStationNumber, half_count_of};
 ghost use Rattle.half_line.specs.Run.{record_from, all_words, first_side, number_of as the_number_of, place_of as place_in, station_at as the_station_at, station_words};
 ghost use Rattle.half_line.specs.Plays.{IsNext, begun, most_events, played, printed, takes_no_memory};
 
 use crate::deal::{deal_at_master, deal_at_station};
+use crate::line_station::{LineStation, side_of};
 use crate::reported::Reported;
 use crate::setup::master_setup;
-use crate::side::{Side, side_of};
 use crate::way::station_between;
 use arrayvec::ArrayVec;
 use df1_base::{Failed, NoMemory, Sink};
 use df1_check::Check;
 use df1_node::Node;
 use half_master::Master;
-use line_report::{Page, Record, print_lines};
-use line_statement::Who;
 use outset::node_of;
+use replay_report::{Page, Record, print_lines};
+use report_lines::push_all;
 use script_parts::{EndPlan, Event, Script, Words};
+use script_statement::Who;
 use std::alloc::Global;
 use std::marker::Model;
-use told_lines::push_all;
 
 /// A master and its stations with their nodes, and the bytes on their way between them. After want of memory it is only
 /// dropped.
@@ -35,7 +35,7 @@ use told_lines::push_all;
 pub struct HalfWorld {
     alloc: Global,
     master: Master<Node>,
-    stations: Vec<Side>,
+    stations: Vec<LineStation>,
     reported: Reported,
     events: u32,
 }
@@ -155,7 +155,7 @@ impl HalfWorld {
 }
 
 /// Adds the words of the stations that aren't 0.
-fn push_stations(stations: &[Side], words: &mut Words) -> Result<(), NoMemory>
+fn push_stations(stations: &[LineStation], words: &mut Words) -> Result<(), NoMemory>
     ensures { OnOk result (words.new ≡ words.old ++ station_words stations.now) }
 {
     for side in stations {
@@ -177,7 +177,7 @@ fn numbers_of(plans: &[EndPlan]) -> ArrayVec<u8, 32>
 }
 
 /// The stations of these plans, with nothing heard or given.
-fn sides_of(alloc: Global, check: Check, plans: &[EndPlan]) -> Result<Vec<Side>, NoMemory>
+fn sides_of(alloc: Global, check: Check, plans: &[EndPlan]) -> Result<Vec<LineStation>, NoMemory>
     requires plans { All IsStationPlan plans.now }
     requires numbers { All (λ (plan : Plan). IsStationNumber plan.node) plans.now }
     ensures { IfOk result (λ sides. sides.items ≡ map (first_side check) plans.now) }
@@ -190,7 +190,7 @@ fn sides_of(alloc: Global, check: Check, plans: &[EndPlan]) -> Result<Vec<Side>,
 }
 
 /// The place of the station with this number, among at most 32.
-fn place_of(stations: &[Side], number: u8) -> Option<usize>
+fn place_of(stations: &[LineStation], number: u8) -> Option<usize>
     ensures { result ≡ place_in stations.now number }
 {
     stations.iter().position(|side| side.number() == number)

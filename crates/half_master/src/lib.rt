@@ -48,7 +48,7 @@ use arrayvec::ArrayVec;
 use df1_base::{ACK, Fate, Host, Out, Step, Turn};
 use df1_check::Check;
 use half_frame::{HalfFramer, MasterEar, MasterHeard};
-use half_mouth::Mouth;
+use half_mouth::HalfMouth;
 pub use laws::{
     a_drain_ends, a_fate_is_told_once, a_wait_begins_with_all_ticks, arrivals_are_heard,
     each_station_has_its_own_key, parts_fit, signals_go_on, transmissions_are_counted,
@@ -79,7 +79,7 @@ pub struct Master<H: Host + Drop> {
     next: usize,
     ear: MasterEar<250>,
     phase: Phase,
-    mouth: Mouth,
+    mouth: HalfMouth,
     sending: ArrayVec<u8, 250>,
     host: H,
 }
@@ -111,7 +111,7 @@ impl<H: Host + Drop> Master<H> {
             next: 0,
             ear: MasterEar::new(setup.check),
             phase: Phase::Idle,
-            mouth: Mouth::new(),
+            mouth: HalfMouth::new(),
             sending: ArrayVec::new(),
             host,
         }

@@ -19,13 +19,13 @@ use std::marker::Model;
 
 /// What an end has to give. Contracts see the bytes that are left of it, and the number of its transmission.
 #[derive(Drop)]
-pub struct Mouth {
+pub struct HalfMouth {
     framer: Option<HalfFramer>,
     number: Option<u64>,
     begun: u64,
 }
 
-impl Model for Mouth {
+impl Model for HalfMouth {
     ghost use Rattle.half_mouth.specs.Giving.{Giving};
 
     ghost Value = { Giving };
@@ -35,12 +35,12 @@ impl Model for Mouth {
     ghost view = { λ m. record { left = left_of m.framer; number = m.number; begun = m.begun } };
 }
 
-impl Mouth {
+impl HalfMouth {
     /// A mouth with nothing to give.
-    pub fn new() -> Mouth
+    pub fn new() -> HalfMouth
         ensures { result ≡ nothing }
     {
-        Mouth {
+        HalfMouth {
             framer: None,
             number: None,
             begun: 0,

@@ -3,7 +3,7 @@ use df1_check::Check;
 use std::process::Abort;
 
 // Takes this byte, with the number 1 where it is the last of a transmission, or a byte of its body.
-fn take_byte(rt: &impl Abort, mouth: &mut Mouth, byte: u8, last: bool, body: bool) {
+fn take_byte(rt: &impl Abort, mouth: &mut HalfMouth, byte: u8, last: bool, body: bool) {
     let out = Out {
         byte,
         last_of: last.then_some(1),
@@ -14,7 +14,7 @@ fn take_byte(rt: &impl Abort, mouth: &mut Mouth, byte: u8, last: bool, body: boo
 
 #[test]
 fn a_message_is_marked_with_its_number(rt: HostRuntime) {
-    let mut mouth = Mouth::new();
+    let mut mouth = HalfMouth::new();
     assert!(rt; mouth.idle());
     mouth.transmit(HalfFramer::reply(&[0x00, 0x10, 0x4F, 0x00, 0x01, 0x00], Check::Bcc));
     take_byte(&rt, &mut mouth, 0x10, false, false);
@@ -35,7 +35,7 @@ fn a_message_is_marked_with_its_number(rt: HostRuntime) {
 
 #[test]
 fn a_poll_is_no_transmission(rt: HostRuntime) {
-    let mut mouth = Mouth::new();
+    let mut mouth = HalfMouth::new();
     mouth.give(HalfFramer::poll(3));
     for b in [0x10, 0x05, 0x03, 0xFD] {
         take_byte(&rt, &mut mouth, b, false, false);

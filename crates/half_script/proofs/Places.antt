@@ -11,7 +11,7 @@ use Rattle.std.proofs.lemmas.Bool.{cases_lt, eqb-true, eq-eqb, le-ltb, lt-ltb, n
 use Rattle.std.proofs.lemmas.List.Folds.{find_at, position_or_len_push}
 use Rattle.std.proofs.lemmas.List.Sums.{prefix_len-le-length}
 use Rattle.std.proofs.lemmas.Option.{slice_get-get_or, slice_get_past, slice_get_within, unwrap_or-slice_get}
-use Rattle.line_statement.specs.declared.setup_line.SetupLine.{SetupLine}
+use Rattle.script_statement.specs.declared.setup_statement.SetupStatement.{SetupStatement}
 use Rattle.script_parts.specs.HalfPlayable.{is_declared}
 use Rattle.half_script.specs.declared.stations.StationDraft.{StationDraft}
 use Rattle.half_script.specs.Stations.{ArePlaces, declared, fresh_station, has_number, line_taken, numbers_in, station_at, with_station_line}
@@ -136,7 +136,7 @@ found_in n stations s is =
     let at : slice_get stations (place_or_all n stations) ≡ Some s = sym (find_at (has_number n) stations) ∙ is in
     (slice_get_within stations (place_or_all n stations) s at, sym (unwrap_or-slice_get stations (place_or_all n stations) s) ∙ ap (λ o. unwrap_or o s) at)
 
-pub taken_line : (stations : List StationDraft) (n place : ℕ) (line : SetupLine) (now next : StationDraft) → Some place ≡ position (has_number n) stations → now ≡ get_or stations place now → next ≡ line_taken now line
+pub taken_line : (stations : List StationDraft) (n place : ℕ) (line : SetupStatement) (now next : StationDraft) → Some place ≡ position (has_number n) stations → now ≡ get_or stations place now → next ≡ line_taken now line
     → set stations place next ≡ with_station_line stations n line
 taken_line stations n place line now next is at taken =
     let found : station_at stations n ≡ Some now = there n place stations now (sym is) ∙ ap Some (sym at) in

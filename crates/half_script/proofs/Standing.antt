@@ -17,15 +17,15 @@ use Rattle.end_drafts.specs.Flaws.{first_of, unless_wrong}
 use Rattle.end_drafts.specs.Stages.{is_fresh, is_set_up}
 use Rattle.end_drafts.proofs.EndStanding.{IsRight, right_at_first, right_with_commands, right_with_line, same_commands, same_node, plan_is_right}
 use Rattle.end_drafts.proofs.Ranges.{IsSound, IfSound, IsSoundLine, IfSound-statement_of}
-use Rattle.line_statement.specs.declared.who.Who.TheVariants.{M, S}
-use Rattle.line_statement.specs.declared.setup_line.SetupLine.{SetupLine}
-use Rattle.line_statement.specs.declared.half_event.Way.TheVariants.{ToStation, ToMaster}
-use Rattle.line_statement.specs.declared.half_event.HalfEvent.{HalfEvent}
-use Rattle.line_statement.specs.declared.half_event.HalfEvent.TheVariants as half
-use Rattle.line_statement.specs.declared.statement.EndName.TheVariants.{Known, Master, Station}
-use Rattle.line_statement.specs.declared.statement.Statement.{Statement}
-use Rattle.line_statement.specs.declared.statement.Statement.TheVariants as statement
-use Rattle.line_statement.specs.declared.statement.Statement.TheVariants.{Mode, Check, Setup, Issue, Times, Alter, Foreign, Half, End}
+use Rattle.script_statement.specs.declared.who.Who.TheVariants.{M, S}
+use Rattle.script_statement.specs.declared.setup_statement.SetupStatement.{SetupStatement}
+use Rattle.script_statement.specs.declared.half_event.Way.TheVariants.{ToStation, ToMaster}
+use Rattle.script_statement.specs.declared.half_event.HalfEvent.{HalfEvent}
+use Rattle.script_statement.specs.declared.half_event.HalfEvent.TheVariants as half
+use Rattle.script_statement.specs.declared.statement.EndName.TheVariants.{Known, Master, Station}
+use Rattle.script_statement.specs.declared.statement.Statement.{Statement}
+use Rattle.script_statement.specs.declared.statement.Statement.TheVariants as statement
+use Rattle.script_statement.specs.declared.statement.Statement.TheVariants.{Mode, Check, Setup, Issue, Times, Alter, Foreign, Half, End}
 use Rattle.script_parts.specs.declared.script.EndPlan.{EndPlan}
 use Rattle.script_parts.specs.declared.script.Event.{Event}
 use Rattle.script_parts.specs.declared.script.Event.TheVariants as event
@@ -50,14 +50,14 @@ record AreRightWith (before after : List StationDraft) : Type 0 where
   right : All IsRightStation after
   same : numbers_in after ≡ numbers_in before
 
-right_after_line : (s : StationDraft) (line : SetupLine) → IsRightStation s → IsSoundLine line → lacks role.Station s.end line ≡ false → exceeds s.end line ≡ false → repeats s.end line ≡ false → IsRightStation (line_taken s line)
+right_after_line : (s : StationDraft) (line : SetupStatement) → IsRightStation s → IsSoundLine line → lacks role.Station s.end line ≡ false → exceeds s.end line ≡ false → repeats s.end line ≡ false → IsRightStation (line_taken s line)
 right_after_line s line h sound there inside new = record {
   end = right_with_line (S s.number) role.Station s.end line h.end sound there inside new;
   node = same_node (S s.number) s.end line there ∙ h.node;
   number = h.number;
 }
 
-station_line : (stations : List StationDraft) (n : ℕ) (line : SetupLine) (o : Option StationDraft) → station_at stations n ≡ o → All IsRightStation stations → IsSoundLine line
+station_line : (stations : List StationDraft) (n : ℕ) (line : SetupStatement) (o : Option StationDraft) → station_at stations n ≡ o → All IsRightStation stations → IsSoundLine line
     → option_map_or (λ draft. lacks role.Station draft line) (option_map (λ (s : StationDraft). s.end) o) true ≡ false
     → option_map_or (λ draft. exceeds draft line) (option_map (λ (s : StationDraft). s.end) o) false ≡ false
     → option_map_or (λ draft. repeats draft line) (option_map (λ (s : StationDraft). s.end) o) false ≡ false

@@ -12,18 +12,18 @@ use Rattle.end_drafts.specs.declared.stage.Stage.TheVariants.{Settings}
 use Rattle.end_drafts.specs.Drafts.{fresh_end, plan_of, lacks, exceeds, repeats, with_line}
 use Rattle.end_drafts.specs.Flaws.{first_of, unless_wrong}
 use Rattle.end_drafts.specs.Stages.{is_fresh, is_set_up, stage_after}
-use Rattle.line_statement.specs.declared.who.Who.{Who}
-use Rattle.line_statement.specs.declared.who.Who.TheVariants.{M, S}
-use Rattle.line_statement.specs.declared.setup_line.SetupLine.{SetupLine}
-use Rattle.line_statement.specs.declared.half_event.Way.{Way}
-use Rattle.line_statement.specs.declared.half_event.Way.TheVariants.{ToStation, ToMaster}
-use Rattle.line_statement.specs.declared.half_event.HalfEvent.{HalfEvent}
-use Rattle.line_statement.specs.declared.half_event.HalfEvent.TheVariants as half
-use Rattle.line_statement.specs.declared.statement.EndName.{EndName}
-use Rattle.line_statement.specs.declared.statement.EndName.TheVariants.{Known, Master, Station}
-use Rattle.line_statement.specs.declared.statement.Statement.{Statement}
-use Rattle.line_statement.specs.declared.statement.Statement.TheVariants as statement
-use Rattle.line_statement.specs.declared.statement.Statement.TheVariants.{Mode, Check, Setup, Issue, Times, Alter, Foreign, Half, End}
+use Rattle.script_statement.specs.declared.who.Who.{Who}
+use Rattle.script_statement.specs.declared.who.Who.TheVariants.{M, S}
+use Rattle.script_statement.specs.declared.setup_statement.SetupStatement.{SetupStatement}
+use Rattle.script_statement.specs.declared.half_event.Way.{Way}
+use Rattle.script_statement.specs.declared.half_event.Way.TheVariants.{ToStation, ToMaster}
+use Rattle.script_statement.specs.declared.half_event.HalfEvent.{HalfEvent}
+use Rattle.script_statement.specs.declared.half_event.HalfEvent.TheVariants as half
+use Rattle.script_statement.specs.declared.statement.EndName.{EndName}
+use Rattle.script_statement.specs.declared.statement.EndName.TheVariants.{Known, Master, Station}
+use Rattle.script_statement.specs.declared.statement.Statement.{Statement}
+use Rattle.script_statement.specs.declared.statement.Statement.TheVariants as statement
+use Rattle.script_statement.specs.declared.statement.Statement.TheVariants.{Mode, Check, Setup, Issue, Times, Alter, Foreign, Half, End}
 use Rattle.script_parts.specs.declared.script.EndPlan.{EndPlan}
 use Rattle.script_parts.specs.declared.script.Event.{Event}
 use Rattle.script_parts.specs.declared.script.Event.TheVariants as event
@@ -154,7 +154,7 @@ flaw_of d statement = first_of (
 -- ---- what a statement changes
 
 -- a line of an end
-abbrev pub with_end_line : HalfReader → EndName → SetupLine → HalfReader
+abbrev pub with_end_line : HalfReader → EndName → SetupStatement → HalfReader
 with_end_line d (Known side) line = d
 with_end_line d Master line = record d { master = with_line M d.master line }
 with_end_line d (Station number) line = record d { stations = with_station_line d.stations number line }

@@ -2,8 +2,8 @@
 use Rattle.std.specs.Prelude.{◌≡◌, ◌-◌, ℕ, List, [], ◌∷◌, ◌++◌, Some, count_by, sum_by, Result, Ok, Err}
 use Rattle.std.specs.Option.{option_to_list}
 use Rattle.end_drafts.specs.declared.flaw.Flaw.{Flaw}
-use Rattle.line_statement.specs.declared.statement.Statement.{Statement}
-use Rattle.line_statement.specs.Statements.{statement_of}
+use Rattle.script_statement.specs.declared.statement.Statement.{Statement}
+use Rattle.script_statement.specs.Statements.{statement_of}
 use Rattle.script_parts.specs.declared.script.Event.{Event}
 use Rattle.script_parts.specs.HalfPlayable.{half_count_of, is_issue}
 use Rattle.half_script.specs.declared.reader.HalfReader.{HalfReader}

@@ -4,8 +4,8 @@ use Rattle.std.specs.List.{position_or_len}
 use Rattle.std.specs.Option.{option_map_or}
 use Rattle.std.specs.Ordering.{nat_cmp}
 use Rattle.std.specs.BTreeMap.{BTreeMap, get}
-use Rattle.line_statement.specs.declared.setup_line.SetupLine.{SetupLine}
-use Rattle.line_statement.specs.declared.who.Who.TheVariants.{S}
+use Rattle.script_statement.specs.declared.setup_statement.SetupStatement.{SetupStatement}
+use Rattle.script_statement.specs.declared.who.Who.TheVariants.{S}
 use Rattle.script_parts.specs.declared.script.EndPlan.{EndPlan}
 use Rattle.script_parts.specs.HalfPlayable.{is_declared}
 use Rattle.end_drafts.specs.Drafts.{fresh_end, plan_of, with_line}
@@ -35,11 +35,11 @@ abbrev pub with_station : List StationDraft → ℕ → List StationDraft
 with_station stations number = if nat_le 32 (length stations) then stations else stations ++ fresh_station number ∷ []
 
 -- a station after a line of it
-abbrev pub line_taken : StationDraft → SetupLine → StationDraft
+abbrev pub line_taken : StationDraft → SetupStatement → StationDraft
 line_taken station line = record station { end = with_line (S station.number) station.end line }
 
 -- the stations after a line of the first of a number
-abbrev pub with_station_line : List StationDraft → ℕ → SetupLine → List StationDraft
+abbrev pub with_station_line : List StationDraft → ℕ → SetupStatement → List StationDraft
 with_station_line stations number line =
     option_map_or (λ station. slice_set stations (position_or_len (has_number number) stations) (line_taken station line)) (station_at stations number) stations
 

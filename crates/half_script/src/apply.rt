@@ -5,8 +5,8 @@ ghost use Rattle.half_script.specs.Drafts.{altered, delivered, event_of as the_e
 use crate::HalfReader;
 use df1_base::NoMemory;
 use end_drafts::Stage;
-use line_statement::{Bytes, EndName, HalfEvent, SetupLine, Statement, Way, Who};
 use script_parts::{Event, Lane};
+use script_statement::{Bytes, EndName, HalfEvent, SetupStatement, Statement, Way, Who};
 use std::alloc::Global;
 
 impl HalfReader {
@@ -43,7 +43,7 @@ impl HalfReader {
 
     /// Takes a line of an end. A file and a word alone take memory.
     #[inline(never)]
-    fn set_up(&mut self, end: EndName, line: SetupLine) -> Result<(), NoMemory>
+    fn set_up(&mut self, end: EndName, line: SetupStatement) -> Result<(), NoMemory>
         ensures { OnOk result (self.new ≡ settled self.old (Statement.Setup end line)) }
     {
         match end {

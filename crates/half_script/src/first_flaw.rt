@@ -6,7 +6,7 @@ ghost use Rattle.half_script.specs.Drafts.{event_steps as the_event_steps, flaw_
 use crate::HalfReader;
 use crate::stations::STATIONS;
 use end_drafts::{Flaw, Role, Stage};
-use line_statement::{EndName, HalfEvent, Statement, Way};
+use script_statement::{EndName, HalfEvent, Statement, Way};
 
 impl HalfReader {
     /// The first flaw that a statement has, in the order of the flaws.

@@ -1,7 +1,7 @@
 //! What holds of all statements that are read. The functions do nothing.
 ghost use Rattle.std.specs.Prelude.{List, [], IfOk};
 ghost use Rattle.std.specs.List.{All};
-ghost use Rattle.line_statement.specs.declared.statement.Statement.{Statement};
+ghost use Rattle.script_statement.specs.declared.statement.Statement.{Statement};
 ghost use Rattle.script_parts.specs.HalfPlayable.{IsHalfPlayable};
 ghost use Rattle.half_script.specs.Drafts.{fresh, script_with};
 ghost use Rattle.half_script.specs.Read.{IsLeft, IsSaid, after_statements};

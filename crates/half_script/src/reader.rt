@@ -8,8 +8,8 @@ use crate::Stations;
 use df1_base::NoMemory;
 use df1_check::Check;
 use end_drafts::{EndDraft, Stage, StatementFault};
-use line_statement::{EVENTS, EndName, Items, Statement, Who};
 use script_parts::{Ends, Event, Events, Script};
+use script_statement::{EVENTS, EndName, Items, Statement, Who};
 use std::alloc::Global;
 
 /// The address of the master, where no line sets it.

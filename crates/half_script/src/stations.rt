@@ -5,8 +5,8 @@ ghost use Rattle.half_script.specs.Stations.{declared as the_declared, has_numbe
 
 use df1_base::NoMemory;
 use end_drafts::EndDraft;
-use line_statement::{SetupLine, Who};
 use script_parts::Ends;
+use script_statement::{SetupStatement, Who};
 use std::alloc::Global;
 use std::collections::BTreeMap;
 use std::marker::Model;
@@ -120,7 +120,7 @@ impl Stations {
 
     /// Takes a line of the first station of this number, if there is one. Where there is no memory for it, the stations are
     /// only dropped.
-    pub fn take(&mut self, number: u32, line: SetupLine) -> Result<(), NoMemory>
+    pub fn take(&mut self, number: u32, line: SetupStatement) -> Result<(), NoMemory>
         ensures { OnOk result (self.new ≡ with_station_line self.old number line) }
     {
         match self.place(number) {
@@ -146,7 +146,7 @@ impl Stations {
 
 impl StationDraft {
     /// Takes a line of the station.
-    fn take(&mut self, line: SetupLine) -> Result<(), NoMemory>
+    fn take(&mut self, line: SetupStatement) -> Result<(), NoMemory>
         ensures taken { OnOk result (self.new ≡ line_taken self.old line) }
         ensures number { self.new.number ≡ self.old.number }
     {

@@ -3,8 +3,8 @@
 use crate::HalfReader;
 use df1_check::Check;
 use end_drafts::{Flaw, StatementFault};
-use line_statement::{Items, Who, first_words, statement_of};
 use script_parts::{EndPlan, Event, Events, Script, WordOf};
+use script_statement::{Items, Who, first_words, statement_of};
 use std::alloc::{AllocError, Global};
 use std::process::Abort;
 use std::test::Fail;

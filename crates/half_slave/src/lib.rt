@@ -49,7 +49,7 @@ use arrayvec::ArrayVec;
 use df1_base::{ACK, Act, Did, Fate, Host, NAK, News, Out, Resp, Step};
 use df1_check::Check;
 use half_frame::{EOT, HalfFramer, SlaveEar, SlaveHeard};
-use half_mouth::Mouth;
+use half_mouth::HalfMouth;
 use held::{Held, close_wait, count_sending, fate_at_ack, fate_at_poll, fate_at_reset};
 pub use laws::{
     a_drain_ends, a_fate_is_told_once, an_ack_counts_in_the_wait, arrivals_are_heard,
@@ -77,7 +77,7 @@ pub struct Slave<H: Host + Drop> {
     ear: SlaveEar<250>,
     filter: Filter,
     responds: Option<Resp>,
-    mouth: Mouth,
+    mouth: HalfMouth,
     held: Option<Held>,
     sending: ArrayVec<u8, 250>,
     host: H,
@@ -105,7 +105,7 @@ impl<H: Host + Drop> Slave<H> {
             ear: SlaveEar::new(setup.check),
             filter: Filter::new(),
             responds: None,
-            mouth: Mouth::new(),
+            mouth: HalfMouth::new(),
             held: None,
             sending: ArrayVec::new(),
             host,
@@ -342,7 +342,7 @@ fn plain_step(act: Act, news: News) -> Step
 }
 
 /// Begins a response that waits, where nothing else is left to be given.
-fn begin_response(mouth: &mut Mouth, responds: &mut Option<Resp>)
+fn begin_response(mouth: &mut HalfMouth, responds: &mut Option<Resp>)
     ensures mouth { mouth.new ≡ mouth_at_take mouth.old responds.old }
     ensures responds { responds.new ≡ responds_at_take mouth.old responds.old }
     ensures most { bytes_left mouth.old ≤ 509 }

@@ -9,9 +9,9 @@ use Rattle.script_parts.specs.declared.script.Event.{Event}
 use Rattle.script_parts.specs.declared.script.Script.{Script}
 use Rattle.script_parts.specs.Playable.{IsPlayable, count_of}
 use Rattle.script_parts.specs.HalfPlayable.{CanBePlayed, IsHalfPlayable, half_count_of, numbers_of}
-use Rattle.line_report.specs.declared.record.Line.{Line}
-use Rattle.line_report.specs.declared.record.Record.{Record}
-use Rattle.line_report.specs.Report.{line_text, word_text, deceived_text, report}
+use Rattle.replay_report.specs.declared.record.Line.{Line}
+use Rattle.replay_report.specs.declared.record.Record.{Record}
+use Rattle.replay_report.specs.Report.{line_text, word_text, deceived_text, report}
 use Rattle.half_line.specs.Acts.{HalfState}
 use Rattle.half_line.specs.Plays.{Played as HalfPlayed, numbers_at, weight}
 use Rattle.half_line.specs.Run as polled

@@ -22,7 +22,7 @@ use Rattle.script_parts.specs.HalfPlayable.{CanBePlayed, IsHalfPlayable}
 use Rattle.line_script.specs.ScriptText.{script_of}
 use Rattle.line_script.proofs.Setup.{Extends, TellsEvents, script-accepted}
 use Rattle.line_script.proofs.Shown.{shown-script, script-at-end, tells, front-of, front-by-byte, front-at-end, playable, playable-at-end}
-use Rattle.line_report.specs.Report.{line_text, report}
+use Rattle.replay_report.specs.Report.{line_text, report}
 use Rattle.line_replay.specs.declared.world.World.{World}
 use Rattle.line_replay.specs.Runs.{IsNext, after_event, after_events, all_lines, begun, begun_in, last_world, lines_in, lines_of, lines_after, played, record_of}
 use Rattle.line_replay.proofs.EitherMode.{after-behind, lines-behind, no-lines, report-from}

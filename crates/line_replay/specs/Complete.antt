@@ -1,7 +1,7 @@
 -- Each command executed and answered, in the record of a script of either mode whose run nothing disturbs.
 use Rattle.std.specs.Prelude.{Bool, true, false}
 use Rattle.script_parts.specs.declared.script.Script.{Script}
-use Rattle.line_report.specs.declared.record.Record.{Record}
+use Rattle.replay_report.specs.declared.record.Record.{Record}
 use Rattle.duplex_line.specs.Prompt as duplex_run
 use Rattle.duplex_line.specs.Complete as duplex
 use Rattle.half_line.specs.Prompt as polled_run

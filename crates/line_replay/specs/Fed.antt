@@ -11,7 +11,7 @@ use Rattle.line_script.specs.Fed.{EndsFor, Fed, StandsFor, accepted_script, ende
 use Rattle.line_script.specs.Lines.{script_with}
 use Rattle.script_parts.specs.HalfPlayable.{CanBePlayed}
 use Rattle.line_script.specs.ScriptText.{script_of}
-use Rattle.line_report.specs.Report.{line_text, report}
+use Rattle.replay_report.specs.Report.{line_text, report}
 use Rattle.line_replay.specs.declared.world.World.{World}
 use Rattle.line_replay.specs.Runs.{all_lines, begun, last_world, lines_of, record_from, record_of}
 use Rattle.line_replay.specs.declared.replayer.StreamFault.{StreamFault}

@@ -1,7 +1,7 @@
 -- Each command once, in the record of a script of either mode.
 use Rattle.std.specs.Prelude.{Bool, true, false}
 use Rattle.script_parts.specs.declared.script.Script.{Script}
-use Rattle.line_report.specs.declared.record.Record.{Record}
+use Rattle.replay_report.specs.declared.record.Record.{Record}
 use Rattle.duplex_line.specs.Once as duplex
 use Rattle.half_line.specs.Once as polled
 

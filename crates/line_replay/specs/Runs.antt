@@ -4,8 +4,8 @@ use Rattle.df1_check.specs.declared.Check.{Check}
 use Rattle.script_parts.specs.declared.script.EndPlan.{EndPlan}
 use Rattle.script_parts.specs.declared.script.Event.{Event}
 use Rattle.script_parts.specs.declared.script.Script.{Script}
-use Rattle.line_report.specs.declared.record.Line.{Line}
-use Rattle.line_report.specs.declared.record.Record.{Record}
+use Rattle.replay_report.specs.declared.record.Line.{Line}
+use Rattle.replay_report.specs.declared.record.Record.{Record}
 use Rattle.duplex_line.specs.Plays as duplex
 use Rattle.duplex_line.specs.Run as duplex_run
 use Rattle.half_line.specs.Plays as polled

@@ -8,8 +8,8 @@ ghost use Rattle.line_replay.specs.Runs.{record_of};
 
 use crate::World;
 use df1_base::NoMemory;
-use line_report::Record;
 use line_script::Script;
+use replay_report::Record;
 use std::alloc::Global;
 
 /// Plays a script that can be read, and answers the record of its run. Where no end was deceived, each command of the script was

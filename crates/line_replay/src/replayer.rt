@@ -8,14 +8,14 @@ ghost use Rattle.line_script.specs.Lines.{script_with};
 ghost use Rattle.script_parts.specs.HalfPlayable.{CanBePlayed};
 ghost use Rattle.line_script.specs.Unfinished.{unfinished};
 ghost use Rattle.line_replay.specs.Runs.{IsNext, begun, lines_in, played, printed, record_from};
-ghost use Rattle.line_report.specs.Report.{line_text, report};
+ghost use Rattle.replay_report.specs.Report.{line_text, report};
 ghost use Rattle.std.specs.List.{flat_map};
 ghost use Rattle.line_replay.specs.Fed.{IsDue, IsEndedReplay, IsFromPlay, IsRefusedAs, IsRefusedHere, IsRefusedWith, IsReplay, IsReplayAtEnd, IsReplayOf, IsScript, IsWorldOf, ShowsFront, ShowsMore, event_text, events_text, rest_text, shown, told, world_for};
 
 use crate::{Cause, Event, World};
 use df1_base::{Failed, NoMemory, Sink};
-use line_report::print;
 use line_script::{ScriptFault, TextReader};
+use replay_report::print;
 use std::alloc::Global;
 use std::marker::Model;
 use thiserror::Error;

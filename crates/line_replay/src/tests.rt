@@ -2,8 +2,8 @@
 
 use crate::replay;
 use df1_base::BytesOut;
-use line_report::{Record, print};
 use line_script::read_script;
+use replay_report::{Record, print};
 use std::alloc::Global;
 use std::test::Fail;
 

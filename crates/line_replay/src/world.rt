@@ -3,15 +3,15 @@
 ghost use Rattle.std.specs.Prelude.{◌≡◌, IfOk, IsOk, IsTrue, OnOk, OnErr};
 ghost use Rattle.std.specs.List.{flat_map};
 ghost use Rattle.df1_base.specs.Outside.{Rose, Put, WrotePart, Later};
-ghost use Rattle.line_report.specs.Report.{line_text};
+ghost use Rattle.replay_report.specs.Report.{line_text};
 ghost use Rattle.script_parts.specs.HalfPlayable.{CanBePlayed};
 ghost use Rattle.line_replay.specs.Runs.{IsNext, begun, lines_in, played, printed, record_from, takes_no_memory};
 
 use crate::{Event, Script};
 use df1_base::{Failed, NoMemory, Sink};
-use duplex_line::World as DuplexWorld;
+use duplex_line::DuplexWorld;
 use half_line::HalfWorld;
-use line_report::Record;
+use replay_report::Record;
 use std::alloc::Global;
 
 /// The ends of a line with their nodes, and the bytes on their way between them: two ends of a full-duplex line, or a master

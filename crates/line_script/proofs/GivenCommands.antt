@@ -8,12 +8,12 @@ use Rattle.std.proofs.lemmas.Grind.{common_steps}
 use Rattle.hex.specs.Hex.{decode_pairs, digit_or_error, hex_digit_value, pair_value, value_at, ◌>>=◌}
 use Rattle.hex.specs.declared.error.FromHexError.{FromHexError}
 use Rattle.hex.specs.declared.error.FromHexError.TheVariants.{OddLength}
-use Rattle.line_statement.specs.Statements.{end_of, event_with, is_payload, issue_line, operand_event, payload_of, station_line, statement_of, two_words}
-use Rattle.line_statement.specs.Words.{hex_of, is_blank, number_of, words}
-use Rattle.line_statement.specs.declared.statement.EndName.{EndName}
-use Rattle.line_statement.specs.declared.statement.EndName.TheVariants.{Known}
-use Rattle.line_statement.specs.declared.statement.Side.{Side}
-use Rattle.line_statement.specs.declared.statement.Statement.TheVariants.{Issue}
+use Rattle.script_statement.specs.Statements.{end_of, event_with, is_payload, issue_line, operand_event, payload_of, station_line, statement_of, two_words}
+use Rattle.script_statement.specs.Words.{hex_of, is_blank, number_of, words}
+use Rattle.script_statement.specs.declared.statement.EndName.{EndName}
+use Rattle.script_statement.specs.declared.statement.EndName.TheVariants.{Known}
+use Rattle.script_statement.specs.declared.statement.EndLetter.{EndLetter}
+use Rattle.script_statement.specs.declared.statement.Statement.TheVariants.{Issue}
 use Rattle.line_script.specs.Lines.{is_passed_over}
 use Rattle.line_script.proofs.Steps.{front}
 
@@ -92,7 +92,7 @@ both-fail false = refl
 command-words : (e : ℕ) (digits : List ℕ) → is_blank e ≡ false → words digits ≡ digits ∷ [] → words (e ∷ 105 ∷ 32 ∷ digits) ≡ (e ∷ 105 ∷ []) ∷ digits ∷ []
 command-words e digits blank one = rw blank (ap (λ ws. (e ∷ 105 ∷ []) ∷ ws) one)
 
-two-words : (e : ℕ) (digits payload : List ℕ) (side : Side) → end_of (e ∷ []) ≡ Some (Known side) → hex_of digits ≡ Some payload → payload_of payload ≡ Some payload
+two-words : (e : ℕ) (digits payload : List ℕ) (side : EndLetter) → end_of (e ∷ []) ≡ Some (Known side) → hex_of digits ≡ Some payload → payload_of payload ≡ Some payload
     → two_words (e ∷ 105 ∷ []) digits ≡ Some (Issue side (Some payload))
 two-words e digits payload side known hex is =
     let other : bytes_eq (e ∷ 105 ∷ []) (codes "station") ≡ false = both-fail (nat_eq e 115) in
@@ -101,7 +101,7 @@ two-words e digits payload side known hex is =
     ∙ ap (issue_line side) hex
     ∙ ap (λ (p : Option (List ℕ)). Some (Issue side p)) is
 
-command-says : (e : ℕ) (digits payload : List ℕ) (side : Side) → end_of (e ∷ []) ≡ Some (Known side) → is_blank e ≡ false → eqb e 35 ≡ false
+command-says : (e : ℕ) (digits payload : List ℕ) (side : EndLetter) → end_of (e ∷ []) ≡ Some (Known side) → is_blank e ≡ false → eqb e 35 ≡ false
     → hex_of digits ≡ Some payload → payload_of payload ≡ Some payload → words digits ≡ digits ∷ []
     → (is_passed_over (words (e ∷ 105 ∷ 32 ∷ digits)) ≡ false) × (statement_of (words (e ∷ 105 ∷ 32 ∷ digits)) ≡ Some (Issue side (Some payload)))
 unfolding statement_of
@@ -109,7 +109,7 @@ command-says e digits payload side known end comment hex is one =
     let said = command-words e digits end one in
     (ap is_passed_over said ∙ comment, ap statement_of said ∙ two-words e digits payload side known hex is)
 
-pub is-command : (line digits payload : List ℕ) (side : Side)
+pub is-command : (line digits payload : List ℕ) (side : EndLetter)
     → 3 ≤ length line → slice_index_or line 1 0 ≡ 105 → slice_index_or line 2 0 ≡ 32 → digits ≡ drop 3 line
     → end_of (slice_index_or line 0 0 ∷ []) ≡ Some (Known side) → is_blank (slice_index_or line 0 0) ≡ false → eqb (slice_index_or line 0 0) 35 ≡ false
     → hex_of digits ≡ Some payload → payload_of payload ≡ Some payload → words digits ≡ digits ∷ []

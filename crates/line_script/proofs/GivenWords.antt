@@ -10,13 +10,13 @@ use Rattle.std.proofs.lemmas.Grind.{common_steps}
 use Rattle.std.proofs.lemmas.List.{take-append-drop, take_rest}
 use Rattle.std.proofs.lemmas.List.Quantifiers.{position-Some}
 use Rattle.duplex_script.specs.Drafts.{word_given}
-use Rattle.line_statement.specs.Statements.{end_of, statement_of, word_line}
-use Rattle.line_statement.specs.Words.{is_blank, number_of, register_of, within, words}
-use Rattle.line_statement.specs.declared.statement.EndName.{EndName}
-use Rattle.line_statement.specs.declared.statement.EndName.TheVariants.{Known}
-use Rattle.line_statement.specs.declared.statement.Side.{Side}
-use Rattle.line_statement.specs.declared.statement.Statement.TheVariants.{Setup}
-use Rattle.line_statement.specs.declared.setup_line.SetupLine.TheVariants.{Word}
+use Rattle.script_statement.specs.Statements.{end_of, statement_of, word_line}
+use Rattle.script_statement.specs.Words.{is_blank, number_of, register_of, within, words}
+use Rattle.script_statement.specs.declared.statement.EndName.{EndName}
+use Rattle.script_statement.specs.declared.statement.EndName.TheVariants.{Known}
+use Rattle.script_statement.specs.declared.statement.EndLetter.{EndLetter}
+use Rattle.script_statement.specs.declared.statement.Statement.TheVariants.{Setup}
+use Rattle.script_statement.specs.declared.setup_statement.SetupStatement.TheVariants.{Word}
 use Rattle.line_script.specs.Lines.{is_passed_over}
 use Rattle.line_script.proofs.Steps.{digit_in_word, number_is_digits}
 
@@ -52,7 +52,7 @@ number_cut bytes i n found is = ap words (cut_at bytes i found) ∙ number_first
 words_of_line : (e : ℕ) (operands : List ℕ) → is_blank e ≡ false → words (119 ∷ 111 ∷ 114 ∷ 100 ∷ 32 ∷ e ∷ 32 ∷ operands) ≡ (119 ∷ 111 ∷ 114 ∷ 100 ∷ []) ∷ (e ∷ []) ∷ words operands
 words_of_line e operands blank = rw blank refl
 
-said : (e : ℕ) (first second third : List ℕ) (side : Side) (number file index value : ℕ)
+said : (e : ℕ) (first second third : List ℕ) (side : EndLetter) (number file index value : ℕ)
     → end_of (e ∷ []) ≡ Some (Known side) → number_of first ≡ Some number → number_of second ≡ Some index → register_of third ≡ Some value → within 0 999 (Some number) ≡ Some file
     → statement_of ((119 ∷ 111 ∷ 114 ∷ 100 ∷ []) ∷ (e ∷ []) ∷ first ∷ second ∷ third ∷ []) ≡ Some (word_given side file index value)
 unfolding statement_of
@@ -64,7 +64,7 @@ said e first second third side number file index value end is_number is_index is
     ∙ ap (λ (o : Option ℕ). Some (Setup (Known side) (Word o index value))) is_file
 
 -- the name, an end, two numbers and a value
-pub word_says : (line operands first rest second third : List ℕ) (e : ℕ) (side : Side) (number file index value : ℕ)
+pub word_says : (line operands first rest second third : List ℕ) (e : ℕ) (side : EndLetter) (number file index value : ℕ)
     → line ≡ 119 ∷ 111 ∷ 114 ∷ 100 ∷ 32 ∷ e ∷ 32 ∷ operands → end_of (e ∷ []) ≡ Some (Known side) → is_blank e ≡ false
     → words operands ≡ first ∷ words rest → number_of first ≡ Some number → words rest ≡ second ∷ words third → number_of second ≡ Some index
     → words third ≡ third ∷ [] → register_of third ≡ Some value → within 0 999 (Some number) ≡ Some file

@@ -11,7 +11,7 @@ use Rattle.script_parts.specs.declared.script.Event.{Event}
 use Rattle.line_script.specs.Lines.{text_line, lines_from, last_line, after_line, after_words, reaches_limit, is_long, content}
 use Rattle.line_script.specs.Refusal.{IsFaulty, IsRefused, fault_at}
 use Rattle.line_script.specs.ScriptText.{with_event, script_from, parts}
-use Rattle.line_statement.specs.Words.{words}
+use Rattle.script_statement.specs.Words.{words}
 use Rattle.line_script.proofs.Cuts.{split-first}
 
 -- the lines from one that was read on

@@ -6,12 +6,12 @@ use Rattle.line_script.specs.declared.fault.Cause.{Cause}
 use Rattle.line_script.specs.declared.fault.Cause.TheVariants as cause
 use Rattle.script_parts.specs.declared.script.Event.{Event}
 use Rattle.script_parts.specs.declared.script.Script.{Script}
-use Rattle.line_statement.specs.declared.statement.Side.TheVariants.{A, B}
-use Rattle.line_statement.specs.declared.statement.Statement.{Statement}
-use Rattle.line_statement.specs.declared.statement.Statement.TheVariants as statement
-use Rattle.line_statement.specs.declared.statement.Statement.TheVariants.{Mode, Check, Station, Setup, Issue, Times, Alter, Foreign, End}
-use Rattle.line_statement.specs.declared.half_event.HalfEvent.{HalfEvent}
-use Rattle.line_statement.specs.declared.half_event.HalfEvent.TheVariants as event
+use Rattle.script_statement.specs.declared.statement.EndLetter.TheVariants.{A, B}
+use Rattle.script_statement.specs.declared.statement.Statement.{Statement}
+use Rattle.script_statement.specs.declared.statement.Statement.TheVariants as statement
+use Rattle.script_statement.specs.declared.statement.Statement.TheVariants.{Mode, Check, Station, Setup, Issue, Times, Alter, Foreign, End}
+use Rattle.script_statement.specs.declared.half_event.HalfEvent.{HalfEvent}
+use Rattle.script_statement.specs.declared.half_event.HalfEvent.TheVariants as event
 use Rattle.duplex_script.specs.declared.reader.DuplexReader.{DuplexReader}
 use Rattle.duplex_script.specs.Drafts as duplex
 use Rattle.half_script.specs.declared.reader.HalfReader.{HalfReader}
@@ -29,8 +29,8 @@ use Rattle.line_script.specs.Fed.{accepted, accepted_on, accepted_script, lines_
 use Rattle.line_script.specs.Left.{after_lines, and_then}
 use Rattle.line_script.specs.Lines.{TextLine, is_ended, is_passed_over, reaches_limit, is_long, content, with_cause, after_form, after_words, after_line, script_with}
 use Rattle.line_script.specs.ScriptText.{at_line, with_event, script_from, script_of}
-use Rattle.line_statement.specs.Statements.{statement_of}
-use Rattle.line_statement.specs.Words.{words}
+use Rattle.script_statement.specs.Statements.{statement_of}
+use Rattle.script_statement.specs.Words.{words}
 use Rattle.line_script.proofs.Fed.{same-read}
 
 -- the ends are set up alike

@@ -11,10 +11,10 @@ use Rattle.end_drafts.proofs.Ranges.{IsSound, IfSound, IfSound-statement_of}
 use Rattle.half_script.specs.declared.reader.HalfReader.{HalfReader}
 use Rattle.half_script.specs.Drafts as half_drafts
 use Rattle.half_script.proofs.Standing as half
-use Rattle.line_statement.specs.declared.statement.Statement.{Statement}
-use Rattle.line_statement.specs.declared.statement.Statement.TheVariants.{Mode}
-use Rattle.line_statement.specs.Statements.{statement_of}
-use Rattle.line_statement.specs.Words.{words}
+use Rattle.script_statement.specs.declared.statement.Statement.{Statement}
+use Rattle.script_statement.specs.declared.statement.Statement.TheVariants.{Mode}
+use Rattle.script_statement.specs.Statements.{statement_of}
+use Rattle.script_statement.specs.Words.{words}
 use Rattle.script_parts.specs.declared.script.Event.{Event}
 use Rattle.script_parts.specs.declared.script.Script.{Script}
 use Rattle.script_parts.specs.HalfPlayable.{CanBePlayed}

@@ -8,27 +8,27 @@ use Rattle.std.proofs.lemmas.Bool.{cases_lt, eqb-true}
 use Rattle.std.proofs.lemmas.Bool.Decides.{nat_tests}
 use Rattle.std.proofs.lemmas.Grind.{common_steps}
 use Rattle.std.proofs.lemmas.List.{length-take}
-use Rattle.line_statement.specs.Statements.{end_of, verb_of}
-use Rattle.line_statement.specs.Words.{number_of}
-use Rattle.line_statement.specs.declared.statement.Side.{Side}
-use Rattle.line_statement.specs.declared.statement.Verb.{Verb}
+use Rattle.script_statement.specs.Statements.{end_of, verb_of}
+use Rattle.script_statement.specs.Words.{number_of}
+use Rattle.script_statement.specs.declared.statement.EndLetter.{EndLetter}
+use Rattle.script_statement.specs.declared.statement.Verb.{Verb}
 use Rattle.line_script.specs.Fed.{HasNoFeed}
 use Rattle.line_script.specs.Lines.{content, text_line}
 use Rattle.line_script.specs.Steps.{count_in, side_in, step_before, step_in, step_with}
-use Rattle.line_script.specs.declared.step.Step.{Step}
+use Rattle.line_script.specs.declared.step.TimesEvent.{TimesEvent}
 use Rattle.line_script.proofs.Steps.{number_is_digits}
 
 -- ---- the bytes of a step
 
-with_all : (s : Option Side) (v : Option Verb) (c : Option ℕ) (step : Step) → step_with s v c ≡ Some step → (s ≡ Some step.side) × (v ≡ Some step.verb) × (c ≡ Some step.n)
+with_all : (s : Option EndLetter) (v : Option Verb) (c : Option ℕ) (step : TimesEvent) → step_with s v c ≡ Some step → (s ≡ Some step.side) × (v ≡ Some step.verb) × (c ≡ Some step.n)
 with_all (Some s) (Some v) (Some n) step is =
-    let same = ap (λ (o : Option Step). unwrap_or o step) is in
-    (ap (λ (t : Step). Some t.side) same, ap (λ (t : Step). Some t.verb) same, ap (λ (t : Step). Some t.n) same)
+    let same = ap (λ (o : Option TimesEvent). unwrap_or o step) is in
+    (ap (λ (t : TimesEvent). Some t.side) same, ap (λ (t : TimesEvent). Some t.verb) same, ap (λ (t : TimesEvent). Some t.n) same)
 with_all (Some s) (Some v) None step is = cc
 with_all (Some s) None c step is = cc
 with_all None v c step is = cc
 
-not_at_end : (e : ℕ) (side : Side) → side_in (end_of (e ∷ [])) ≡ Some side → eqb e 10 ≡ false
+not_at_end : (e : ℕ) (side : EndLetter) → side_in (end_of (e ∷ [])) ≡ Some side → eqb e 10 ≡ false
 unfolding number_of
 not_at_end e side is = elim (eqb e 10) as (λ b. eqb e 10 ≡ b → b ≡ false) [
   | true ↦ λ feed. let at : side_in (end_of (10 ∷ [])) ≡ Some side = subst (λ x. side_in (end_of (x ∷ [])) ≡ Some side) (eqb-true e 10 feed) is in cc
@@ -52,7 +52,7 @@ record IsStep (e v b : ℕ) (digits : List ℕ) : Type 0 where
   some : 1 ≤ length digits
   all : list_all is_ascii_digit digits ≡ true
 
-parts : (e v b : ℕ) (digits : List ℕ) (step : Step) → step_in (e ∷ v ∷ b ∷ digits) ≡ Some step → IsStep e v b digits
+parts : (e v b : ℕ) (digits : List ℕ) (step : TimesEvent) → step_in (e ∷ v ∷ b ∷ digits) ≡ Some step → IsStep e v b digits
 parts e v b digits step is = elim (eqb b 32) as (λ x. eqb b 32 ≡ x → cond x (step_with (side_in (end_of (e ∷ []))) (verb_of v) (count_in digits)) None ≡ Some step → IsStep e v b digits) [
   | false ↦ λ other h. cc
   | true ↦ λ blank h.
@@ -69,7 +69,7 @@ parts e v b digits step is = elim (eqb b 32) as (λ x. eqb b 32 ≡ x → cond x
       }
 ] refl is
 
-sizes : (line : List ℕ) (step : Step) → step_in line ≡ Some step → (4 ≤ length line) × (length line ≤ 5)
+sizes : (line : List ℕ) (step : TimesEvent) → step_in line ≡ Some step → (4 ≤ length line) × (length line ≤ 5)
 sizes [] step is = cc
 sizes (_ ∷ []) step is = cc
 sizes (_ ∷ _ ∷ []) step is = cc
@@ -98,13 +98,13 @@ two d f all =
 return_is_none : (x : ℕ) → eqb x 13 ≡ true → eqb x 10 ≡ false
 return_is_none x is = subst (λ y. eqb y 10 ≡ false) (sym (eqb-true x 13 is)) refl
 
-four : (e v b d : ℕ) (step : Step) → step_before (e ∷ v ∷ b ∷ d ∷ []) ≡ Some step → HasNoFeed (e ∷ v ∷ b ∷ d ∷ [])
+four : (e v b d : ℕ) (step : TimesEvent) → step_before (e ∷ v ∷ b ∷ d ∷ []) ≡ Some step → HasNoFeed (e ∷ v ∷ b ∷ d ∷ [])
 four e v b d step is = elim (eqb d 13) as (λ x. step_in (cond x (e ∷ v ∷ b ∷ []) (e ∷ v ∷ b ∷ d ∷ [])) ≡ Some step → HasNoFeed (e ∷ v ∷ b ∷ d ∷ [])) [
   | true ↦ λ h. let some = (parts e v b [] step h).some in absurd (omega (arith, some))
   | false ↦ λ h. let s = parts e v b (d ∷ []) step h in rw (s.end, s.letter, s.blank, one d s.all) refl
 ] is
 
-five : (e v b d f : ℕ) (step : Step) → step_before (e ∷ v ∷ b ∷ d ∷ f ∷ []) ≡ Some step → HasNoFeed (e ∷ v ∷ b ∷ d ∷ f ∷ [])
+five : (e v b d f : ℕ) (step : TimesEvent) → step_before (e ∷ v ∷ b ∷ d ∷ f ∷ []) ≡ Some step → HasNoFeed (e ∷ v ∷ b ∷ d ∷ f ∷ [])
 five e v b d f step is = elim (eqb f 13) as (λ x. eqb f 13 ≡ x → step_in (cond x (e ∷ v ∷ b ∷ d ∷ []) (e ∷ v ∷ b ∷ d ∷ f ∷ [])) ≡ Some step → HasNoFeed (e ∷ v ∷ b ∷ d ∷ f ∷ [])) [
   | true ↦ λ back h.
       let s = parts e v b (d ∷ []) step h in
@@ -115,7 +115,7 @@ five e v b d f step is = elim (eqb f 13) as (λ x. eqb f 13 ≡ x → step_in (c
       rw (s.end, s.letter, s.blank, both.0, both.1) refl
 ] refl is
 
-six : (e v b d f g : ℕ) (step : Step) → step_before (e ∷ v ∷ b ∷ d ∷ f ∷ g ∷ []) ≡ Some step → HasNoFeed (e ∷ v ∷ b ∷ d ∷ f ∷ g ∷ [])
+six : (e v b d f g : ℕ) (step : TimesEvent) → step_before (e ∷ v ∷ b ∷ d ∷ f ∷ g ∷ []) ≡ Some step → HasNoFeed (e ∷ v ∷ b ∷ d ∷ f ∷ g ∷ [])
 six e v b d f g step is = elim (eqb g 13) as (λ x. eqb g 13 ≡ x → step_in (cond x (e ∷ v ∷ b ∷ d ∷ f ∷ []) (e ∷ v ∷ b ∷ d ∷ f ∷ g ∷ [])) ≡ Some step → HasNoFeed (e ∷ v ∷ b ∷ d ∷ f ∷ g ∷ [])) [
   | true ↦ λ back h.
       let s = parts e v b (d ∷ f ∷ []) step h in
@@ -124,7 +124,7 @@ six e v b d f g step is = elim (eqb g 13) as (λ x. eqb g 13 ≡ x → step_in (
   | false ↦ λ other h. let few = (parts e v b (d ∷ f ∷ g ∷ []) step h).few in absurd (omega (arith, few))
 ] refl is
 
-pub before_size : (line : List ℕ) (step : Step) → step_before line ≡ Some step → (4 ≤ length line) × (length line ≤ 6)
+pub before_size : (line : List ℕ) (step : TimesEvent) → step_before line ≡ Some step → (4 ≤ length line) × (length line ≤ 6)
 before_size line step is =
     let size = sizes (content (text_line 0 line true)) step is in
     let near = content_size line in
@@ -134,7 +134,7 @@ before_size line step is =
     let more = near.1 in
     (omega (arith, least, fewer), omega (arith, most, more))
 
-pub step_line : (line : List ℕ) (step : Step) → step_before line ≡ Some step → HasNoFeed line
+pub step_line : (line : List ℕ) (step : TimesEvent) → step_before line ≡ Some step → HasNoFeed line
 step_line (e ∷ v ∷ b ∷ d ∷ []) step is = four e v b d step is
 step_line (e ∷ v ∷ b ∷ d ∷ f ∷ []) step is = five e v b d f step is
 step_line (e ∷ v ∷ b ∷ d ∷ f ∷ g ∷ []) step is = six e v b d f g step is

@@ -5,13 +5,13 @@ use Rattle.std.specs.Char.{is_ascii_digit}
 use Rattle.std.specs.List.{list_all, slice_split, onto_first}
 use Rattle.std.specs.Str.{bytes_eq}
 use Rattle.std.proofs.lemmas.Grind.{common_steps}
-use Rattle.line_statement.specs.Statements.{end_of, event_with, operand_event, side_event, station_line, statement_of, times_line, two_words, verb_of}
-use Rattle.line_statement.specs.Words.{is_blank, is_number, number_of, within, words}
-use Rattle.line_statement.specs.declared.statement.EndName.{EndName}
-use Rattle.line_statement.specs.declared.statement.EndName.TheVariants.{Known}
-use Rattle.line_statement.specs.declared.statement.Side.{Side}
-use Rattle.line_statement.specs.declared.statement.Verb.{Verb}
-use Rattle.line_statement.specs.declared.statement.Statement.TheVariants.{Times}
+use Rattle.script_statement.specs.Statements.{end_of, event_with, operand_event, side_event, station_line, statement_of, times_line, two_words, verb_of}
+use Rattle.script_statement.specs.Words.{is_blank, is_number, number_of, within, words}
+use Rattle.script_statement.specs.declared.statement.EndName.{EndName}
+use Rattle.script_statement.specs.declared.statement.EndName.TheVariants.{Known}
+use Rattle.script_statement.specs.declared.statement.EndLetter.{EndLetter}
+use Rattle.script_statement.specs.declared.statement.Verb.{Verb}
+use Rattle.script_statement.specs.declared.statement.Statement.TheVariants.{Times}
 use Rattle.line_script.specs.Lines.{is_passed_over}
 
 both_fail : (a b : Bool) → (a && (b && false)) ≡ false
@@ -53,9 +53,9 @@ pub step_words : (e v : ℕ) (operand : List ℕ) (n : ℕ) → is_blank e ≡ f
     → words (e ∷ v ∷ 32 ∷ operand) ≡ (e ∷ v ∷ []) ∷ operand ∷ []
 step_words e v operand n end verb is = rw (end, verb) (ap (λ ws. (e ∷ v ∷ []) ∷ ws) (number_is_one operand n is))
 
-two_bytes : (e v : ℕ) (operand : List ℕ) (side : Side) (verb : Verb) (n : ℕ)
+two_bytes : (e v : ℕ) (operand : List ℕ) (side : EndLetter) (verb : Verb) (n : ℕ)
     → end_of (e ∷ []) ≡ Some (Known side)
-    → ((s : Side) (o : List ℕ) → side_event s v o ≡ times_line s (Some verb) (number_of o))
+    → ((s : EndLetter) (o : List ℕ) → side_event s v o ≡ times_line s (Some verb) (number_of o))
     → number_of operand ≡ Some n → 1 ≤ n → n ≤ 99
     → two_words (e ∷ v ∷ []) operand ≡ Some (Times side verb (Some n))
 two_bytes e v operand side verb n known letter counted least most =
@@ -72,13 +72,13 @@ two_bytes e v operand side verb n known letter counted least most =
 pub letter_of : (v : ℕ) (verb : Verb) → verb_of v ≡ Some verb → (is_blank v ≡ false) × (eqb v 105 ≡ false) × (eqb v 99 ≡ false) × (eqb v 110 ≡ false)
 letter_of v verb is = (grind (arith, common_steps), grind (arith, common_steps), grind (arith, common_steps), grind (arith, common_steps))
 
-by_letter : (v : ℕ) (verb : Verb) → verb_of v ≡ Some verb → (side : Side) (operand : List ℕ) → side_event side v operand ≡ times_line side (Some verb) (number_of operand)
+by_letter : (v : ℕ) (verb : Verb) → verb_of v ≡ Some verb → (side : EndLetter) (operand : List ℕ) → side_event side v operand ≡ times_line side (Some verb) (number_of operand)
 by_letter v verb is side operand = let other = letter_of v verb is in rw (other.1, other.2, other.3) (ap (λ (w : Option Verb). times_line side w (number_of operand)) is)
 
 -- what a step says
-step_says : (e v : ℕ) (operand : List ℕ) (side : Side) (verb : Verb) (n : ℕ)
+step_says : (e v : ℕ) (operand : List ℕ) (side : EndLetter) (verb : Verb) (n : ℕ)
     → end_of (e ∷ []) ≡ Some (Known side) → is_blank e ≡ false → eqb e 35 ≡ false
-    → is_blank v ≡ false → ((s : Side) (o : List ℕ) → side_event s v o ≡ times_line s (Some verb) (number_of o))
+    → is_blank v ≡ false → ((s : EndLetter) (o : List ℕ) → side_event s v o ≡ times_line s (Some verb) (number_of o))
     → number_of operand ≡ Some n → 1 ≤ n → n ≤ 99
     → (is_passed_over (words (e ∷ v ∷ 32 ∷ operand)) ≡ false) × (statement_of (words (e ∷ v ∷ 32 ∷ operand)) ≡ Some (Times side verb (Some n)))
 unfolding statement_of
@@ -93,7 +93,7 @@ front (a ∷ []) some third = absurd (omega (arith, some))
 front (a ∷ b ∷ []) some third = absurd (omega (arith, some))
 front (a ∷ b ∷ c ∷ rest) some third = ap (λ x. a ∷ b ∷ x ∷ rest) third
 
-pub is_step : (line operand : List ℕ) (side : Side) (verb : Verb) (n : ℕ)
+pub is_step : (line operand : List ℕ) (side : EndLetter) (verb : Verb) (n : ℕ)
     → 3 ≤ length line → slice_index_or line 2 0 ≡ 32 → operand ≡ drop 3 line
     → end_of (slice_index_or line 0 0 ∷ []) ≡ Some (Known side) → is_blank (slice_index_or line 0 0) ≡ false → eqb (slice_index_or line 0 0) 35 ≡ false
     → verb_of (slice_index_or line 1 0) ≡ Some verb → number_of operand ≡ Some n → 1 ≤ n → n ≤ 99

@@ -9,7 +9,7 @@ use Rattle.line_script.specs.declared.reader.Reader.{Reader}
 use Rattle.script_parts.specs.declared.script.Event.{Event}
 use Rattle.script_parts.specs.declared.script.Script.{Script}
 use Rattle.line_script.specs.Lines.{TextLine, text_line, lines_from, after_line, after_words, content, is_ended, script_with}
-use Rattle.line_statement.specs.Words.{words}
+use Rattle.script_statement.specs.Words.{words}
 use Rattle.line_script.specs.ScriptText.{at_line, with_event, script_from, parts, script_of}
 use Rattle.line_script.specs.Readers.{fresh, stage_of}
 use Rattle.line_script.specs.Unfinished.{unfinished_after, IsSettled}

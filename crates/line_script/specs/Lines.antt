@@ -4,7 +4,7 @@ use Rattle.line_script.specs.declared.fault.Cause.{Cause}
 use Rattle.line_script.specs.declared.fault.Cause.TheVariants as cause
 use Rattle.script_parts.specs.declared.script.Event.{Event}
 use Rattle.script_parts.specs.declared.script.Script.{Script}
-use Rattle.line_statement.specs.declared.statement.Statement.{Statement}
+use Rattle.script_statement.specs.declared.statement.Statement.{Statement}
 use Rattle.end_drafts.specs.declared.flaw.Flaw.{Flaw}
 use Rattle.end_drafts.specs.declared.flaw.Flaw.TheVariants as flaw
 use Rattle.end_drafts.specs.declared.flaw.StatementFault.{StatementFault}
@@ -18,8 +18,8 @@ use Rattle.line_script.specs.declared.reader.Reader.TheVariants.{Full, Half}
 use Rattle.line_script.specs.Readers.{after_statement, stage_of}
 use Rattle.duplex_script.specs.Drafts as duplex
 use Rattle.half_script.specs.Drafts as half
-use Rattle.line_statement.specs.Statements.{statement_of}
-use Rattle.line_statement.specs.Words.{words}
+use Rattle.script_statement.specs.Statements.{statement_of}
+use Rattle.script_statement.specs.Words.{words}
 
 -- a line: how many bytes of the text stand before it, its bytes without its line feed, and whether a line feed ends it
 pub record TextLine : Type 0 where

@@ -7,8 +7,8 @@ use Rattle.end_drafts.specs.declared.stage.Stage.{Stage}
 use Rattle.end_drafts.specs.Stages.{is_fresh}
 use Rattle.half_script.specs.declared.reader.HalfReader.{HalfReader}
 use Rattle.half_script.specs.Drafts as half
-use Rattle.line_statement.specs.declared.statement.Statement.{Statement}
-use Rattle.line_statement.specs.declared.statement.Statement.TheVariants.{Mode}
+use Rattle.script_statement.specs.declared.statement.Statement.{Statement}
+use Rattle.script_statement.specs.declared.statement.Statement.TheVariants.{Mode}
 use Rattle.script_parts.specs.declared.script.Event.{Event}
 use Rattle.line_script.specs.declared.reader.Reader.{Reader}
 use Rattle.line_script.specs.declared.reader.Reader.TheVariants.{Full, Half}

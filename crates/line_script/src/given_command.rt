@@ -1,18 +1,18 @@
 //! Lines that issue a command at a full-duplex end, in their commonest spelling: known without a list of their words.
 ghost use Rattle.std.specs.Prelude.{◌≡◌, ◌∷◌, [], IfSome, Some, false};
-ghost use Rattle.line_statement.specs.Statements.{payload_of as the_payload, statement_of as the_statement};
-ghost use Rattle.line_statement.specs.Words.{hex_of as the_bytes, words};
-ghost use Rattle.line_statement.specs.declared.statement.Statement.{Statement as Form};
+ghost use Rattle.script_statement.specs.Statements.{payload_of as the_payload, statement_of as the_statement};
+ghost use Rattle.script_statement.specs.Words.{hex_of as the_bytes, words};
+ghost use Rattle.script_statement.specs.declared.statement.Statement.{Statement as Form};
 ghost use Rattle.line_script.specs.Lines.{is_passed_over};
 
 use crate::step::side_of;
-use line_statement::{Bytes, Side, hex_of, payload_of};
+use script_statement::{Bytes, EndLetter, hex_of, payload_of};
 use std::alloc::Global;
 
 /// A command of an end.
 #[derive(Drop)]
 pub(crate) struct GivenCommand {
-    pub side: Side,
+    pub side: EndLetter,
     pub payload: Bytes,
 }
 

@@ -2,17 +2,19 @@
 //! words.
 ghost use Rattle.std.specs.Prelude.{◌≡◌, ◌==◌, ◌∷◌, [], Some, List, ℕ, IfSome, false, position};
 ghost use Rattle.duplex_script.specs.Drafts.{word_given};
-ghost use Rattle.line_statement.specs.Statements.{statement_of as the_statement};
-ghost use Rattle.line_statement.specs.Words.{number_of as the_number, register_of as the_register, words};
+ghost use Rattle.script_statement.specs.Statements.{statement_of as the_statement};
+ghost use Rattle.script_statement.specs.Words.{number_of as the_number, register_of as the_register, words};
 ghost use Rattle.line_script.specs.Lines.{is_passed_over};
 
 use crate::step::side_of;
-use line_statement::{EndName, SetupLine, Side, Statement, file_number, number_of, register_of};
+use script_statement::{
+    EndLetter, EndName, SetupStatement, Statement, file_number, number_of, register_of,
+};
 
 /// The first value of a word.
 #[derive(Clone, Copy)]
 pub(crate) struct GivenWord {
-    pub side: Side,
+    pub side: EndLetter,
     pub file: u16,
     pub index: u32,
     pub value: u16,
@@ -25,7 +27,7 @@ impl GivenWord {
     {
         Statement::Setup {
             end: EndName::Known(self.side),
-            line: SetupLine::Word {
+            line: SetupStatement::Word {
                 file: Some(self.file),
                 index: self.index,
                 value: self.value,

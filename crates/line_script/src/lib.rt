@@ -20,7 +20,7 @@ pub use reader::{LINE, Reader, SCRIPT};
 pub use script_parts::{
     Bytes, EndPlan, Ends, Event, Events, Items, Lane, Script, Specs, Who, WordOf, Words,
 };
-pub use step::Step;
+pub use step::TimesEvent;
 pub use text_reader::TextReader;
 pub use whole_text::read_script;
 

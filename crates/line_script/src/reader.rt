@@ -6,22 +6,22 @@ ghost use Rattle.line_script.specs.Readers.{after_statement, begins_half as the_
 ghost use Rattle.line_script.specs.Lines.{after_line, after_said, cause_of as the_cause, with_cause, after_words, finished, reaches_limit as the_limit_test, script_with, content as the_content, is_ended as the_end_test, is_passed_over as the_passed, line_fault as the_line_fault, text_line};
 ghost use Rattle.line_script.specs.Refusal.{IsFaulty};
 ghost use Rattle.line_script.specs.Steps.{step_before};
-ghost use Rattle.line_script.specs.declared.step.Step.{Step as OneStep};
+ghost use Rattle.line_script.specs.declared.step.TimesEvent.{TimesEvent as OneStep};
 ghost use Rattle.duplex_script.specs.Drafts.{times_event, word_given};
 ghost use Rattle.end_drafts.specs.declared.flaw.Flaw.{Flaw as TheFlaw};
-ghost use Rattle.line_statement.specs.declared.statement.Side.{Side as End};
-ghost use Rattle.line_statement.specs.declared.statement.Statement.{Statement as Form};
-ghost use Rattle.line_statement.specs.declared.statement.Verb.{Verb as Happening};
+ghost use Rattle.script_statement.specs.declared.statement.EndLetter.{EndLetter as End};
+ghost use Rattle.script_statement.specs.declared.statement.Statement.{Statement as Form};
+ghost use Rattle.script_statement.specs.declared.statement.Verb.{Verb as Happening};
 
 use crate::given_command::{GivenCommand, given_command};
 use crate::given_word::{GivenWord, given_word};
-use crate::step::{Step, step_of};
+use crate::step::{TimesEvent, step_of};
 use crate::{Cause, Event, Events, LineFault, Script};
 use df1_base::NoMemory;
 use duplex_script::DuplexReader;
 use end_drafts::{Flaw, Stage, StatementFault};
 use half_script::HalfReader;
-use line_statement::{Statement, first_words, statement_of};
+use script_statement::{Statement, first_words, statement_of};
 use std::alloc::Global;
 
 /// The longest script, in bytes.
@@ -79,7 +79,7 @@ impl Reader {
     /// Takes the next line, which a line feed ends, as `read` reads it, if it is a step that may follow the lines so far; its
     /// event is that of the step. None comes exactly where it is no step, or is refused, and then nothing is changed.
     #[inline(always)]
-    pub(crate) fn take_step(&mut self, start: usize, line: &[u8]) -> Option<Step>
+    pub(crate) fn take_step(&mut self, start: usize, line: &[u8]) -> Option<TimesEvent>
         requires { start ≤ 16777216 }
         ensures step { MatchOption result (self.new ≡ self.old)
             (λ step. (step_before line.now ≡ Some step) × (after_line self.old (text_line start line.now true) ≡ Ok (self.new, Some (times_event step.side step.verb step.n)))) }

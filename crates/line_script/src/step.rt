@@ -3,27 +3,27 @@
 ghost use Rattle.std.specs.Prelude.{◌≡◌, ◌==◌, ◌≤◌, ◌+◌, ◌∷◌, ◌++◌, [], IfSome, Some, List, ℕ, drop, false, length, option_map, take};
 ghost use Rattle.std.specs.Option.{ForSome};
 ghost use Rattle.duplex_script.specs.Drafts.{times_event as the_times};
-ghost use Rattle.line_statement.specs.Statements.{end_of as the_end, statement_of as the_statement};
-ghost use Rattle.line_statement.specs.Words.{is_blank, number_of, words};
+ghost use Rattle.script_statement.specs.Statements.{end_of as the_end, statement_of as the_statement};
+ghost use Rattle.script_statement.specs.Words.{is_blank, number_of, words};
 ghost use Rattle.line_script.specs.Fed.{HasNoFeed};
 ghost use Rattle.line_script.specs.Lines.{is_passed_over};
 ghost use Rattle.line_script.specs.Steps.{count_in, side_in, step_in};
-ghost use Rattle.line_statement.specs.declared.statement.EndName.{EndName as Name};
-ghost use Rattle.line_statement.specs.declared.statement.Statement.{Statement as Form};
+ghost use Rattle.script_statement.specs.declared.statement.EndName.{EndName as Name};
+ghost use Rattle.script_statement.specs.declared.statement.Statement.{Statement as Form};
 
 use crate::Event;
 use duplex_script::times_event;
-use line_statement::{Side, Verb, verb_of};
+use script_statement::{EndLetter, Verb, verb_of};
 
 /// What happens a number of times, 1 to 99, at an end of a full-duplex link, or at its queue.
 #[derive(Clone, Copy, Debug, PartialEq, Eq)]
-pub struct Step {
-    pub side: Side,
+pub struct TimesEvent {
+    pub side: EndLetter,
     pub verb: Verb,
     pub n: u32,
 }
 
-impl Step {
+impl TimesEvent {
     /// The event that it is.
     pub fn event(self) -> Event
         ensures { result ≡ the_times self.side self.verb self.n }
@@ -49,13 +49,13 @@ pub(crate) fn short_line(bytes: &[u8]) -> Option<&[u8]>
 
 /// The step that a line is. It is inlined, and so is all that feeds a step: a script is mostly steps.
 #[inline(always)]
-pub(crate) fn step_of(line: &[u8]) -> Option<Step>
+pub(crate) fn step_of(line: &[u8]) -> Option<TimesEvent>
     ensures value { result ≡ step_in line.now }
     ensures says { ForSome result (λ step. (is_passed_over (words line.now) ≡ false)
         × (the_statement (words line.now) ≡ Some (Form.Times step.side step.verb (Some step.n)))) }
 {
     match line {
-        [end, letter, b' ', digits @ ..] => Some(Step {
+        [end, letter, b' ', digits @ ..] => Some(TimesEvent {
             side: side_of(*end)?,
             verb: verb_of(*letter)?,
             n: count_of(digits)?,
@@ -65,19 +65,19 @@ pub(crate) fn step_of(line: &[u8]) -> Option<Step>
 }
 
 /// The end of a full-duplex link that a letter names.
-pub(crate) fn side_of(letter: u8) -> Option<Side>
+pub(crate) fn side_of(letter: u8) -> Option<EndLetter>
     ensures value { result ≡ side_in (the_end (letter ∷ [])) }
     ensures letter { ForSome result (λ side. (the_end (letter ∷ []) ≡ Some (Name.Known side)) × (is_blank letter ≡ false) × ((letter == 35) ≡ false)) }
 {
     match letter {
-        b'a' => Some(Side::A),
-        b'b' => Some(Side::B),
+        b'a' => Some(EndLetter::A),
+        b'b' => Some(EndLetter::B),
         _ => None,
     }
 }
 
 /// A number of one or two digits of which the first isn't 0: 1 to 99.
-#[tactic(auto, unfolding(line_statement::specs::Words::number_of))]
+#[tactic(auto, unfolding(script_statement::specs::Words::number_of))]
 fn count_of(word: &[u8]) -> Option<u32>
     ensures value { result ≡ count_in word.now }
     ensures number { ForSome result (λ n. (number_of word.now ≡ Some n) × (1 ≤ n) × (n ≤ 99)) }

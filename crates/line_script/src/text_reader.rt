@@ -11,10 +11,10 @@ ghost use Rattle.line_script.specs.Refusal.{IsFaulty, fault_at};
 ghost use Rattle.line_script.specs.ScriptText.{script_of};
 ghost use Rattle.line_script.specs.Steps.{step_before};
 ghost use Rattle.line_script.specs.Unfinished.{unfinished};
-ghost use Rattle.line_script.specs.declared.step.Step.{Step as OneStep};
+ghost use Rattle.line_script.specs.declared.step.TimesEvent.{TimesEvent as OneStep};
 
 use crate::reader::{LINE, Reader, SCRIPT};
-use crate::step::{Step, short_line};
+use crate::step::{TimesEvent, short_line};
 use crate::whole_text::at;
 use crate::{Cause, Event, Script, ScriptFault};
 use arrayvec::ArrayVec;
@@ -115,7 +115,7 @@ impl TextReader {
     /// the bytes begin with no step and a line feed behind it, and where no text that begins with what was fed and that line is a
     /// script; then nothing is taken.
     #[inline(always)]
-    pub fn feed_step(&mut self, bytes: &[u8]) -> Option<(Step, usize)>
+    pub fn feed_step(&mut self, bytes: &[u8]) -> Option<(TimesEvent, usize)>
         ensures left { result ≡ None → self.new ≡ self.old }
         ensures begun { (text : List ℕ) (events : List OneEvent) → StandsFor text events self.old → 0 < unfinished text → result ≡ None }
         ensures refused { result ≡ None → (text line more rest : List ℕ) (events : List OneEvent) (step : OneStep) → StandsFor text events self.old → unfinished text ≡ 0

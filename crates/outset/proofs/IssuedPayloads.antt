@@ -5,7 +5,7 @@ use Rattle.std.specs.Int.{bit_at}
 use Rattle.std.proofs.lemmas.Bool.Decides.{nat_tests}
 use Rattle.pccc_envelope.proofs.Replies.{and_64}
 use Rattle.df1_node.specs.Initiator.{InitiatorState, issue_fault}
-use Rattle.line_statement.specs.Statements.{is_payload}
+use Rattle.script_statement.specs.Statements.{is_payload}
 
 and-both : (a b : Bool) → IsTrue (a && b) → (a ≡ true) × (b ≡ true)
 and-both true true h = (refl, refl)

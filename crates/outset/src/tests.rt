@@ -3,8 +3,8 @@
 use crate::node_of;
 use df1_base::FileType;
 use df1_node::FileSpec;
-use line_statement::{Items, Who};
 use script_parts::{EndPlan, WordOf};
+use script_statement::{Items, Who};
 use std::test::Fail;
 
 #[test]

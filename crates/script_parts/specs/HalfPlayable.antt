@@ -1,9 +1,9 @@
 -- Half-duplex scripts whose events can happen: those of a master and its stations.
 use Rattle.std.specs.Prelude.{◌≡◌, ◌≢◌, ℕ, ◌*◌, ◌<◌, ◌≤◌, Bool, true, false, List, [], ◌∷◌, length, map, count_by, sum_by, nat_eq, ◌==◌, IsTrue, if◌then◌else◌}
 use Rattle.std.specs.List.{All, IsDistinct, list_any}
-use Rattle.line_statement.specs.declared.who.Who.{Who}
-use Rattle.line_statement.specs.declared.who.Who.TheVariants.{M, S}
-use Rattle.line_statement.specs.Statements.{is_payload}
+use Rattle.script_statement.specs.declared.who.Who.{Who}
+use Rattle.script_statement.specs.declared.who.Who.TheVariants.{M, S}
+use Rattle.script_statement.specs.Statements.{is_payload}
 use Rattle.script_parts.specs.declared.script.Lane.{Lane}
 use Rattle.script_parts.specs.declared.script.Event.{Event}
 use Rattle.script_parts.specs.declared.script.Event.TheVariants.{Issue, Take, Deliver, Lose, Alter, Foreign, Tick}

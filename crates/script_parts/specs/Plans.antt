@@ -1,6 +1,6 @@
 -- The plan of an end of which no line of a script tells anything.
 use Rattle.std.specs.Prelude.{ℕ, false, [], None}
-use Rattle.line_statement.specs.declared.who.Who.{Who}
+use Rattle.script_statement.specs.declared.who.Who.{Who}
 use Rattle.script_parts.specs.declared.script.EndPlan.{EndPlan}
 
 -- what no line sets is as it is at first; the end has this address

@@ -1,14 +1,14 @@
 -- Scripts whose events can happen: what a script meets that was read.
 use Rattle.std.specs.Prelude.{◌≡◌, ℕ, ◌<◌, ◌≤◌, Bool, true, false, List, [], ◌∷◌, length, count_by, sum_by, All, None, IsTrue}
 use Rattle.data_files.specs.Tables.{faults, fits_compat, has_word}
-use Rattle.line_statement.specs.declared.who.Who.{Who}
-use Rattle.line_statement.specs.declared.who.Who.TheVariants.{A, B}
+use Rattle.script_statement.specs.declared.who.Who.{Who}
+use Rattle.script_statement.specs.declared.who.Who.TheVariants.{A, B}
 use Rattle.script_parts.specs.declared.script.Lane.{Lane}
 use Rattle.script_parts.specs.declared.script.Event.{Event}
 use Rattle.script_parts.specs.declared.script.Event.TheVariants.{Issue, Take, Deliver, Lose, Alter, Foreign, Tick}
 use Rattle.script_parts.specs.declared.script.EndPlan.{EndPlan}
 use Rattle.script_parts.specs.declared.script.Script.{Script}
-use Rattle.line_statement.specs.Statements.{is_payload}
+use Rattle.script_statement.specs.Statements.{is_payload}
 
 -- a number within bounds
 abbrev pub IsBetween : ℕ → ℕ → ℕ → Type 0

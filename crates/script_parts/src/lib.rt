@@ -4,5 +4,5 @@
 
 mod script;
 
-pub use line_statement::{Bytes, Items, Who};
 pub use script::{EndPlan, Ends, Event, Events, Lane, Script, Specs, WordOf, Words};
+pub use script_statement::{Bytes, Items, Who};

@@ -2,7 +2,7 @@
 
 use data_files::FileSpec;
 use df1_check::Check;
-use line_statement::{Bytes, Items, Who};
+use script_statement::{Bytes, Items, Who};
 
 /// The data files of an end, in the order in which they were declared.
 pub type Specs = Items<FileSpec>;

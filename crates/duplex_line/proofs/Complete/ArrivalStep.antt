@@ -25,13 +25,13 @@ use Rattle.duplex_sender.specs.declared.Limits.{Limits}
 use Rattle.duplex_sender.specs.Sender.{Activity, Idle, Sending, Waiting, ack_fate}
 use Rattle.duplex_receiver.specs.Receiver.{act_of, is_good}
 use Rattle.duplex_end.specs.End.{EndState, act_of_byte}
-use Rattle.line_statement.specs.declared.who.Who.{Who}
-use Rattle.line_report.specs.declared.record.Line.{Line}
-use Rattle.line_cells.specs.Cells.{LaneCell, Ending}
+use Rattle.script_statement.specs.declared.who.Who.{Who}
+use Rattle.replay_report.specs.declared.record.Line.{Line}
+use Rattle.lane_cells.specs.Cells.{LaneCell, Ending}
 use Rattle.each_once.specs.NodeHost.{node_host}
-use Rattle.line_cells.specs.Deception.{deceptions}
-use Rattle.told_lines.specs.NodeLines.{news_lines}
-use Rattle.duplex_line.specs.Acts.{SideState, LineState, deceptions_at, cell_lines}
+use Rattle.lane_cells.specs.Deception.{deceptions}
+use Rattle.report_lines.specs.NodeLines.{news_lines}
+use Rattle.duplex_line.specs.Acts.{LineEndState, LineState, deceptions_at, cell_lines}
 use Rattle.each_once.specs.Tells.{executed_in, answers_in}
 use Rattle.duplex_line.proofs.Once.IssueLimits.{byte-commands}
 use Rattle.each_once.proofs.Sublists.{filter-keeps, filter-drops}
@@ -89,14 +89,14 @@ whole-sent h (Some ending) body is =
 -- ---- the end at which it arrives
 
 -- the line after a cell has arrived with this act
-abbrev reached : EndState NodeState → LaneCell → List LaneCell → SideState → ℕ → Act → LineState
+abbrev reached : EndState NodeState → LaneCell → List LaneCell → LineEndState → ℕ → Act → LineState
 reached end cell cells b count what = record { a = record { end = end; lane = cells }; b = record { end = heard_by node_host b.end cell.byte what; lane = b.lane }; deceived = count }
 
-abbrev lent_after : SideState → LaneCell → List ℕ
+abbrev lent_after : LineEndState → LaneCell → List ℕ
 lent_after b cell = lent_at (next 250 b.end.receiver.decoding cell.byte).0.standing
 
 -- nothing is heard
-reach-silent : (near far : Who) (first far_first : StationState) (end : EndState NodeState) (cell : LaneCell) (cells : List LaneCell) (b : SideState) (count after : ℕ) (late : Late) (lines : List Line)
+reach-silent : (near far : Who) (first far_first : StationState) (end : EndState NodeState) (cell : LaneCell) (cells : List LaneCell) (b : LineEndState) (count after : ℕ) (late : Late) (lines : List Line)
     → act_of_byte node_host b.end cell.byte ≡ act.Nothing → (next 250 b.end.receiver.decoding cell.byte).1 ≡ None → after ≡ 0 → Flows near far first far_first (coming end cell cells b count) late lines
     → Flows near far first far_first (reached end cell cells b after act.Nothing) late (lines ++ told_at far act.Nothing b.end.sender b.end.host (lent_after b cell))
 reach-silent near far first far_first end cell cells b count after late lines acts is none h = record {
@@ -128,7 +128,7 @@ delivered limits Idle one = absurd (omega (arith, one))
 delivered limits (Sending body naks enqs) one = absurd (omega (arith, one))
 delivered limits (Waiting body naks enqs left) one = refl
 
-reach-ack : (near far : Who) (first far_first : StationState) (end : EndState NodeState) (cell : LaneCell) (cells : List LaneCell) (b : SideState) (count after : ℕ) (late : Late) (lines : List Line)
+reach-ack : (near far : Who) (first far_first : StationState) (end : EndState NodeState) (cell : LaneCell) (cells : List LaneCell) (b : LineEndState) (count after : ℕ) (late : Late) (lines : List Line)
     → act_of_byte node_host b.end cell.byte ≡ act.PeerAck → (next 250 b.end.receiver.decoding cell.byte).1 ≡ Some hears.Ack → after ≡ 0 → Flows near far first far_first (coming end cell cells b count) late lines
     → Flows near far first far_first (reached end cell cells b after act.PeerAck) late (lines ++ told_at far act.PeerAck b.end.sender b.end.host (lent_after b cell))
 reach-ack near far first far_first end cell cells b count after late lines acts is none h =
@@ -189,7 +189,7 @@ command-ahead node heard body late command a = rw command (record {
   in_time = a.in_time;
 })
 
-accepted-ahead : (near far : Who) (first far_first : StationState) (end : EndState NodeState) (cell : LaneCell) (cells : List LaneCell) (b : SideState) (count : ℕ) (late : Late) (lines : List Line) (body : List ℕ) → (h : Flows near far first far_first (coming end cell cells b count) late lines)
+accepted-ahead : (near far : Who) (first far_first : StationState) (end : EndState NodeState) (cell : LaneCell) (cells : List LaneCell) (b : LineEndState) (count : ℕ) (late : Late) (lines : List Line) (body : List ℕ) → (h : Flows near far first far_first (coming end cell cells b count) late lines)
     → h.sent ≡ h.far_heard ++ body ∷ [] → (reply : Bool) → is_reply body ≡ reply → IsAhead (after_accept b.end.host body).initiator (h.far_heard ++ body ∷ []) late.b
 accepted-ahead near far first far_first end cell cells b count late lines body h arrives true reply =
     let a = h.far_end.ahead in
@@ -198,7 +198,7 @@ accepted-ahead near far first far_first end cell cells b count late lines body h
 accepted-ahead near far first far_first end cell cells b count late lines body h arrives false command = command-ahead b.end.host h.far_heard body late.b command h.far_end.ahead
 
 -- the command that a reply answers is the first that wasn't answered before
-accepted-place : (near far : Who) (first far_first : StationState) (end : EndState NodeState) (cell : LaneCell) (cells : List LaneCell) (b : SideState) (count : ℕ) (late : Late) (lines : List Line) (body : List ℕ) → (h : Flows near far first far_first (coming end cell cells b count) late lines)
+accepted-place : (near far : Who) (first far_first : StationState) (end : EndState NodeState) (cell : LaneCell) (cells : List LaneCell) (b : LineEndState) (count : ℕ) (late : Late) (lines : List Line) (body : List ℕ) → (h : Flows near far first far_first (coming end cell cells b count) late lines)
     → h.sent ≡ h.far_heard ++ body ∷ [] → is_reply body ≡ true → answered_place b.end.host.initiator.issued body ≡ Some (length (filter is_reply h.far_heard))
 accepted-place near far first far_first end cell cells b count late lines body h arrives reply =
     let a = h.far_end.ahead in
@@ -207,7 +207,7 @@ accepted-place near far first far_first end cell cells b count late lines body h
     (under-reply b.end.host.initiator a.done fits.0 fits.2.0 body under fits.2.1 fits.2.2).0 ∙ ap Some (sym a.answers)
 
 -- there is room for it
-has-room : (near far : Who) (first far_first : StationState) (end : EndState NodeState) (cell : LaneCell) (cells : List LaneCell) (b : SideState) (count : ℕ) (late : Late) (lines : List Line) (body : List ℕ) → (h : Flows near far first far_first (coming end cell cells b count) late lines)
+has-room : (near far : Who) (first far_first : StationState) (end : EndState NodeState) (cell : LaneCell) (cells : List LaneCell) (b : LineEndState) (count : ℕ) (late : Late) (lines : List Line) (body : List ℕ) → (h : Flows near far first far_first (coming end cell cells b count) late lines)
     → h.sent ≡ h.far_heard ++ body ∷ [] → (reply : Bool) → is_reply body ≡ reply → has_room b.end.host body ≡ true
 has-room near far first far_first end cell cells b count late lines body h arrives true reply = rw reply refl
 has-room near far first far_first end cell cells b count late lines body h arrives false command =
@@ -216,12 +216,12 @@ has-room near far first far_first end cell cells b count late lines body h arriv
     rw (command, none) (lt-ltb 0 b.end.host.room (omega (arith, h.far_end.room)))
 
 -- its key is new
-new-key : (near far : Who) (first far_first : StationState) (end : EndState NodeState) (cell : LaneCell) (cells : List LaneCell) (b : SideState) (count : ℕ) (late : Late) (lines : List Line) (body : List ℕ) → (h : Flows near far first far_first (coming end cell cells b count) late lines)
+new-key : (near far : Who) (first far_first : StationState) (end : EndState NodeState) (cell : LaneCell) (cells : List LaneCell) (b : LineEndState) (count : ℕ) (late : Late) (lines : List Line) (body : List ℕ) → (h : Flows near far first far_first (coming end cell cells b count) late lines)
     → h.sent ≡ h.far_heard ++ body ∷ [] → is_kept b.end.receiver.kept (key_of body) ≡ false
 new-key near far first far_first end cell cells b count late lines body h arrives =
     ap (λ (kept : Option Key). is_kept kept (key_of body)) h.flow.kept ∙ key-is-new h.far_end.hosts h.end.hosts body arrives _ h.far_flow.flight h.far_end.few h.end.few
 
-reach-good : (near far : Who) → AreTwo near far → (first far_first : StationState) (end : EndState NodeState) (cell : LaneCell) (cells : List LaneCell) (b : SideState) (count after : ℕ) (late : Late) (lines : List Line)
+reach-good : (near far : Who) → AreTwo near far → (first far_first : StationState) (end : EndState NodeState) (cell : LaneCell) (cells : List LaneCell) (b : LineEndState) (count after : ℕ) (late : Late) (lines : List Line)
     → act_of_byte node_host b.end cell.byte ≡ act.Accept → (next 250 b.end.receiver.decoding cell.byte).1 ≡ Some hears.Good → after ≡ 0 → (h : Flows near far first far_first (coming end cell cells b count) late lines) → h.sent ≡ h.far_heard ++ lent_after b cell ∷ []
     → Flows near far first far_first (reached end cell cells b after act.Accept) late (lines ++ told_at far act.Accept b.end.sender b.end.host (lent_after b cell))
 reach-good near far two first far_first end cell cells b count after late lines acts is none h arrives =
@@ -252,7 +252,7 @@ reach-good near far two first far_first end cell cells b count after late lines 
 
 -- ---- whichever
 
-pub flows-arrival : (near far : Who) → AreTwo near far → (first far_first : StationState) (end : EndState NodeState) (cell : LaneCell) (cells : List LaneCell) (b : SideState) (count : ℕ) (late : Late) (lines : List Line)
+pub flows-arrival : (near far : Who) → AreTwo near far → (first far_first : StationState) (end : EndState NodeState) (cell : LaneCell) (cells : List LaneCell) (b : LineEndState) (count : ℕ) (late : Late) (lines : List Line)
     → Flows near far first far_first (coming end cell cells b count) late lines → Flows near far first far_first (arrived end cell cells b (count + deceptions_at b cell)) late (lines ++ cell_lines far b cell)
 flows-arrival near far two first far_first end cell cells b count late lines h = elim (heard-cases (end_of cell) (next 250 b.end.receiver.decoding cell.byte).1 (lent_after b cell) h.flow.clear.0) [
   | inl none ↦

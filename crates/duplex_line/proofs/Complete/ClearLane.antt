@@ -7,8 +7,8 @@ use Rattle.df1_frame.specs.declared.heard.Heard.TheVariants as heard
 use Rattle.df1_frame.specs.Standing.{Decoding, lent_at}
 use Rattle.df1_frame.specs.Step.{next}
 use Rattle.embedded_response.specs.Giving.{Giving, take}
-use Rattle.line_cells.specs.Cells.{LaneCell, Ending}
-use Rattle.line_cells.specs.Cells.{cell_of, ending_of}
+use Rattle.lane_cells.specs.Cells.{LaneCell, Ending}
+use Rattle.lane_cells.specs.Cells.{cell_of, ending_of}
 use Rattle.duplex_line.proofs.Complete.DecoderPlace.{InSync, IsTrue, acks_heard, owed, sync-take}
 
 -- the body of the transmission that ends in a cell

@@ -15,13 +15,13 @@ use Rattle.duplex_end.specs.End.{EndState, begun_at, begun_next, prepared, given
 use Rattle.duplex_end.proofs.Choices.{is-chosen}
 use Rattle.duplex_end.proofs.Joining.{take-sends}
 use Rattle.duplex_end.proofs.Order.{end-is, out-is}
-use Rattle.line_statement.specs.declared.who.Who.{Who}
-use Rattle.line_statement.specs.Statements.{is_payload}
-use Rattle.line_report.specs.declared.record.Line.{Line}
-use Rattle.line_cells.specs.Cells.{LaneCell}
+use Rattle.script_statement.specs.declared.who.Who.{Who}
+use Rattle.script_statement.specs.Statements.{is_payload}
+use Rattle.replay_report.specs.declared.record.Line.{Line}
+use Rattle.lane_cells.specs.Cells.{LaneCell}
 use Rattle.each_once.specs.NodeHost.{node_host}
-use Rattle.line_cells.specs.Cells.{cell_of}
-use Rattle.duplex_line.specs.Acts.{LineState, SideState, Issue, Take, after_deed, after_take}
+use Rattle.lane_cells.specs.Cells.{cell_of}
+use Rattle.duplex_line.specs.Acts.{LineState, LineEndState, Issue, Take, after_deed, after_take}
 use Rattle.duplex_line.specs.Plays.{issued_by}
 use Rattle.duplex_line.proofs.Once.IssueLimits.{take-commands}
 use Rattle.duplex_line.proofs.Steps.NothingToGive.{take-none}
@@ -186,7 +186,7 @@ take-some near far first far_first s late lines out is h =
 take-by : (near far : Who) (first far_first : StationState) (s : LineState) (late : Late) (lines : List Line) (o : Option Out) → out_at_take node_host s.a.end ≡ o → Flows near far first far_first s late lines → Flows near far first far_first (after_deed s Take) late lines
 take-by near far first far_first s late lines None is h =
     let same : after_take s.a ≡ s.a = take-none s.a (ap (option_map (λ (out : Out). out.byte)) is) in
-    subst (λ (a : SideState). Flows near far first far_first (record { a = a; b = s.b; deceived = s.deceived }) late lines) (sym same) h
+    subst (λ (a : LineEndState). Flows near far first far_first (record { a = a; b = s.b; deceived = s.deceived }) late lines) (sym same) h
 take-by near far first far_first s late lines (Some out) is h =
     subst (λ (o : Option Out). Flows near far first far_first (record { a = record { end = end_after_take node_host s.a.end; lane = s.a.lane ++ option_to_list (option_map (cell_of (end_after_take node_host s.a.end).sending) o) }; b = s.b; deceived = s.deceived }) late lines) (sym is)
     (take-some near far first far_first s late lines out is h)

@@ -6,8 +6,8 @@ use Rattle.df1_node.specs.Initiator.{InitiatorState, next_command}
 use Rattle.df1_node.specs.Node.{NodeState, next_body, after_next}
 use Rattle.pccc_envelope.specs.Envelope.{is_reply}
 use Rattle.duplex_end.specs.End.{EndState}
-use Rattle.line_statement.specs.declared.who.Who.{Who}
-use Rattle.line_report.specs.declared.record.Line.{Line}
+use Rattle.script_statement.specs.declared.who.Who.{Who}
+use Rattle.replay_report.specs.declared.record.Line.{Line}
 use Rattle.duplex_line.specs.Acts.{LineState, swapped}
 use Rattle.duplex_line.proofs.Once.SentMessages.{Sends}
 use Rattle.each_once.proofs.HandedOut.{Hosts}

@@ -23,8 +23,8 @@ use Rattle.duplex_sender.specs.Sender.{SenderState, Activity, Idle, Sending, Wai
 use Rattle.embedded_response.specs.Giving.{Giving, take, begin, chosen, offer, unask}
 use Rattle.duplex_receiver.specs.Receiver.{kept_at}
 use Rattle.duplex_end.specs.End.{EndState, after_out, ends_here, sender_after, fate_at, responded, is_waiting, dropped, host_after, act_of_byte, end_after_byte, end_after_tick, asked, fate_of_tick, with_host}
-use Rattle.line_cells.specs.Cells.{LaneCell}
-use Rattle.line_cells.specs.Cells.{cell_of}
+use Rattle.lane_cells.specs.Cells.{LaneCell}
+use Rattle.lane_cells.specs.Cells.{cell_of}
 use Rattle.each_once.proofs.Sublists.{get-seam}
 use Rattle.duplex_line.proofs.Complete.DecoderPlace.{InSync, acks_heard, owed, sync-begin, sync-offer, sync-unask}
 use Rattle.duplex_line.proofs.Complete.ClearLane.{end_of, IsTrueEnd, IsClear, acks, ends_one, goods, clear-other, clear-give, goods-give}

@@ -10,7 +10,7 @@ use Rattle.embedded_response.specs.Giving.{Giving, Choice, Second, Respond, Give
 use Rattle.duplex_end.specs.End.{EndState, begun_next, prepared, begun_at, out_at_take}
 use Rattle.duplex_end.proofs.Joining.{none-left}
 use Rattle.duplex_end.proofs.Order.{out-is}
-use Rattle.line_cells.specs.Cells.{LaneCell}
+use Rattle.lane_cells.specs.Cells.{LaneCell}
 use Rattle.duplex_line.proofs.Complete.DecoderPlace.{owed, sync-quiet}
 use Rattle.duplex_line.proofs.Complete.ClearLane.{goods}
 use Rattle.duplex_line.proofs.Complete.MessageUnderWay.{Flow, awaits, in_flight}

@@ -13,11 +13,11 @@ use Rattle.duplex_sender.specs.declared.Limits.{Limits}
 use Rattle.duplex_sender.specs.declared.Phase.TheVariants as phase
 use Rattle.duplex_sender.specs.Sender.{Activity, Idle, Sending, Waiting as Awaiting, phase_of, tick_turn}
 use Rattle.duplex_end.specs.End.{EndState, fate_of_tick, out_at_take, turn_at_tick, gone_at_tick}
-use Rattle.line_statement.specs.declared.who.Who.{Who}
-use Rattle.line_report.specs.declared.record.Line.{Line}
-use Rattle.line_cells.specs.Cells.{LaneCell}
+use Rattle.script_statement.specs.declared.who.Who.{Who}
+use Rattle.replay_report.specs.declared.record.Line.{Line}
+use Rattle.lane_cells.specs.Cells.{LaneCell}
 use Rattle.each_once.specs.NodeHost.{node_host}
-use Rattle.told_lines.specs.NodeLines.{turn_lines, gone_lines}
+use Rattle.report_lines.specs.NodeLines.{turn_lines, gone_lines}
 use Rattle.duplex_line.specs.Acts.{LineState, Tick, after_deed, lines_at}
 use Rattle.duplex_line.proofs.Once.IssueLimits.{tick-commands}
 use Rattle.each_once.proofs.Sublists.{same-some, none-is}

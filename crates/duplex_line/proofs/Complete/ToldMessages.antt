@@ -6,10 +6,10 @@ use Rattle.std.specs.List.{filter, enumerate_from}
 use Rattle.std.proofs.lemmas.List.Elements.{filter_map-append}
 use Rattle.df1_base.specs.declared.host.Did.TheVariants as did
 use Rattle.pccc_envelope.specs.Envelope.{is_reply}
-use Rattle.line_statement.specs.declared.who.Who.{Who}
-use Rattle.line_report.specs.declared.record.Line.{Line}
-use Rattle.line_report.specs.declared.record.Line.TheVariants as line
-use Rattle.told_lines.specs.NodeLines.{did_lines}
+use Rattle.script_statement.specs.declared.who.Who.{Who}
+use Rattle.replay_report.specs.declared.record.Line.{Line}
+use Rattle.replay_report.specs.declared.record.Line.TheVariants as line
+use Rattle.report_lines.specs.NodeLines.{did_lines}
 use Rattle.each_once.specs.Tells.{is_who, executed_at, executed_in, answer_at, answers_in}
 use Rattle.each_once.proofs.HandedOut.{is_command}
 use Rattle.each_once.proofs.Sublists.{filter-keeps, filter-drops}

@@ -8,20 +8,20 @@ use Rattle.pccc_envelope.specs.Envelope.{is_reply}
 use Rattle.df1_node.specs.Answer.{StationState}
 use Rattle.df1_node.specs.Initiator.{next_command}
 use Rattle.df1_node.specs.Node.{NodeState}
-use Rattle.line_statement.specs.declared.who.Who.{Who}
-use Rattle.line_statement.specs.declared.who.Who.TheVariants.{A, B, M, S}
+use Rattle.script_statement.specs.declared.who.Who.{Who}
+use Rattle.script_statement.specs.declared.who.Who.TheVariants.{A, B, M, S}
 use Rattle.script_parts.specs.declared.script.Event.{Event}
 use Rattle.script_parts.specs.declared.script.Event.TheVariants as event
 use Rattle.script_parts.specs.declared.script.EndPlan.{EndPlan}
 use Rattle.script_parts.specs.declared.script.Script.{Script}
 use Rattle.script_parts.specs.Plans.{first_plan}
-use Rattle.line_statement.specs.Statements.{is_payload}
+use Rattle.script_statement.specs.Statements.{is_payload}
 use Rattle.script_parts.specs.Playable.{IsPossible, IsPlayable, AreEnds, issues, is_end}
-use Rattle.line_report.specs.declared.record.Line.{Line}
-use Rattle.line_report.specs.Report.{sent_lines}
-use Rattle.line_cells.specs.Cells.{LaneCell}
-use Rattle.line_cells.specs.Cells.{altered}
-use Rattle.duplex_line.specs.Acts.{SideState, LineState, swapped, Deed, Issue, Take, Deliver, Lose, Alter, Foreign, Tick, after_leaving, after_alter, after_deed, after_deeds, lines_at, lines_over, given_over}
+use Rattle.replay_report.specs.declared.record.Line.{Line}
+use Rattle.replay_report.specs.Report.{sent_lines}
+use Rattle.lane_cells.specs.Cells.{LaneCell}
+use Rattle.lane_cells.specs.Cells.{altered}
+use Rattle.duplex_line.specs.Acts.{LineEndState, LineState, swapped, Deed, Issue, Take, Deliver, Lose, Alter, Foreign, Tick, after_leaving, after_alter, after_deed, after_deeds, lines_at, lines_over, given_over}
 use Rattle.duplex_line.specs.Run.{first_station, first_side, first_node, setup_of, plan_of_a, plan_of_b, start, who_of, deeds_of, other, seen_from, after_event, deed_lines, lines_of, state_after, lines_after, last_state, record_from}
 use Rattle.duplex_line.specs.Plays.{issued_by, IsUnspent}
 use Rattle.each_once.specs.Exchanges.{exchanges}
@@ -72,8 +72,8 @@ deliver-cells : (near far : Who) → AreTwo near far → (first far_first : Stat
 deliver-cells near far two first far_first s [] late lines h = rw (append-nil lines) h
 deliver-cells near far two first far_first s (cell ∷ cells) late lines h = flows-arrival near far two first far_first s.a.end cell cells s.b s.deceived late lines h
 
-altered-none : (s : SideState) (mask : ℕ) (lane : List LaneCell) → s.lane ≡ lane → slice_get lane 0 ≡ None → after_alter s mask ≡ s
-altered-none s mask [] is none = ap (λ (cells : List LaneCell). let t : SideState = record { end = s.end; lane = altered mask cells } in t) is ∙ ap (λ (cells : List LaneCell). let t : SideState = record { end = s.end; lane = cells } in t) (sym is)
+altered-none : (s : LineEndState) (mask : ℕ) (lane : List LaneCell) → s.lane ≡ lane → slice_get lane 0 ≡ None → after_alter s mask ≡ s
+altered-none s mask [] is none = ap (λ (cells : List LaneCell). let t : LineEndState = record { end = s.end; lane = altered mask cells } in t) is ∙ ap (λ (cells : List LaneCell). let t : LineEndState = record { end = s.end; lane = cells } in t) (sym is)
 altered-none s mask (cell ∷ cells) is none = absurd cc
 
 flows-plain : (deed : Deed) → IsPlain deed → (s : LineState) (late : Late) → IsGentle s.a deed → AreFew (late_after late s deed) (after_deed s deed) → (near far : Who) → AreTwo near far → (first far_first : StationState) (lines : List Line) → Flows near far first far_first s late lines
@@ -83,10 +83,10 @@ flows-plain Take plain s late gentle few near far two first far_first lines h = 
 flows-plain Deliver plain s late gentle few near far two first far_first lines h = stepped near far first far_first s late lines (lines_at near far s Deliver) Deliver refl (deliver-cells near far two first far_first s s.a.lane late lines h)
 flows-plain Lose plain s late gentle few near far two first far_first lines h =
     let same : after_leaving s.a ≡ s.a = leave-none s.a gentle in
-    stepped near far first far_first s late lines [] Lose refl (rw (append-nil lines) (subst (λ (a : SideState). Flows near far first far_first (record { a = a; b = s.b; deceived = s.deceived }) late lines) (sym same) h))
+    stepped near far first far_first s late lines [] Lose refl (rw (append-nil lines) (subst (λ (a : LineEndState). Flows near far first far_first (record { a = a; b = s.b; deceived = s.deceived }) late lines) (sym same) h))
 flows-plain (Alter mask) plain s late gentle few near far two first far_first lines h =
     let same : after_alter s.a mask ≡ s.a = altered-none s.a mask s.a.lane refl gentle in
-    stepped near far first far_first s late lines [] (Alter mask) refl (rw (append-nil lines) (subst (λ (a : SideState). Flows near far first far_first (record { a = a; b = s.b; deceived = s.deceived }) late lines) (sym same) h))
+    stepped near far first far_first s late lines [] (Alter mask) refl (rw (append-nil lines) (subst (λ (a : LineEndState). Flows near far first far_first (record { a = a; b = s.b; deceived = s.deceived }) late lines) (sym same) h))
 flows-plain (Foreign byte) plain s late gentle few near far two first far_first lines h = absurd gentle
 flows-plain Tick plain s late gentle few near far two first far_first lines h =
     counted near far first far_first (after_deed s Tick) (late_with late (is_quiet s) Tick) (lines ++ lines_at near far s Tick) (is_quiet (after_deed s Tick)) refl (flows-tick near far first far_first s late lines few h)

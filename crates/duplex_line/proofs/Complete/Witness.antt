@@ -7,10 +7,10 @@ use Rattle.df1_check.specs.Checks.{with_byte}
 use Rattle.df1_frame.specs.Spelling.{check_bytes}
 use Rattle.logical_address.specs.Reading.{three_front}
 use Rattle.slc_commands.specs.Order.{fields, spelled_order}
-use Rattle.line_statement.specs.declared.who.Who.TheVariants.{A, B}
+use Rattle.script_statement.specs.declared.who.Who.TheVariants.{A, B}
 use Rattle.script_parts.specs.declared.script.Event.{Event}
 use Rattle.script_parts.specs.Playable.{IsPossible, IsPlayable}
-use Rattle.duplex_line.specs.Acts.{SideState, LineState, Deed, Issue, Take, Deliver, Lose, Alter, Foreign, Tick, after_deed}
+use Rattle.duplex_line.specs.Acts.{LineEndState, LineState, Deed, Issue, Take, Deliver, Lose, Alter, Foreign, Tick, after_deed}
 use Rattle.duplex_line.specs.Run.{start, who_of, deeds_of, seen_from, after_event, last_state, lines_after}
 use Rattle.duplex_line.specs.Prompt.{Late, none_late, late_seen, late_after, late_event, patience, AreFew, IsGentle, IsPromptOver, IsPromptAfter, IsPrompt, EndsQuiet}
 use Rattle.each_once.specs.Tells.{executed_in, answers_in}
@@ -53,7 +53,7 @@ one_write-answered = refl
 
 -- ---- nothing disturbs it
 
-is_gentle : SideState → Deed → Bool
+is_gentle : LineEndState → Deed → Bool
 is_gentle side (Issue dst payload) = true
 is_gentle side Take = true
 is_gentle side Deliver = true
@@ -73,7 +73,7 @@ abbrev prompt_after : Late → LineState → List Event → Bool
 prompt_after late s [] = true
 prompt_after late s (e ∷ events) = prompt_over (late_seen (who_of e) late) (seen_from (who_of e) s) (deeds_of e) && prompt_after (late_event late s e) (after_event s e) events
 
-gentle-is : (side : SideState) (deed : Deed) → is_gentle side deed ≡ true → IsGentle side deed
+gentle-is : (side : LineEndState) (deed : Deed) → is_gentle side deed ≡ true → IsGentle side deed
 unfolding is_gentle
 gentle-is side (Issue dst payload) h = tt
 gentle-is side Take h = tt

@@ -6,25 +6,25 @@ use Rattle.std.proofs.lemmas.List.Elements.{All-head, All-tail}
 use Rattle.df1_check.specs.declared.Check.{Check}
 use Rattle.duplex_end.specs.Arrived.{Arrival, StandsFor, HeardByGrammar, bytes_arrived}
 use Rattle.duplex_end.proofs.Arriving.{stands-new, stands-byte, stands-take, whole-byte, heard-none, heard-more}
-use Rattle.line_statement.specs.declared.who.Who.{Who}
-use Rattle.line_statement.specs.declared.who.Who.TheVariants.{A, B, M, S}
+use Rattle.script_statement.specs.declared.who.Who.{Who}
+use Rattle.script_statement.specs.declared.who.Who.TheVariants.{A, B, M, S}
 use Rattle.script_parts.specs.declared.script.Event.{Event}
 use Rattle.script_parts.specs.declared.script.Event.TheVariants as event
 use Rattle.script_parts.specs.declared.script.Script.{Script}
 use Rattle.script_parts.specs.Playable.{IsPossible, IsPlayable, is_end}
 use Rattle.each_once.specs.NodeHost.{node_host}
-use Rattle.line_cells.specs.Cells.{LaneCell}
-use Rattle.duplex_line.specs.Acts.{SideState, LineState, swapped, Deed, Issue, Take, Deliver, Lose, Alter, Foreign, Tick, near_after, arriving, step_of, after_cell, after_arrival, after_deed, after_deeds}
+use Rattle.lane_cells.specs.Cells.{LaneCell}
+use Rattle.duplex_line.specs.Acts.{LineEndState, LineState, swapped, Deed, Issue, Take, Deliver, Lose, Alter, Foreign, Tick, near_after, arriving, step_of, after_cell, after_arrival, after_deed, after_deeds}
 use Rattle.duplex_line.specs.Arrivals.{arrived, arrivals_over, arrivals_at, arrivals_in}
 use Rattle.duplex_line.specs.Run.{plan_of_a, plan_of_b, setup_of, first_node, start, who_of, deeds_of, after_event, state_after}
 use Rattle.duplex_line.proofs.Once.Invariant.{joins-end}
 
 -- the end stands for what arrived, at which it heard whole frames by the grammar
-pub record Hears (check : Check) (arrivals : List Arrival) (side : SideState) : Type 0 where
+pub record Hears (check : Check) (arrivals : List Arrival) (side : LineEndState) : Type 0 where
   pub stands : StandsFor check (bytes_arrived arrivals) side.end
   pub heard : HeardByGrammar check arrivals
 
-hears-near : (check : Check) (arrivals : List Arrival) (deed : Deed) (side : SideState) → Hears check arrivals side → Hears check arrivals (near_after side deed)
+hears-near : (check : Check) (arrivals : List Arrival) (deed : Deed) (side : LineEndState) → Hears check arrivals side → Hears check arrivals (near_after side deed)
 hears-near check arrivals (Issue dst payload) side h = record { stands = h.stands; heard = h.heard }
 hears-near check arrivals Take side h = record { stands = stands-take node_host side.end check (bytes_arrived arrivals) h.stands; heard = h.heard }
 hears-near check arrivals Deliver side h = record { stands = h.stands; heard = h.heard }
@@ -33,7 +33,7 @@ hears-near check arrivals (Alter mask) side h = record { stands = h.stands; hear
 hears-near check arrivals (Foreign byte) side h = h
 hears-near check arrivals Tick side h = record { stands = h.stands; heard = h.heard }
 
-hears-cell : (check : Check) (arrivals : List Arrival) (side : SideState) (cell : LaneCell) → Hears check arrivals side → Hears check (arrivals ++ record { byte = cell.byte; whole = (step_of side cell).whole } ∷ []) (after_cell side cell)
+hears-cell : (check : Check) (arrivals : List Arrival) (side : LineEndState) (cell : LaneCell) → Hears check arrivals side → Hears check (arrivals ++ record { byte = cell.byte; whole = (step_of side cell).whole } ∷ []) (after_cell side cell)
 hears-cell check arrivals side cell h =
     let last : Arrival = record { byte = cell.byte; whole = (step_of side cell).whole } in
     record {
@@ -41,7 +41,7 @@ hears-cell check arrivals side cell h =
       heard = heard-more check arrivals last h.heard (whole-byte node_host side.end cell.byte check (bytes_arrived arrivals) h.stands);
     }
 
-hears-arrival : (check : Check) (arrivals : List Arrival) (side : SideState) (cell : Option LaneCell) → Hears check arrivals side → Hears check (arrivals ++ arrived side cell) (after_arrival side cell)
+hears-arrival : (check : Check) (arrivals : List Arrival) (side : LineEndState) (cell : Option LaneCell) → Hears check arrivals side → Hears check (arrivals ++ arrived side cell) (after_arrival side cell)
 hears-arrival check arrivals side None h = rw (append-nil arrivals) h
 hears-arrival check arrivals side (Some cell) h = hears-cell check arrivals side cell h
 

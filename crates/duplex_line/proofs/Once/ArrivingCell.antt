@@ -21,14 +21,14 @@ use Rattle.df1_node.specs.Node.{NodeState}
 use Rattle.duplex_sender.specs.Sender.{SenderState}
 use Rattle.duplex_receiver.specs.Receiver.{hearing, kept_at}
 use Rattle.duplex_end.specs.End.{EndState, act_of_byte, fate_at, host_after, host_at_byte}
-use Rattle.line_statement.specs.declared.who.Who.{Who}
-use Rattle.line_report.specs.declared.record.Line.{Line}
-use Rattle.line_report.specs.declared.record.Line.TheVariants as line
-use Rattle.line_cells.specs.Cells.{LaneCell, Ending}
+use Rattle.script_statement.specs.declared.who.Who.{Who}
+use Rattle.replay_report.specs.declared.record.Line.{Line}
+use Rattle.replay_report.specs.declared.record.Line.TheVariants as line
+use Rattle.lane_cells.specs.Cells.{LaneCell, Ending}
 use Rattle.each_once.specs.NodeHost.{node_host}
-use Rattle.line_cells.specs.Deception.{deceptions}
-use Rattle.told_lines.specs.NodeLines.{act_lines, did_lines, news_lines}
-use Rattle.duplex_line.specs.Acts.{SideState, LineState, after_cell, body_heard, deceptions_at, cell_lines}
+use Rattle.lane_cells.specs.Deception.{deceptions}
+use Rattle.report_lines.specs.NodeLines.{act_lines, did_lines, news_lines}
+use Rattle.duplex_line.specs.Acts.{LineEndState, LineState, after_cell, body_heard, deceptions_at, cell_lines}
 use Rattle.duplex_line.proofs.Once.IssueLimits.{byte-commands}
 use Rattle.each_once.specs.Exchanges.{exchanges}
 use Rattle.each_once.proofs.KeptCommands.{IsReplyOf, IsOfLost}
@@ -60,7 +60,7 @@ honest false ends body none is = absurd cc
 abbrev IsNew : Option (List ℕ) → Option Key → List ℕ → Type 0
 IsNew end kept body = (end ≡ Some body) × (is_kept kept (key_of body) ≡ false)
 
-pub accept-new : (b : SideState) (cell : LaneCell) → deceptions_at b cell ≡ 0 → act_of_byte node_host b.end cell.byte ≡ act.Accept → IsNew (option_map (λ (e : Ending). e.body) cell.ends) b.end.receiver.kept (body_heard b cell)
+pub accept-new : (b : LineEndState) (cell : LaneCell) → deceptions_at b cell ≡ 0 → act_of_byte node_host b.end cell.byte ≡ act.Accept → IsNew (option_map (λ (e : Ending). e.body) cell.ends) b.end.receiver.kept (body_heard b cell)
 accept-new b cell none is =
     let h = hearing (node_host.room_for b.end.host) 250 b.end.receiver cell.byte in
     let heard = accept-heard b.end.receiver.kept h is in
@@ -181,13 +181,13 @@ reply-told first far_first host far_host sent heard far_sent far_heard body near
 -- ---- a cell arrives
 
 -- the line with a cell that arrives next, and after it has arrived
-abbrev pub coming : EndState NodeState → LaneCell → List LaneCell → SideState → ℕ → LineState
+abbrev pub coming : EndState NodeState → LaneCell → List LaneCell → LineEndState → ℕ → LineState
 coming end cell cells b count = record { a = record { end = end; lane = cell ∷ cells }; b = b; deceived = count }
 
-abbrev pub arrived : EndState NodeState → LaneCell → List LaneCell → SideState → ℕ → LineState
+abbrev pub arrived : EndState NodeState → LaneCell → List LaneCell → LineEndState → ℕ → LineState
 arrived end cell cells b count = record { a = record { end = end; lane = cells }; b = after_cell b cell; deceived = count }
 
-pub holds-arrival : (near far : Who) → AreTwo near far → (first far_first : StationState) (end : EndState NodeState) (cell : LaneCell) (cells : List LaneCell) (b : SideState) (count after : ℕ) (lines : List Line) → deceptions_at b cell ≡ 0
+pub holds-arrival : (near far : Who) → AreTwo near far → (first far_first : StationState) (end : EndState NodeState) (cell : LaneCell) (cells : List LaneCell) (b : LineEndState) (count after : ℕ) (lines : List Line) → deceptions_at b cell ≡ 0
     → Holds near far first far_first (coming end cell cells b count) lines → Holds near far first far_first (arrived end cell cells b after) (lines ++ cell_lines far b cell)
 holds-arrival near far two first far_first end cell cells b count after lines none h =
     let e = b.end in

@@ -18,14 +18,14 @@ use Rattle.duplex_sender.specs.Sender.{phase_of, tick_turn}
 use Rattle.embedded_response.specs.Giving.{chosen}
 use Rattle.duplex_end.specs.End.{EndState, end_after_byte, end_after_tick, end_after_take, host_after, host_at_byte, act_of_byte, fate_at, fate_of_tick, begun_next, begun_at}
 use Rattle.duplex_end.proofs.Order.{end-is}
-use Rattle.line_statement.specs.declared.who.Who.{Who}
-use Rattle.line_statement.specs.declared.who.Who.TheVariants.{A, B, M, S}
+use Rattle.script_statement.specs.declared.who.Who.{Who}
+use Rattle.script_statement.specs.declared.who.Who.TheVariants.{A, B, M, S}
 use Rattle.script_parts.specs.declared.script.Event.{Event}
 use Rattle.script_parts.specs.declared.script.Event.TheVariants as event
 use Rattle.script_parts.specs.Playable.{IsPossible, issues}
-use Rattle.line_cells.specs.Cells.{LaneCell}
+use Rattle.lane_cells.specs.Cells.{LaneCell}
 use Rattle.each_once.specs.NodeHost.{node_host}
-use Rattle.duplex_line.specs.Acts.{SideState, LineState, swapped, Deed, Issue, Take, Deliver, Lose, Alter, Foreign, Tick, near_after, arriving, after_arrival, after_deed, after_deeds}
+use Rattle.duplex_line.specs.Acts.{LineEndState, LineState, swapped, Deed, Issue, Take, Deliver, Lose, Alter, Foreign, Tick, near_after, arriving, after_arrival, after_deed, after_deeds}
 use Rattle.duplex_line.specs.Run.{seen_from, after_event}
 use Rattle.duplex_line.specs.Plays.{issued_by}
 
@@ -126,7 +126,7 @@ abbrev pub counted_over : List Deed → ℕ → ℕ
 counted_over [] n = n
 counted_over (deed ∷ deeds) n = counted_over deeds (counted deed n)
 
-near-commands : (s : SideState) (deed : Deed) → issued_by (near_after s deed) ≡ counted deed (issued_by s)
+near-commands : (s : LineEndState) (deed : Deed) → issued_by (near_after s deed) ≡ counted deed (issued_by s)
 near-commands s (Issue dst payload) = length-append s.end.host.initiator.issued _
 near-commands s Take = take-commands s.end
 near-commands s Deliver = refl
@@ -135,7 +135,7 @@ near-commands s (Alter mask) = refl
 near-commands s (Foreign byte) = refl
 near-commands s Tick = tick-commands s.end
 
-far-commands : (s : SideState) (cell : Option LaneCell) → issued_by (after_arrival s cell) ≡ issued_by s
+far-commands : (s : LineEndState) (cell : Option LaneCell) → issued_by (after_arrival s cell) ≡ issued_by s
 far-commands s None = refl
 far-commands s (Some cell) = byte-commands s.end cell.byte
 

@@ -14,15 +14,15 @@ use Rattle.df1_node.specs.Initiator.{Issued, Waiting, next_issued}
 use Rattle.df1_node.specs.Node.{NodeState, after_tick as node_ticked, after_next, after_node_issue}
 use Rattle.duplex_sender.specs.Sender.{tick_turn}
 use Rattle.duplex_end.specs.End.{EndState, end_after_take, out_at_take, fate_of_tick, host_at_tick, turn_at_tick, gone_at_tick}
-use Rattle.line_statement.specs.declared.who.Who.{Who}
-use Rattle.line_statement.specs.Statements.{is_payload}
-use Rattle.line_report.specs.declared.record.Line.{Line}
-use Rattle.line_report.specs.declared.record.Line.TheVariants as line
-use Rattle.line_cells.specs.Cells.{LaneCell, Ending}
+use Rattle.script_statement.specs.declared.who.Who.{Who}
+use Rattle.script_statement.specs.Statements.{is_payload}
+use Rattle.replay_report.specs.declared.record.Line.{Line}
+use Rattle.replay_report.specs.declared.record.Line.TheVariants as line
+use Rattle.lane_cells.specs.Cells.{LaneCell, Ending}
 use Rattle.each_once.specs.NodeHost.{node_host}
-use Rattle.told_lines.specs.NodeLines.{turn_lines, gone_lines}
-use Rattle.line_cells.specs.Cells.{cell_of, altered, bare}
-use Rattle.duplex_line.specs.Acts.{SideState, LineState, Issue, Take, Deliver, Lose, Alter, Foreign, Tick, after_deed, lines_at, deceptions_at}
+use Rattle.report_lines.specs.NodeLines.{turn_lines, gone_lines}
+use Rattle.lane_cells.specs.Cells.{cell_of, altered, bare}
+use Rattle.duplex_line.specs.Acts.{LineEndState, LineState, Issue, Take, Deliver, Lose, Alter, Foreign, Tick, after_deed, lines_at, deceptions_at}
 use Rattle.duplex_line.specs.Plays.{issued_by}
 use Rattle.duplex_line.proofs.Once.IssueLimits.{take-commands, tick-commands}
 use Rattle.each_once.proofs.OneDirection.{Lane, Way, way-more, way-put, way-end, way-leaves, way-bare}
@@ -36,7 +36,7 @@ use Rattle.duplex_line.proofs.Once.Invariant.{lane_of, AreTwo, Holds}
 use Rattle.duplex_line.proofs.Once.ArrivingCell.{news-silent, holds-arrival}
 
 -- a state in which the near end and its lane are others
-abbrev nearer : LineState → SideState → LineState
+abbrev nearer : LineState → LineEndState → LineState
 nearer s a = record { a = a; b = s.b; deceived = s.deceived }
 
 -- ---- a command is issued

@@ -19,23 +19,23 @@ use Rattle.duplex_sender.specs.declared.SendTurn.{SendTurn}
 use Rattle.duplex_sender.specs.declared.SendTurn.TheVariants as sends
 use Rattle.duplex_sender.specs.Sender.{tick_turn}
 use Rattle.duplex_end.specs.End.{act_of_byte, fate_at, host_after, host_at_byte, fate_of_tick, turn_told, turn_at_tick, host_at_tick, gone_at_tick}
-use Rattle.line_statement.specs.declared.who.Who.{Who}
-use Rattle.line_statement.specs.declared.who.Who.TheVariants.{A, B, M, S}
+use Rattle.script_statement.specs.declared.who.Who.{Who}
+use Rattle.script_statement.specs.declared.who.Who.TheVariants.{A, B, M, S}
 use Rattle.script_parts.specs.declared.script.Event.{Event}
 use Rattle.script_parts.specs.declared.script.Event.TheVariants as event
 use Rattle.script_parts.specs.declared.script.Script.{Script}
 use Rattle.script_parts.specs.Playable.{IsPossible, IsPlayable, is_end}
-use Rattle.line_report.specs.declared.record.Line.{Line}
-use Rattle.line_report.specs.declared.record.Line.TheVariants as line
-use Rattle.line_report.specs.Report.{sent_lines}
+use Rattle.replay_report.specs.declared.record.Line.{Line}
+use Rattle.replay_report.specs.declared.record.Line.TheVariants as line
+use Rattle.replay_report.specs.Report.{sent_lines}
 use Rattle.each_once.specs.Commands.{Request, AreOutcomesTold}
 use Rattle.each_once.specs.NodeHost.{node_host}
-use Rattle.told_lines.specs.NodeLines.{did_lines, act_lines, news_lines, turn_lines, gone_lines}
+use Rattle.report_lines.specs.NodeLines.{did_lines, act_lines, news_lines, turn_lines, gone_lines}
 use Rattle.each_once.specs.Tells.{is_who}
 use Rattle.each_once.proofs.IssuedCommands.{SameCommands, same-itself, same-both, same-accept, same-told, same-tick, same-next, AreIssued, issued-same, issued-more}
 use Rattle.each_once.proofs.ToldOutcomes.{TellNone, none-both, outcomes-start, outcomes-silent, outcomes-issue, outcomes-accept, outcomes-told, outcomes-next, outcomes-tick}
-use Rattle.line_cells.specs.Cells.{LaneCell}
-use Rattle.duplex_line.specs.Acts.{SideState, LineState, swapped, Deed, Issue, Take, Deliver, Lose, Alter, Foreign, Tick, near_after, arriving, after_cell, after_arrival, step_of, body_heard, after_deed, after_deeds, near_lines, cell_lines, arrival_lines, lines_at, lines_over, given_over}
+use Rattle.lane_cells.specs.Cells.{LaneCell}
+use Rattle.duplex_line.specs.Acts.{LineEndState, LineState, swapped, Deed, Issue, Take, Deliver, Lose, Alter, Foreign, Tick, near_after, arriving, after_cell, after_arrival, step_of, body_heard, after_deed, after_deeds, near_lines, cell_lines, arrival_lines, lines_at, lines_over, given_over}
 use Rattle.duplex_line.specs.Issues.{request_at, requests_in}
 use Rattle.duplex_line.specs.Run.{plan_of_a, plan_of_b, start, seen_from, after_event, deed_lines, lines_of, state_after, lines_after, last_state}
 use Rattle.duplex_line.proofs.Once.Invariant.{AreTwo, two-swapped, a-and-b, joins-end}
@@ -74,17 +74,17 @@ other-gone : (who by : Who) → is_who who by ≡ false → (numbers : List ℕ)
 other-gone who by apart [] n = refl
 other-gone who by apart (number ∷ numbers) n = rw apart (other-gone who by apart numbers n)
 
-other-cell : (who by : Who) → is_who who by ≡ false → (side : SideState) (cell : LaneCell) → TellNone who (cell_lines by side cell)
+other-cell : (who by : Who) → is_who who by ≡ false → (side : LineEndState) (cell : LaneCell) → TellNone who (cell_lines by side cell)
 other-cell who by apart side cell =
     let step = step_of side cell in
     let body = body_heard side cell in
     none-both who (act_lines by step.act step.did body) (news_lines by step.news) (other-act who by apart step.act step.did body) (other-news who by apart step.news)
 
-other-arrival : (who by : Who) → is_who who by ≡ false → (side : SideState) (cell : Option LaneCell) → TellNone who (arrival_lines by side cell)
+other-arrival : (who by : Who) → is_who who by ≡ false → (side : LineEndState) (cell : Option LaneCell) → TellNone who (arrival_lines by side cell)
 other-arrival who by apart side None = λ n. refl
 other-arrival who by apart side (Some cell) = other-cell who by apart side cell
 
-other-near : (who by : Who) → is_who who by ≡ false → (side : SideState) (deed : Deed) → TellNone who (near_lines by side deed)
+other-near : (who by : Who) → is_who who by ≡ false → (side : LineEndState) (deed : Deed) → TellNone who (near_lines by side deed)
 other-near who by apart side (Issue dst payload) = λ n. refl
 other-near who by apart side Take = λ n. refl
 other-near who by apart side Deliver = λ n. refl
@@ -103,11 +103,11 @@ none-sent who by (byte ∷ bytes) n = refl
 -- ---- one end
 
 -- an end whose commands are these requests, and of which the lines tell how each ended
-pub record Recounts (who : Who) (node tns : ℕ) (requests : List Request) (side : SideState) (lines : List Line) : Type 0 where
+pub record Recounts (who : Who) (node tns : ℕ) (requests : List Request) (side : LineEndState) (lines : List Line) : Type 0 where
   pub issued : AreIssued node tns requests side.end.host.initiator
   pub outcomes : AreOutcomesTold who side.end.host.initiator.issued lines
 
-recounts-silent : (who : Who) (node tns : ℕ) (requests : List Request) (side : SideState) (lines more : List Line) → TellNone who more → Recounts who node tns requests side lines → Recounts who node tns requests side (lines ++ more)
+recounts-silent : (who : Who) (node tns : ℕ) (requests : List Request) (side : LineEndState) (lines more : List Line) → TellNone who more → Recounts who node tns requests side lines → Recounts who node tns requests side (lines ++ more)
 recounts-silent who node tns requests side lines more none r = record { issued = r.issued; outcomes = outcomes-silent who side.end.host.initiator.issued lines more none r.outcomes }
 
 -- what the host does at an act
@@ -144,7 +144,7 @@ same-fate : (what : Option Fate) (host : NodeState) → SameCommands host.initia
 same-fate None host = same-itself host.initiator
 same-fate (Some what) host = same-told what host
 
-recounts-cell : (who : Who) → is_who who who ≡ true → (node tns : ℕ) (requests : List Request) (side : SideState) (cell : LaneCell) (lines : List Line) → Recounts who node tns requests side lines → Recounts who node tns requests (after_cell side cell) (lines ++ cell_lines who side cell)
+recounts-cell : (who : Who) → is_who who who ≡ true → (node tns : ℕ) (requests : List Request) (side : LineEndState) (cell : LaneCell) (lines : List Line) → Recounts who node tns requests side lines → Recounts who node tns requests (after_cell side cell) (lines ++ cell_lines who side cell)
 recounts-cell who itself node tns requests side cell lines r =
     let e = side.end in
     let what = act_of_byte node_host e cell.byte in
@@ -159,7 +159,7 @@ recounts-cell who itself node tns requests side cell lines r =
           (outcomes-fate who itself fate now (lines ++ first) (outcomes-act who itself what e.host body lines r.outcomes));
     }
 
-recounts-arrival : (who : Who) → is_who who who ≡ true → (node tns : ℕ) (requests : List Request) (side : SideState) (cell : Option LaneCell) (lines : List Line) → Recounts who node tns requests side lines → Recounts who node tns requests (after_arrival side cell) (lines ++ arrival_lines who side cell)
+recounts-arrival : (who : Who) → is_who who who ≡ true → (node tns : ℕ) (requests : List Request) (side : LineEndState) (cell : Option LaneCell) (lines : List Line) → Recounts who node tns requests side lines → Recounts who node tns requests (after_arrival side cell) (lines ++ arrival_lines who side cell)
 recounts-arrival who itself node tns requests side None lines r = recounts-silent who node tns requests side lines [] (λ n. refl) r
 recounts-arrival who itself node tns requests side (Some cell) lines r = recounts-cell who itself node tns requests side cell lines r
 
@@ -188,7 +188,7 @@ outcomes-turn who itself sends.Still host lines told = outcomes-silent who host.
 outcomes-turn who itself sends.Ask host lines told = outcomes-silent who host.initiator.issued lines (line.Enquiry who ∷ []) (λ n. refl) told
 outcomes-turn who itself sends.Failed host lines told = outcomes-told who itself fate.Undelivered host lines told
 
-recounts-tick : (who : Who) → is_who who who ≡ true → (node tns : ℕ) (requests : List Request) (side : SideState) (lines : List Line) → Recounts who node tns requests side lines → Recounts who node tns requests (near_after side Tick) (lines ++ near_lines who side Tick)
+recounts-tick : (who : Who) → is_who who who ≡ true → (node tns : ℕ) (requests : List Request) (side : LineEndState) (lines : List Line) → Recounts who node tns requests side lines → Recounts who node tns requests (near_after side Tick) (lines ++ near_lines who side Tick)
 recounts-tick who itself node tns requests side lines r =
     let e = side.end in
     let turns = tick_turn e.sender in
@@ -202,14 +202,14 @@ recounts-tick who itself node tns requests side lines r =
     }
 
 -- a step that leaves the node as it is
-recounts-still : (who : Who) (node tns : ℕ) (requests : List Request) (side next : SideState) (lines : List Line) → next.end.host ≡ side.end.host → Recounts who node tns requests side lines → Recounts who node tns (requests ++ []) next (lines ++ [])
+recounts-still : (who : Who) (node tns : ℕ) (requests : List Request) (side next : LineEndState) (lines : List Line) → next.end.host ≡ side.end.host → Recounts who node tns requests side lines → Recounts who node tns (requests ++ []) next (lines ++ [])
 recounts-still who node tns requests side next lines same r =
     rw (append-nil requests, append-nil lines) (record {
       issued = subst (λ (host : NodeState). AreIssued node tns requests host.initiator) (sym same) r.issued;
       outcomes = subst (λ (host : NodeState). AreOutcomesTold who host.initiator.issued lines) (sym same) r.outcomes;
     })
 
-recounts-near : (who : Who) → is_who who who ≡ true → (node tns : ℕ) (requests : List Request) (deed : Deed) (side : SideState) (lines : List Line) → Recounts who node tns requests side lines
+recounts-near : (who : Who) → is_who who who ≡ true → (node tns : ℕ) (requests : List Request) (deed : Deed) (side : LineEndState) (lines : List Line) → Recounts who node tns requests side lines
     → Recounts who node tns (requests ++ requests_of deed) (near_after side deed) (lines ++ near_lines who side deed)
 recounts-near who itself node tns requests (Issue dst payload) side lines r =
     rw (append-nil lines) (record {

@@ -6,19 +6,19 @@ use Rattle.std.proofs.lemmas.List.Elements.{All-head, All-tail}
 use Rattle.df1_node.specs.Answer.{StationState}
 use Rattle.df1_node.specs.Initiator.{Issued}
 use Rattle.data_files.specs.Tables.{DataTables}
-use Rattle.line_statement.specs.declared.who.Who.{Who}
-use Rattle.line_statement.specs.declared.who.Who.TheVariants.{A, B, M, S}
+use Rattle.script_statement.specs.declared.who.Who.{Who}
+use Rattle.script_statement.specs.declared.who.Who.TheVariants.{A, B, M, S}
 use Rattle.script_parts.specs.declared.script.Event.{Event}
 use Rattle.script_parts.specs.declared.script.Event.TheVariants as event
 use Rattle.script_parts.specs.declared.script.Script.{Script}
-use Rattle.line_statement.specs.Statements.{is_payload}
+use Rattle.script_statement.specs.Statements.{is_payload}
 use Rattle.script_parts.specs.Playable.{IsPossible, IsPlayable, issues, is_end}
-use Rattle.line_report.specs.declared.record.Line.{Line}
-use Rattle.line_report.specs.declared.record.Record.{Record}
-use Rattle.line_report.specs.Report.{sent_lines}
-use Rattle.line_cells.specs.Cells.{LaneCell}
-use Rattle.duplex_line.specs.Acts.{SideState, LineState, swapped, Deed, Issue, Take, Deliver, Lose, Alter, Foreign, Tick, arriving, deceived_after, after_deed, after_deeds, lines_at, lines_over, given_over}
-use Rattle.told_lines.specs.Words.{words_of}
+use Rattle.replay_report.specs.declared.record.Line.{Line}
+use Rattle.replay_report.specs.declared.record.Record.{Record}
+use Rattle.replay_report.specs.Report.{sent_lines}
+use Rattle.lane_cells.specs.Cells.{LaneCell}
+use Rattle.duplex_line.specs.Acts.{LineEndState, LineState, swapped, Deed, Issue, Take, Deliver, Lose, Alter, Foreign, Tick, arriving, deceived_after, after_deed, after_deeds, lines_at, lines_over, given_over}
+use Rattle.report_lines.specs.Words.{words_of}
 use Rattle.duplex_line.specs.Run.{first_station, setup_of, first_node, plan_of_a, plan_of_b, start, who_of, seen_from, after_event, deed_lines, lines_of, state_after, lines_after, last_state, tables_of, record_from}
 use Rattle.duplex_line.specs.Plays.{Played, issued_by, IsUnspent}
 use Rattle.duplex_line.proofs.Steps.EventsToCome.{room-of-a, room-of-b, unspent}
@@ -50,7 +50,7 @@ Kept near far first far_first s lines = s.deceived ≡ 0 → Holds near far firs
 abbrev Goes : LineState → List Deed → Type 0
 Goes s deeds = (near far : Who) → AreTwo near far → (first far_first : StationState) (lines : List Line) → Kept near far first far_first s lines → Kept near far first far_first (after_deeds s deeds) (lines ++ lines_over near far s deeds)
 
-earlier : (count : ℕ) (b : SideState) (cell : Option LaneCell) → deceived_after count b cell ≡ 0 → count ≡ 0
+earlier : (count : ℕ) (b : LineEndState) (cell : Option LaneCell) → deceived_after count b cell ≡ 0 → count ≡ 0
 earlier count b None none = none
 earlier count b (Some cell) none = omega (arith, none)
 

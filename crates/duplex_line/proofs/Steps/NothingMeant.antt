@@ -10,12 +10,12 @@ use Rattle.pccc_envelope.specs.Envelope.{key_of}
 use Rattle.pccc_envelope.specs.Accepted.{Repeated, Accepted, Refused, is_kept}
 use Rattle.duplex_receiver.specs.Receiver.{verdict_act, act_of, is_good, hearing}
 use Rattle.duplex_end.specs.End.{with_byte, answer_of}
-use Rattle.line_statement.specs.declared.who.Who.{Who}
-use Rattle.line_cells.specs.Cells.{LaneCell}
-use Rattle.line_cells.specs.Deception.{deceptions}
+use Rattle.script_statement.specs.declared.who.Who.{Who}
+use Rattle.lane_cells.specs.Cells.{LaneCell}
+use Rattle.lane_cells.specs.Deception.{deceptions}
 use Rattle.each_once.specs.NodeHost.{node_host}
-use Rattle.told_lines.specs.NodeLines.{step_lines}
-use Rattle.duplex_line.specs.Acts.{SideState, step_of, body_heard, deceptions_at, cell_lines}
+use Rattle.report_lines.specs.NodeLines.{step_lines}
+use Rattle.duplex_line.specs.Acts.{LineEndState, step_of, body_heard, deceptions_at, cell_lines}
 
 -- a whole frame always means something
 verdict-means : (kept room : Bool) → verdict_act (if kept then Repeated else (if room then Accepted else Refused)) ≡ act.Nothing → ⊥
@@ -28,10 +28,10 @@ not-good kept None body room is = refl
 not-good kept (Some heard.Good) body room is = absurd (verdict-means (is_kept kept (key_of body)) room is)
 not-good kept (Some _) body room is = refl
 
-pub no-lines : (who : Who) (s : SideState) (cell : LaneCell) → (step_of s cell).act ≡ act.Nothing → cell_lines who s cell ≡ []
+pub no-lines : (who : Who) (s : LineEndState) (cell : LaneCell) → (step_of s cell).act ≡ act.Nothing → cell_lines who s cell ≡ []
 no-lines who s cell nothing = ap (λ (what : Act). step_lines who (answer_of node_host (with_byte node_host s.end cell.byte) what) (body_heard s cell)) nothing
 
-pub no-deception : (s : SideState) (cell : LaneCell) → (step_of s cell).act ≡ act.Nothing → deceptions_at s cell ≡ 0
+pub no-deception : (s : LineEndState) (cell : LaneCell) → (step_of s cell).act ≡ act.Nothing → deceptions_at s cell ≡ 0
 no-deception s cell nothing =
     let h = hearing (node_host.room_for s.end.host) 250 s.end.receiver cell.byte in
     ap (λ (whole : Bool). deceptions whole cell.ends (body_heard s cell)) (not-good s.end.receiver.kept h.heard h.body h.has_room nothing)

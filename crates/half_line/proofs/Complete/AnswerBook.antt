@@ -9,8 +9,8 @@ use Rattle.pccc_envelope.specs.Envelope.{key_of}
 use Rattle.pccc_envelope.specs.Accepted.{last_key}
 use Rattle.pccc_envelope.proofs.LastAccepted.{last_key-append}
 use Rattle.df1_node.specs.Answer.{StationState, after_answer, reply_to}
-use Rattle.line_statement.specs.declared.who.Who.TheVariants.{M}
-use Rattle.line_report.specs.declared.record.Line.{Line}
+use Rattle.script_statement.specs.declared.who.Who.TheVariants.{M}
+use Rattle.replay_report.specs.declared.record.Line.{Line}
 use Rattle.each_once.specs.Exchanges.{exchanges, station_after}
 use Rattle.each_once.specs.OfStation.{lines_of}
 use Rattle.each_once.specs.Tells.{answer_at, answers_in}

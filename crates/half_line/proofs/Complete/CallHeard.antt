@@ -13,12 +13,12 @@ use Rattle.pccc_envelope.specs.Accepted.{is_kept}
 use Rattle.half_slave.specs.Slave.{SlaveState, loaded, sent, is_quiet, heard_at, slave_after_byte}
 use Rattle.half_slave.proofs.Rows.{byte-ear}
 use Rattle.half_master.specs.Master.{MasterState}
-use Rattle.line_statement.specs.declared.who.Who.{Who}
-use Rattle.line_cells.specs.Cells.{LaneCell}
+use Rattle.script_statement.specs.declared.who.Who.{Who}
+use Rattle.lane_cells.specs.Cells.{LaneCell}
 use Rattle.each_once.specs.NodeHost.{node_host}
-use Rattle.told_lines.specs.NodeLines.{did_lines, step_lines}
+use Rattle.report_lines.specs.NodeLines.{did_lines, step_lines}
 use Rattle.half_slave.specs.Slave as slave
-use Rattle.half_line.specs.Acts.{StationSide, station_heard}
+use Rattle.half_line.specs.Acts.{LineStationState, station_heard}
 use Rattle.half_line.proofs.Complete.ComingCells.{coming}
 use Rattle.half_line.proofs.Complete.EarHears.{Telling, Hears, deceived_at}
 use Rattle.half_line.proofs.Complete.StationHears.{station_ear}
@@ -30,15 +30,15 @@ use Rattle.half_line.proofs.Complete.Stages.{Awaited, Receipt, Polling, Ack, Eot
 use Rattle.half_line.proofs.Complete.StageSteps.{lane_left, check-stays, line-stays, own-stays}
 
 -- the station after the cell
-abbrev pub after_call : StationSide → LaneCell → SlaveState NodeState
+abbrev pub after_call : LineStationState → LaneCell → SlaveState NodeState
 after_call side cell = slave_after_byte node_host side.slave cell.byte
 
 -- the cell that it hears is the last of its call, and it was free till then
-abbrev pub HearsItsCall : MasterState NodeState → StationSide → LaneCell → List LaneCell → Telling station_ear → Type 0
+abbrev pub HearsItsCall : MasterState NodeState → LineStationState → LaneCell → List LaneCell → Telling station_ear → Type 0
 HearsItsCall m side cell cells call = HearsCall side.slave cell (cells ++ coming m.mouth m.sending) call
 
 -- what it answers is on its way then
-call-answered : (m : MasterState NodeState) (side : StationSide) (cell : LaneCell) (cells : List LaneCell) (call : Telling station_ear) (reply : Telling master_ear) → Comes m side call → HearsItsCall m side cell cells call
+call-answered : (m : MasterState NodeState) (side : LineStationState) (cell : LaneCell) (cells : List LaneCell) (call : Telling station_ear) (reply : Telling master_ear) → Comes m side call → HearsItsCall m side cell cells call
     → Answers (after_call side cell) [] m.ear reply → Returns m (station_heard (lane_left side cells) cell.byte) reply
 call-answered m side cell cells call reply c h a = record {
   hears = subst (λ ear. Hears station_ear ear (cells ++ coming m.mouth m.sending) []) (sym (byte-ear node_host side.slave cell.byte)) h.hears;
@@ -46,7 +46,7 @@ call-answered m side cell cells call reply c h a = record {
 }
 
 -- whatever is awaited of it then
-pub called-after : (m : MasterState NodeState) (side : StationSide) (cell : LaneCell) (cells : List LaneCell) (before awaited : Awaited) → SideCalled m side before → Progress m (station_heard (lane_left side cells) cell.byte) awaited → SideCalled m (station_heard (lane_left side cells) cell.byte) awaited
+pub called-after : (m : MasterState NodeState) (side : LineStationState) (cell : LaneCell) (cells : List LaneCell) (before awaited : Awaited) → SideCalled m side before → Progress m (station_heard (lane_left side cells) cell.byte) awaited → SideCalled m (station_heard (lane_left side cells) cell.byte) awaited
 called-after m side cell cells before awaited c progress = record {
   own = own-stays side.slave cell.byte side.number c.own;
   check = check-stays m side.slave cell.byte c.check;
@@ -57,14 +57,14 @@ called-after m side cell cells before awaited c progress = record {
 -- ---- a message
 
 -- it is acknowledged; the node takes it, its key is kept, and a line tells of it
-pub record Receives (m : MasterState NodeState) (side : StationSide) (cell : LaneCell) (cells : List LaneCell) (body : List ℕ) : Type 0 where
+pub record Receives (m : MasterState NodeState) (side : LineStationState) (cell : LaneCell) (cells : List LaneCell) (body : List ℕ) : Type 0 where
   pub called : SideCalled m (station_heard (lane_left side cells) cell.byte) Ack
   pub host : (after_call side cell).host ≡ after_accept side.slave.host body
   pub kept : (after_call side cell).kept ≡ Some (key_of body)
   pub lines : (who : Who) (named : List ℕ) → step_lines who (slave.step_at_byte node_host side.slave cell.byte) named ≡ did_lines who (Some (node_host.did side.slave.host body)) named
   pub honest : deceived_at station_ear side.slave.ear cell ≡ 0
 
-pub message-heard : (m : MasterState NodeState) (side : StationSide) (cell : LaneCell) (cells : List LaneCell) (body : List ℕ) → SideCalled m side (Receipt body) → HearsItsCall m side cell cells (a_message side.number body)
+pub message-heard : (m : MasterState NodeState) (side : LineStationState) (cell : LaneCell) (cells : List LaneCell) (body : List ℕ) → SideCalled m side (Receipt body) → HearsItsCall m side cell cells (a_message side.number body)
     → is_kept side.slave.kept (key_of body) ≡ false → has_room side.slave.host body ≡ true → Receives m side cell cells body
 message-heard m side cell cells body c h new room =
     let s = side.slave in
@@ -88,18 +88,18 @@ message-heard m side cell cells body c h new room =
 still-quiet : (s : SlaveState NodeState) → IsStill s → is_quiet s ≡ true
 still-quiet s still = ap (λ (left : List Sent). (length left == 0) && is_none s.responds) still.gives_none ∙ ap is_none still.owes_none
 
-polled-here : (m : MasterState NodeState) (side : StationSide) (cell : LaneCell) (cells : List LaneCell) → SideCalled m side Polling → HearsItsCall m side cell cells (a_poll side.number) → heard_at side.slave cell.byte ≡ Some (station_hears.Poll side.slave.setup.station)
+polled-here : (m : MasterState NodeState) (side : LineStationState) (cell : LaneCell) (cells : List LaneCell) → SideCalled m side Polling → HearsItsCall m side cell cells (a_poll side.number) → heard_at side.slave cell.byte ≡ Some (station_hears.Poll side.slave.setup.station)
 polled-here m side cell cells c h = h.what ∙ ap (λ (n : ℕ). Some (station_hears.Poll n)) (sym c.own)
 
 -- it has no reply: it says so, and nothing else changes
-pub record EndsPoll (m : MasterState NodeState) (side : StationSide) (cell : LaneCell) (cells : List LaneCell) : Type 0 where
+pub record EndsPoll (m : MasterState NodeState) (side : LineStationState) (cell : LaneCell) (cells : List LaneCell) : Type 0 where
   pub called : SideCalled m (station_heard (lane_left side cells) cell.byte) Eot
   pub host : (after_call side cell).host ≡ side.slave.host
   pub kept : (after_call side cell).kept ≡ side.slave.kept
   pub mute : IsMute node_host side.slave cell.byte
   pub honest : deceived_at station_ear side.slave.ear cell ≡ 0
 
-pub poll-ended : (m : MasterState NodeState) (side : StationSide) (cell : LaneCell) (cells : List LaneCell) → SideCalled m side Polling → HearsItsCall m side cell cells (a_poll side.number) → next_body side.slave.host ≡ None → EndsPoll m side cell cells
+pub poll-ended : (m : MasterState NodeState) (side : LineStationState) (cell : LaneCell) (cells : List LaneCell) → SideCalled m side Polling → HearsItsCall m side cell cells (a_poll side.number) → next_body side.slave.host ≡ None → EndsPoll m side cell cells
 poll-ended m side cell cells c h next =
     let s = side.slave in
     let what = polled-here m side cell cells c h in
@@ -115,14 +115,14 @@ poll-ended m side cell cells c h next =
     }
 
 -- it has one: it holds and sends it
-pub record SendsReply (m : MasterState NodeState) (side : StationSide) (cell : LaneCell) (cells : List LaneCell) (body : List ℕ) : Type 0 where
+pub record SendsReply (m : MasterState NodeState) (side : LineStationState) (cell : LaneCell) (cells : List LaneCell) (body : List ℕ) : Type 0 where
   pub called : SideCalled m (station_heard (lane_left side cells) cell.byte) (Message body)
   pub host : (after_call side cell).host ≡ after_next side.slave.host
   pub kept : (after_call side cell).kept ≡ side.slave.kept
   pub mute : IsMute node_host side.slave cell.byte
   pub honest : deceived_at station_ear side.slave.ear cell ≡ 0
 
-pub poll-answered : (m : MasterState NodeState) (side : StationSide) (cell : LaneCell) (cells : List LaneCell) (body : List ℕ) → SideCalled m side Polling → HearsItsCall m side cell cells (a_poll side.number)
+pub poll-answered : (m : MasterState NodeState) (side : LineStationState) (cell : LaneCell) (cells : List LaneCell) (body : List ℕ) → SideCalled m side Polling → HearsItsCall m side cell cells (a_poll side.number)
     → next_body side.slave.host ≡ Some body → 6 ≤ length body → length body ≤ 250 → SendsReply m side cell cells body
 poll-answered m side cell cells body c h next least most =
     let s = side.slave in

@@ -11,14 +11,14 @@ use Rattle.half_master.specs.Master.{MasterState}
 use Rattle.half_slave.specs.Slave as slave
 use Rattle.half_slave.specs.Slave.{SlaveState, slave_after_byte}
 use Rattle.half_slave.proofs.Rows.{byte-ear}
-use Rattle.line_statement.specs.declared.who.Who.TheVariants.{S}
-use Rattle.line_report.specs.declared.record.Line.{Line}
-use Rattle.line_report.specs.declared.record.Line.TheVariants as line
-use Rattle.line_cells.specs.Cells.{LaneCell}
+use Rattle.script_statement.specs.declared.who.Who.TheVariants.{S}
+use Rattle.replay_report.specs.declared.record.Line.{Line}
+use Rattle.replay_report.specs.declared.record.Line.TheVariants as line
+use Rattle.lane_cells.specs.Cells.{LaneCell}
 use Rattle.each_once.specs.NodeHost.{node_host}
 use Rattle.each_once.proofs.Sublists.{same-some}
-use Rattle.told_lines.specs.NodeLines.{did_lines, step_lines}
-use Rattle.half_line.specs.Acts.{StationSide, station_heard}
+use Rattle.report_lines.specs.NodeLines.{did_lines, step_lines}
+use Rattle.half_line.specs.Acts.{LineStationState, station_heard}
 use Rattle.half_line.specs.Complete.{is_to}
 use Rattle.half_line.specs.Issues.{bodies_of}
 use Rattle.half_line.proofs.Once.Invariant.{Setting, number-at}
@@ -37,32 +37,32 @@ use Rattle.half_line.proofs.Complete.Invariant.{IsHere, IsTied, Course}
 use Rattle.half_line.proofs.Complete.LineFacts.{Known, apart, plain, body-at, room-for, here, elsewhere, answer-body}
 
 -- a station of the line, at its place
-pub record At (setting : Setting) (m : MasterState NodeState) (stations : List StationSide) (place : ℕ) (side : StationSide) : Type 0 where
+pub record At (setting : Setting) (m : MasterState NodeState) (stations : List LineStationState) (place : ℕ) (side : LineStationState) : Type 0 where
   pub known : Known setting m stations
   pub is_at : slice_get stations place ≡ Some side
 
 -- the station after the cell
-abbrev pub side_heard : StationSide → LaneCell → List LaneCell → StationSide
+abbrev pub side_heard : LineStationState → LaneCell → List LaneCell → LineStationState
 side_heard side cell cells = station_heard (lane_left side cells) cell.byte
 
 -- what is told of the cell
-abbrev pub call_lines : StationSide → LaneCell → List Line
+abbrev pub call_lines : LineStationState → LaneCell → List Line
 call_lines side cell = step_lines (S side.number) (slave.step_at_byte node_host side.slave cell.byte) (slave.body_of (slave_after_byte node_host side.slave cell.byte))
 
-pub record Arrived (setting : Setting) (m : MasterState NodeState) (stations : List StationSide) (late ticks : ℕ) (lines : List Line) (place : ℕ) (side : StationSide) (cell : LaneCell) (cells : List LaneCell) : Type 0 where
+pub record Arrived (setting : Setting) (m : MasterState NodeState) (stations : List LineStationState) (late ticks : ℕ) (lines : List Line) (place : ℕ) (side : LineStationState) (cell : LaneCell) (cells : List LaneCell) : Type 0 where
   pub course : Course setting m (slice_set stations place (side_heard side cell cells)) late ticks (lines ++ call_lines side cell)
   pub honest : deceived_at station_ear side.slave.ear cell ≡ 0
 
 -- ---- nothing is told of it
 
 -- the books are those that were, with no line more
-told-none : (setting : Setting) (i : InitiatorState) (listed : List Station) (stations : List StationSide) (lines : List Line) (stay : Stay) (done ticks : ℕ) (side : StationSide) (cell : LaneCell) → IsMute node_host side.slave cell.byte
+told-none : (setting : Setting) (i : InitiatorState) (listed : List Station) (stations : List LineStationState) (lines : List Line) (stay : Stay) (done ticks : ℕ) (side : LineStationState) (cell : LaneCell) → IsMute node_host side.slave cell.byte
     → Ledger setting i listed stations lines stay done ticks → Ledger setting i listed stations (lines ++ call_lines side cell) stay done ticks
 told-none setting i listed stations lines stay done ticks side cell mute l =
     subst (λ (all : List Line). Ledger setting i listed stations all stay done ticks)
     (sym (append-nil lines) ∙ ap (λ (more : List Line). lines ++ more) (sym (mute (S side.number) (slave.body_of (slave_after_byte node_host side.slave cell.byte))))) l
 
-mute-step : {setting : Setting} {m : MasterState NodeState} {stations : List StationSide} {place : ℕ} {side : StationSide} {late ticks done : ℕ} {lines : List Line} {stay : Stay} (cell : LaneCell) (cells : List LaneCell) (now : Now) → At setting m stations place side
+mute-step : {setting : Setting} {m : MasterState NodeState} {stations : List LineStationState} {place : ℕ} {side : LineStationState} {late ticks done : ℕ} {lines : List Line} {stay : Stay} (cell : LaneCell) (cells : List LaneCell) (now : Now) → At setting m stations place side
     → Stage late m (slice_set stations place (side_heard side cell cells)) now → IsTied setting (bodies_of m) done now stay → IsSameNode side.slave.host (slave_after_byte node_host side.slave cell.byte).host → (slave_after_byte node_host side.slave cell.byte).kept ≡ side.slave.kept
     → IsMute node_host side.slave cell.byte → deceived_at station_ear side.slave.ear cell ≡ 0 → Ledger setting m.host.initiator m.stations stations lines stay done ticks → Arrived setting m stations late ticks lines place side cell cells
 mute-step {setting = setting} {m = m} {stations = stations} {place = place} {side = side} {ticks = ticks} {done = done} {lines = lines} {stay = stay} cell cells now at stage tied node kept mute honest l = record {
@@ -79,7 +79,7 @@ mute-step {setting = setting} {m = m} {stations = stations} {place = place} {sid
 }
 
 -- at rest it stays so
-rest-step : {setting : Setting} {m : MasterState NodeState} {stations : List StationSide} {place : ℕ} {side : StationSide} {late ticks done : ℕ} {lines : List Line} {stay : Stay} (cell : LaneCell) (cells : List LaneCell) (now : Now) → At setting m stations place side → side.to_it ≡ cell ∷ cells
+rest-step : {setting : Setting} {m : MasterState NodeState} {stations : List LineStationState} {place : ℕ} {side : LineStationState} {late ticks done : ℕ} {lines : List Line} {stay : Stay} (cell : LaneCell) (cells : List LaneCell) (now : Now) → At setting m stations place side → side.to_it ≡ cell ∷ cells
     → SideRests m side → (SideRests m (side_heard side cell cells) → Stage late m (slice_set stations place (side_heard side cell cells)) now) → IsTied setting (bodies_of m) done now stay
     → Ledger setting m.host.initiator m.stations stations lines stay done ticks → Arrived setting m stations late ticks lines place side cell cells
 rest-step {m = m} {side = side} cell cells now at is rests stage tied l =
@@ -89,16 +89,16 @@ rest-step {m = m} {side = side} cell cells now at is rests stage tied l =
 -- ---- what is called stays so
 
 -- of the station that is called, with this stage, and the command where it is
-record Calls (setting : Setting) (m : MasterState NodeState) (stations : List StationSide) (late ticks : ℕ) (lines : List Line) (place : ℕ) (side : StationSide) (awaited : Awaited) (stay : Stay) (done : ℕ) : Type 0 where
+record Calls (setting : Setting) (m : MasterState NodeState) (stations : List LineStationState) (late ticks : ℕ) (lines : List Line) (place : ℕ) (side : LineStationState) (awaited : Awaited) (stay : Stay) (done : ℕ) : Type 0 where
   at : At setting m stations place side
   stage : Stage late m stations (Awaits place awaited)
   called : SideCalled m side awaited
   ledger : Ledger setting m.host.initiator m.stations stations lines stay done ticks
 
-abbrev StageAfter : ℕ → MasterState NodeState → List StationSide → ℕ → StationSide → LaneCell → List LaneCell → Awaited → Type 0
+abbrev StageAfter : ℕ → MasterState NodeState → List LineStationState → ℕ → LineStationState → LaneCell → List LaneCell → Awaited → Type 0
 StageAfter late m stations place side cell cells awaited = Stage late m (slice_set stations place (side_heard side cell cells)) (Awaits place awaited)
 
-still-step : {setting : Setting} {m : MasterState NodeState} {stations : List StationSide} {place : ℕ} {side : StationSide} {late ticks done : ℕ} {lines : List Line} {stay : Stay} {awaited : Awaited} (cell : LaneCell) (cells : List LaneCell) → (c : Calls setting m stations late ticks lines place side awaited stay done)
+still-step : {setting : Setting} {m : MasterState NodeState} {stations : List LineStationState} {place : ℕ} {side : LineStationState} {late ticks done : ℕ} {lines : List Line} {stay : Stay} {awaited : Awaited} (cell : LaneCell) (cells : List LaneCell) → (c : Calls setting m stations late ticks lines place side awaited stay done)
     → StageAfter late m stations place side cell cells awaited → IsTied setting (bodies_of m) done (Awaits place awaited) stay → IsSameNode side.slave.host (slave_after_byte node_host side.slave cell.byte).host → (slave_after_byte node_host side.slave cell.byte).kept ≡ side.slave.kept
     → IsMute node_host side.slave cell.byte → deceived_at station_ear side.slave.ear cell ≡ 0 → Arrived setting m stations late ticks lines place side cell cells
 still-step {place = place} {awaited = awaited} cell cells c stage tied node kept mute honest =
@@ -106,7 +106,7 @@ still-step {place = place} {awaited = awaited} cell cells c stage tied node kept
 
 -- ---- it hears a message
 
-receipt-hears : {setting : Setting} {m : MasterState NodeState} {stations : List StationSide} {place : ℕ} {side : StationSide} {late ticks done : ℕ} {lines : List Line} (cell : LaneCell) (cells : List LaneCell) (body : List ℕ) → Calls setting m stations late ticks lines place side (Receipt body) (Going body) done
+receipt-hears : {setting : Setting} {m : MasterState NodeState} {stations : List LineStationState} {place : ℕ} {side : LineStationState} {late ticks done : ℕ} {lines : List Line} (cell : LaneCell) (cells : List LaneCell) (body : List ℕ) → Calls setting m stations late ticks lines place side (Receipt body) (Going body) done
     → IsHere setting place body → HearsItsCall m side cell cells (a_message side.number body) → Arrived setting m stations late ticks lines place side cell cells
 receipt-hears {setting = setting} {m = m} {stations = stations} {place = place} {side = side} {ticks = ticks} {done = done} {lines = lines} cell cells body c there h =
     let k = c.at.known in
@@ -136,7 +136,7 @@ receipt-hears {setting = setting} {m = m} {stations = stations} {place = place} 
       honest = r.honest;
     }
 
-receipt-step : {setting : Setting} {m : MasterState NodeState} {stations : List StationSide} {place : ℕ} {side : StationSide} {late ticks done : ℕ} {lines : List Line} (cell : LaneCell) (cells : List LaneCell) (body : List ℕ) → side.to_it ≡ cell ∷ cells
+receipt-step : {setting : Setting} {m : MasterState NodeState} {stations : List LineStationState} {place : ℕ} {side : LineStationState} {late ticks done : ℕ} {lines : List Line} (cell : LaneCell) (cells : List LaneCell) (body : List ℕ) → side.to_it ≡ cell ∷ cells
     → Calls setting m stations late ticks lines place side (Receipt body) (Going body) done → IsHere setting place body → Arrived setting m stations late ticks lines place side cell cells
 receipt-step {setting = setting} {m = m} {stations = stations} {place = place} {side = side} {late = late} {ticks = ticks} {lines = lines} cell cells body is c there = by-cell (comes-arrives m side cell cells (a_message side.number body) is c.called.progress)
   where
@@ -156,7 +156,7 @@ none-waits node replies issued = rw (replies, issued) refl
 one-waits : (node : NodeState) (reply : List ℕ) → node.replies ≡ reply ∷ [] → next_body node ≡ Some reply
 one-waits node reply replies = rw replies refl
 
-poll-ends : {setting : Setting} {m : MasterState NodeState} {stations : List StationSide} {place : ℕ} {side : StationSide} {late ticks done : ℕ} {lines : List Line} {stay : Stay} (cell : LaneCell) (cells : List LaneCell) → Calls setting m stations late ticks lines place side Polling stay done → IsHome stay
+poll-ends : {setting : Setting} {m : MasterState NodeState} {stations : List LineStationState} {place : ℕ} {side : LineStationState} {late ticks done : ℕ} {lines : List Line} {stay : Stay} (cell : LaneCell) (cells : List LaneCell) → Calls setting m stations late ticks lines place side Polling stay done → IsHome stay
     → side.slave.host.replies ≡ [] → HearsItsCall m side cell cells (a_poll side.number) → Arrived setting m stations late ticks lines place side cell cells
 poll-ends {m = m} {stations = stations} {place = place} {side = side} {late = late} cell cells c home none h =
     let book = (c.ledger.sides place side c.at.is_at).station in
@@ -165,7 +165,7 @@ poll-ends {m = m} {stations = stations} {place = place} {side = side} {late = la
     mute-step cell cells (Awaits place Eot) c.at stage home (same-node side.slave.host _ r.host) r.kept r.mute r.honest c.ledger
 
 -- it has one
-poll-sends : {setting : Setting} {m : MasterState NodeState} {stations : List StationSide} {place : ℕ} {side : StationSide} {late ticks done : ℕ} {lines : List Line} (cell : LaneCell) (cells : List LaneCell) (body : List ℕ) → Calls setting m stations late ticks lines place side Polling (Kept body) done
+poll-sends : {setting : Setting} {m : MasterState NodeState} {stations : List LineStationState} {place : ℕ} {side : LineStationState} {late ticks done : ℕ} {lines : List Line} (cell : LaneCell) (cells : List LaneCell) (body : List ℕ) → Calls setting m stations late ticks lines place side Polling (Kept body) done
     → is_to side.number body ≡ true → HearsItsCall m side cell cells (a_poll side.number) → Arrived setting m stations late ticks lines place side cell cells
 poll-sends {setting = setting} {m = m} {stations = stations} {place = place} {side = side} {ticks = ticks} {done = done} {lines = lines} cell cells body c to h =
     let k = c.at.known in
@@ -193,7 +193,7 @@ poll-sends {setting = setting} {m = m} {stations = stations} {place = place} {si
       honest = r.honest;
     }
 
-poll-hears : {setting : Setting} {m : MasterState NodeState} {stations : List StationSide} {place : ℕ} {side : StationSide} {late ticks done : ℕ} {lines : List Line} (stay : Stay) (cell : LaneCell) (cells : List LaneCell) → Calls setting m stations late ticks lines place side Polling stay done → IsHome stay
+poll-hears : {setting : Setting} {m : MasterState NodeState} {stations : List LineStationState} {place : ℕ} {side : LineStationState} {late ticks done : ℕ} {lines : List Line} (stay : Stay) (cell : LaneCell) (cells : List LaneCell) → Calls setting m stations late ticks lines place side Polling stay done → IsHome stay
     → HearsItsCall m side cell cells (a_poll side.number) → Arrived setting m stations late ticks lines place side cell cells
 poll-hears {place = place} {side = side} Nowhere cell cells c home h =
     poll-ends cell cells c home ((c.ledger.sides place side c.at.is_at).station.replies) h
@@ -207,7 +207,7 @@ poll-hears {setting = setting} {m = m} {stations = stations} {place = place} {si
         ((c.ledger.sides place side c.at.is_at).station.replies ∙ ap (λ (mine : Bool). due_if mine (answer_to (setting.first place) side.number (bodies_of m) done body)) other) h
 poll-hears (Returning body) cell cells c home h = absurd home
 
-poll-step : {setting : Setting} {m : MasterState NodeState} {stations : List StationSide} {place : ℕ} {side : StationSide} {late ticks done : ℕ} {lines : List Line} {stay : Stay} (cell : LaneCell) (cells : List LaneCell) → side.to_it ≡ cell ∷ cells → Calls setting m stations late ticks lines place side Polling stay done → IsHome stay
+poll-step : {setting : Setting} {m : MasterState NodeState} {stations : List LineStationState} {place : ℕ} {side : LineStationState} {late ticks done : ℕ} {lines : List Line} {stay : Stay} (cell : LaneCell) (cells : List LaneCell) → side.to_it ≡ cell ∷ cells → Calls setting m stations late ticks lines place side Polling stay done → IsHome stay
     → Arrived setting m stations late ticks lines place side cell cells
 poll-step {setting = setting} {m = m} {stations = stations} {place = place} {side = side} {late = late} {ticks = ticks} {lines = lines} {stay = stay} cell cells is c home = by-cell (comes-arrives m side cell cells (a_poll side.number) is c.called.progress)
   where
@@ -220,7 +220,7 @@ poll-step {setting = setting} {m = m} {stations = stations} {place = place} {sid
 
 -- ---- whatever is awaited
 
-called-step : {setting : Setting} {m : MasterState NodeState} {stations : List StationSide} {place : ℕ} {side : StationSide} {late ticks done : ℕ} {lines : List Line} {stay : Stay} (awaited : Awaited) (cell : LaneCell) (cells : List LaneCell) → side.to_it ≡ cell ∷ cells
+called-step : {setting : Setting} {m : MasterState NodeState} {stations : List LineStationState} {place : ℕ} {side : LineStationState} {late ticks done : ℕ} {lines : List Line} {stay : Stay} (awaited : Awaited) (cell : LaneCell) (cells : List LaneCell) → side.to_it ≡ cell ∷ cells
     → Calls setting m stations late ticks lines place side awaited stay done → IsTied setting (bodies_of m) done (Awaits place awaited) stay → Arrived setting m stations late ticks lines place side cell cells
 called-step {setting = setting} {m = m} {stations = stations} {place = place} {side = side} {late = late} {ticks = ticks} {done = done} {lines = lines} (Receipt body) cell cells is c tied =
     receipt-step cell cells body is
@@ -233,7 +233,7 @@ called-step {m = m} {side = side} (Message body) cell cells is c tied = absurd (
 
 -- ---- of any station
 
-by-now : {setting : Setting} {m : MasterState NodeState} {stations : List StationSide} {place : ℕ} {side : StationSide} {late ticks done : ℕ} {lines : List Line} {stay : Stay} (now : Now) (cell : LaneCell) (cells : List LaneCell) → At setting m stations place side → side.to_it ≡ cell ∷ cells
+by-now : {setting : Setting} {m : MasterState NodeState} {stations : List LineStationState} {place : ℕ} {side : LineStationState} {late ticks done : ℕ} {lines : List Line} {stay : Stay} (now : Now) (cell : LaneCell) (cells : List LaneCell) → At setting m stations place side → side.to_it ≡ cell ∷ cells
     → Stage late m stations now → IsTied setting (bodies_of m) done now stay → Ledger setting m.host.initiator m.stations stations lines stay done ticks → Arrived setting m stations late ticks lines place side cell cells
 by-now {m = m} {stations = stations} {place = place} {side = side} Idles cell cells at is stage tied l =
     rest-step cell cells Idles at is (stage.rest place side at.is_at)
@@ -250,11 +250,11 @@ by-now {setting = setting} {m = m} {stations = stations} {place = place} {side =
         let stage_here : Awaiting late m stations place awaited = subst (λ (n : ℕ). Awaiting late m stations n awaited) there stage in
         let e = stage_here.expects in
         let side_is : e.side ≡ side = same-some e.side side (sym e.is_at ∙ at.is_at) in
-        let called = subst (λ (s : StationSide). SideCalled m s awaited) side_is e.called in
+        let called = subst (λ (s : LineStationState). SideCalled m s awaited) side_is e.called in
         let tied_here : IsTied setting (bodies_of m) done (Awaits place awaited) stay = subst (λ (n : ℕ). IsTied setting (bodies_of m) done (Awaits n awaited) stay) there tied in
         called-step awaited cell cells is (record { at = at; stage = stage_here; called = called; ledger = l }) tied_here
 
-pub station-arrives : (setting : Setting) (m : MasterState NodeState) (stations : List StationSide) (late ticks : ℕ) (lines : List Line) (place : ℕ) (side : StationSide) (cell : LaneCell) (cells : List LaneCell) → At setting m stations place side → side.to_it ≡ cell ∷ cells
+pub station-arrives : (setting : Setting) (m : MasterState NodeState) (stations : List LineStationState) (late ticks : ℕ) (lines : List Line) (place : ℕ) (side : LineStationState) (cell : LaneCell) (cells : List LaneCell) → At setting m stations place side → side.to_it ≡ cell ∷ cells
     → Course setting m stations late ticks lines → Arrived setting m stations late ticks lines place side cell cells
 station-arrives setting m stations late ticks lines place side cell cells at is c =
     by-now c.now cell cells at is c.stage c.tied c.ledger

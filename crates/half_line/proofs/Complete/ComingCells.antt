@@ -4,7 +4,7 @@ use Rattle.std.specs.Prelude.{◌==◌}
 use Rattle.std.specs.Option.{option_map, option_to_list}
 use Rattle.half_frame.specs.declared.framer.Sent.{Sent}
 use Rattle.half_mouth.specs.Giving.{Giving, out_of, take}
-use Rattle.line_cells.specs.Cells.{LaneCell, cell_of}
+use Rattle.lane_cells.specs.Cells.{LaneCell, cell_of}
 
 -- of these bytes, of a transmission with this number, if they are one, and this body
 abbrev pub cells_of : Option ℕ → List ℕ → List Sent → List LaneCell

@@ -7,7 +7,7 @@ use Rattle.half_frame.specs.declared.framer.Sent.{Sent}
 use Rattle.half_frame.specs.TextStep.{Within, Goes, Ends, text_step}
 use Rattle.half_mouth.specs.Giving.{out_of}
 use Rattle.half_slave.proofs.Sizes.{some-left}
-use Rattle.line_cells.specs.Cells.{LaneCell, Ending, ending_of, cell_of}
+use Rattle.lane_cells.specs.Cells.{LaneCell, Ending, ending_of, cell_of}
 use Rattle.half_line.proofs.Complete.ComingCells.{cells_of}
 use Rattle.half_line.proofs.Complete.WholeText.{Reads}
 

@@ -13,11 +13,11 @@ use Rattle.script_parts.specs.declared.script.EndPlan.{EndPlan}
 use Rattle.script_parts.specs.declared.script.Script.{Script}
 use Rattle.script_parts.specs.HalfPlayable.{AreHalfEnds, IsStationPlan, IsHalfPlayable, station_plans, numbers_of}
 use Rattle.script_parts.specs.Plans.{first_plan}
-use Rattle.line_statement.specs.declared.who.Who.TheVariants.{M}
-use Rattle.line_report.specs.declared.record.Line.{Line}
+use Rattle.script_statement.specs.declared.who.Who.TheVariants.{M}
+use Rattle.replay_report.specs.declared.record.Line.{Line}
 use Rattle.outset.specs.Outset.{first_station}
 use Rattle.each_once.proofs.Sublists.{same-some, from-map}
-use Rattle.half_line.specs.Acts.{StationSide, HalfState}
+use Rattle.half_line.specs.Acts.{LineStationState, HalfState}
 use Rattle.half_line.specs.Complete.{is_to}
 use Rattle.half_line.specs.Issues.{bodies_of}
 use Rattle.half_line.specs.Run.{first_side, plan_of_m, start}
@@ -60,7 +60,7 @@ IsTied setting bodies done (Awaits place (Message reply)) stay = ComesBack setti
 -- ---- the line
 
 -- of a master and its stations, where so many ticks were late, and so many passed
-pub record Course (setting : Setting) (m : MasterState NodeState) (stations : List StationSide) (late ticks : ℕ) (lines : List Line) : Type 0 where
+pub record Course (setting : Setting) (m : MasterState NodeState) (stations : List LineStationState) (late ticks : ℕ) (lines : List Line) : Type 0 where
   pub now : Now
   pub stay : Stay
   pub done : ℕ
@@ -143,7 +143,7 @@ flow-start script playable =
           sides = λ p side at.
               let was = from-map (first_side script.check) plans p side at in
               let plan : plan_at script p ≡ was.0 = get_or_from_slice_get plans p was.0 (first_plan M 0) was.1 in
-              subst (λ (x : StationSide). SideBooks (first_station (plan_at script p)) x.number [] Nowhere 0 (kept_at (listed (numbers_of script.ends)) p) x.slave []) was.2
+              subst (λ (x : LineStationState). SideBooks (first_station (plan_at script p)) x.number [] Nowhere 0 (kept_at (listed (numbers_of script.ends)) p) x.slave []) was.2
               (subst (λ (k : Option Key). SideBooks (first_station (plan_at script p)) was.0.node [] Nowhere 0 k (first_side script.check was.0).slave []) (sym (listed-kept (numbers_of script.ends) p))
               (subst (λ (x : EndPlan). SideBooks (first_station x) was.0.node [] Nowhere 0 None (first_side script.check was.0).slave []) (sym plan) (first-books script.check was.0 (rooms script playable p was.0 was.1))));
         };

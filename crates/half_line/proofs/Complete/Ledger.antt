@@ -11,16 +11,16 @@ use Rattle.df1_node.specs.Node.{NodeState}
 use Rattle.half_master.specs.declared.stations.Station.{Station}
 use Rattle.half_master.specs.Keys.{kept_at}
 use Rattle.half_slave.specs.Slave.{SlaveState}
-use Rattle.line_statement.specs.Statements.{is_payload}
-use Rattle.line_statement.specs.declared.who.Who.TheVariants.{M, S}
+use Rattle.script_statement.specs.Statements.{is_payload}
+use Rattle.script_statement.specs.declared.who.Who.TheVariants.{M, S}
 use Rattle.script_parts.specs.HalfPlayable.{is_declared}
-use Rattle.line_report.specs.declared.record.Line.{Line}
+use Rattle.replay_report.specs.declared.record.Line.{Line}
 use Rattle.each_once.specs.Exchanges.{station_after}
 use Rattle.each_once.specs.Tells.{answer_at, answers_in}
 use Rattle.each_once.proofs.CommandBodies.{bodies-hand_out, bodies-tick}
 use Rattle.each_once.proofs.MessageLengths.{AreBodies, issued-fits}
 use Rattle.each_once.proofs.Sublists.{get-more}
-use Rattle.half_line.specs.Acts.{StationSide}
+use Rattle.half_line.specs.Acts.{LineStationState}
 use Rattle.half_line.specs.Complete.{is_to, numbered}
 use Rattle.half_line.proofs.Once.Invariant.{Setting}
 use Rattle.half_line.proofs.Once.LinesOfStation.{executed-same}
@@ -83,14 +83,14 @@ abbrev pub numbers_in : List (ℕ × List ℕ) → List ℕ
 numbers_in cs = map (λ (c : ℕ × List ℕ). c.0) cs
 
 -- of a master with this initiator and this list; the ticks are those that passed
-pub record Ledger (setting : Setting) (i : InitiatorState) (listed : List Station) (stations : List StationSide) (lines : List Line) (stay : Stay) (done ticks : ℕ) : Type 0 where
+pub record Ledger (setting : Setting) (i : InitiatorState) (listed : List Station) (stations : List LineStationState) (lines : List Line) (stay : Stay) (done ticks : ℕ) : Type 0 where
   pub out : Option ℕ
   pub in_time : AreInTime i done out ticks
   pub is_out : IsOutAs stay out (bodies_in i) done
   pub fits : AreBodies (bodies_in i)
   pub declared : AreDeclared setting.numbers (bodies_in i)
   pub in_order : numbers_in (answers_in M lines) ≡ numbers_in (take done (numbered (bodies_in i)))
-  pub sides : (p : ℕ) (side : StationSide) → slice_get stations p ≡ Some side → SideBooks (setting.first p) side.number (bodies_in i) stay done (kept_at listed p) side.slave lines
+  pub sides : (p : ℕ) (side : LineStationState) → slice_get stations p ≡ Some side → SideBooks (setting.first p) side.number (bodies_in i) stay done (kept_at listed p) side.slave lines
 
 -- ---- how many there are
 
@@ -102,7 +102,7 @@ ran-few (Kept body) out bodies done o = let one = ap out_count o.1 in omega (ari
 ran-few (Returning body) out bodies done o = let one = ap out_count o.1 in omega (arith, one)
 
 -- and at least those that are answered
-pub ledger-few : (setting : Setting) (i : InitiatorState) (listed : List Station) (stations : List StationSide) (lines : List Line) (stay : Stay) (done ticks : ℕ) → Ledger setting i listed stations lines stay done ticks → done ≤ length (bodies_in i)
+pub ledger-few : (setting : Setting) (i : InitiatorState) (listed : List Station) (stations : List LineStationState) (lines : List Line) (stay : Stay) (done ticks : ℕ) → Ledger setting i listed stations lines stay done ticks → done ≤ length (bodies_in i)
 ledger-few setting i listed stations lines stay done ticks l =
     let count = length-map i.issued (λ (c : Issued). c.body) in
     let some = under-few i.issued done l.out l.in_time.under_way in
@@ -130,7 +130,7 @@ books-issue first number bodies more stay done kept s lines few ran b = record {
   answer = answer-issue first number bodies more done kept lines few b.answer;
 }
 
-pub ledger-issue : (setting : Setting) (i : InitiatorState) (dst : ℕ) (payload : List ℕ) (listed : List Station) (stations : List StationSide) (lines : List Line) (stay : Stay) (done ticks : ℕ) → IsTrue (is_payload payload) → is_declared setting.numbers dst ≡ true
+pub ledger-issue : (setting : Setting) (i : InitiatorState) (dst : ℕ) (payload : List ℕ) (listed : List Station) (stations : List LineStationState) (lines : List Line) (stay : Stay) (done ticks : ℕ) → IsTrue (is_payload payload) → is_declared setting.numbers dst ≡ true
     → Ledger setting i listed stations lines stay done ticks → Ledger setting (after_issue i dst payload) listed stations lines stay done ticks
 ledger-issue setting i dst payload listed stations lines stay done ticks may is l =
     let new : Issued = record { body = next_issued i dst payload; standing = Waiting } in
@@ -154,7 +154,7 @@ ledger-issue setting i dst payload listed stations lines stay done ticks may is 
 
 -- ---- other commands of the same bodies
 
-ledger-now : (setting : Setting) (i now : InitiatorState) (listed : List Station) (stations : List StationSide) (lines : List Line) (stay : Stay) (done ticks later : ℕ) (out : Option ℕ) → bodies_in now ≡ bodies_in i → AreInTime now done out later → IsOutAs stay out (bodies_in i) done
+ledger-now : (setting : Setting) (i now : InitiatorState) (listed : List Station) (stations : List LineStationState) (lines : List Line) (stay : Stay) (done ticks later : ℕ) (out : Option ℕ) → bodies_in now ≡ bodies_in i → AreInTime now done out later → IsOutAs stay out (bodies_in i) done
     → Ledger setting i listed stations lines stay done ticks → Ledger setting now listed stations lines stay done later
 ledger-now setting i now listed stations lines stay done ticks later out same in_time is_out l = record {
   out = out;
@@ -175,14 +175,14 @@ out-ticked (Kept body) out bodies done o = (_, ap less_one o.1, o.2)
 out-ticked (Returning body) out bodies done o = (_, ap less_one o.1, o.2)
 
 -- at a tick of the initiator no command is given up
-pub ledger-tick : (setting : Setting) (i : InitiatorState) (listed : List Station) (stations : List StationSide) (lines : List Line) (stay : Stay) (done ticks : ℕ) → ticks + 1 < i.reply_ticks → Ledger setting i listed stations lines stay done ticks
+pub ledger-tick : (setting : Setting) (i : InitiatorState) (listed : List Station) (stations : List LineStationState) (lines : List Line) (stay : Stay) (done ticks : ℕ) → ticks + 1 < i.reply_ticks → Ledger setting i listed stations lines stay done ticks
     → (unanswered_from 1 i.issued ≡ []) × Ledger setting (ticked_all i) listed stations lines stay done (ticks + 1)
 ledger-tick setting i listed stations lines stay done ticks few l =
     let t = in-time-tick i done l.out ticks few l.in_time in
     (t.0, ledger-now setting i (ticked_all i) listed stations lines stay done ticks (ticks + 1) (less_one l.out) (bodies-tick i) t.1 (out-ticked stay l.out (bodies_in i) done l.is_out) l)
 
 -- at one of which it isn't told
-pub ledger-later : (setting : Setting) (i : InitiatorState) (listed : List Station) (stations : List StationSide) (lines : List Line) (stay : Stay) (done ticks : ℕ) → Ledger setting i listed stations lines stay done ticks → Ledger setting i listed stations lines stay done (ticks + 1)
+pub ledger-later : (setting : Setting) (i : InitiatorState) (listed : List Station) (stations : List LineStationState) (lines : List Line) (stay : Stay) (done ticks : ℕ) → Ledger setting i listed stations lines stay done ticks → Ledger setting i listed stations lines stay done (ticks + 1)
 ledger-later setting i listed stations lines stay done ticks l = ledger-now setting i i listed stations lines stay done ticks (ticks + 1) l.out refl (in-time-later i done l.out ticks l.in_time) l.is_out l
 
 -- ---- the next command is handed out
@@ -201,7 +201,7 @@ is-nowhere (Going body) out bodies done o none = absurd (let no = sym none ∙ o
 is-nowhere (Kept body) out bodies done o none = absurd (let no = sym none ∙ o.1 in cc)
 is-nowhere (Returning body) out bodies done o none = absurd (let no = sym none ∙ o.1 in cc)
 
-pub ledger-hands : (setting : Setting) (i : InitiatorState) (body : List ℕ) (listed : List Station) (stations : List StationSide) (lines : List Line) (stay : Stay) (done ticks : ℕ) → next_command i.issued ≡ Some body → Ledger setting i listed stations lines stay done ticks
+pub ledger-hands : (setting : Setting) (i : InitiatorState) (body : List ℕ) (listed : List Station) (stations : List LineStationState) (lines : List Line) (stay : Stay) (done ticks : ℕ) → next_command i.issued ≡ Some body → Ledger setting i listed stations lines stay done ticks
     → (stay ≡ Nowhere) × Ledger setting (after_hand_out i) listed stations lines (Going body) done ticks × (slice_get (bodies_in i) done ≡ Some body)
 ledger-hands setting i body listed stations lines stay done ticks next l =
     let t = in-time-hand_out i body done l.out ticks next l.in_time in
@@ -226,7 +226,7 @@ ledger-hands setting i body listed stations lines stay done ticks next l =
 
 -- ---- more is told, but of no command and no answer
 
-pub ledger-lines : (setting : Setting) (i : InitiatorState) (listed : List Station) (stations : List StationSide) (lines more : List Line) (stay : Stay) (done ticks : ℕ) → ((number : ℕ) → IsSilentOf number more) → IsMute more
+pub ledger-lines : (setting : Setting) (i : InitiatorState) (listed : List Station) (stations : List LineStationState) (lines more : List Line) (stay : Stay) (done ticks : ℕ) → ((number : ℕ) → IsSilentOf number more) → IsMute more
     → Ledger setting i listed stations lines stay done ticks → Ledger setting i listed stations (lines ++ more) stay done ticks
 ledger-lines setting i listed stations lines more stay done ticks silent mute l = record {
   out = l.out;

@@ -15,16 +15,16 @@ use Rattle.half_master.specs.Stations.{with_key}
 use Rattle.half_master.proofs.Keeping.{keyed}
 use Rattle.half_slave.specs.Slave.{SlaveState}
 use Rattle.df1_node.specs.Node.{NodeState}
-use Rattle.line_statement.specs.declared.who.Who.TheVariants.{M, S}
-use Rattle.line_report.specs.declared.record.Line.{Line}
-use Rattle.line_report.specs.declared.record.Line.TheVariants as line
+use Rattle.script_statement.specs.declared.who.Who.TheVariants.{M, S}
+use Rattle.replay_report.specs.declared.record.Line.{Line}
+use Rattle.replay_report.specs.declared.record.Line.TheVariants as line
 use Rattle.each_once.specs.OfStation.{is_from, lines_of}
 use Rattle.each_once.specs.Tells.{answer_at, executed_in, answers_in}
 use Rattle.each_once.proofs.CommandBodies.{bodies-reply}
 use Rattle.each_once.proofs.InitiatorProgress.{under-reply}
 use Rattle.each_once.proofs.MessageLengths.{AreBodies}
 use Rattle.each_once.proofs.Sublists.{from-map}
-use Rattle.half_line.specs.Acts.{StationSide}
+use Rattle.half_line.specs.Acts.{LineStationState}
 use Rattle.half_line.specs.Complete.{is_to, numbered}
 use Rattle.half_line.proofs.Once.Invariant.{Setting}
 use Rattle.half_line.proofs.Once.MasterOutcomes.{AreDeclared}
@@ -36,12 +36,12 @@ use Rattle.half_line.proofs.Complete.StagePlaces.{at-place}
 use Rattle.half_line.proofs.Complete.StationBook.{StationBook, IsSameNode, same-node, book-same, book-another, book-executes, book-fetched}
 
 -- the other stations
-abbrev pub EachOther : List StationSide → ℕ → (ℕ → StationSide → Type 0) → Type 0
-EachOther stations place P = (p : ℕ) (other : StationSide) → slice_get stations p ≡ Some other → (p ≡ place → ⊥) → P p other
+abbrev pub EachOther : List LineStationState → ℕ → (ℕ → LineStationState → Type 0) → Type 0
+EachOther stations place P = (p : ℕ) (other : LineStationState) → slice_get stations p ≡ Some other → (p ≡ place → ⊥) → P p other
 
 -- ---- a station is otherwise than it was, with the same node and key
 
-pub ledger-side : (setting : Setting) (i : InitiatorState) (listed : List Station) (stations : List StationSide) (lines : List Line) (stay : Stay) (done ticks : ℕ) (place : ℕ) (side now : StationSide) → slice_get stations place ≡ Some side → now.number ≡ side.number
+pub ledger-side : (setting : Setting) (i : InitiatorState) (listed : List Station) (stations : List LineStationState) (lines : List Line) (stay : Stay) (done ticks : ℕ) (place : ℕ) (side now : LineStationState) → slice_get stations place ≡ Some side → now.number ≡ side.number
     → IsSameNode side.slave.host now.slave.host → now.slave.kept ≡ side.slave.kept → Ledger setting i listed stations lines stay done ticks → Ledger setting i listed (slice_set stations place now) lines stay done ticks
 ledger-side setting i listed stations lines stay done ticks place side now at number node kept l = record {
   out = l.out;
@@ -73,7 +73,7 @@ exec-told number body = rw (eq-eqb number number refl) refl
 same-order : (i : InitiatorState) (lines more : List Line) (done : ℕ) → answers_in M more ≡ [] → numbers_in (answers_in M lines) ≡ numbers_in (take done (numbered (bodies_in i))) → numbers_in (answers_in M (lines ++ more)) ≡ numbers_in (take done (numbered (bodies_in i)))
 same-order i lines more done none is = ap numbers_in (filter_map-append (answer_at M) lines more ∙ ap (λ (xs : List (ℕ × List ℕ)). answers_in M lines ++ xs) none ∙ append-nil (answers_in M lines)) ∙ is
 
-pub ledger-executes : (setting : Setting) (i : InitiatorState) (listed : List Station) (stations : List StationSide) (lines : List Line) (body : List ℕ) (done ticks : ℕ) (place : ℕ) (side now : StationSide) → slice_get stations place ≡ Some side → now.number ≡ side.number
+pub ledger-executes : (setting : Setting) (i : InitiatorState) (listed : List Station) (stations : List LineStationState) (lines : List Line) (body : List ℕ) (done ticks : ℕ) (place : ℕ) (side now : LineStationState) → slice_get stations place ≡ Some side → now.number ≡ side.number
     → is_to side.number body ≡ true → is_reply body ≡ false → EachOther stations place (λ p other. (other.number ≡ side.number → ⊥) × (is_to other.number body ≡ false)) → now.slave.host ≡ after_accept side.slave.host body → now.slave.kept ≡ Some (key_of body)
     → Ledger setting i listed stations lines (Going body) done ticks → Ledger setting i listed (slice_set stations place now) (lines ++ line.Exec (S side.number) body ∷ []) (Kept body) done ticks
 ledger-executes setting i listed stations lines body done ticks place side now at number to command apart host kept l =
@@ -110,7 +110,7 @@ ledger-executes setting i listed stations lines body done ticks place side now a
 
 -- ---- it gives the reply that it keeps
 
-pub ledger-fetches : (setting : Setting) (i : InitiatorState) (listed : List Station) (stations : List StationSide) (lines : List Line) (body : List ℕ) (done ticks : ℕ) (place : ℕ) (side now : StationSide) → slice_get stations place ≡ Some side → now.number ≡ side.number
+pub ledger-fetches : (setting : Setting) (i : InitiatorState) (listed : List Station) (stations : List LineStationState) (lines : List Line) (body : List ℕ) (done ticks : ℕ) (place : ℕ) (side now : LineStationState) → slice_get stations place ≡ Some side → now.number ≡ side.number
     → is_to side.number body ≡ true → EachOther stations place (λ p other. is_to other.number body ≡ false) → now.slave.host ≡ after_next side.slave.host → now.slave.kept ≡ side.slave.kept
     → Ledger setting i listed stations lines (Kept body) done ticks → Ledger setting i listed (slice_set stations place now) lines (Returning body) done ticks
 ledger-fetches setting i listed stations lines body done ticks place side now at number to apart host kept l =
@@ -166,7 +166,7 @@ answer-silent : (station number : ℕ) (reply : List ℕ) → is_from station re
 answer-silent station number reply from = rw from refl
 
 -- the reply to the command that is out answers it
-pub answer-place : (setting : Setting) (i : InitiatorState) (listed : List Station) (stations : List StationSide) (lines : List Line) (body reply : List ℕ) (done ticks : ℕ) → is_reply_to body reply ≡ true → (l : Ledger setting i listed stations lines (Returning body) done ticks)
+pub answer-place : (setting : Setting) (i : InitiatorState) (listed : List Station) (stations : List LineStationState) (lines : List Line) (body reply : List ℕ) (done ticks : ℕ) → is_reply_to body reply ≡ true → (l : Ledger setting i listed stations lines (Returning body) done ticks)
     → (answered_place i.issued reply ≡ Some done) × AreInTime (after_reply i reply) (suc done) None ticks
 answer-place setting i listed stations lines body reply done ticks fits l =
     let left = l.is_out.0 in
@@ -175,7 +175,7 @@ answer-place setting i listed stations lines body reply done ticks fits l =
     let r = under-reply i done left c.0 reply under.under_way c.1 (ap (λ (b : List ℕ). is_reply_to b reply) c.2 ∙ fits) in
     (r.0, record { under_way = r.1; in_time = tt })
 
-pub ledger-answers : (setting : Setting) (i : InitiatorState) (listed : List Station) (stations : List StationSide) (lines : List Line) (body : List ℕ) (done ticks : ℕ) (place : ℕ) (side now : StationSide) (station : Station) → let reply = answer_to (setting.first place) side.number (bodies_in i) done body in
+pub ledger-answers : (setting : Setting) (i : InitiatorState) (listed : List Station) (stations : List LineStationState) (lines : List Line) (body : List ℕ) (done ticks : ℕ) (place : ℕ) (side now : LineStationState) (station : Station) → let reply = answer_to (setting.first place) side.number (bodies_in i) done body in
     slice_get stations place ≡ Some side → now.number ≡ side.number → now.slave ≡ side.slave → slice_get listed place ≡ Some station → is_to side.number body ≡ true → is_reply_to body reply ≡ true → is_from side.number reply ≡ true
     → EachOther stations place (λ p other. (is_to other.number body ≡ false) × (is_from other.number reply ≡ false)) → Ledger setting i listed stations lines (Returning body) done ticks
     → Ledger setting (after_reply i reply) (with_key listed place (key_of reply)) (slice_set stations place now) (lines ++ answer_lines (done + 1) reply) Nowhere (suc done) ticks
@@ -189,7 +189,7 @@ ledger-answers setting i listed stations lines body done ticks place side now st
     let order : numbers_in (answers_in M (lines ++ more)) ≡ numbers_in (take (suc done) (numbered bodies)) =
     ap numbers_in (filter_map-append (answer_at M) lines more) ∙ map-append (λ (c : ℕ × List ℕ). c.0) (answers_in M lines) ((done + 1, reply) ∷ []) ∙ ap (λ (ns : List ℕ). ns ++ (done + 1) ∷ []) l.in_order
     ∙ sym (map-append (λ (c : ℕ × List ℕ). c.0) (take done (numbered bodies)) ((done + 1, body) ∷ [])) ∙ ap numbers_in (sym (next-numbered bodies done body is)) in
-    let sides : (p : ℕ) (x : StationSide) → slice_get (slice_set stations place now) p ≡ Some x → SideBooks (setting.first p) x.number bodies Nowhere (suc done) (kept_at (with_key listed place key) p) x.slave (lines ++ more) =
+    let sides : (p : ℕ) (x : LineStationState) → slice_get (slice_set stations place now) p ≡ Some x → SideBooks (setting.first p) x.number bodies Nowhere (suc done) (kept_at (with_key listed place key) p) x.slave (lines ++ more) =
     at-place (λ p x. SideBooks (setting.first p) x.number bodies Nowhere (suc done) (kept_at (with_key listed place key) p) x.slave (lines ++ more)) stations place side now at
     (let b = l.sides place side at in
     let first = setting.first place in

@@ -12,7 +12,7 @@ use Rattle.df1_node.specs.Initiator.{Issued, is_reply_to}
 use Rattle.df1_node.specs.Node.{NodeState, has_room}
 use Rattle.half_master.specs.Master.{MasterState}
 use Rattle.half_master.specs.Stations.{numbers_of}
-use Rattle.line_report.specs.declared.record.Line.{Line}
+use Rattle.replay_report.specs.declared.record.Line.{Line}
 use Rattle.each_once.specs.Exchanges.{exchanges, station_after}
 use Rattle.each_once.specs.OfStation.{is_from}
 use Rattle.each_once.proofs.AcceptedReplies.{numbers-differ}
@@ -20,7 +20,7 @@ use Rattle.each_once.proofs.HandedOut.{AreNumbered, numbered-at}
 use Rattle.each_once.proofs.MessageLengths.{AreBodies}
 use Rattle.each_once.proofs.StationReplies.{fits-fields, exchange-fits, exchanges-push, exchanges-tns}
 use Rattle.each_once.proofs.Sublists.{Differ, differ-within, within-take, same-some, from-map}
-use Rattle.half_line.specs.Acts.{StationSide, HalfState}
+use Rattle.half_line.specs.Acts.{LineStationState, HalfState}
 use Rattle.half_line.specs.Complete.{is_to}
 use Rattle.half_line.specs.Issues.{issued_of, bodies_of}
 use Rattle.half_line.proofs.Once.Invariant.{Setting, Holds, number-at, other-number}
@@ -36,8 +36,8 @@ abbrev pub AreShort : Setting → Type 0
 AreShort setting = (p number : ℕ) → slice_get setting.numbers p ≡ Some number → length (setting.first p).block ≤ 244
 
 -- of a master and its stations
-pub record Known (setting : Setting) (m : MasterState NodeState) (stations : List StationSide) : Type 0 where
-  pub numbers_are : map (λ (side : StationSide). side.number) stations ≡ setting.numbers
+pub record Known (setting : Setting) (m : MasterState NodeState) (stations : List LineStationState) : Type 0 where
+  pub numbers_are : map (λ (side : LineStationState). side.number) stations ≡ setting.numbers
   pub list_is : numbers_of m.stations ≡ setting.numbers
   pub replies_none : m.host.replies ≡ []
   pub numbered : AreNumbered m.host.initiator.tns 0 (issued_of m)
@@ -57,11 +57,11 @@ known setting count s lines few short h = record {
 -- ---- commands
 
 -- no two have the same TNS
-pub apart : (setting : Setting) (m : MasterState NodeState) (stations : List StationSide) → Known setting m stations → Differ (map tns_of (bodies_of m))
+pub apart : (setting : Setting) (m : MasterState NodeState) (stations : List LineStationState) → Known setting m stations → Differ (map tns_of (bodies_of m))
 apart setting m stations k = numbers-differ m.host.initiator.tns 0 (issued_of m) (omega (arith, k.few)) k.numbered
 
 -- and none is a reply
-pub plain : (setting : Setting) (m : MasterState NodeState) (stations : List StationSide) (n : ℕ) (body : List ℕ) → Known setting m stations → slice_get (bodies_of m) n ≡ Some body → is_reply body ≡ false
+pub plain : (setting : Setting) (m : MasterState NodeState) (stations : List LineStationState) (n : ℕ) (body : List ℕ) → Known setting m stations → slice_get (bodies_of m) n ≡ Some body → is_reply body ≡ false
 plain setting m stations n body k at =
     let c = from-map (λ (x : Issued). x.body) (issued_of m) n body at in
     ap is_reply (sym c.2) ∙ (numbered-at m.host.initiator.tns 0 (issued_of m) n c.0 k.numbered c.1).1
@@ -79,11 +79,11 @@ room-for node body command none room = rw (command, none) (lt-ltb 0 node.room (o
 -- ---- the stations of a line
 
 -- the number of the station at a place is the one there
-pub here : (setting : Setting) (m : MasterState NodeState) (stations : List StationSide) (place : ℕ) (side : StationSide) (body : List ℕ) → Known setting m stations → slice_get stations place ≡ Some side → (h : IsHere setting place body) → h.number ≡ side.number
+pub here : (setting : Setting) (m : MasterState NodeState) (stations : List LineStationState) (place : ℕ) (side : LineStationState) (body : List ℕ) → Known setting m stations → slice_get stations place ≡ Some side → (h : IsHere setting place body) → h.number ≡ side.number
 here setting m stations place side body k at h = same-some h.number side.number (sym h.is_at ∙ number-at setting.numbers stations place side k.numbers_are at)
 
 -- another has another, and what is for this one isn't for that
-pub elsewhere : (setting : Setting) (m : MasterState NodeState) (stations : List StationSide) (place : ℕ) (side : StationSide) (body : List ℕ) → Known setting m stations → slice_get stations place ≡ Some side → is_to side.number body ≡ true
+pub elsewhere : (setting : Setting) (m : MasterState NodeState) (stations : List LineStationState) (place : ℕ) (side : LineStationState) (body : List ℕ) → Known setting m stations → slice_get stations place ≡ Some side → is_to side.number body ≡ true
     → EachOther stations place (λ p other. (other.number ≡ side.number → ⊥) × (is_to other.number body ≡ false))
 elsewhere setting m stations place side body k at to p other found differ =
     let apart = other-number setting stations place p side.number other k.numbers_are (number-at setting.numbers stations place side k.numbers_are at) found differ in

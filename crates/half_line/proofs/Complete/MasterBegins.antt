@@ -8,7 +8,7 @@ use Rattle.half_frame.specs.SlaveStanding.{Listening}
 use Rattle.half_frame.specs.Spelling.{unmarked, pair_bytes, poll_bytes, message_sent}
 use Rattle.half_mouth.specs.Giving.{Giving}
 use Rattle.half_slave.specs.Slave.{SlaveState}
-use Rattle.line_cells.specs.Cells.{LaneCell}
+use Rattle.lane_cells.specs.Cells.{LaneCell}
 use Rattle.half_line.proofs.Complete.ComingCells.{cells_of, coming}
 use Rattle.half_line.proofs.Complete.EarHears.{Telling, told, Hears, ear_after, hears-join}
 use Rattle.half_line.proofs.Complete.StationHears.{station_ear, hears-ack, hears-poll, hears-message}

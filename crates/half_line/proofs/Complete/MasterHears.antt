@@ -16,8 +16,8 @@ use Rattle.half_frame.specs.MasterStep.{step, next, text_next}
 use Rattle.half_frame.specs.Spelling.{unmarked, pair_bytes, piece_sent, reply_sent}
 use Rattle.half_frame.specs.TextStep.{Onward, Goes, Ends, Breaks, begun, text_step}
 use Rattle.half_master.specs.Master.{is_good}
-use Rattle.line_cells.specs.Cells.{ending_of}
-use Rattle.line_cells.specs.Deception.{deceptions}
+use Rattle.lane_cells.specs.Cells.{ending_of}
+use Rattle.lane_cells.specs.Deception.{deceptions}
 use Rattle.half_line.proofs.Complete.ComingCells.{cells_of}
 use Rattle.half_line.proofs.Complete.EarHears.{Ear, Hears, HearsTexts, told, hears-byte, hears-text}
 use Rattle.half_line.proofs.Complete.WholeText.{text-reads, reads-some}

@@ -17,13 +17,13 @@ use Rattle.half_master.specs.Master.{MasterState, with_host, transmitted, messag
 use Rattle.half_master.proofs.Changes.{take-begins}
 use Rattle.half_master.proofs.LastMessage.{next-of}
 use Rattle.half_master.proofs.Seen.{listed-number}
-use Rattle.line_statement.specs.Statements.{is_payload}
+use Rattle.script_statement.specs.Statements.{is_payload}
 use Rattle.script_parts.specs.HalfPlayable.{is_declared}
-use Rattle.line_report.specs.declared.record.Line.{Line}
+use Rattle.replay_report.specs.declared.record.Line.{Line}
 use Rattle.each_once.specs.Exchanges.{station_after}
 use Rattle.each_once.specs.NodeHost.{node_host}
 use Rattle.each_once.proofs.Sublists.{Has, from-map}
-use Rattle.half_line.specs.Acts.{StationSide, after_issue}
+use Rattle.half_line.specs.Acts.{LineStationState, after_issue}
 use Rattle.half_line.specs.Complete.{is_to}
 use Rattle.half_line.specs.Issues.{bodies_of}
 use Rattle.half_line.proofs.Once.Invariant.{Setting, number-at, other-number}
@@ -53,7 +53,7 @@ tied-more setting bodies more done (Awaits place (Message reply)) stay few tied 
   is = tied.is ∙ ap (λ (all : List (List ℕ)). reply_to (station_after (setting.first place) (filter (is_to tied.here.number) all)) tied.body) (sym (take-append-le done bodies more few));
 }
 
-pub course-issue : (setting : Setting) (m : MasterState NodeState) (stations : List StationSide) (late ticks : ℕ) (lines : List Line) (dst : ℕ) (payload : List ℕ) → IsTrue (is_payload payload) → is_declared setting.numbers dst ≡ true → Course setting m stations late ticks lines
+pub course-issue : (setting : Setting) (m : MasterState NodeState) (stations : List LineStationState) (late ticks : ℕ) (lines : List Line) (dst : ℕ) (payload : List ℕ) → IsTrue (is_payload payload) → is_declared setting.numbers dst ≡ true → Course setting m stations late ticks lines
     → Course setting (after_issue m dst payload) stations late ticks lines
 course-issue setting m stations late ticks lines dst payload may is c =
     let i = m.host.initiator in
@@ -80,17 +80,17 @@ declared-somewhere [] n is = absurd cc
 declared-somewhere (m ∷ numbers) n is = declared-first m n numbers (m == n) refl (declared-somewhere numbers n) is
 
 -- a station of the line by its number
-pub record Found (setting : Setting) (stations : List StationSide) (n : ℕ) : Type 0 where
+pub record Found (setting : Setting) (stations : List LineStationState) (n : ℕ) : Type 0 where
   pub place : ℕ
-  pub side : StationSide
+  pub side : LineStationState
   pub is_at : slice_get stations place ≡ Some side
   pub number_at : slice_get setting.numbers place ≡ Some n
   pub number : side.number ≡ n
 
-pub found : (setting : Setting) (m : MasterState NodeState) (stations : List StationSide) (n : ℕ) → Known setting m stations → is_declared setting.numbers n ≡ true → Found setting stations n
+pub found : (setting : Setting) (m : MasterState NodeState) (stations : List LineStationState) (n : ℕ) → Known setting m stations → is_declared setting.numbers n ≡ true → Found setting stations n
 found setting m stations n k is =
     let at = declared-somewhere setting.numbers n is in
-    let side = from-map (λ (x : StationSide). x.number) stations at.0 n (ap (λ (ns : List ℕ). slice_get ns at.0) k.numbers_are ∙ at.1) in
+    let side = from-map (λ (x : LineStationState). x.number) stations at.0 n (ap (λ (ns : List ℕ). slice_get ns at.0) k.numbers_are ∙ at.1) in
     record { place = at.0; side = side.0; is_at = side.1; number_at = at.1; number = side.2 }
 
 -- of a master that keeps no reply
@@ -114,11 +114,11 @@ may-begin m body next = by-test (is_done m.mouth && master.is_idle m.phase) refl
     by-test false is next = absurd cc
 
 -- then nothing is awaited
-idle-stage : (late : ℕ) (m : MasterState NodeState) (stations : List StationSide) (now : Now) → m.phase ≡ phase.Idle → Stage late m stations now → Idling m stations
+idle-stage : (late : ℕ) (m : MasterState NodeState) (stations : List LineStationState) (now : Now) → m.phase ≡ phase.Idle → Stage late m stations now → Idling m stations
 idle-stage late m stations Idles idle stage = stage
 idle-stage late m stations (Awaits place awaited) idle stage = absurd (let no : true ≡ false = sym (ap master.is_idle idle) ∙ waits-busy late m place awaited stage.waits in cc)
 
-begins-course : (setting : Setting) (m : MasterState NodeState) (stations : List StationSide) (late ticks : ℕ) (lines : List Line) (body : List ℕ) → Known setting m stations → m.setup.check ≡ m.ear.check → message_next node_host m ≡ Some body → Course setting m stations late ticks lines
+begins-course : (setting : Setting) (m : MasterState NodeState) (stations : List LineStationState) (late ticks : ℕ) (lines : List Line) (body : List ℕ) → Known setting m stations → m.setup.check ≡ m.ear.check → message_next node_host m ≡ Some body → Course setting m stations late ticks lines
     → Course setting (begun node_host m) stations late ticks lines
 begins-course setting m stations late ticks lines body k check next c =
     let i = m.host.initiator in
@@ -147,7 +147,7 @@ begins-course setting m stations late ticks lines body k check next c =
     } in
     subst (λ (e : MasterState NodeState). Course setting e stations late ticks lines) (sym (take-begins node_host m body may.0 may.1 nexts listed)) course
 
-begun-course : (setting : Setting) (m : MasterState NodeState) (stations : List StationSide) (late ticks : ℕ) (lines : List Line) (o : Option (List ℕ)) → Known setting m stations → m.setup.check ≡ m.ear.check → message_next node_host m ≡ o → Course setting m stations late ticks lines
+begun-course : (setting : Setting) (m : MasterState NodeState) (stations : List LineStationState) (late ticks : ℕ) (lines : List Line) (o : Option (List ℕ)) → Known setting m stations → m.setup.check ≡ m.ear.check → message_next node_host m ≡ o → Course setting m stations late ticks lines
     → Course setting (begun_of node_host m o) stations late ticks lines
 begun-course setting m stations late ticks lines None k check next c = c
 begun-course setting m stations late ticks lines (Some body) k check next c =
@@ -155,7 +155,7 @@ begun-course setting m stations late ticks lines (Some body) k check next c =
 
 -- ---- a byte is given
 
-ledger-given : (setting : Setting) (e : MasterState NodeState) (stations : List StationSide) (lines : List Line) (stay : Stay) (done ticks : ℕ) → Ledger setting e.host.initiator e.stations stations lines stay done ticks → Ledger setting e.host.initiator e.stations (map (with_given e) stations) lines stay done ticks
+ledger-given : (setting : Setting) (e : MasterState NodeState) (stations : List LineStationState) (lines : List Line) (stay : Stay) (done ticks : ℕ) → Ledger setting e.host.initiator e.stations stations lines stay done ticks → Ledger setting e.host.initiator e.stations (map (with_given e) stations) lines stay done ticks
 ledger-given setting e stations lines stay done ticks l = record {
   out = l.out;
   in_time = l.in_time;
@@ -165,10 +165,10 @@ ledger-given setting e stations lines stay done ticks l = record {
   in_order = l.in_order;
   sides = λ p side at.
       let was = at-given e stations p side at in
-      subst (λ (x : StationSide). SideBooks (setting.first p) x.number (bodies_in e.host.initiator) stay done (kept_at e.stations p) x.slave lines) was.2 (l.sides p was.0 was.1);
+      subst (λ (x : LineStationState). SideBooks (setting.first p) x.number (bodies_in e.host.initiator) stay done (kept_at e.stations p) x.slave lines) was.2 (l.sides p was.0 was.1);
 }
 
-given-course : (setting : Setting) (e : MasterState NodeState) (stations : List StationSide) (late ticks : ℕ) (lines : List Line) → Course setting e stations late ticks lines → Course setting (given_next e) (map (with_given e) stations) late ticks lines
+given-course : (setting : Setting) (e : MasterState NodeState) (stations : List LineStationState) (late ticks : ℕ) (lines : List Line) → Course setting e stations late ticks lines → Course setting (given_next e) (map (with_given e) stations) late ticks lines
 given-course setting e stations late ticks lines c = record {
   now = c.now;
   stay = c.stay;
@@ -178,7 +178,7 @@ given-course setting e stations late ticks lines c = record {
   ledger = ledger-given setting e stations lines c.stay c.done ticks c.ledger;
 }
 
-pub course-give : (setting : Setting) (m : MasterState NodeState) (stations : List StationSide) (late ticks : ℕ) (lines : List Line) → Known setting m stations → m.setup.check ≡ m.ear.check → Course setting m stations late ticks lines
+pub course-give : (setting : Setting) (m : MasterState NodeState) (stations : List LineStationState) (late ticks : ℕ) (lines : List Line) → Known setting m stations → m.setup.check ≡ m.ear.check → Course setting m stations late ticks lines
     → Course setting (master_after_take node_host m) (map (with_given (begun node_host m)) stations) late ticks lines
 course-give setting m stations late ticks lines k check c =
     given-course setting (begun node_host m) stations late ticks lines (begun-course setting m stations late ticks lines (message_next node_host m) k check refl c)

@@ -8,7 +8,7 @@ use Rattle.pccc_envelope.specs.Accepted.{is_kept, last_key}
 use Rattle.df1_node.specs.Answer.{StationState}
 use Rattle.half_slave.specs.Slave.{SlaveState}
 use Rattle.df1_node.specs.Node.{NodeState}
-use Rattle.line_report.specs.declared.record.Line.{Line}
+use Rattle.replay_report.specs.declared.record.Line.{Line}
 use Rattle.each_once.proofs.Sublists.{IsWithin, nothing, skips, keeps, within-take, Differ, differ-within, differ-last}
 use Rattle.half_line.specs.Complete.{is_to}
 use Rattle.half_line.proofs.Complete.StationBook.{StationBook, first_to, to-this}

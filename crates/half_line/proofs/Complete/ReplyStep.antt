@@ -21,14 +21,14 @@ use Rattle.half_master.specs.Master as master
 use Rattle.half_master.specs.Master.{MasterState, with_byte, master_after_byte}
 use Rattle.half_master.proofs.Changes.{Says}
 use Rattle.half_master.proofs.Seen.{lent-after}
-use Rattle.line_statement.specs.declared.who.Who.TheVariants.{M}
-use Rattle.line_report.specs.declared.record.Line.{Line}
-use Rattle.line_cells.specs.Cells.{LaneCell}
+use Rattle.script_statement.specs.declared.who.Who.TheVariants.{M}
+use Rattle.replay_report.specs.declared.record.Line.{Line}
+use Rattle.lane_cells.specs.Cells.{LaneCell}
 use Rattle.each_once.specs.Exchanges.{station_after}
 use Rattle.each_once.specs.NodeHost.{node_host}
 use Rattle.each_once.proofs.Sublists.{same-some, from-map}
-use Rattle.told_lines.specs.NodeLines.{did_lines, act_lines, step_lines}
-use Rattle.half_line.specs.Acts.{StationSide}
+use Rattle.report_lines.specs.NodeLines.{did_lines, act_lines, step_lines}
+use Rattle.half_line.specs.Acts.{LineStationState}
 use Rattle.half_line.specs.Complete.{is_to}
 use Rattle.half_line.specs.Issues.{bodies_of}
 use Rattle.half_line.proofs.Once.Invariant.{Setting, number-at}
@@ -51,13 +51,13 @@ use Rattle.half_line.proofs.Complete.CallStep.{At}
 abbrev pub reply_lines : MasterState NodeState → LaneCell → List Line
 reply_lines m cell = step_lines M (master.step_at_byte node_host m cell.byte) (master.body_of (after_reply m cell))
 
-pub record Replied (setting : Setting) (m : MasterState NodeState) (stations : List StationSide) (late ticks : ℕ) (lines : List Line) (place : ℕ) (side : StationSide) (cell : LaneCell) (cells : List LaneCell) : Type 0 where
+pub record Replied (setting : Setting) (m : MasterState NodeState) (stations : List LineStationState) (late ticks : ℕ) (lines : List Line) (place : ℕ) (side : LineStationState) (cell : LaneCell) (cells : List LaneCell) : Type 0 where
   pub course : Course setting (after_reply m cell) (slice_set stations place (back_left side cells)) late ticks (lines ++ reply_lines m cell)
   pub ear_check : (after_reply m cell).ear.check ≡ m.ear.check
   pub honest : deceived_at master_ear m.ear cell ≡ 0
 
 -- a reply comes from the station at a place, on a line with this stage and these books
-record Comings (setting : Setting) (m : MasterState NodeState) (stations : List StationSide) (late ticks : ℕ) (lines : List Line) (place : ℕ) (side : StationSide) (awaited : Awaited) (stay : Stay) (done : ℕ) : Type 0 where
+record Comings (setting : Setting) (m : MasterState NodeState) (stations : List LineStationState) (late ticks : ℕ) (lines : List Line) (place : ℕ) (side : LineStationState) (awaited : Awaited) (stay : Stay) (done : ℕ) : Type 0 where
   at : At setting m stations place side
   stage : Stage late m stations (Awaits place awaited)
   called : SideCalled m side awaited
@@ -72,7 +72,7 @@ says-none : (m : MasterState NodeState) (cell : LaneCell) (what : Act) → Says 
 says-none m cell what says none = step-told (master.step_at_byte node_host m cell.byte) (master.body_of (after_reply m cell)) what None says.act says.did says.news ∙ none (master.body_of (after_reply m cell))
 
 -- the books with no line more, of a station that only gave a cell away
-told-none : (setting : Setting) (m : MasterState NodeState) (stations : List StationSide) (lines : List Line) (stay : Stay) (done ticks : ℕ) (place : ℕ) (side : StationSide) (cell : LaneCell) (cells : List LaneCell) → slice_get stations place ≡ Some side → reply_lines m cell ≡ []
+told-none : (setting : Setting) (m : MasterState NodeState) (stations : List LineStationState) (lines : List Line) (stay : Stay) (done ticks : ℕ) (place : ℕ) (side : LineStationState) (cell : LaneCell) (cells : List LaneCell) → slice_get stations place ≡ Some side → reply_lines m cell ≡ []
     → Ledger setting m.host.initiator m.stations stations lines stay done ticks → Ledger setting m.host.initiator m.stations (slice_set stations place (back_left side cells)) (lines ++ reply_lines m cell) stay done ticks
 told-none setting m stations lines stay done ticks place side cell cells at none l =
     subst (λ (all : List Line). Ledger setting m.host.initiator m.stations (slice_set stations place (back_left side cells)) all stay done ticks)
@@ -81,7 +81,7 @@ told-none setting m stations lines stay done ticks place side cell cells at none
 
 -- ---- it goes on
 
-on-step : {setting : Setting} {m : MasterState NodeState} {stations : List StationSide} {place : ℕ} {side : StationSide} {late ticks done : ℕ} {lines : List Line} {stay : Stay} (awaited : Awaited) (reply : Telling master_ear) (cell : LaneCell) (cells : List LaneCell)
+on-step : {setting : Setting} {m : MasterState NodeState} {stations : List LineStationState} {place : ℕ} {side : LineStationState} {late ticks done : ℕ} {lines : List Line} {stay : Stay} (awaited : Awaited) (reply : Telling master_ear) (cell : LaneCell) (cells : List LaneCell)
     → (c : Comings setting m stations late ticks lines place side awaited stay done) → IsTied setting (bodies_of m) done (Awaits place awaited) stay → (g : GoesOn m side cell cells reply) → Progress (with_byte m cell.byte) (back_left side cells) awaited
     → Replied setting m stations late ticks lines place side cell cells
 on-step {setting = setting} {m = m} {stations = stations} {place = place} {side = side} {late = late} {ticks = ticks} {done = done} {lines = lines} {stay = stay} awaited reply cell cells c tied g progress =
@@ -114,7 +114,7 @@ on-step {setting = setting} {m = m} {stations = stations} {place = place} {side 
 
 -- ---- it ends
 
-settled-stage : {m : MasterState NodeState} {stations : List StationSide} {place : ℕ} {side : StationSide} {late : ℕ} {awaited : Awaited} {host : NodeState} {listed : List Station} (cell : LaneCell) (cells : List LaneCell) → Stage late m stations (Awaits place awaited) → Settles m side cell cells host listed
+settled-stage : {m : MasterState NodeState} {stations : List LineStationState} {place : ℕ} {side : LineStationState} {late : ℕ} {awaited : Awaited} {host : NodeState} {listed : List Station} (cell : LaneCell) (cells : List LaneCell) → Stage late m stations (Awaits place awaited) → Settles m side cell cells host listed
     → Stage late (after_reply m cell) (slice_set stations place (back_left side cells)) Idles
 settled-stage {m = m} {stations = stations} {place = place} {side = side} {awaited = awaited} cell cells stage s = record {
   idle = s.idle;
@@ -122,11 +122,11 @@ settled-stage {m = m} {stations = stations} {place = place} {side = side} {await
   rest = set-settled m (after_reply m cell) stations place awaited (back_left side cells) stage.expects s.this s.others;
 }
 
-settled-check : {m : MasterState NodeState} {side : StationSide} {awaited : Awaited} {host : NodeState} {listed : List Station} (cell : LaneCell) (cells : List LaneCell) → SideCalled m side awaited → Settles m side cell cells host listed → (after_reply m cell).ear.check ≡ m.ear.check
+settled-check : {m : MasterState NodeState} {side : LineStationState} {awaited : Awaited} {host : NodeState} {listed : List Station} (cell : LaneCell) (cells : List LaneCell) → SideCalled m side awaited → Settles m side cell cells host listed → (after_reply m cell).ear.check ≡ m.ear.check
 settled-check cell cells c s = sym s.this.line ∙ c.line
 
 -- of an ACK and an EOT nothing is told, and the initiator stays
-settles-step : {setting : Setting} {m : MasterState NodeState} {stations : List StationSide} {place : ℕ} {side : StationSide} {late ticks done : ℕ} {lines : List Line} {stay : Stay} {awaited : Awaited} {host : NodeState} (cell : LaneCell) (cells : List LaneCell)
+settles-step : {setting : Setting} {m : MasterState NodeState} {stations : List LineStationState} {place : ℕ} {side : LineStationState} {late ticks done : ℕ} {lines : List Line} {stay : Stay} {awaited : Awaited} {host : NodeState} (cell : LaneCell) (cells : List LaneCell)
     → Comings setting m stations late ticks lines place side awaited stay done → IsHome stay → host.initiator ≡ m.host.initiator → Settles m side cell cells host m.stations → reply_lines m cell ≡ [] → Replied setting m stations late ticks lines place side cell cells
 settles-step {setting = setting} {m = m} {stations = stations} {place = place} {side = side} {ticks = ticks} {done = done} {lines = lines} {stay = stay} cell cells c home same s none =
     let all = slice_set stations place (back_left side cells) in
@@ -161,7 +161,7 @@ room-for-reply node reply is = rw is refl
 abbrev kept_in : Option Station → Option Key
 kept_in o = option_and_then {T = Station} (λ station. station.kept) o
 
-answer-step : {setting : Setting} {m : MasterState NodeState} {stations : List StationSide} {place : ℕ} {side : StationSide} {late ticks done : ℕ} {lines : List Line} (body : List ℕ) (cell : LaneCell) (cells : List LaneCell) → let reply = answer_to (setting.first place) side.number (bodies_of m) done body in
+answer-step : {setting : Setting} {m : MasterState NodeState} {stations : List LineStationState} {place : ℕ} {side : LineStationState} {late ticks done : ℕ} {lines : List Line} (body : List ℕ) (cell : LaneCell) (cells : List LaneCell) → let reply = answer_to (setting.first place) side.number (bodies_of m) done body in
     Comings setting m stations late ticks lines place side (Message reply) (Returning body) done → is_to side.number body ≡ true → HearsReply side.slave cell cells m.ear (a_reply reply) → Replied setting m stations late ticks lines place side cell cells
 answer-step {setting = setting} {m = m} {stations = stations} {place = place} {side = side} {ticks = ticks} {done = done} {lines = lines} body cell cells c to h =
     let k = c.at.known in
@@ -210,16 +210,16 @@ answer-step {setting = setting} {m = m} {stations = stations} {place = place} {s
 
 -- ---- whatever is awaited
 
-abbrev Next : MasterState NodeState → StationSide → LaneCell → List LaneCell → Telling master_ear → Type 0
+abbrev Next : MasterState NodeState → LineStationState → LaneCell → List LaneCell → Telling master_ear → Type 0
 Next m side cell cells reply = StillAnswers side.slave cell cells m.ear reply ⊎ HearsReply side.slave cell cells m.ear reply
 
-next-cell : (m : MasterState NodeState) (side : StationSide) (cell : LaneCell) (cells : List LaneCell) (reply : Telling master_ear) → side.from_it ≡ cell ∷ cells → Returns m side reply → Next m side cell cells reply
+next-cell : (m : MasterState NodeState) (side : LineStationState) (cell : LaneCell) (cells : List LaneCell) (reply : Telling master_ear) → side.from_it ≡ cell ∷ cells → Returns m side reply → Next m side cell cells reply
 next-cell m side cell cells reply is r = reply-cell side.slave cell cells m.ear reply (subst (λ (lane : List LaneCell). Answers side.slave lane m.ear reply) is r.answers)
 
-none-comes : (m : MasterState NodeState) (side : StationSide) (cell : LaneCell) (cells : List LaneCell) → side.from_it ≡ cell ∷ cells → side.from_it ≡ [] → ⊥
+none-comes : (m : MasterState NodeState) (side : LineStationState) (cell : LaneCell) (cells : List LaneCell) → side.from_it ≡ cell ∷ cells → side.from_it ≡ [] → ⊥
 none-comes m side cell cells is none = let no : cell ∷ cells ≡ [] = sym is ∙ none in cc
 
-returns-step : {setting : Setting} {m : MasterState NodeState} {stations : List StationSide} {place : ℕ} {side : StationSide} {late ticks done : ℕ} {lines : List Line} {stay : Stay} (awaited : Awaited) (cell : LaneCell) (cells : List LaneCell) → side.from_it ≡ cell ∷ cells
+returns-step : {setting : Setting} {m : MasterState NodeState} {stations : List LineStationState} {place : ℕ} {side : LineStationState} {late ticks done : ℕ} {lines : List Line} {stay : Stay} (awaited : Awaited) (cell : LaneCell) (cells : List LaneCell) → side.from_it ≡ cell ∷ cells
     → Comings setting m stations late ticks lines place side awaited stay done → IsTied setting (bodies_of m) done (Awaits place awaited) stay → Replied setting m stations late ticks lines place side cell cells
 returns-step {m = m} {side = side} (Receipt body) cell cells is c tied = absurd (none-comes m side cell cells is c.called.progress.none_back)
 returns-step {m = m} {side = side} Polling cell cells is c tied = absurd (none-comes m side cell cells is c.called.progress.none_back)
@@ -259,7 +259,7 @@ returns-step {setting = setting} {m = m} {stations = stations} {place = place} {
 
 -- ---- of any station
 
-by-now : {setting : Setting} {m : MasterState NodeState} {stations : List StationSide} {place : ℕ} {side : StationSide} {late ticks done : ℕ} {lines : List Line} {stay : Stay} (now : Now) (cell : LaneCell) (cells : List LaneCell) → At setting m stations place side → side.from_it ≡ cell ∷ cells
+by-now : {setting : Setting} {m : MasterState NodeState} {stations : List LineStationState} {place : ℕ} {side : LineStationState} {late ticks done : ℕ} {lines : List Line} {stay : Stay} (now : Now) (cell : LaneCell) (cells : List LaneCell) → At setting m stations place side → side.from_it ≡ cell ∷ cells
     → Stage late m stations now → IsTied setting (bodies_of m) done now stay → Ledger setting m.host.initiator m.stations stations lines stay done ticks → Replied setting m stations late ticks lines place side cell cells
 by-now {m = m} {place = place} {side = side} Idles cell cells at is stage tied l = absurd (none-comes m side cell cells is (stage.rest place side at.is_at).none_back)
 by-now {setting = setting} {m = m} {stations = stations} {place = place} {side = side} {late = late} {ticks = ticks} {done = done} {lines = lines} {stay = stay} (Awaits q awaited) cell cells at is stage tied l = by-place (place == q) refl
@@ -271,11 +271,11 @@ by-now {setting = setting} {m = m} {stations = stations} {place = place} {side =
         let stage_here : Awaiting late m stations place awaited = subst (λ (n : ℕ). Awaiting late m stations n awaited) there stage in
         let e = stage_here.expects in
         let side_is : e.side ≡ side = same-some e.side side (sym e.is_at ∙ at.is_at) in
-        let called = subst (λ (s : StationSide). SideCalled m s awaited) side_is e.called in
+        let called = subst (λ (s : LineStationState). SideCalled m s awaited) side_is e.called in
         let tied_here : IsTied setting (bodies_of m) done (Awaits place awaited) stay = subst (λ (n : ℕ). IsTied setting (bodies_of m) done (Awaits n awaited) stay) there tied in
         returns-step awaited cell cells is (record { at = at; stage = stage_here; called = called; ledger = l }) tied_here
 
-pub master-hears : (setting : Setting) (m : MasterState NodeState) (stations : List StationSide) (late ticks : ℕ) (lines : List Line) (place : ℕ) (side : StationSide) (cell : LaneCell) (cells : List LaneCell) → At setting m stations place side → side.from_it ≡ cell ∷ cells
+pub master-hears : (setting : Setting) (m : MasterState NodeState) (stations : List LineStationState) (late ticks : ℕ) (lines : List Line) (place : ℕ) (side : LineStationState) (cell : LaneCell) (cells : List LaneCell) → At setting m stations place side → side.from_it ≡ cell ∷ cells
     → Course setting m stations late ticks lines → Replied setting m stations late ticks lines place side cell cells
 master-hears setting m stations late ticks lines place side cell cells at is c =
     by-now c.now cell cells at is c.stage c.tied c.ledger

@@ -10,11 +10,11 @@ use Rattle.half_master.specs.Master.{MasterState, with_host, effect_at_tick, fat
 use Rattle.half_master.proofs.EarLemmas.{take-ear, performed-ear}
 use Rattle.half_master.proofs.HostSteps.{tick-keeps, take-keeps}
 use Rattle.half_master.proofs.Runs.{signal-setup}
-use Rattle.line_statement.specs.Statements.{is_payload}
+use Rattle.script_statement.specs.Statements.{is_payload}
 use Rattle.script_parts.specs.HalfPlayable.{is_declared}
-use Rattle.line_report.specs.declared.record.Line.{Line}
+use Rattle.replay_report.specs.declared.record.Line.{Line}
 use Rattle.each_once.specs.NodeHost.{node_host}
-use Rattle.half_line.specs.Acts.{StationSide, HalfState, LinkDeed, Issue, Give, Tick, after_master_deed}
+use Rattle.half_line.specs.Acts.{LineStationState, HalfState, LinkDeed, Issue, Give, Tick, after_master_deed}
 use Rattle.half_line.specs.Prompt.{is_quiet, ticks_of, late_after, patience, IsGentleWith, IsGentle, late_over, IsPromptOver}
 use Rattle.half_line.specs.Steps.{UnitStep, AtMaster, AtStation, after_with, after_step, lines_with, lines_at, after_steps, lines_over}
 use Rattle.half_line.proofs.Once.Invariant.{Setting}
@@ -92,7 +92,7 @@ flow-tick setting wait s late ticks lines k few patient f =
 
 -- ---- anywhere
 
-flow-with : (setting : Setting) (wait : ℕ) (s : HalfState) (late ticks : ℕ) (lines : List Line) (place : ℕ) (deed : LinkDeed) (o : Option StationSide) → slice_get s.stations place ≡ o → IsGentleWith deed o → Known setting s.master s.stations → Flow setting wait s late ticks lines
+flow-with : (setting : Setting) (wait : ℕ) (s : HalfState) (late ticks : ℕ) (lines : List Line) (place : ℕ) (deed : LinkDeed) (o : Option LineStationState) → slice_get s.stations place ≡ o → IsGentleWith deed o → Known setting s.master s.stations → Flow setting wait s late ticks lines
     → Flow setting wait (after_with s place deed o) late ticks (lines ++ lines_with s deed o)
 flow-with setting wait s late ticks lines place deed None at gentle k f = subst (λ (all : List Line). Flow setting wait s late ticks all) (sym (append-nil lines)) f
 flow-with setting wait s late ticks lines place deed (Some side) at gentle k f = flow-link setting wait s late ticks lines place side deed gentle (record { known = k; is_at = at }) f

@@ -5,8 +5,8 @@ use Rattle.df1_node.specs.Node.{NodeState}
 use Rattle.half_frame.specs.Spelling.{poll_bytes, message_sent, unmarked}
 use Rattle.half_mouth.specs.Giving.{Giving, give, transmit, one_more}
 use Rattle.half_master.specs.Master.{MasterState}
-use Rattle.line_cells.specs.Cells.{LaneCell}
-use Rattle.half_line.specs.Acts.{StationSide}
+use Rattle.lane_cells.specs.Cells.{LaneCell}
+use Rattle.half_line.specs.Acts.{LineStationState}
 use Rattle.half_line.proofs.Complete.ComingCells.{cells_of, coming}
 use Rattle.half_line.proofs.Complete.EarHears.{Telling}
 use Rattle.half_line.proofs.Complete.StationHears.{station_ear}
@@ -22,10 +22,10 @@ pub record Begins (m after : MasterState NodeState) (new : List LaneCell) : Type
   pub begun : coming after.mouth after.sending ≡ new
 
 -- a station hears them behind the others
-grows : (m after : MasterState NodeState) (new : List LaneCell) (side : StationSide) → Begins m after new → tape m side ++ new ≡ tape after side
+grows : (m after : MasterState NodeState) (new : List LaneCell) (side : LineStationState) → Begins m after new → tape m side ++ new ≡ tape after side
 grows m after new side b = tape-grows side.to_it new m.mouth m.sending b.given ∙ ap (λ (cells : List LaneCell). side.to_it ++ cells) (sym b.begun)
 
-rests-begins : (m after : MasterState NodeState) (new : List LaneCell) (side : StationSide) → Begins m after new → SideRests m side → Rests side.slave (tape m side ++ new) → SideRests after side
+rests-begins : (m after : MasterState NodeState) (new : List LaneCell) (side : LineStationState) → Begins m after new → SideRests m side → Rests side.slave (tape m side ++ new) → SideRests after side
 rests-begins m after new side b r rests = record {
   own = r.own;
   check = r.check ∙ ap (λ ear. ear.check) (sym b.ear);
@@ -34,7 +34,7 @@ rests-begins m after new side b r rests = record {
   none_back = r.none_back;
 }
 
-comes-begins : (m after : MasterState NodeState) (new : List LaneCell) (side : StationSide) (call : Telling station_ear) → Begins m after new → SideRests m side → IsOutside m.ear.standing → Called side.slave (tape m side ++ new) call → Comes after side call
+comes-begins : (m after : MasterState NodeState) (new : List LaneCell) (side : LineStationState) (call : Telling station_ear) → Begins m after new → SideRests m side → IsOutside m.ear.standing → Called side.slave (tape m side ++ new) call → Comes after side call
 comes-begins m after new side call b r outside called = record {
   called = subst (λ (cells : List LaneCell). Called side.slave cells call) (grows m after new side b) called;
   none_back = r.none_back;
@@ -44,15 +44,15 @@ comes-begins m after new side call b r outside called = record {
 -- ---- all stations
 
 -- the others have other numbers than the station at this place
-abbrev pub IsAlone : List StationSide → ℕ → ℕ → Type 0
-IsAlone stations place number = (p : ℕ) (other : StationSide) → slice_get stations p ≡ Some other → (p ≡ place → ⊥) → number ≢ other.number
+abbrev pub IsAlone : List LineStationState → ℕ → ℕ → Type 0
+IsAlone stations place number = (p : ℕ) (other : LineStationState) → slice_get stations p ≡ Some other → (p ≡ place → ⊥) → number ≢ other.number
 
 -- a station that has its own number isn't called by another
-other-station : (side : StationSide) (number : ℕ) → side.slave.setup.station ≡ side.number → number ≢ side.number → number ≢ side.slave.setup.station
+other-station : (side : LineStationState) (number : ℕ) → side.slave.setup.station ≡ side.number → number ≢ side.number → number ≢ side.slave.setup.station
 other-station side number own differ same = differ (same ∙ own)
 
 -- a poll
-pub poll-begins : (m after : MasterState NodeState) (stations : List StationSide) (place : ℕ) (side : StationSide) → m.mouth.left ≡ [] → IsOutside m.ear.standing → AllRest m stations → slice_get stations place ≡ Some side → IsAlone stations place side.number
+pub poll-begins : (m after : MasterState NodeState) (stations : List LineStationState) (place : ℕ) (side : LineStationState) → m.mouth.left ≡ [] → IsOutside m.ear.standing → AllRest m stations → slice_get stations place ≡ Some side → IsAlone stations place side.number
     → after.ear ≡ m.ear → after.mouth ≡ give m.mouth (unmarked (poll_bytes side.number)) → Expects after stations place Polling
 poll-begins m after stations place side given outside all at alone ear mouth =
     let new = cells_of None after.sending (unmarked (poll_bytes side.number)) in
@@ -72,7 +72,7 @@ poll-begins m after stations place side given outside all at alone ear mouth =
     }
 
 -- a message to the station that its first byte names
-pub message-begins : (m after : MasterState NodeState) (stations : List StationSide) (place : ℕ) (side : StationSide) (body : List ℕ) → m.mouth.left ≡ [] → IsOutside m.ear.standing → AllRest m stations → slice_get stations place ≡ Some side → IsAlone stations place side.number
+pub message-begins : (m after : MasterState NodeState) (stations : List LineStationState) (place : ℕ) (side : LineStationState) (body : List ℕ) → m.mouth.left ≡ [] → IsOutside m.ear.standing → AllRest m stations → slice_get stations place ≡ Some side → IsAlone stations place side.number
     → m.setup.check ≡ m.ear.check → 6 ≤ length body → length body ≤ 250 → slice_index body 0 ≡ side.number → after.ear ≡ m.ear → after.sending ≡ body → after.mouth ≡ transmit m.mouth (message_sent m.setup.check (slice_index body 0) body)
     → Expects after stations place (Receipt body)
 message-begins m after stations place side body given outside all at alone kind least most first ear sending mouth =

@@ -13,7 +13,7 @@ use Rattle.half_master.specs.Master.{MasterState, given_next, begun}
 use Rattle.half_master.proofs.Changes.{take-waiting}
 use Rattle.each_once.specs.NodeHost.{node_host}
 use Rattle.each_once.proofs.Sublists.{same-some, from-map}
-use Rattle.half_line.specs.Acts.{StationSide, HalfState, after_take}
+use Rattle.half_line.specs.Acts.{LineStationState, HalfState, after_take}
 use Rattle.half_line.specs.Prompt.{is_idle, is_quiet}
 use Rattle.half_line.proofs.Once.Places.{set-same, set-other}
 use Rattle.half_line.proofs.Complete.Stages.{SideRests, AllRest, Awaited, Receipt, Polling, Ack, Eot, Message, SideCalled, Expects, Waits, Now, Idles, Awaits, Stage, waits-busy, expects-busy, both}
@@ -22,8 +22,8 @@ use Rattle.half_line.proofs.Complete.StageSteps.{rests-gives, called-gives, with
 -- ---- one station is another now
 
 -- what a place holds then: the new one there, and the old ones elsewhere
-pub at-place : (P : ℕ → StationSide → Type 0) (stations : List StationSide) (place : ℕ) (was now : StationSide) → slice_get stations place ≡ Some was → P place now → ((p : ℕ) (other : StationSide) → slice_get stations p ≡ Some other → (p ≡ place → ⊥) → P p other)
-    → (p : ℕ) (side : StationSide) → slice_get (slice_set stations place now) p ≡ Some side → P p side
+pub at-place : (P : ℕ → LineStationState → Type 0) (stations : List LineStationState) (place : ℕ) (was now : LineStationState) → slice_get stations place ≡ Some was → P place now → ((p : ℕ) (other : LineStationState) → slice_get stations p ≡ Some other → (p ≡ place → ⊥) → P p other)
+    → (p : ℕ) (side : LineStationState) → slice_get (slice_set stations place now) p ≡ Some side → P p side
 at-place P stations place was now is new others p side at = by-place (p == place) refl
   where
     by-place : (same : Bool) → (p == place) ≡ same → P p side
@@ -36,16 +36,16 @@ at-place P stations place was now is new others p side at = by-place (p == place
         others p side (sym (set-other stations place p now differ) ∙ at) differ
 
 -- nothing is awaited of any
-pub set-rests : (m : MasterState NodeState) (stations : List StationSide) (place : ℕ) (was now : StationSide) → slice_get stations place ≡ Some was → SideRests m now → AllRest m stations → AllRest m (slice_set stations place now)
+pub set-rests : (m : MasterState NodeState) (stations : List LineStationState) (place : ℕ) (was now : LineStationState) → slice_get stations place ≡ Some was → SideRests m now → AllRest m stations → AllRest m (slice_set stations place now)
 set-rests m stations place was now is new all = at-place (λ p side. SideRests m side) stations place was now is new (λ p other at differ. all p other at)
 
 -- the reply was heard, and nothing is awaited of any then
-pub set-settled : (m after : MasterState NodeState) (stations : List StationSide) (place : ℕ) (awaited : Awaited) (now : StationSide) → (e : Expects m stations place awaited) → SideRests after now → ((other : StationSide) → SideRests m other → SideRests after other)
+pub set-settled : (m after : MasterState NodeState) (stations : List LineStationState) (place : ℕ) (awaited : Awaited) (now : LineStationState) → (e : Expects m stations place awaited) → SideRests after now → ((other : LineStationState) → SideRests m other → SideRests after other)
     → AllRest after (slice_set stations place now)
 set-settled m after stations place awaited now e new goes = at-place (λ p side. SideRests after side) stations place e.side now e.is_at new (λ p other at differ. goes other (e.others p other at differ))
 
 -- something is awaited of this one, be it what was awaited before or not
-pub set-called : (m : MasterState NodeState) (stations : List StationSide) (place : ℕ) (before awaited : Awaited) (now : StationSide) → (e : Expects m stations place before) → SideCalled m now awaited → Expects m (slice_set stations place now) place awaited
+pub set-called : (m : MasterState NodeState) (stations : List LineStationState) (place : ℕ) (before awaited : Awaited) (now : LineStationState) → (e : Expects m stations place before) → SideCalled m now awaited → Expects m (slice_set stations place now) place awaited
 set-called m stations place before awaited now e called = record {
   side = now;
   is_at = set-same stations place e.side now e.is_at;
@@ -54,7 +54,7 @@ set-called m stations place before awaited now e called = record {
 }
 
 -- another changed
-pub set-another : (m : MasterState NodeState) (stations : List StationSide) (place q : ℕ) (awaited : Awaited) (was now : StationSide) → slice_get stations q ≡ Some was → (q ≡ place → ⊥) → (e : Expects m stations place awaited) → SideRests m now
+pub set-another : (m : MasterState NodeState) (stations : List LineStationState) (place q : ℕ) (awaited : Awaited) (was now : LineStationState) → slice_get stations q ≡ Some was → (q ≡ place → ⊥) → (e : Expects m stations place awaited) → SideRests m now
     → Expects m (slice_set stations q now) place awaited
 set-another m stations place q awaited was now is differ e new = record {
   side = e.side;
@@ -65,34 +65,34 @@ set-another m stations place q awaited was now is differ e new = record {
 
 -- ---- a station gives a byte
 
-expects-gives : (m : MasterState NodeState) (stations : List StationSide) (place q : ℕ) (awaited : Awaited) (side : StationSide) → slice_get stations q ≡ Some side → Expects m stations place awaited → (same : Bool) → (q == place) ≡ same
+expects-gives : (m : MasterState NodeState) (stations : List LineStationState) (place q : ℕ) (awaited : Awaited) (side : LineStationState) → slice_get stations q ≡ Some side → Expects m stations place awaited → (same : Bool) → (q == place) ≡ same
     → Expects m (slice_set stations q (after_take side)) place awaited
 expects-gives m stations place q awaited side is e true same =
     let here = eqb-true q place same in
     let side_is : e.side ≡ side = same-some e.side side (sym e.is_at ∙ ap (slice_get stations) (sym here) ∙ is) in
     subst (λ (n : ℕ). Expects m (slice_set stations n (after_take side)) place awaited) (sym here)
-    (set-called m stations place awaited awaited (after_take side) e (called-gives m side awaited (subst (λ (s : StationSide). SideCalled m s awaited) side_is e.called)))
+    (set-called m stations place awaited awaited (after_take side) e (called-gives m side awaited (subst (λ (s : LineStationState). SideCalled m s awaited) side_is e.called)))
 expects-gives m stations place q awaited side is e false same =
     let differ = eqb-false q place same in
     set-another m stations place q awaited side (after_take side) is differ e (rests-gives m side (e.others q side is differ))
 
-pub stage-gives : (late : ℕ) (m : MasterState NodeState) (stations : List StationSide) (now : Now) (q : ℕ) (side : StationSide) → slice_get stations q ≡ Some side → Stage late m stations now → Stage late m (slice_set stations q (after_take side)) now
+pub stage-gives : (late : ℕ) (m : MasterState NodeState) (stations : List LineStationState) (now : Now) (q : ℕ) (side : LineStationState) → slice_get stations q ≡ Some side → Stage late m stations now → Stage late m (slice_set stations q (after_take side)) now
 stage-gives late m stations Idles q side is s = record { idle = s.idle; outside = s.outside; rest = set-rests m stations q side (after_take side) is (rests-gives m side (s.rest q side is)) s.rest }
 stage-gives late m stations (Awaits place awaited) q side is s = record { waits = s.waits; expects = expects-gives m stations place q awaited side is s.expects (q == place) refl }
 
 -- ---- the master gives a byte of what it has begun
 
-pub at-given : (e : MasterState NodeState) (stations : List StationSide) (p : ℕ) (side : StationSide) → slice_get (map (with_given e) stations) p ≡ Some side → (was : StationSide) × (slice_get stations p ≡ Some was) × (with_given e was ≡ side)
+pub at-given : (e : MasterState NodeState) (stations : List LineStationState) (p : ℕ) (side : LineStationState) → slice_get (map (with_given e) stations) p ≡ Some side → (was : LineStationState) × (slice_get stations p ≡ Some was) × (with_given e was ≡ side)
 at-given e stations p side at =
     let found = from-map (with_given e) stations p side at in
     (found.0, found.1, same-some (with_given e found.0) side (sym (slice_get-map (with_given e) stations p ∙ ap (option_map (with_given e)) found.1) ∙ at))
 
-all-given : (e : MasterState NodeState) (stations : List StationSide) → AllRest e stations → AllRest (given_next e) (map (with_given e) stations)
+all-given : (e : MasterState NodeState) (stations : List LineStationState) → AllRest e stations → AllRest (given_next e) (map (with_given e) stations)
 all-given e stations all p side at =
     let was = at-given e stations p side at in
     subst (SideRests (given_next e)) was.2 (rests-given e was.0 (all p was.0 was.1))
 
-expects-given : (e : MasterState NodeState) (stations : List StationSide) (place : ℕ) (awaited : Awaited) → Expects e stations place awaited → Expects (given_next e) (map (with_given e) stations) place awaited
+expects-given : (e : MasterState NodeState) (stations : List LineStationState) (place : ℕ) (awaited : Awaited) → Expects e stations place awaited → Expects (given_next e) (map (with_given e) stations) place awaited
 expects-given e stations place awaited x = record {
   side = with_given e x.side;
   is_at = slice_get-map (with_given e) stations place ∙ ap (option_map (with_given e)) x.is_at;
@@ -109,7 +109,7 @@ waits-given late e place Polling w = record { left = w.left; phase = w.phase; pa
 waits-given late e place Eot w = record { left = w.left; phase = w.phase; patient = w.patient }
 waits-given late e place (Message body) w = record { left = w.left; phase = w.phase; patient = w.patient }
 
-pub stage-given : (late : ℕ) (e : MasterState NodeState) (stations : List StationSide) (now : Now) → Stage late e stations now → Stage late (given_next e) (map (with_given e) stations) now
+pub stage-given : (late : ℕ) (e : MasterState NodeState) (stations : List LineStationState) (now : Now) → Stage late e stations now → Stage late (given_next e) (map (with_given e) stations) now
 stage-given late e stations Idles s = record { idle = s.idle; outside = s.outside; rest = all-given e stations s.rest }
 stage-given late e stations (Awaits place awaited) s = record { waits = waits-given late e place awaited s.waits; expects = expects-given e stations place awaited s.expects }
 

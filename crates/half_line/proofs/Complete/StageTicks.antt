@@ -7,9 +7,9 @@ use Rattle.half_master.specs.declared.MasterSetup.{MasterSetup}
 use Rattle.half_master.specs.declared.table.Phase.TheVariants as phase
 use Rattle.half_master.specs.Master.{MasterState}
 use Rattle.half_master.proofs.Changes.{TickLeaves, tick-giving, tick-waits, tick-polled}
-use Rattle.line_cells.specs.Cells.{LaneCell}
+use Rattle.lane_cells.specs.Cells.{LaneCell}
 use Rattle.each_once.specs.NodeHost.{node_host}
-use Rattle.half_line.specs.Acts.{StationSide}
+use Rattle.half_line.specs.Acts.{LineStationState}
 use Rattle.half_line.proofs.Complete.ComingCells.{coming}
 use Rattle.half_line.proofs.Complete.EarHears.{Telling, Hears}
 use Rattle.half_line.proofs.Complete.StationHears.{station_ear}
@@ -26,30 +26,30 @@ pub record IsAlike (m after : MasterState NodeState) : Type 0 where
   pub mouth : after.mouth ≡ m.mouth
   pub sending : after.sending ≡ m.sending
 
-tape-same : (m after : MasterState NodeState) (side : StationSide) → IsAlike m after → tape m side ≡ tape after side
+tape-same : (m after : MasterState NodeState) (side : LineStationState) → IsAlike m after → tape m side ≡ tape after side
 tape-same m after side a = ap (λ (g : Giving). side.to_it ++ coming g m.sending) (sym a.mouth) ∙ ap (λ (body : List ℕ). side.to_it ++ coming after.mouth body) (sym a.sending)
 
-comes-same : (m after : MasterState NodeState) (side : StationSide) (call : Telling station_ear) → IsAlike m after → Comes m side call → Comes after side call
+comes-same : (m after : MasterState NodeState) (side : LineStationState) (call : Telling station_ear) → IsAlike m after → Comes m side call → Comes after side call
 comes-same m after side call a c = record {
   called = subst (λ (cells : List LaneCell). Called side.slave cells call) (tape-same m after side a) c.called;
   none_back = c.none_back;
   outside = subst (λ (ear : Listening). IsOutside ear.standing) (sym a.ear) c.outside;
 }
 
-returns-same : (m after : MasterState NodeState) (side : StationSide) (reply : Telling master_ear) → IsAlike m after → Returns m side reply → Returns after side reply
+returns-same : (m after : MasterState NodeState) (side : LineStationState) (reply : Telling master_ear) → IsAlike m after → Returns m side reply → Returns after side reply
 returns-same m after side reply a r = record {
   hears = subst (λ (cells : List LaneCell). Hears station_ear side.slave.ear cells []) (tape-same m after side a) r.hears;
   answers = subst (λ (ear : Listening). Answers side.slave side.from_it ear reply) (sym a.ear) r.answers;
 }
 
-progress-same : (m after : MasterState NodeState) (side : StationSide) (awaited : Awaited) → IsAlike m after → Progress m side awaited → Progress after side awaited
+progress-same : (m after : MasterState NodeState) (side : LineStationState) (awaited : Awaited) → IsAlike m after → Progress m side awaited → Progress after side awaited
 progress-same m after side (Receipt body) a c = comes-same m after side (a_message side.number body) a c
 progress-same m after side Polling a c = comes-same m after side (a_poll side.number) a c
 progress-same m after side Ack a r = returns-same m after side an_ack a r
 progress-same m after side Eot a r = returns-same m after side an_eot a r
 progress-same m after side (Message body) a r = returns-same m after side (a_reply body) a r
 
-pub expects-same : (m after : MasterState NodeState) (stations : List StationSide) (place : ℕ) (awaited : Awaited) → IsAlike m after → Expects m stations place awaited → Expects after stations place awaited
+pub expects-same : (m after : MasterState NodeState) (stations : List LineStationState) (place : ℕ) (awaited : Awaited) → IsAlike m after → Expects m stations place awaited → Expects after stations place awaited
 expects-same m after stations place awaited a e = record {
   side = e.side;
   is_at = e.is_at;
@@ -77,7 +77,7 @@ waits-alike late m after place Eot phase setup w = poll-alike late m after place
 waits-alike late m after place (Message body) phase setup w = poll-alike late m after place phase setup w
 
 -- and the stage
-pub stage-alike : (late : ℕ) (m after : MasterState NodeState) (stations : List StationSide) (now : Now) → IsAlike m after → after.phase ≡ m.phase → after.setup ≡ m.setup → Stage late m stations now → Stage late after stations now
+pub stage-alike : (late : ℕ) (m after : MasterState NodeState) (stations : List LineStationState) (now : Now) → IsAlike m after → after.phase ≡ m.phase → after.setup ≡ m.setup → Stage late m stations now → Stage late after stations now
 stage-alike late m after stations Idles a phase setup s = record {
   idle = phase ∙ s.idle;
   outside = subst (λ (ear : Listening). IsOutside ear.standing) (sym a.ear) s.outside;

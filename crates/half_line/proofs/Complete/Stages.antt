@@ -12,9 +12,9 @@ use Rattle.half_master.specs.Master as master
 use Rattle.half_slave.specs.Slave as slave
 use Rattle.half_slave.specs.Slave.{SlaveState}
 use Rattle.df1_node.specs.Node.{NodeState}
-use Rattle.line_cells.specs.Cells.{LaneCell}
+use Rattle.lane_cells.specs.Cells.{LaneCell}
 use Rattle.each_once.proofs.Sublists.{same-some}
-use Rattle.half_line.specs.Acts.{StationSide}
+use Rattle.half_line.specs.Acts.{LineStationState}
 use Rattle.half_line.specs.Prompt.{is_idle}
 use Rattle.half_line.proofs.Complete.ComingCells.{cells_of, coming}
 use Rattle.half_line.proofs.Complete.EarHears.{Telling, told, Hears}
@@ -26,11 +26,11 @@ use Rattle.half_line.proofs.Complete.StationAnswers.{giving_of, back, Answers}
 -- ---- one station
 
 -- the cells that a station will hear: those on their way to it, and those that the master is still to give
-abbrev pub tape : MasterState NodeState → StationSide → List LaneCell
+abbrev pub tape : MasterState NodeState → LineStationState → List LaneCell
 tape m side = side.to_it ++ coming m.mouth m.sending
 
 -- nothing of it is awaited, and nothing of it is on its way
-pub record SideRests (m : MasterState NodeState) (side : StationSide) : Type 0 where
+pub record SideRests (m : MasterState NodeState) (side : LineStationState) : Type 0 where
   pub own : side.slave.setup.station ≡ side.number
   pub check : side.slave.ear.check ≡ m.ear.check
   pub line : side.slave.setup.check ≡ m.ear.check
@@ -62,24 +62,24 @@ abbrev pub a_reply : List ℕ → Telling master_ear
 a_reply body = told master_ear master_hears.Good body
 
 -- it hasn't heard its call yet
-pub record Comes (m : MasterState NodeState) (side : StationSide) (call : Telling station_ear) : Type 0 where
+pub record Comes (m : MasterState NodeState) (side : LineStationState) (call : Telling station_ear) : Type 0 where
   pub called : Called side.slave (tape m side) call
   pub none_back : side.from_it ≡ []
   pub outside : IsOutside m.ear.standing
 
 -- it has, there is nothing more for it to hear, and the master hasn't heard its reply
-pub record Returns (m : MasterState NodeState) (side : StationSide) (reply : Telling master_ear) : Type 0 where
+pub record Returns (m : MasterState NodeState) (side : LineStationState) (reply : Telling master_ear) : Type 0 where
   pub hears : Hears station_ear side.slave.ear (tape m side) []
   pub answers : Answers side.slave side.from_it m.ear reply
 
-abbrev pub Progress : MasterState NodeState → StationSide → Awaited → Type 0
+abbrev pub Progress : MasterState NodeState → LineStationState → Awaited → Type 0
 Progress m side (Receipt body) = Comes m side (a_message side.number body)
 Progress m side Polling = Comes m side (a_poll side.number)
 Progress m side Ack = Returns m side an_ack
 Progress m side Eot = Returns m side an_eot
 Progress m side (Message body) = Returns m side (a_reply body)
 
-pub record SideCalled (m : MasterState NodeState) (side : StationSide) (awaited : Awaited) : Type 0 where
+pub record SideCalled (m : MasterState NodeState) (side : LineStationState) (awaited : Awaited) : Type 0 where
   pub own : side.slave.setup.station ≡ side.number
   pub check : side.slave.ear.check ≡ m.ear.check
   pub line : side.slave.setup.check ≡ m.ear.check
@@ -88,15 +88,15 @@ pub record SideCalled (m : MasterState NodeState) (side : StationSide) (awaited 
 -- ---- all of them
 
 -- nothing is awaited of any
-abbrev pub AllRest : MasterState NodeState → List StationSide → Type 0
-AllRest m stations = (p : ℕ) (side : StationSide) → slice_get stations p ≡ Some side → SideRests m side
+abbrev pub AllRest : MasterState NodeState → List LineStationState → Type 0
+AllRest m stations = (p : ℕ) (side : LineStationState) → slice_get stations p ≡ Some side → SideRests m side
 
 -- this is awaited of the station at one place, and nothing of the others
-pub record Expects (m : MasterState NodeState) (stations : List StationSide) (place : ℕ) (awaited : Awaited) : Type 0 where
-  pub side : StationSide
+pub record Expects (m : MasterState NodeState) (stations : List LineStationState) (place : ℕ) (awaited : Awaited) : Type 0 where
+  pub side : LineStationState
   pub is_at : slice_get stations place ≡ Some side
   pub called : SideCalled m side awaited
-  pub others : (p : ℕ) (other : StationSide) → slice_get stations p ≡ Some other → (p ≡ place → ⊥) → SideRests m other
+  pub others : (p : ℕ) (other : LineStationState) → slice_get stations p ≡ Some other → (p ≡ place → ⊥) → SideRests m other
 
 -- of a wait those ticks are left that weren't late
 pub record WaitsForAck (late : ℕ) (m : MasterState NodeState) : Type 0 where
@@ -122,16 +122,16 @@ pub data Now : Type 0 where
   Idles : Now
   Awaits : (place : ℕ) (awaited : Awaited) → Now
 
-pub record Idling (m : MasterState NodeState) (stations : List StationSide) : Type 0 where
+pub record Idling (m : MasterState NodeState) (stations : List LineStationState) : Type 0 where
   pub idle : m.phase ≡ phase.Idle
   pub outside : IsOutside m.ear.standing
   pub rest : AllRest m stations
 
-pub record Awaiting (late : ℕ) (m : MasterState NodeState) (stations : List StationSide) (place : ℕ) (awaited : Awaited) : Type 0 where
+pub record Awaiting (late : ℕ) (m : MasterState NodeState) (stations : List LineStationState) (place : ℕ) (awaited : Awaited) : Type 0 where
   pub waits : Waits late m place awaited
   pub expects : Expects m stations place awaited
 
-abbrev pub Stage : ℕ → MasterState NodeState → List StationSide → Now → Type 0
+abbrev pub Stage : ℕ → MasterState NodeState → List LineStationState → Now → Type 0
 Stage late m stations Idles = Idling m stations
 Stage late m stations (Awaits place awaited) = Awaiting late m stations place awaited
 
@@ -154,12 +154,12 @@ both true b is = (refl, is)
 both false b is = absurd cc
 
 -- what an idle station has: empty lanes, and nothing to give
-pub record IsIdle (side : StationSide) : Type 0 where
+pub record IsIdle (side : LineStationState) : Type 0 where
   pub none_to_it : side.to_it ≡ []
   pub none_from_it : side.from_it ≡ []
   pub gives_none : is_none (slave.out_at_take side.slave) ≡ true
 
-pub idle-is : (side : StationSide) → is_idle side ≡ true → IsIdle side
+pub idle-is : (side : LineStationState) → is_idle side ≡ true → IsIdle side
 idle-is side is =
     let first = both (is_none (slice_get side.to_it 0)) (is_none (slice_get side.from_it 0) && is_none (slave.out_at_take side.slave)) is in
     let second = both (is_none (slice_get side.from_it 0)) (is_none (slave.out_at_take side.slave)) first.1 in
@@ -174,7 +174,7 @@ pub nothing-comes : (g : Giving) (sending : List ℕ) → is_none (take g).1 ≡
 nothing-comes g sending none = none-coming g.left g.number g.begun sending none
 
 -- of no cells nothing is heard
-pub no-tape : (m : MasterState NodeState) (side : StationSide) → m.mouth.left ≡ [] → side.to_it ≡ [] → tape m side ≡ []
+pub no-tape : (m : MasterState NodeState) (side : LineStationState) → m.mouth.left ≡ [] → side.to_it ≡ [] → tape m side ≡ []
 no-tape m side given none = ap (λ (lane : List LaneCell). lane ++ coming m.mouth m.sending) none ∙ ap (cells_of m.mouth.number m.sending) given
 
 some-end : (before : List (Telling station_ear)) (call : Telling station_ear) → before ++ call ∷ [] ≡ [] → ⊥
@@ -192,15 +192,15 @@ no-answer s lane m reply none a =
     let no : [] ≡ reply ∷ [] = h.tells in
     cc
 
-busy-comes : (m : MasterState NodeState) (side : StationSide) (call : Telling station_ear) → m.mouth.left ≡ [] → IsIdle side → Comes m side call → ⊥
+busy-comes : (m : MasterState NodeState) (side : LineStationState) (call : Telling station_ear) → m.mouth.left ≡ [] → IsIdle side → Comes m side call → ⊥
 busy-comes m side call given idle c = no-call side.slave (tape m side) call (no-tape m side given idle.none_to_it) c.called
 
-busy-returns : (m : MasterState NodeState) (side : StationSide) (reply : Telling master_ear) → IsIdle side → Returns m side reply → ⊥
+busy-returns : (m : MasterState NodeState) (side : LineStationState) (reply : Telling master_ear) → IsIdle side → Returns m side reply → ⊥
 busy-returns m side reply idle r =
     let none = ap (λ (lane : List LaneCell). back side.slave lane) idle.none_from_it ∙ nothing-comes (giving_of side.slave) side.slave.sending idle.gives_none in
     no-answer side.slave side.from_it m reply none r.answers
 
-busy-progress : (m : MasterState NodeState) (side : StationSide) (awaited : Awaited) → m.mouth.left ≡ [] → IsIdle side → Progress m side awaited → ⊥
+busy-progress : (m : MasterState NodeState) (side : LineStationState) (awaited : Awaited) → m.mouth.left ≡ [] → IsIdle side → Progress m side awaited → ⊥
 busy-progress m side (Receipt body) given idle c = busy-comes m side (a_message side.number body) given idle c
 busy-progress m side Polling given idle c = busy-comes m side (a_poll side.number) given idle c
 busy-progress m side Ack given idle r = busy-returns m side an_ack idle r
@@ -208,12 +208,12 @@ busy-progress m side Eot given idle r = busy-returns m side an_eot idle r
 busy-progress m side (Message body) given idle r = busy-returns m side (a_reply body) idle r
 
 -- so not all stations are idle
-pub all-at : (stations : List StationSide) (place : ℕ) (side : StationSide) → list_all is_idle stations ≡ true → slice_get stations place ≡ Some side → is_idle side ≡ true
+pub all-at : (stations : List LineStationState) (place : ℕ) (side : LineStationState) → list_all is_idle stations ≡ true → slice_get stations place ≡ Some side → is_idle side ≡ true
 all-at [] place side all at = absurd cc
 all-at (first ∷ stations) zero side all at =
     let parts = both (is_idle first) (list_all is_idle stations) all in
-    subst (λ (s : StationSide). is_idle s ≡ true) (same-some first side at) parts.0
+    subst (λ (s : LineStationState). is_idle s ≡ true) (same-some first side at) parts.0
 all-at (first ∷ stations) (suc place) side all at = all-at stations place side (both (is_idle first) (list_all is_idle stations) all).1 at
 
-pub expects-busy : (m : MasterState NodeState) (stations : List StationSide) (place : ℕ) (awaited : Awaited) → m.mouth.left ≡ [] → Expects m stations place awaited → list_all is_idle stations ≡ true → ⊥
+pub expects-busy : (m : MasterState NodeState) (stations : List LineStationState) (place : ℕ) (awaited : Awaited) → m.mouth.left ≡ [] → Expects m stations place awaited → list_all is_idle stations ≡ true → ⊥
 expects-busy m stations place awaited given e all = busy-progress m e.side awaited given (idle-is e.side (all-at stations place e.side all e.is_at)) e.called.progress

@@ -15,7 +15,7 @@ use Rattle.half_mouth.specs.Giving.{Giving, out_of, give, transmit, is_done, one
 use Rattle.half_slave.specs.declared.held.Held.{Held}
 use Rattle.half_slave.specs.Slave.{SlaveState, loaded, after_out, after_sending, ends_here, with_response, mouth_at_take, responds_at_take, out_at_take, slave_after_take}
 use Rattle.half_slave.proofs.Sizes.{some-left}
-use Rattle.line_cells.specs.Cells.{LaneCell, cell_of}
+use Rattle.lane_cells.specs.Cells.{LaneCell, cell_of}
 use Rattle.half_line.proofs.Complete.ComingCells.{cells_of, coming, coming-take}
 use Rattle.half_line.proofs.Complete.EarHears.{Telling, told, Hears, First, silent, says, first-heard, deceived_at, hears-none}
 use Rattle.half_line.proofs.Complete.MasterHears.{IsOutside, master_ear, hears-ack, hears-eot, hears-reply}

@@ -14,8 +14,8 @@ use Rattle.df1_node.specs.declared.handed.Handed.TheVariants as handed
 use Rattle.df1_node.specs.Initiator.{next_place, after_hand_out}
 use Rattle.df1_node.specs.Node.{NodeState, after_accept, after_next}
 use Rattle.half_slave.specs.Slave.{SlaveState}
-use Rattle.line_statement.specs.declared.who.Who.TheVariants.{S}
-use Rattle.line_report.specs.declared.record.Line.{Line}
+use Rattle.script_statement.specs.declared.who.Who.TheVariants.{S}
+use Rattle.replay_report.specs.declared.record.Line.{Line}
 use Rattle.each_once.specs.Exchanges.{station_after}
 use Rattle.each_once.specs.NodeHost.{node_host}
 use Rattle.each_once.specs.Tells.{executed_at, executed_in}

@@ -17,8 +17,8 @@ use Rattle.half_frame.specs.SlaveStep.{step, next, begun_by, text_next}
 use Rattle.half_frame.specs.Spelling.{station_head, unmarked, pair_bytes, poll_bytes, piece_sent, message_sent}
 use Rattle.half_frame.specs.TextStep.{Within, Onward, Goes, Ends, Breaks, begun, text_step}
 use Rattle.half_slave.specs.Slave.{is_whole, station_of}
-use Rattle.line_cells.specs.Cells.{ending_of}
-use Rattle.line_cells.specs.Deception.{is_to, station_deceptions}
+use Rattle.lane_cells.specs.Cells.{ending_of}
+use Rattle.lane_cells.specs.Deception.{is_to, station_deceptions}
 use Rattle.half_line.proofs.Complete.ComingCells.{cells_of}
 use Rattle.half_line.proofs.Complete.EarHears.{Ear, Telling, Hears, HearsTexts, telling, told, hears-byte, hears-text}
 use Rattle.half_line.proofs.Complete.WholeText.{text-reads, reads-some}

@@ -8,7 +8,7 @@ use Rattle.half_frame.specs.declared.heard.SlaveHeard.TheVariants as heard
 use Rattle.half_frame.specs.SlaveStanding.{lent_at}
 use Rattle.half_slave.specs.declared.held.Held.{Held}
 use Rattle.half_slave.specs.Slave.{SlaveState, heard_at, slave_after_byte}
-use Rattle.line_cells.specs.Cells.{LaneCell}
+use Rattle.lane_cells.specs.Cells.{LaneCell}
 use Rattle.half_line.proofs.Complete.EarHears.{Telling, told, Hears, First, silent, says, first-heard, deceived_at}
 use Rattle.half_line.proofs.Complete.StationHears.{station_ear}
 use Rattle.half_line.proofs.Complete.StationTurns.{PassesOver, IsMute, IsDiscreet, ear_at, turn-silent, turn-passes, turn-acked, mute-silent, mute-passes, mute-acked}

@@ -18,8 +18,8 @@ use Rattle.half_frame.specs.Spelling.{pair_bytes, unmarked}
 use Rattle.half_mouth.specs.Giving.{give}
 use Rattle.pccc_envelope.specs.Envelope.{key_of}
 use Rattle.pccc_envelope.specs.Accepted.{Accepted, is_kept}
-use Rattle.line_statement.specs.declared.who.Who.{Who}
-use Rattle.told_lines.specs.NodeLines.{did_lines, act_lines, news_lines, step_lines}
+use Rattle.script_statement.specs.declared.who.Who.{Who}
+use Rattle.report_lines.specs.NodeLines.{did_lines, act_lines, news_lines, step_lines}
 use Rattle.half_slave.specs.declared.held.Held.{Held}
 use Rattle.half_slave.specs.Slave.{SlaveState, loaded, after_heard, sent, received, verdict, heard_at, listened, slave_after_heard, slave_after_byte, fate_at_ack, told, polled, answered, is_quiet, is_own, is_answered, verdict_act, act_at, fate_at_poll, step_at_heard, step_at_byte}
 

@@ -18,12 +18,12 @@ use Rattle.half_master.specs.Master as master
 use Rattle.half_master.specs.Master.{MasterState, with_host, polled, master_after_tick, turn_at_tick, gone_at_tick}
 use Rattle.half_master.proofs.Changes.{TickLeaves, tick-giving, tick-ready, tick-polls}
 use Rattle.half_master.proofs.Runs.{signal-setup}
-use Rattle.line_statement.specs.declared.who.Who.TheVariants.{M}
-use Rattle.line_report.specs.declared.record.Line.{Line}
+use Rattle.script_statement.specs.declared.who.Who.TheVariants.{M}
+use Rattle.replay_report.specs.declared.record.Line.{Line}
 use Rattle.each_once.specs.NodeHost.{node_host}
 use Rattle.each_once.proofs.Sublists.{from-map}
-use Rattle.told_lines.specs.NodeLines.{turn_lines, gone_lines}
-use Rattle.half_line.specs.Acts.{StationSide, HalfState, Tick, master_lines, after_master_deed}
+use Rattle.report_lines.specs.NodeLines.{turn_lines, gone_lines}
+use Rattle.half_line.specs.Acts.{LineStationState, HalfState, Tick, master_lines, after_master_deed}
 use Rattle.half_line.specs.Steps.{AtMaster}
 use Rattle.half_line.specs.Issues.{bodies_of}
 use Rattle.half_line.specs.Prompt.{is_idle, is_quiet, late_after, patience}
@@ -43,7 +43,7 @@ tick-told : (m after : MasterState NodeState) → TickLeaves node_host m after [
 tick-told m after t = ap₂ (λ (x : Turn) (y : List ℕ). turn_lines M x ++ gone_lines M y) t.turn t.gone
 
 -- the course after a tick that leaves this master
-left-course : (setting : Setting) (m after : MasterState NodeState) (stations : List StationSide) (late ticks : ℕ) (lines : List Line) → TickLeaves node_host m after [] → Course setting after stations late ticks lines → Course setting (master_after_tick node_host m) stations late ticks (lines ++ master_lines m Tick)
+left-course : (setting : Setting) (m after : MasterState NodeState) (stations : List LineStationState) (late ticks : ℕ) (lines : List Line) → TickLeaves node_host m after [] → Course setting after stations late ticks lines → Course setting (master_after_tick node_host m) stations late ticks (lines ++ master_lines m Tick)
 left-course setting m after stations late ticks lines t c =
     subst (λ (all : List Line). Course setting (master_after_tick node_host m) stations late ticks all) (sym (append-nil lines) ∙ ap (λ (more : List Line). lines ++ more) (sym (tick-told m after t)))
     (subst (λ (e : MasterState NodeState). Course setting e stations late ticks lines) (sym t.master) c)
@@ -98,19 +98,19 @@ waiting-tick setting s late ticks lines place awaited stay done few a tied l =
 -- ---- where nothing is awaited
 
 -- the tick doesn't reach the host
-same-tick : (setting : Setting) (m : MasterState NodeState) (stations : List StationSide) (other ticks : ℕ) (lines : List Line) (stay : Stay) (done : ℕ) → TickLeaves node_host m m [] → Idling m stations → IsHome stay
+same-tick : (setting : Setting) (m : MasterState NodeState) (stations : List LineStationState) (other ticks : ℕ) (lines : List Line) (stay : Stay) (done : ℕ) → TickLeaves node_host m m [] → Idling m stations → IsHome stay
     → Ledger setting m.host.initiator m.stations stations lines stay done ticks → Course setting (master_after_tick node_host m) stations other (ticks + 1) (lines ++ master_lines m Tick)
 same-tick setting m stations other ticks lines stay done t idling tied l =
     let course : Course setting m stations other (ticks + 1) lines = record { now = Idles; stay = stay; done = done; stage = idling; tied = tied; ledger = ledger-later setting m.host.initiator m.stations stations lines stay done ticks l } in
     left-course setting m m stations other (ticks + 1) lines t course
 
 -- it does, and a station is polled, if there is one
-polls-course : (setting : Setting) (e : MasterState NodeState) (stations : List StationSide) (other ticks : ℕ) (lines : List Line) (stay : Stay) (done : ℕ) (o : Option Station) → slice_get e.stations e.next ≡ o → numbers_of e.stations ≡ setting.numbers → map (λ (x : StationSide). x.number) stations ≡ setting.numbers → e.mouth.left ≡ [] → Idling e stations
+polls-course : (setting : Setting) (e : MasterState NodeState) (stations : List LineStationState) (other ticks : ℕ) (lines : List Line) (stay : Stay) (done : ℕ) (o : Option Station) → slice_get e.stations e.next ≡ o → numbers_of e.stations ≡ setting.numbers → map (λ (x : LineStationState). x.number) stations ≡ setting.numbers → e.mouth.left ≡ [] → Idling e stations
     → IsHome stay → Ledger setting e.host.initiator e.stations stations lines stay done ticks → Course setting (polled e o) stations other ticks lines
 polls-course setting e stations other ticks lines stay done None is list_is numbers_are given idling tied l = record { now = Idles; stay = stay; done = done; stage = idling; tied = tied; ledger = l }
 polls-course setting e stations other ticks lines stay done (Some station) is list_is numbers_are given idling tied l =
     let number : slice_get setting.numbers e.next ≡ Some station.number = ap (λ (ns : List ℕ). slice_get ns e.next) (sym list_is) ∙ slice_get-map (λ (x : Station). x.number) e.stations e.next ∙ ap (option_map (λ (x : Station). x.number)) is in
-    let side = from-map (λ (x : StationSide). x.number) stations e.next station.number (ap (λ (ns : List ℕ). slice_get ns e.next) numbers_are ∙ number) in
+    let side = from-map (λ (x : LineStationState). x.number) stations e.next station.number (ap (λ (ns : List ℕ). slice_get ns e.next) numbers_are ∙ number) in
     let after = polled e (Some station) in
     let expects = poll-begins e after stations e.next side.0 given idling.outside idling.rest side.1
     (λ p far there differ same. other-number setting stations e.next p side.0.number far numbers_are (number-at setting.numbers stations e.next side.0 numbers_are side.1) there differ (sym same))
@@ -124,7 +124,7 @@ polls-course setting e stations other ticks lines stay done (Some station) is li
       ledger = l;
     }
 
-polls-tick : (setting : Setting) (m : MasterState NodeState) (stations : List StationSide) (other ticks : ℕ) (lines : List Line) (stay : Stay) (done : ℕ) → Known setting m stations → ticks + 1 < m.host.initiator.reply_ticks → is_done m.mouth ≡ true → next_body m.host ≡ None → Idling m stations → IsHome stay
+polls-tick : (setting : Setting) (m : MasterState NodeState) (stations : List LineStationState) (other ticks : ℕ) (lines : List Line) (stay : Stay) (done : ℕ) → Known setting m stations → ticks + 1 < m.host.initiator.reply_ticks → is_done m.mouth ≡ true → next_body m.host ≡ None → Idling m stations → IsHome stay
     → Ledger setting m.host.initiator m.stations stations lines stay done ticks → Course setting (master_after_tick node_host m) stations other (ticks + 1) (lines ++ master_lines m Tick)
 polls-tick setting m stations other ticks lines stay done k few gives next idling home l =
     let t = tick-polls node_host m gives idling.idle next in
@@ -136,7 +136,7 @@ polls-tick setting m stations other ticks lines stay done k few gives next idlin
     left-course setting m after stations other (ticks + 1) lines leaves
     (polls-course setting e stations other (ticks + 1) lines stay done (slice_get m.stations m.next) refl k.list_is k.numbers_are (done-left m.mouth.left gives) still home passed.1)
 
-idle-tick : (setting : Setting) (m : MasterState NodeState) (stations : List StationSide) (other ticks : ℕ) (lines : List Line) (stay : Stay) (done : ℕ) (given : Bool) (next : Option (List ℕ)) → is_done m.mouth ≡ given → next_body m.host ≡ next → Known setting m stations → ticks + 1 < m.host.initiator.reply_ticks
+idle-tick : (setting : Setting) (m : MasterState NodeState) (stations : List LineStationState) (other ticks : ℕ) (lines : List Line) (stay : Stay) (done : ℕ) (given : Bool) (next : Option (List ℕ)) → is_done m.mouth ≡ given → next_body m.host ≡ next → Known setting m stations → ticks + 1 < m.host.initiator.reply_ticks
     → Idling m stations → IsHome stay → Ledger setting m.host.initiator m.stations stations lines stay done ticks → Course setting (master_after_tick node_host m) stations other (ticks + 1) (lines ++ master_lines m Tick)
 idle-tick setting m stations other ticks lines stay done false next gives is k few idling home l = same-tick setting m stations other ticks lines stay done (tick-giving node_host m gives) idling home l
 idle-tick setting m stations other ticks lines stay done true (Some body) gives is k few idling home l = same-tick setting m stations other ticks lines stay done (tick-ready node_host m body gives idling.idle is) idling home l

@@ -14,22 +14,22 @@ use Rattle.df1_node.specs.Initiator.{Issued, next_command}
 use Rattle.df1_node.specs.Node.{next_body}
 use Rattle.half_master.specs.Stations.{is_listed}
 use Rattle.half_master.proofs.Seen.{listed-number}
-use Rattle.line_statement.specs.declared.who.Who.{Who}
-use Rattle.line_statement.specs.declared.who.Who.TheVariants.{M, S}
+use Rattle.script_statement.specs.declared.who.Who.{Who}
+use Rattle.script_statement.specs.declared.who.Who.TheVariants.{M, S}
 use Rattle.script_parts.specs.declared.script.Event.{Event}
 use Rattle.script_parts.specs.declared.script.Event.TheVariants as event
 use Rattle.script_parts.specs.declared.script.EndPlan.{EndPlan}
 use Rattle.script_parts.specs.declared.script.Script.{Script}
 use Rattle.script_parts.specs.HalfPlayable.{IsHalfPossible, IsHalfPlayable, is_declared, is_issue, station_plans}
 use Rattle.script_parts.specs.Plans.{first_plan}
-use Rattle.line_report.specs.declared.record.Line.{Line}
-use Rattle.line_report.specs.Report.{sent_lines}
+use Rattle.replay_report.specs.declared.record.Line.{Line}
+use Rattle.replay_report.specs.Report.{sent_lines}
 use Rattle.outset.specs.Outset.{first_station}
 use Rattle.each_once.specs.Tells.{executed_in, answers_in}
 use Rattle.each_once.specs.OfStation.{lines_of as own_lines}
 use Rattle.each_once.proofs.InitiatorProgress.{IsUnderWay, under-all}
 use Rattle.each_once.proofs.Sublists.{from-map}
-use Rattle.half_line.specs.Acts.{StationSide, HalfState, LinkDeed, Give, Tick, StationGives}
+use Rattle.half_line.specs.Acts.{LineStationState, HalfState, LinkDeed, Give, Tick, StationGives}
 use Rattle.half_line.specs.Complete.{is_to, numbered, answers_of, AllDoneAt, IsComplete}
 use Rattle.half_line.specs.Issues.{commands_of_m, issued_of, bodies_of}
 use Rattle.half_line.specs.Prompt.{is_quiet, ticks_at, late_event, IsPromptOver, IsPromptAfter, KeepsNone, IsUndisturbed}
@@ -69,7 +69,7 @@ all-ticks : (n : ℕ) → ticks_over (map AtMaster (replicate n Tick)) ≡ n
 all-ticks zero = refl
 all-ticks (suc n) = let more = all-ticks n in omega (arith, more)
 
-take-ticks : (stations : List StationSide) (who : Who) (n : ℕ) (o : Option ℕ) → ticks_over (steps_at stations o (event.Take who n)) ≡ 0
+take-ticks : (stations : List LineStationState) (who : Who) (n : ℕ) (o : Option ℕ) → ticks_over (steps_at stations o (event.Take who n)) ≡ 0
 take-ticks stations who n None = gives-none n
 take-ticks stations who n (Some number) = ticks-with (place_of stations number) (replicate n StationGives)
 
@@ -157,7 +157,7 @@ quiet-home : (setting : Setting) (s : HalfState) (late : ℕ) (bodies : List (Li
 quiet-home setting s late bodies done Idles stay stage quiet tied = tied
 quiet-home setting s late bodies done (Awaits place awaited) stay stage quiet tied = absurd (awaits-busy late s place awaited stage quiet)
 
-keeps-none : (stations : List StationSide) → All KeepsNone stations → (p : ℕ) (side : StationSide) → slice_get stations p ≡ Some side → KeepsNone side
+keeps-none : (stations : List LineStationState) → All KeepsNone stations → (p : ℕ) (side : LineStationState) → slice_get stations p ≡ Some side → KeepsNone side
 keeps-none stations all p side at = subst KeepsNone (get_or_from_slice_get stations p side side at) (all p side (slice_get_within stations p side at))
 
 -- and no station keeps one
@@ -214,7 +214,7 @@ record DoneAt (first : StationState) (number : ℕ) (bodies : List (List ℕ)) (
   executed : executed_in (S number) lines ≡ filter (is_to number) bodies
   answered : answers_in M (own_lines number lines) ≡ answers_of first (filter (is_numbered_to number) (numbered bodies))
 
-done-at : (setting : Setting) (s : HalfState) (lines : List Line) (p : ℕ) (side : StationSide) → slice_get s.stations p ≡ Some side → AllAnswered setting s lines → DoneAt (setting.first p) side.number (bodies_of s.master) lines
+done-at : (setting : Setting) (s : HalfState) (lines : List Line) (p : ℕ) (side : LineStationState) → slice_get s.stations p ≡ Some side → AllAnswered setting s lines → DoneAt (setting.first p) side.number (bodies_of s.master) lines
 done-at setting s lines p side at a =
     let bodies = bodies_of s.master in
     let b = a.ledger.sides p side at in

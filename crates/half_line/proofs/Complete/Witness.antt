@@ -8,13 +8,13 @@ use Rattle.df1_check.specs.Checks.{with_byte}
 use Rattle.df1_frame.specs.Spelling.{check_bytes}
 use Rattle.logical_address.specs.Reading.{three_front}
 use Rattle.slc_commands.specs.Order.{fields, spelled_order}
-use Rattle.line_statement.specs.declared.who.Who.TheVariants.{M, S}
-use Rattle.line_cells.specs.Cells.{LaneCell}
+use Rattle.script_statement.specs.declared.who.Who.TheVariants.{M, S}
+use Rattle.lane_cells.specs.Cells.{LaneCell}
 use Rattle.script_parts.specs.declared.script.Event.{Event}
 use Rattle.script_parts.specs.HalfPlayable.{IsStationNumber, IsStationPlan, IsHalfPossible, IsHalfPlayable, numbers_of, station_plans}
 use Rattle.each_once.proofs.Sublists.{none-is}
 use Rattle.each_once.specs.Tells.{executed_in, answers_in}
-use Rattle.half_line.specs.Acts.{StationSide, HalfState, LaneDeed, Deliver, Lose, Alter, Foreign, lane_of, LinkDeed, StationGives, OnLane}
+use Rattle.half_line.specs.Acts.{LineStationState, HalfState, LaneDeed, Deliver, Lose, Alter, Foreign, lane_of, LinkDeed, StationGives, OnLane}
 use Rattle.half_line.specs.Steps.{UnitStep, AtMaster, AtStation, after_step}
 use Rattle.half_line.specs.Run.{start, steps_of, after_event, last_state, lines_after, record_from}
 use Rattle.half_line.specs.Prompt.{late_after, late_event, patience, IsGentleOn, IsGentleAt, IsGentleWith, IsGentle, IsPromptOver, IsPromptAfter, EndsQuiet, KeepsNone, EndsFetched, IsUndisturbed}
@@ -85,11 +85,11 @@ is_gentle_on lane Lose = is_none (slice_get lane 0)
 is_gentle_on lane (Alter mask) = is_none (slice_get lane 0)
 is_gentle_on lane (Foreign byte) = false
 
-abbrev is_gentle_at : StationSide → LinkDeed → Bool
+abbrev is_gentle_at : LineStationState → LinkDeed → Bool
 is_gentle_at side StationGives = true
 is_gentle_at side (OnLane way deed) = is_gentle_on (lane_of way side) deed
 
-abbrev is_gentle_with : LinkDeed → Option StationSide → Bool
+abbrev is_gentle_with : LinkDeed → Option LineStationState → Bool
 is_gentle_with deed None = true
 is_gentle_with deed (Some side) = is_gentle_at side deed
 
@@ -116,11 +116,11 @@ gentle-on lane Lose h = none-is (slice_get lane 0) h
 gentle-on lane (Alter mask) h = none-is (slice_get lane 0) h
 gentle-on lane (Foreign byte) h = absurd cc
 
-gentle-at : (side : StationSide) (deed : LinkDeed) → is_gentle_at side deed ≡ true → IsGentleAt side deed
+gentle-at : (side : LineStationState) (deed : LinkDeed) → is_gentle_at side deed ≡ true → IsGentleAt side deed
 gentle-at side StationGives h = tt
 gentle-at side (OnLane way deed) h = gentle-on (lane_of way side) deed h
 
-gentle-with : (deed : LinkDeed) (o : Option StationSide) → is_gentle_with deed o ≡ true → IsGentleWith deed o
+gentle-with : (deed : LinkDeed) (o : Option LineStationState) → is_gentle_with deed o ≡ true → IsGentleWith deed o
 gentle-with deed None h = tt
 gentle-with deed (Some side) h = gentle-at side deed h
 

@@ -11,15 +11,15 @@ use Rattle.df1_node.specs.Initiator.{Issued}
 use Rattle.half_master.specs.Keys.{kept_at}
 use Rattle.half_master.specs.Stations.{listed, numbers_of as station_numbers}
 use Rattle.half_master.proofs.LastMessage.{sends-start}
-use Rattle.line_statement.specs.declared.who.Who.TheVariants.{M, S}
+use Rattle.script_statement.specs.declared.who.Who.TheVariants.{M, S}
 use Rattle.script_parts.specs.declared.script.EndPlan.{EndPlan}
 use Rattle.script_parts.specs.declared.script.Script.{Script}
 use Rattle.script_parts.specs.declared.script.WordOf.{WordOf}
 use Rattle.script_parts.specs.HalfPlayable.{AreHalfEnds, IsHalfPlayable, station_plans, numbers_of}
 use Rattle.script_parts.specs.Plans.{first_plan}
-use Rattle.line_report.specs.declared.record.Line.{Line}
+use Rattle.replay_report.specs.declared.record.Line.{Line}
 use Rattle.outset.specs.Outset.{first_station, first_node}
-use Rattle.told_lines.specs.Words.{words_of}
+use Rattle.report_lines.specs.Words.{words_of}
 use Rattle.each_once.specs.Commands.{AreOutcomesTold}
 use Rattle.each_once.specs.Exchanges.{exchanges, station_after}
 use Rattle.each_once.specs.OfStation.{lines_of}
@@ -33,7 +33,7 @@ use Rattle.each_once.proofs.RisingPlaces.{some-of, are-apart}
 use Rattle.each_once.proofs.Sublists.{IsWithin, within-front, from-map, same-some}
 use Rattle.each_once.proofs.ToldLines.{told-start}
 use Rattle.each_once.proofs.ToldReplies.{reply-to, one-outcome, astray-told}
-use Rattle.half_line.specs.Acts.{StationSide, HalfState}
+use Rattle.half_line.specs.Acts.{LineStationState, HalfState}
 use Rattle.half_line.specs.Once.{OnceAtStation, EachOnce, tables_made, words_made}
 use Rattle.half_line.specs.Run.{master_setup, slave_setup, first_side, plan_of_m, start, last_state, lines_after, tables_of, record_from}
 use Rattle.half_line.specs.Issues.{commands_of_m, issued_of}
@@ -70,7 +70,7 @@ listed-kept [] p = refl
 listed-kept (n ∷ numbers) zero = refl
 listed-kept (n ∷ numbers) (suc p) = listed-kept numbers p
 
-pub side-numbers : (check : Check) (plans : List EndPlan) → map (λ (side : StationSide). side.number) (map (first_side check) plans) ≡ map (λ (plan : EndPlan). plan.node) plans
+pub side-numbers : (check : Check) (plans : List EndPlan) → map (λ (side : LineStationState). side.number) (map (first_side check) plans) ≡ map (λ (plan : EndPlan). plan.node) plans
 side-numbers check [] = refl
 side-numbers check (plan ∷ plans) = ap (λ ns. plan.node ∷ ns) (side-numbers check plans)
 
@@ -104,7 +104,7 @@ holds-start script playable =
       sides = λ p side at.
           let was = from-map (first_side script.check) plans p side at in
           let plan : plan_at script p ≡ was.0 = get_or_from_slice_get plans p was.0 (first_plan M 0) was.1 in
-          subst (λ (x : StationSide). SideHolds (shared [] [] [] []) (first_station (plan_at script p)) (kept_at (listed (numbers_of script.ends)) p) x) was.2
+          subst (λ (x : LineStationState). SideHolds (shared [] [] [] []) (first_station (plan_at script p)) (kept_at (listed (numbers_of script.ends)) p) x) was.2
           (subst (λ k. SideHolds (shared [] [] [] []) (first_station (plan_at script p)) k (first_side script.check was.0)) (sym (listed-kept (numbers_of script.ends) p))
           (subst (λ (x : EndPlan). SideHolds (shared [] [] [] []) (first_station x) None (first_side script.check was.0)) (sym plan) (first-holds script.check was.0)));
     }
@@ -114,7 +114,7 @@ holds-start script playable =
 all-as : {X : Type 0} (P Q : X → Type 0) (xs : List X) → ((x : X) → P x → Q x) → All P xs → All Q xs
 all-as P Q xs each all k d inside = each _ (all k d inside)
 
-once-of : (setting : Setting) (count : ℕ) (s : HalfState) (lines : List Line) (p : ℕ) (side : StationSide) → count ≤ 65535 → AreOutcomesTold M (issued_of s.master) lines → (h : Holds setting count s lines) → slice_get s.stations p ≡ Some side
+once-of : (setting : Setting) (count : ℕ) (s : HalfState) (lines : List Line) (p : ℕ) (side : LineStationState) → count ≤ 65535 → AreOutcomesTold M (issued_of s.master) lines → (h : Holds setting count s lines) → slice_get s.stations p ≡ Some side
     → Once M (S side.number) (map (λ c. c.body) (issued_of s.master)) (setting.first p) (lines_of side.number lines)
 once-of setting count s lines p side few told h at =
     let issued = issued_of s.master in
@@ -139,9 +139,9 @@ to-all number bodies to k d inside = to k _ (slice_get-get_or bodies k d inside)
 
 -- the station at the place of a plan
 pub side-of : (setting : Setting) (count : ℕ) (s : HalfState) (lines : List Line) (plans : List EndPlan) (p : ℕ) (plan : EndPlan) → setting.numbers ≡ map (λ (x : EndPlan). x.node) plans → Holds setting count s lines → slice_get plans p ≡ Some plan
-    → (side : StationSide) × (slice_get s.stations p ≡ Some side) × (side.number ≡ plan.node)
+    → (side : LineStationState) × (slice_get s.stations p ≡ Some side) × (side.number ≡ plan.node)
 side-of setting count s lines plans p plan are h at =
-    from-map (λ (x : StationSide). x.number) s.stations p plan.node
+    from-map (λ (x : LineStationState). x.number) s.stations p plan.node
     (ap (λ ns. slice_get ns p) (h.numbers_are ∙ are) ∙ slice_get-map (λ (x : EndPlan). x.node) plans p ∙ ap (option_map (λ (x : EndPlan). x.node)) at)
 
 at-station : (script : Script) (playable : IsHalfPlayable script) (count : ℕ) (s : HalfState) (lines : List Line) (p : ℕ) (plan : EndPlan) → count ≤ 65535 → map (λ c. c.body) (issued_of s.master) ≡ commands_of_m script → AreOutcomesTold M (issued_of s.master) lines
@@ -163,15 +163,15 @@ at-station script playable count s lines p plan few bodies told h at =
 
 -- ---- the words
 
-words-same : (f : StationSide → List WordOf) (g : EndPlan → List WordOf) (stations : List StationSide) (plans : List EndPlan) → map (λ (x : StationSide). x.number) stations ≡ map (λ (x : EndPlan). x.node) plans
-    → ((p : ℕ) (side : StationSide) (plan : EndPlan) → slice_get stations p ≡ Some side → slice_get plans p ≡ Some plan → f side ≡ g plan) → flat_map f stations ≡ flat_map g plans
+words-same : (f : LineStationState → List WordOf) (g : EndPlan → List WordOf) (stations : List LineStationState) (plans : List EndPlan) → map (λ (x : LineStationState). x.number) stations ≡ map (λ (x : EndPlan). x.node) plans
+    → ((p : ℕ) (side : LineStationState) (plan : EndPlan) → slice_get stations p ≡ Some side → slice_get plans p ≡ Some plan → f side ≡ g plan) → flat_map f stations ≡ flat_map g plans
 words-same f g [] [] are each = refl
 words-same f g [] (plan ∷ plans) are each = absurd cc
 words-same f g (side ∷ stations) [] are each = absurd cc
 words-same f g (side ∷ stations) (plan ∷ plans) are each =
-    ap₂ (λ x y. x ++ y) (each zero side plan refl refl) (words-same f g stations plans (let same : map (λ (x : StationSide). x.number) stations ≡ map (λ (x : EndPlan). x.node) plans = cc in same) (λ p s q at at-plan. each (suc p) s q at at-plan))
+    ap₂ (λ x y. x ++ y) (each zero side plan refl refl) (words-same f g stations plans (let same : map (λ (x : LineStationState). x.number) stations ≡ map (λ (x : EndPlan). x.node) plans = cc in same) (λ p s q at at-plan. each (suc p) s q at at-plan))
 
-tables-are : (script : Script) (playable : IsHalfPlayable script) (count : ℕ) (s : HalfState) (lines : List Line) → Holds (setting_of script playable) count s lines → (p : ℕ) (side : StationSide) (plan : EndPlan)
+tables-are : (script : Script) (playable : IsHalfPlayable script) (count : ℕ) (s : HalfState) (lines : List Line) → Holds (setting_of script playable) count s lines → (p : ℕ) (side : LineStationState) (plan : EndPlan)
     → slice_get s.stations p ≡ Some side → slice_get (station_plans script.ends) p ≡ Some plan → side.number ≡ plan.node → words_of (S side.number) (tables_of side) ≡ words_made (record_from s lines) plan
 tables-are script playable count s lines h p side plan at at-plan number =
     let this = h.sides p side at in
@@ -182,12 +182,12 @@ tables-are script playable count s lines h p side plan at at-plan number =
     ap (λ (station : StationState). station.tables) (this.keeps.serves.station ∙ ap₂ (λ (x : EndPlan) (bodies : List (List ℕ)). station_after (first_station x) bodies) first executed) in
     ap₂ (λ (n : ℕ) (t : DataTables). words_of (S n) t) number tables
 
-number-of : (setting : Setting) (count : ℕ) (s : HalfState) (lines : List Line) (plans : List EndPlan) (p : ℕ) (side : StationSide) (plan : EndPlan) → setting.numbers ≡ map (λ (x : EndPlan). x.node) plans → Holds setting count s lines
+number-of : (setting : Setting) (count : ℕ) (s : HalfState) (lines : List Line) (plans : List EndPlan) (p : ℕ) (side : LineStationState) (plan : EndPlan) → setting.numbers ≡ map (λ (x : EndPlan). x.node) plans → Holds setting count s lines
     → slice_get s.stations p ≡ Some side → slice_get plans p ≡ Some plan → side.number ≡ plan.node
 number-of setting count s lines plans p side plan are h at at-plan =
     let found = side-of setting count s lines plans p plan are h at-plan in
     let same : found.0 ≡ side = same-some found.0 side (sym found.1 ∙ at) in
-    sym (ap (λ (x : StationSide). x.number) same) ∙ found.2
+    sym (ap (λ (x : LineStationState). x.number) same) ∙ found.2
 
 -- ---- the whole
 
@@ -209,6 +209,6 @@ each-once script playable bodies told none =
       strays_from = h.replies.strays_from;
       executes_none = h.replies.executes_none;
       words = ap₂ (λ (x : DataTables) (y : List WordOf). words_of M x ++ y) (ap (λ (station : StationState). station.tables) h.master.issues.station)
-          (words-same (λ (side : StationSide). words_of (S side.number) (tables_of side)) (words_made (record_from s lines)) s.stations plans h.numbers_are
+          (words-same (λ (side : LineStationState). words_of (S side.number) (tables_of side)) (words_made (record_from s lines)) s.stations plans h.numbers_are
           (λ p side plan at at-plan. tables-are script playable count s lines h p side plan at at-plan (number-of setting count s lines plans p side plan refl h at at-plan)));
     }

@@ -5,7 +5,7 @@ use Rattle.std.specs.Option.{option_map}
 use Rattle.std.proofs.lemmas.List.{map-append}
 use Rattle.df1_base.specs.declared.link.Out.{Out}
 use Rattle.pccc_envelope.specs.declared.key.Key.{Key}
-use Rattle.line_cells.specs.Cells.{LaneCell, Ending, cell_of, altered}
+use Rattle.lane_cells.specs.Cells.{LaneCell, Ending, cell_of, altered}
 use Rattle.half_master.proofs.LastMessage.{IsLast}
 use Rattle.each_once.proofs.OneDirection.{Lane, Way, way-put, way-end, way-leaves, way-bare}
 use Rattle.half_line.proofs.Once.Invariant.{marks}

@@ -19,10 +19,10 @@ use Rattle.script_parts.specs.declared.script.Event.{Event}
 use Rattle.script_parts.specs.declared.script.Script.{Script}
 use Rattle.script_parts.specs.HalfPlayable.{station_plans, numbers_of}
 use Rattle.outset.specs.Outset.{first_node}
-use Rattle.line_cells.specs.Cells.{LaneCell}
+use Rattle.lane_cells.specs.Cells.{LaneCell}
 use Rattle.each_once.specs.NodeHost.{node_host}
 use Rattle.half_line.specs.declared.way.Way.TheVariants.{ToStation, ToMaster}
-use Rattle.half_line.specs.Acts.{StationSide, HalfState, LinkState, link_state, MasterDeed, Issue, Give, Tick, LinkDeed, StationGives, OnLane, lane_after, arriving, step_of, joined, cells_given, master_after, after_arrival, after_link_deed}
+use Rattle.half_line.specs.Acts.{LineStationState, HalfState, LinkState, link_state, MasterDeed, Issue, Give, Tick, LinkDeed, StationGives, OnLane, lane_after, arriving, step_of, joined, cells_given, master_after, after_arrival, after_link_deed}
 use Rattle.half_line.specs.Steps.{UnitStep, AtMaster, AtStation, link_of, after_with, after_step, after_steps}
 use Rattle.half_line.specs.Run.{master_setup, slave_setup, first_side, plan_of_m, start, steps_of, after_event, state_after}
 use Rattle.half_line.specs.Arrivals.{station_arrived, station_arrivals, station_arrivals_with, station_arrivals_at, station_arrivals_over, station_arrivals_in, master_arrived, master_arrivals, master_arrivals_with, master_arrivals_at, master_arrivals_over, master_arrivals_in}
@@ -31,7 +31,7 @@ use Rattle.half_line.proofs.Steps.WholeLine.{get-set}
 -- ---- a station
 
 -- the station stands for what arrived, at which it heard whole messages by the grammar
-pub record StationHears (check : Check) (arrivals : List slave.Arrival) (side : StationSide) : Type 0 where
+pub record StationHears (check : Check) (arrivals : List slave.Arrival) (side : LineStationState) : Type 0 where
   pub stands : slave.StandsFor check (slave.bytes_arrived arrivals) side.slave
   pub heard : slave.HeardByGrammar check arrivals
 
@@ -100,7 +100,7 @@ master-own check arrivals m Tick h = record { stands = master_ear.stands-tick no
 -- each station, by what arrived at it, and the master
 pub record AllHear (check : Check) (at : ℕ → List slave.Arrival) (at_master : List master.Arrival) (s : HalfState) : Type 0 where
   pub heard : (place : ℕ) → slave.HeardByGrammar check (at place)
-  pub stands : (place : ℕ) (side : StationSide) → slice_get s.stations place ≡ Some side → slave.StandsFor check (slave.bytes_arrived (at place)) side.slave
+  pub stands : (place : ℕ) (side : LineStationState) → slice_get s.stations place ≡ Some side → slave.StandsFor check (slave.bytes_arrived (at place)) side.slave
   pub of_master : MasterHears check at_master s.master
 
 -- by the same arrivals
@@ -112,13 +112,13 @@ same-hear check at other at_master other_master s same same_master h = record {
 }
 
 -- a cell that joins a lane changes no slave
-joined-stands : (check : Check) (bytes : List ℕ) (cells : List LaneCell) (o : Option StationSide) (side : StationSide) → option_map (joined cells) o ≡ Some side
-    → ((old : StationSide) → o ≡ Some old → slave.StandsFor check bytes old.slave) → slave.StandsFor check bytes side.slave
+joined-stands : (check : Check) (bytes : List ℕ) (cells : List LaneCell) (o : Option LineStationState) (side : LineStationState) → option_map (joined cells) o ≡ Some side
+    → ((old : LineStationState) → o ≡ Some old → slave.StandsFor check bytes old.slave) → slave.StandsFor check bytes side.slave
 joined-stands check bytes cells None side is h = absurd cc
-joined-stands check bytes cells (Some old) side is h = subst (λ (t : StationSide). slave.StandsFor check bytes t.slave) (some-same is) (h old refl)
+joined-stands check bytes cells (Some old) side is h = subst (λ (t : LineStationState). slave.StandsFor check bytes t.slave) (some-same is) (h old refl)
 
-stations-own : (check : Check) (at : ℕ → List slave.Arrival) (s : HalfState) (deed : MasterDeed) → ((place : ℕ) (side : StationSide) → slice_get s.stations place ≡ Some side → slave.StandsFor check (slave.bytes_arrived (at place)) side.slave)
-    → (place : ℕ) (side : StationSide) → slice_get (after_step s (AtMaster deed)).stations place ≡ Some side → slave.StandsFor check (slave.bytes_arrived (at place)) side.slave
+stations-own : (check : Check) (at : ℕ → List slave.Arrival) (s : HalfState) (deed : MasterDeed) → ((place : ℕ) (side : LineStationState) → slice_get s.stations place ≡ Some side → slave.StandsFor check (slave.bytes_arrived (at place)) side.slave)
+    → (place : ℕ) (side : LineStationState) → slice_get (after_step s (AtMaster deed)).stations place ≡ Some side → slave.StandsFor check (slave.bytes_arrived (at place)) side.slave
 stations-own check at s (Issue dst payload) h place side is = h place side is
 stations-own check at s Give h place side is =
     joined-stands check (slave.bytes_arrived (at place)) (cells_given s.master) (slice_get s.stations place) side (sym (slice_get-map (joined (cells_given s.master)) s.stations place) ∙ is) (h place)
@@ -143,7 +143,7 @@ heard-at : (check : Check) (at : ℕ → List slave.Arrival) (place q : ℕ) (mo
 heard-at check at place q more true e here there = subst (λ (p : ℕ). slave.HeardByGrammar check (at p ++ more)) (is-place place q e) here
 heard-at check at place q more false e here there = rw (append-nil (at q)) there
 
-stands-at : (check : Check) (at : ℕ → List slave.Arrival) (place q : ℕ) (more : List slave.Arrival) (same : Bool) (stations : List StationSide) (old next side : StationSide) → (place == q) ≡ same
+stands-at : (check : Check) (at : ℕ → List slave.Arrival) (place q : ℕ) (more : List slave.Arrival) (same : Bool) (stations : List LineStationState) (old next side : LineStationState) → (place == q) ≡ same
     → slice_get stations place ≡ Some old → slave.StandsFor check (slave.bytes_arrived (at place ++ more)) next.slave → (slice_get stations q ≡ Some side → slave.StandsFor check (slave.bytes_arrived (at q)) side.slave)
     → slice_get (slice_set stations place next) q ≡ Some side → slave.StandsFor check (slave.bytes_arrived (at q ++ (if same then more else []))) side.slave
 stands-at check at place q more true stations old next side e found here there is =
@@ -151,7 +151,7 @@ stands-at check at place q more true stations old next side e found here there i
     let now : slice_get (slice_set stations place next) place ≡ Some side = subst (λ (p : ℕ). slice_get (slice_set stations place next) p ≡ Some side) (sym same) is in
     let next_is : next ≡ side = some-same (sym (get-set stations place old next found) ∙ now) in
     subst (λ (p : ℕ). slave.StandsFor check (slave.bytes_arrived (at p ++ more)) side.slave) same
-    (subst (λ (t : StationSide). slave.StandsFor check (slave.bytes_arrived (at place ++ more)) t.slave) next_is here)
+    (subst (λ (t : LineStationState). slave.StandsFor check (slave.bytes_arrived (at place ++ more)) t.slave) next_is here)
 stands-at check at place q more false stations old next side e found here there is =
     rw (append-nil (at q)) (there (sym (get-other stations place q next (apart-places place q e)) ∙ is))
 
@@ -159,7 +159,7 @@ none-more : (same : Bool) (arrivals : List slave.Arrival) → arrivals ≡ arriv
 none-more true arrivals = sym (append-nil arrivals)
 none-more false arrivals = sym (append-nil arrivals)
 
-hear-with : (check : Check) (at : ℕ → List slave.Arrival) (at_master : List master.Arrival) (s : HalfState) (place : ℕ) (deed : LinkDeed) (o : Option StationSide) → slice_get s.stations place ≡ o → AllHear check at at_master s
+hear-with : (check : Check) (at : ℕ → List slave.Arrival) (at_master : List master.Arrival) (s : HalfState) (place : ℕ) (deed : LinkDeed) (o : Option LineStationState) → slice_get s.stations place ≡ o → AllHear check at at_master s
     → AllHear check (λ q. at q ++ (if place == q then station_arrivals_with s deed o else [])) (at_master ++ master_arrivals_with s deed o) (after_with s place deed o)
 hear-with check at at_master s place deed None found h =
     same-hear check at (λ q. at q ++ (if place == q then [] else [])) at_master (at_master ++ []) s (λ q. none-more (place == q) (at q)) (sym (append-nil at_master)) h
@@ -205,9 +205,9 @@ hear-events check (e ∷ events) at at_master s h =
 
 -- ---- a run
 
-first-stands : (check : Check) (o : Option EndPlan) (side : StationSide) → option_map (first_side check) o ≡ Some side → slave.StandsFor check [] side.slave
+first-stands : (check : Check) (o : Option EndPlan) (side : LineStationState) → option_map (first_side check) o ≡ Some side → slave.StandsFor check [] side.slave
 first-stands check None side is = absurd cc
-first-stands check (Some plan) side is = subst (λ (t : StationSide). slave.StandsFor check [] t.slave) (some-same is) (ear.stands-new (slave_setup check plan) (first_node plan))
+first-stands check (Some plan) side is = subst (λ (t : LineStationState). slave.StandsFor check [] t.slave) (some-same is) (ear.stands-new (slave_setup check plan) (first_node plan))
 
 pub run-hears : (script : Script) → AllHear script.check (λ q. station_arrivals_in q (start script) script.events) (master_arrivals_in (start script) script.events) (state_after (start script) script.events)
 run-hears script = hear-events script.check script.events (λ q. []) [] (start script) (record {

@@ -4,8 +4,8 @@ use Rattle.std.specs.Prelude.{not, ◌&&◌, slice_index, if◌then◌else◌}
 use Rattle.std.specs.Option.{option_map}
 use Rattle.std.proofs.lemmas.Bool.{and_parts, eqb-true}
 use Rattle.std.proofs.lemmas.Slice.Eq.{bytes_eq-Decides}
-use Rattle.line_cells.specs.Cells.{Ending}
-use Rattle.line_cells.specs.Deception.{deceptions, is_sent, is_to, station_deceptions}
+use Rattle.lane_cells.specs.Cells.{Ending}
+use Rattle.lane_cells.specs.Deception.{deceptions, is_sent, is_to, station_deceptions}
 
 abbrev one_unless : Bool → ℕ
 one_unless sent = if not sent then 1 else 0

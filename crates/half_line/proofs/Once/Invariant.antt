@@ -13,15 +13,15 @@ use Rattle.half_master.specs.Keys.{kept_at}
 use Rattle.half_master.specs.Master.{MasterState}
 use Rattle.half_master.specs.Stations.{numbers_of}
 use Rattle.half_master.proofs.LastMessage.{Sends}
-use Rattle.line_statement.specs.declared.who.Who.TheVariants.{M, S}
-use Rattle.line_report.specs.declared.record.Line.{Line}
-use Rattle.line_cells.specs.Cells.{LaneCell}
+use Rattle.script_statement.specs.declared.who.Who.TheVariants.{M, S}
+use Rattle.replay_report.specs.declared.record.Line.{Line}
+use Rattle.lane_cells.specs.Cells.{LaneCell}
 use Rattle.each_once.specs.OfStation.{is_from, lines_of}
 use Rattle.each_once.proofs.IssuingNode.{Issues}
 use Rattle.each_once.proofs.OneDirection.{Lane, Way, way-more}
 use Rattle.each_once.proofs.Sublists.{same-some}
 use Rattle.each_once.proofs.ToldLines.{IsTold, Stays, told-stays}
-use Rattle.half_line.specs.Acts.{StationSide, HalfState, LinkState}
+use Rattle.half_line.specs.Acts.{LineStationState, HalfState, LinkState}
 use Rattle.half_line.specs.Issues.{issued_of}
 use Rattle.half_line.specs.Steps.{link_of, rejoined}
 use Rattle.half_line.proofs.Once.MasterReplies.{MasterTold}
@@ -50,7 +50,7 @@ AreTo number bodies = (k : ℕ) (body : List ℕ) → slice_get bodies k ≡ Som
 -- ---- a station
 
 -- what it executed and handed out; the key is the one that the master keeps for it
-pub record SideHolds (all : Shared) (first : StationState) (kept : Option Key) (side : StationSide) : Type 0 where
+pub record SideHolds (all : Shared) (first : StationState) (kept : Option Key) (side : LineStationState) : Type 0 where
   pub executed : List (List ℕ)
   pub sent : List (List ℕ)
   pub own : side.slave.setup.station ≡ side.number
@@ -61,7 +61,7 @@ pub record SideHolds (all : Shared) (first : StationState) (kept : Option Key) (
   pub told : IsTold M (S side.number) first all.issued executed (lines_of side.number all.lines)
 
 -- the master's commands stand otherwise
-pub side-issued : {commands heard : List (List ℕ)} {issued : List Issued} {lines : List Line} {first : StationState} {kept : Option Key} {side : StationSide} (now : List Issued) → Stays issued now
+pub side-issued : {commands heard : List (List ℕ)} {issued : List Issued} {lines : List Line} {first : StationState} {kept : Option Key} {side : LineStationState} (now : List Issued) → Stays issued now
     → SideHolds (shared commands heard issued lines) first kept side → SideHolds (shared commands heard now lines) first kept side
 side-issued {issued = issued} {lines = lines} {first = first} {side = side} now stays h = record {
   executed = h.executed;
@@ -75,7 +75,7 @@ side-issued {issued = issued} {lines = lines} {first = first} {side = side} now 
 }
 
 -- more is told, but nothing of the station
-pub side-lines : {commands heard : List (List ℕ)} {issued : List Issued} {lines : List Line} {first : StationState} {kept : Option Key} {side : StationSide} (more : List Line) → IsSilentOf side.number more
+pub side-lines : {commands heard : List (List ℕ)} {issued : List Issued} {lines : List Line} {first : StationState} {kept : Option Key} {side : LineStationState} (more : List Line) → IsSilentOf side.number more
     → SideHolds (shared commands heard issued lines) first kept side → SideHolds (shared commands heard issued (lines ++ more)) first kept side
 side-lines {issued = issued} {lines = lines} {first = first} {side = side} more silent h = record {
   executed = h.executed;
@@ -89,7 +89,7 @@ side-lines {issued = issued} {lines = lines} {first = first} {side = side} more 
 }
 
 -- the master handed out more commands
-pub side-commands : {commands heard : List (List ℕ)} {issued : List Issued} {lines : List Line} {first : StationState} {kept : Option Key} {side : StationSide} (more : List (List ℕ))
+pub side-commands : {commands heard : List (List ℕ)} {issued : List Issued} {lines : List Line} {first : StationState} {kept : Option Key} {side : LineStationState} (more : List (List ℕ))
     → SideHolds (shared commands heard issued lines) first kept side → SideHolds (shared (commands ++ more) heard issued lines) first kept side
 side-commands {commands = commands} {side = side} more h = record {
   executed = h.executed;
@@ -103,7 +103,7 @@ side-commands {commands = commands} {side = side} more h = record {
 }
 
 -- the master accepted a reply of another station
-pub side-heard : {commands heard : List (List ℕ)} {issued : List Issued} {lines : List Line} {first : StationState} {kept : Option Key} {side : StationSide} (now : List (List ℕ)) (key : Option Key)
+pub side-heard : {commands heard : List (List ℕ)} {issued : List Issued} {lines : List Line} {first : StationState} {kept : Option Key} {side : LineStationState} (now : List (List ℕ)) (key : Option Key)
     → filter (is_from side.number) now ≡ filter (is_from side.number) heard → key ≡ kept
     → SideHolds (shared commands heard issued lines) first kept side → SideHolds (shared commands now issued lines) first key side
 side-heard {heard = heard} {side = side} now key same same_key h = record {
@@ -118,7 +118,7 @@ side-heard {heard = heard} {side = side} now key same same_key h = record {
 }
 
 -- other cells are on their way, to the station or from it
-pub side-lanes : {all : Shared} {first : StationState} {kept : Option Key} {side : StationSide} (to_it from_it : List LaneCell) (h : SideHolds all first kept side)
+pub side-lanes : {all : Shared} {first : StationState} {kept : Option Key} {side : LineStationState} (to_it from_it : List LaneCell) (h : SideHolds all first kept side)
     → Way all.commands (marks to_it) side.slave.kept h.executed → Way h.sent (marks from_it) kept (filter (is_from side.number) all.heard)
     → SideHolds all first kept (record { number = side.number; slave = side.slave; to_it = to_it; from_it = from_it })
 side-lanes to_it from_it h way back = record {
@@ -156,26 +156,26 @@ pub record Holds (setting : Setting) (count : ℕ) (s : HalfState) (lines : List
   pub heard : List (List ℕ)
   pub master : MasterHolds setting.of_master count setting.numbers s.master commands heard
   pub replies : MasterTold setting.numbers lines
-  pub numbers_are : map (λ (side : StationSide). side.number) s.stations ≡ setting.numbers
-  pub sides : (p : ℕ) (side : StationSide) → slice_get s.stations p ≡ Some side → SideHolds (shared commands heard (issued_of s.master) lines) (setting.first p) (kept_at s.master.stations p) side
+  pub numbers_are : map (λ (side : LineStationState). side.number) s.stations ≡ setting.numbers
+  pub sides : (p : ℕ) (side : LineStationState) → slice_get s.stations p ≡ Some side → SideHolds (shared commands heard (issued_of s.master) lines) (setting.first p) (kept_at s.master.stations p) side
 
 -- the same, of the master and the station at one place as they are now, and the others as they were
-pub record LinkHolds (setting : Setting) (count : ℕ) (stations : List StationSide) (place : ℕ) (s : LinkState) (lines : List Line) : Type 0 where
+pub record LinkHolds (setting : Setting) (count : ℕ) (stations : List LineStationState) (place : ℕ) (s : LinkState) (lines : List Line) : Type 0 where
   pub commands : List (List ℕ)
   pub heard : List (List ℕ)
   pub master : MasterHolds setting.of_master count setting.numbers s.master commands heard
   pub replies : MasterTold setting.numbers lines
-  pub numbers_are : map (λ (side : StationSide). side.number) stations ≡ setting.numbers
+  pub numbers_are : map (λ (side : LineStationState). side.number) stations ≡ setting.numbers
   pub is_at : slice_get setting.numbers place ≡ Some s.side.number
   pub this : SideHolds (shared commands heard (issued_of s.master) lines) (setting.first place) (kept_at s.master.stations place) s.side
-  pub others : (p : ℕ) (side : StationSide) → slice_get stations p ≡ Some side → (p ≡ place → ⊥) → SideHolds (shared commands heard (issued_of s.master) lines) (setting.first p) (kept_at s.master.stations p) side
+  pub others : (p : ℕ) (side : LineStationState) → slice_get stations p ≡ Some side → (p ≡ place → ⊥) → SideHolds (shared commands heard (issued_of s.master) lines) (setting.first p) (kept_at s.master.stations p) side
 
-pub number-at : (numbers : List ℕ) (stations : List StationSide) (place : ℕ) (side : StationSide) → map (λ (x : StationSide). x.number) stations ≡ numbers → slice_get stations place ≡ Some side → slice_get numbers place ≡ Some side.number
+pub number-at : (numbers : List ℕ) (stations : List LineStationState) (place : ℕ) (side : LineStationState) → map (λ (x : LineStationState). x.number) stations ≡ numbers → slice_get stations place ≡ Some side → slice_get numbers place ≡ Some side.number
 number-at numbers stations place side are is =
-    ap (λ ns. slice_get ns place) (sym are) ∙ slice_get-map (λ (x : StationSide). x.number) stations place ∙ ap (option_map (λ (x : StationSide). x.number)) is
+    ap (λ ns. slice_get ns place) (sym are) ∙ slice_get-map (λ (x : LineStationState). x.number) stations place ∙ ap (option_map (λ (x : LineStationState). x.number)) is
 
 -- the station at a place is looked at
-pub entered : (setting : Setting) (count : ℕ) (s : HalfState) (lines : List Line) (place : ℕ) (side : StationSide) → slice_get s.stations place ≡ Some side → Holds setting count s lines
+pub entered : (setting : Setting) (count : ℕ) (s : HalfState) (lines : List Line) (place : ℕ) (side : LineStationState) → slice_get s.stations place ≡ Some side → Holds setting count s lines
     → LinkHolds setting count s.stations place (link_of s side) lines
 entered setting count s lines place side is h = record {
   commands = h.commands;
@@ -189,20 +189,20 @@ entered setting count s lines place side is h = record {
 }
 
 -- the line with the master and that station as they are now
-side-at : (setting : Setting) (count : ℕ) (stations : List StationSide) (place : ℕ) (link : LinkState) (lines : List Line) (was : StationSide) → slice_get stations place ≡ Some was
-    → (h : LinkHolds setting count stations place link lines) (p : ℕ) (side : StationSide) → slice_get (slice_set stations place link.side) p ≡ Some side → (same : Bool) → (p == place) ≡ same
+side-at : (setting : Setting) (count : ℕ) (stations : List LineStationState) (place : ℕ) (link : LinkState) (lines : List Line) (was : LineStationState) → slice_get stations place ≡ Some was
+    → (h : LinkHolds setting count stations place link lines) (p : ℕ) (side : LineStationState) → slice_get (slice_set stations place link.side) p ≡ Some side → (same : Bool) → (p == place) ≡ same
     → SideHolds (shared h.commands h.heard (issued_of link.master) lines) (setting.first p) (kept_at link.master.stations p) side
 side-at setting count stations place link lines was is h p side at true same =
     let here : p ≡ place = eqb-true p place same in
     let now : link.side ≡ side = same-some link.side side (sym (set-same stations place was link.side is) ∙ ap (slice_get (slice_set stations place link.side)) (sym here) ∙ at) in
     let all = shared h.commands h.heard (issued_of link.master) lines in
-    subst (λ (x : StationSide). SideHolds all (setting.first p) (kept_at link.master.stations p) x) now
+    subst (λ (x : LineStationState). SideHolds all (setting.first p) (kept_at link.master.stations p) x) now
     (subst (λ (n : ℕ). SideHolds all (setting.first n) (kept_at link.master.stations n) link.side) (sym here) h.this)
 side-at setting count stations place link lines was is h p side at false same =
     let differ = eqb-false p place same in
     h.others p side (sym (set-other stations place p link.side differ) ∙ at) differ
 
-pub left : (setting : Setting) (count : ℕ) (s : HalfState) (lines : List Line) (place : ℕ) (was : StationSide) (link : LinkState) → slice_get s.stations place ≡ Some was → LinkHolds setting count s.stations place link lines
+pub left : (setting : Setting) (count : ℕ) (s : HalfState) (lines : List Line) (place : ℕ) (was : LineStationState) (link : LinkState) → slice_get s.stations place ≡ Some was → LinkHolds setting count s.stations place link lines
     → Holds setting count (rejoined s place link) lines
 left setting count s lines place was link is h =
     let number : link.side.number ≡ was.number = same-some link.side.number was.number (sym h.is_at ∙ number-at setting.numbers s.stations place was h.numbers_are is) in
@@ -211,12 +211,12 @@ left setting count s lines place was link is h =
       heard = h.heard;
       master = h.master;
       replies = h.replies;
-      numbers_are = set-map (λ (x : StationSide). x.number) s.stations place was link.side is number ∙ h.numbers_are;
+      numbers_are = set-map (λ (x : LineStationState). x.number) s.stations place was link.side is number ∙ h.numbers_are;
       sides = λ p side at. side-at setting count s.stations place link lines was is h p side at (p == place) refl;
     }
 
 -- another station has another number
-pub other-number : (setting : Setting) (stations : List StationSide) (place p : ℕ) (number : ℕ) (side : StationSide) → map (λ (x : StationSide). x.number) stations ≡ setting.numbers → slice_get setting.numbers place ≡ Some number
+pub other-number : (setting : Setting) (stations : List LineStationState) (place p : ℕ) (number : ℕ) (side : LineStationState) → map (λ (x : LineStationState). x.number) stations ≡ setting.numbers → slice_get setting.numbers place ≡ Some number
     → slice_get stations p ≡ Some side → (p ≡ place → ⊥) → (side.number ≡ number → ⊥)
 other-number setting stations place p number side are is at differ same =
     differ (one-place setting.numbers p place number setting.distinct (number-at setting.numbers stations p side are at ∙ ap Some same) is)

@@ -5,13 +5,13 @@ use Rattle.df1_node.specs.Node.{NodeState}
 use Rattle.half_master.specs.Keys.{kept_at}
 use Rattle.half_master.specs.Master.{MasterState}
 use Rattle.half_slave.specs.Slave.{slave_after_take, out_at_take}
-use Rattle.line_report.specs.declared.record.Line.{Line}
-use Rattle.line_cells.specs.Cells.{LaneCell, altered, bare}
+use Rattle.replay_report.specs.declared.record.Line.{Line}
+use Rattle.lane_cells.specs.Cells.{LaneCell, altered, bare}
 use Rattle.each_once.specs.OfStation.{is_from}
 use Rattle.each_once.proofs.OneDirection.{Way, way-bare}
-use Rattle.half_line.specs.declared.way.Way.{Way as Side}
+use Rattle.half_line.specs.declared.way.Way.{Way as LineStation}
 use Rattle.half_line.specs.declared.way.Way.TheVariants.{ToStation, ToMaster}
-use Rattle.half_line.specs.Acts.{StationSide, LinkState, link_state, LinkDeed, LaneDeed, StationGives, OnLane, Deliver, Lose, Alter, Foreign, after_take, arriving, lane_of, moved, after_arrival, deceptions_at, after_link_deed, link_lines}
+use Rattle.half_line.specs.Acts.{LineStationState, LinkState, link_state, LinkDeed, LaneDeed, StationGives, OnLane, Deliver, Lose, Alter, Foreign, after_take, arriving, lane_of, moved, after_arrival, deceptions_at, after_link_deed, link_lines}
 use Rattle.half_line.proofs.Once.GivenCell.{way-given, way-lost, way-altered}
 use Rattle.half_line.specs.Issues.{issued_of}
 use Rattle.half_line.proofs.Once.Invariant.{shared, marks, SideHolds, side-lanes, Setting, LinkHolds}
@@ -20,7 +20,7 @@ use Rattle.half_line.proofs.Once.StationArrival.{coming, station-arrival}
 use Rattle.half_line.proofs.Once.StationSteps.{take-keeps, sent-ends}
 
 -- another station at the place
-with-side : (setting : Setting) (count : ℕ) (stations : List StationSide) (place : ℕ) (m : MasterState NodeState) (was now : StationSide) (d e : ℕ) (lines : List Line) (h : LinkHolds setting count stations place (link_state m was d) lines) → now.number ≡ was.number
+with-side : (setting : Setting) (count : ℕ) (stations : List LineStationState) (place : ℕ) (m : MasterState NodeState) (was now : LineStationState) (d e : ℕ) (lines : List Line) (h : LinkHolds setting count stations place (link_state m was d) lines) → now.number ≡ was.number
     → SideHolds (shared h.commands h.heard (issued_of m) lines) (setting.first place) (kept_at m.stations place) now → LinkHolds setting count stations place (link_state m now e) lines
 with-side setting count stations place m was now d e lines h same this = record {
   commands = h.commands;
@@ -35,7 +35,7 @@ with-side setting count stations place m was now d e lines h same this = record 
 
 -- ---- a byte is given
 
-link-gives : (setting : Setting) (count : ℕ) (stations : List StationSide) (place : ℕ) (s : LinkState) (lines : List Line) → LinkHolds setting count stations place s lines → LinkHolds setting count stations place (after_link_deed s StationGives) lines
+link-gives : (setting : Setting) (count : ℕ) (stations : List LineStationState) (place : ℕ) (s : LinkState) (lines : List Line) → LinkHolds setting count stations place s lines → LinkHolds setting count stations place (after_link_deed s StationGives) lines
 link-gives setting count stations place s lines h =
     let this = h.this in
     let side = s.side in
@@ -54,11 +54,11 @@ link-gives setting count stations place s lines h =
 -- ---- a lane
 
 -- the cells of a lane are others
-lane-to : (setting : Setting) (count : ℕ) (stations : List StationSide) (place : ℕ) (m : MasterState NodeState) (side : StationSide) (cells : List LaneCell) (d e : ℕ) (lines : List Line) (h : LinkHolds setting count stations place (link_state m side d) lines)
+lane-to : (setting : Setting) (count : ℕ) (stations : List LineStationState) (place : ℕ) (m : MasterState NodeState) (side : LineStationState) (cells : List LaneCell) (d e : ℕ) (lines : List Line) (h : LinkHolds setting count stations place (link_state m side d) lines)
     → Way h.commands (marks cells) side.slave.kept h.this.executed → LinkHolds setting count stations place (link_state m (coming side cells) e) lines
 lane-to setting count stations place m side cells d e lines h way = with-side setting count stations place m side (coming side cells) d e lines h refl (side-lanes cells side.from_it h.this way h.this.back)
 
-lane-from : (setting : Setting) (count : ℕ) (stations : List StationSide) (place : ℕ) (m : MasterState NodeState) (side : StationSide) (cells : List LaneCell) (d e : ℕ) (lines : List Line) (h : LinkHolds setting count stations place (link_state m side d) lines)
+lane-from : (setting : Setting) (count : ℕ) (stations : List LineStationState) (place : ℕ) (m : MasterState NodeState) (side : LineStationState) (cells : List LaneCell) (d e : ℕ) (lines : List Line) (h : LinkHolds setting count stations place (link_state m side d) lines)
     → Way h.this.sent (marks cells) (kept_at m.stations place) (filter (is_from side.number) h.heard) → LinkHolds setting count stations place (link_state m (leaving side cells) e) lines
 lane-from setting count stations place m side cells d e lines h back = with-side setting count stations place m side (leaving side cells) d e lines h refl (side-lanes side.to_it cells h.this h.this.way back)
 
@@ -66,20 +66,20 @@ plus-none : (n m : ℕ) → n + m ≡ 0 → m ≡ 0
 plus-none n m is = omega (arith, is)
 
 -- the head of a lane arrives
-delivers-to : (setting : Setting) (count : ℕ) (stations : List StationSide) (place : ℕ) (m : MasterState NodeState) (side : StationSide) (cells : List LaneCell) (d : ℕ) (lines : List Line)
+delivers-to : (setting : Setting) (count : ℕ) (stations : List LineStationState) (place : ℕ) (m : MasterState NodeState) (side : LineStationState) (cells : List LaneCell) (d : ℕ) (lines : List Line)
     → (after_link_deed (link_state m (coming side cells) d) (OnLane ToStation Deliver)).deceived ≡ 0 → LinkHolds setting count stations place (link_state m (coming side cells) d) lines
     → LinkHolds setting count stations place (after_link_deed (link_state m (coming side cells) d) (OnLane ToStation Deliver)) (lines ++ link_lines (link_state m (coming side cells) d) (OnLane ToStation Deliver))
 delivers-to setting count stations place m side [] d lines none h = rw (append-nil lines) h
 delivers-to setting count stations place m side (cell ∷ cells) d lines none h = station-arrival setting count stations place m side cell cells d lines (plus-none d (deceptions_at ToStation (link_state m (coming side cells) d) cell) none) h
 
-delivers-from : (setting : Setting) (count : ℕ) (stations : List StationSide) (place : ℕ) (m : MasterState NodeState) (side : StationSide) (cells : List LaneCell) (d : ℕ) (lines : List Line) → count ≤ 65535
+delivers-from : (setting : Setting) (count : ℕ) (stations : List LineStationState) (place : ℕ) (m : MasterState NodeState) (side : LineStationState) (cells : List LaneCell) (d : ℕ) (lines : List Line) → count ≤ 65535
     → (after_link_deed (link_state m (leaving side cells) d) (OnLane ToMaster Deliver)).deceived ≡ 0 → LinkHolds setting count stations place (link_state m (leaving side cells) d) lines
     → LinkHolds setting count stations place (after_link_deed (link_state m (leaving side cells) d) (OnLane ToMaster Deliver)) (lines ++ link_lines (link_state m (leaving side cells) d) (OnLane ToMaster Deliver))
 delivers-from setting count stations place m side [] d lines few none h = rw (append-nil lines) h
 delivers-from setting count stations place m side (cell ∷ cells) d lines few none h = master-arrival setting count stations place m side cell cells d lines few (plus-none d (deceptions_at ToMaster (link_state m (leaving side cells) d) cell) none) h
 
 -- what happens to a lane
-lane-deed : (setting : Setting) (count : ℕ) (stations : List StationSide) (place : ℕ) (way : Side) (deed : LaneDeed) (s : LinkState) (lines : List Line) → count ≤ 65535
+lane-deed : (setting : Setting) (count : ℕ) (stations : List LineStationState) (place : ℕ) (way : LineStation) (deed : LaneDeed) (s : LinkState) (lines : List Line) → count ≤ 65535
     → (after_link_deed s (OnLane way deed)).deceived ≡ 0 → LinkHolds setting count stations place s lines → LinkHolds setting count stations place (after_link_deed s (OnLane way deed)) (lines ++ link_lines s (OnLane way deed))
 lane-deed setting count stations place ToStation Deliver s lines few none h = delivers-to setting count stations place s.master s.side s.side.to_it s.deceived lines none h
 lane-deed setting count stations place ToStation Lose s lines few none h =
@@ -100,13 +100,13 @@ lane-deed setting count stations place ToMaster (Foreign byte) s lines few none 
 
 -- ---- either
 
-pub link-deed : (setting : Setting) (count : ℕ) (stations : List StationSide) (place : ℕ) (deed : LinkDeed) (s : LinkState) (lines : List Line) → count ≤ 65535
+pub link-deed : (setting : Setting) (count : ℕ) (stations : List LineStationState) (place : ℕ) (deed : LinkDeed) (s : LinkState) (lines : List Line) → count ≤ 65535
     → (after_link_deed s deed).deceived ≡ 0 → LinkHolds setting count stations place s lines → LinkHolds setting count stations place (after_link_deed s deed) (lines ++ link_lines s deed)
 link-deed setting count stations place StationGives s lines few none h = rw (append-nil lines) (link-gives setting count stations place s lines h)
 link-deed setting count stations place (OnLane way deed) s lines few none h = lane-deed setting count stations place way deed s lines few none h
 
 -- a count never falls
-arrived-none : (way : Side) (s : LinkState) (o : Option LaneCell) → (after_arrival way s o).deceived ≡ 0 → s.deceived ≡ 0
+arrived-none : (way : LineStation) (s : LinkState) (o : Option LaneCell) → (after_arrival way s o).deceived ≡ 0 → s.deceived ≡ 0
 arrived-none way s None none = none
 arrived-none way s (Some cell) none = omega (arith, none)
 

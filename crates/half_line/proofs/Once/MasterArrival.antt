@@ -24,11 +24,11 @@ use Rattle.half_master.proofs.KeyLemmas.{signal-numbers}
 use Rattle.half_master.proofs.LastMessage.{sends-byte}
 use Rattle.half_master.proofs.Seen.{Accepts, PassesOver, accepts, passes, at-byte, lent-after, key-before, key-after, other-keys, number-at}
 use Rattle.script_parts.specs.HalfPlayable.{is_declared}
-use Rattle.line_statement.specs.declared.who.Who.TheVariants.{M, S}
-use Rattle.line_report.specs.declared.record.Line.{Line}
-use Rattle.line_report.specs.declared.record.Line.TheVariants as line
-use Rattle.line_cells.specs.Cells.{LaneCell, Ending}
-use Rattle.told_lines.specs.NodeLines.{did_lines, step_lines}
+use Rattle.script_statement.specs.declared.who.Who.TheVariants.{M, S}
+use Rattle.replay_report.specs.declared.record.Line.{Line}
+use Rattle.replay_report.specs.declared.record.Line.TheVariants as line
+use Rattle.lane_cells.specs.Cells.{LaneCell, Ending}
+use Rattle.report_lines.specs.NodeLines.{did_lines, step_lines}
 use Rattle.each_once.specs.Exchanges.{exchanges}
 use Rattle.each_once.specs.NodeHost.{node_host}
 use Rattle.each_once.specs.OfStation.{is_from, lines_of}
@@ -41,7 +41,7 @@ use Rattle.each_once.proofs.StationReplies.{fits-fields}
 use Rattle.each_once.proofs.Sublists.{Has, has-filter, filter-keeps, filter-drops}
 use Rattle.each_once.proofs.ToldLines.{IsTold, told-stays, silent-none, told-answers, told-strays}
 use Rattle.half_line.specs.declared.way.Way.TheVariants.{ToMaster}
-use Rattle.half_line.specs.Acts.{StationSide, link_state, after_cell, cell_lines, deceptions_at}
+use Rattle.half_line.specs.Acts.{LineStationState, link_state, after_cell, cell_lines, deceptions_at}
 use Rattle.half_line.proofs.Once.Honest.{honest}
 use Rattle.half_line.specs.Issues.{issued_of}
 use Rattle.half_line.proofs.Once.Invariant.{Shared, shared, marks, SideHolds, side-issued, side-lines, side-heard, side-lanes, Setting, LinkHolds, other-number}
@@ -92,7 +92,7 @@ master-reply numbers lines body (Some place) from t = master-answers numbers lin
 -- ---- the cell
 
 -- the station with a cell that arrives next at the master, and with those behind it
-abbrev pub leaving : StationSide → List LaneCell → StationSide
+abbrev pub leaving : LineStationState → List LaneCell → LineStationState
 leaving side cells = record { number = side.number; slave = side.slave; to_it = side.to_it; from_it = cells }
 
 -- what the master's accepting a reply of the station at this place shows
@@ -102,7 +102,7 @@ record IsOwn (place : ℕ) (number : ℕ) (kept : Option Key) (first : StationSt
   new : is_kept kept (key_of (body_of (with_byte m b))) ≡ false
   replies : Replies first executed (body_of (with_byte m b))
 
-is-own : (setting : Setting) (count : ℕ) (stations : List StationSide) (place : ℕ) (m : MasterState NodeState) (side : StationSide) (d : ℕ) (lines : List Line) (b : ℕ) (a : Accepts node_host m b)
+is-own : (setting : Setting) (count : ℕ) (stations : List LineStationState) (place : ℕ) (m : MasterState NodeState) (side : LineStationState) (d : ℕ) (lines : List Line) (b : ℕ) (a : Accepts node_host m b)
     → (h : LinkHolds setting count stations place (link_state m side d) lines) → Has h.this.sent (body_of (with_byte m b))
     → IsOwn place side.number (kept_at m.stations place) (setting.first place) h.this.executed m b a
 is-own setting count stations place m side d lines b a h has =
@@ -118,7 +118,7 @@ is-own setting count stations place m side d lines b a h has =
       replies = r;
     }
 
-arrives-accepted : (setting : Setting) (count : ℕ) (stations : List StationSide) (place : ℕ) (m : MasterState NodeState) (side : StationSide) (cell : LaneCell) (cells : List LaneCell) (d : ℕ) (lines : List Line) → count ≤ 65535
+arrives-accepted : (setting : Setting) (count : ℕ) (stations : List LineStationState) (place : ℕ) (m : MasterState NodeState) (side : LineStationState) (cell : LaneCell) (cells : List LaneCell) (d : ℕ) (lines : List Line) → count ≤ 65535
     → deceptions_at ToMaster (link_state m (leaving side cells) d) cell ≡ 0 → Accepts node_host m cell.byte → LinkHolds setting count stations place (link_state m (leaving side (cell ∷ cells)) d) lines
     → LinkHolds setting count stations place (after_cell ToMaster (link_state m (leaving side cells) d) cell) (lines ++ cell_lines ToMaster (link_state m (leaving side cells) d) cell)
 arrives-accepted setting count stations place m side cell cells d lines few none a h =
@@ -194,11 +194,11 @@ told-continues node None = continues-same node.initiator.issued
 told-continues node (Some what) = continues-told node what
 
 -- the cell has left the lane
-side-left : (side : StationSide) (cell : LaneCell) (cells : List LaneCell) (all : Shared) (first : StationState) (kept : Option Key) → SideHolds all first kept (leaving side (cell ∷ cells)) → SideHolds all first kept (leaving side cells)
+side-left : (side : LineStationState) (cell : LaneCell) (cells : List LaneCell) (all : Shared) (first : StationState) (kept : Option Key) → SideHolds all first kept (leaving side (cell ∷ cells)) → SideHolds all first kept (leaving side cells)
 side-left side cell cells all first kept h =
     side-lanes side.to_it cells h h.way (way-leaves h.sent (option_map (λ (e : Ending). e.body) cell.ends) (marks cells) kept (filter (is_from side.number) all.heard) h.back)
 
-arrives-passed : (setting : Setting) (count : ℕ) (stations : List StationSide) (place : ℕ) (m : MasterState NodeState) (side : StationSide) (cell : LaneCell) (cells : List LaneCell) (d : ℕ) (lines : List Line)
+arrives-passed : (setting : Setting) (count : ℕ) (stations : List LineStationState) (place : ℕ) (m : MasterState NodeState) (side : LineStationState) (cell : LaneCell) (cells : List LaneCell) (d : ℕ) (lines : List Line)
     → PassesOver node_host m cell.byte → LinkHolds setting count stations place (link_state m (leaving side (cell ∷ cells)) d) lines
     → LinkHolds setting count stations place (after_cell ToMaster (link_state m (leaving side cells) d) cell) (lines ++ cell_lines ToMaster (link_state m (leaving side cells) d) cell)
 arrives-passed setting count stations place m side cell cells d lines o h =
@@ -226,7 +226,7 @@ arrives-passed setting count stations place m side cell cells d lines o h =
       others = λ p other at differ. side-lines more (silent other.number) (side-issued (issued_of after) continues.stays (side-heard h.heard (kept_at after.stations p) refl (key p) (h.others p other at differ)));
     }
 
-pub master-arrival : (setting : Setting) (count : ℕ) (stations : List StationSide) (place : ℕ) (m : MasterState NodeState) (side : StationSide) (cell : LaneCell) (cells : List LaneCell) (d : ℕ) (lines : List Line) → count ≤ 65535
+pub master-arrival : (setting : Setting) (count : ℕ) (stations : List LineStationState) (place : ℕ) (m : MasterState NodeState) (side : LineStationState) (cell : LaneCell) (cells : List LaneCell) (d : ℕ) (lines : List Line) → count ≤ 65535
     → deceptions_at ToMaster (link_state m (leaving side cells) d) cell ≡ 0 → LinkHolds setting count stations place (link_state m (leaving side (cell ∷ cells)) d) lines
     → LinkHolds setting count stations place (after_cell ToMaster (link_state m (leaving side cells) d) cell) (lines ++ cell_lines ToMaster (link_state m (leaving side cells) d) cell)
 master-arrival setting count stations place m side cell cells d lines few none h = elim (at-byte node_host m cell.byte) [

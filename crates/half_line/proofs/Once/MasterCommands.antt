@@ -10,13 +10,13 @@ use Rattle.half_master.proofs.HostSteps.{Keeps, byte-keeps, tick-keeps, take-kee
 use Rattle.script_parts.specs.declared.script.Event.{Event}
 use Rattle.script_parts.specs.declared.script.Event.TheVariants as event
 use Rattle.script_parts.specs.declared.script.Script.{Script}
-use Rattle.line_cells.specs.Cells.{LaneCell}
+use Rattle.lane_cells.specs.Cells.{LaneCell}
 use Rattle.each_once.specs.Commands.{Request}
 use Rattle.each_once.specs.NodeHost.{node_host}
 use Rattle.each_once.proofs.IssuedCommands.{SameCommands, same-itself, same-both, same-accept, same-told, same-tick, same-next, AreIssued, issued-same, issued-more}
 use Rattle.half_line.specs.declared.way.Way.{Way}
 use Rattle.half_line.specs.declared.way.Way.TheVariants.{ToStation, ToMaster}
-use Rattle.half_line.specs.Acts.{StationSide, HalfState, LinkState, MasterDeed, Issue, Give, Tick, LinkDeed, StationGives, OnLane, moved, after_arrival, after_link_deed}
+use Rattle.half_line.specs.Acts.{LineStationState, HalfState, LinkState, MasterDeed, Issue, Give, Tick, LinkDeed, StationGives, OnLane, moved, after_arrival, after_link_deed}
 use Rattle.half_line.specs.Steps.{UnitStep, AtMaster, AtStation, link_of, after_with, after_step, after_steps}
 use Rattle.half_line.specs.Run.{plan_of_m, place_of, station_at, master_deeds, link_deeds, steps_with, steps_at, steps_of, start, after_event, state_after, last_state}
 use Rattle.half_line.specs.Issues.{request_at, requests_in}
@@ -57,7 +57,7 @@ pub same-link : (s : LinkState) (deed : LinkDeed) → SameCommands (initiator_of
 same-link s StationGives = same-itself (initiator_of s.master)
 same-link s (OnLane way deed) = same-arrival way (moved way s deed) _
 
-same-with : (s : HalfState) (place : ℕ) (deed : LinkDeed) (o : Option StationSide) → SameCommands (initiator_of s.master) (initiator_of (after_with s place deed o).master)
+same-with : (s : HalfState) (place : ℕ) (deed : LinkDeed) (o : Option LineStationState) → SameCommands (initiator_of s.master) (initiator_of (after_with s place deed o).master)
 same-with s place deed None = same-itself (initiator_of s.master)
 same-with s place deed (Some side) = same-link (link_of s side) deed
 
@@ -98,7 +98,7 @@ none-with : (place : Option ℕ) (deeds : List LinkDeed) → requests_over (step
 none-with None deeds = refl
 none-with (Some place) deeds = none-station place deeds
 
-none-take : (stations : List StationSide) (e : Event) (n : ℕ) (number : Option ℕ) → master_deeds e ≡ replicate n Give → requests_over (steps_at stations number e) ≡ []
+none-take : (stations : List LineStationState) (e : Event) (n : ℕ) (number : Option ℕ) → master_deeds e ≡ replicate n Give → requests_over (steps_at stations number e) ≡ []
 none-take stations e n None is = ap (λ (deeds : List MasterDeed). requests_over (map AtMaster deeds)) is ∙ none-master Give refl n
 none-take stations e n (Some number) is = none-with (place_of stations number) (link_deeds e)
 

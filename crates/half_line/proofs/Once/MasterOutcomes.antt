@@ -26,16 +26,16 @@ use Rattle.half_master.specs.Stations.{numbers_of as station_numbers, is_listed}
 use Rattle.half_master.proofs.KeyLemmas.{signal-numbers}
 use Rattle.half_master.proofs.LastMessage.{next-of}
 use Rattle.half_master.proofs.Seen.{accepts, passes, at-byte, at-tick, lent-after, turn_of, listed-number}
-use Rattle.line_statement.specs.declared.who.Who.{Who}
-use Rattle.line_statement.specs.declared.who.Who.TheVariants.{M, S}
+use Rattle.script_statement.specs.declared.who.Who.{Who}
+use Rattle.script_statement.specs.declared.who.Who.TheVariants.{M, S}
 use Rattle.script_parts.specs.declared.script.Event.{Event}
 use Rattle.script_parts.specs.declared.script.Event.TheVariants as event
 use Rattle.script_parts.specs.declared.script.Script.{Script}
 use Rattle.script_parts.specs.HalfPlayable.{IsHalfPossible, IsHalfPlayable, is_declared, numbers_of}
-use Rattle.line_report.specs.declared.record.Line.{Line}
-use Rattle.line_report.specs.Report.{sent_lines}
-use Rattle.line_cells.specs.Cells.{LaneCell}
-use Rattle.told_lines.specs.NodeLines.{did_lines, act_lines, news_lines, step_lines, turn_lines, gone_lines}
+use Rattle.replay_report.specs.declared.record.Line.{Line}
+use Rattle.replay_report.specs.Report.{sent_lines}
+use Rattle.lane_cells.specs.Cells.{LaneCell}
+use Rattle.report_lines.specs.NodeLines.{did_lines, act_lines, news_lines, step_lines, turn_lines, gone_lines}
 use Rattle.each_once.specs.Commands.{AreOutcomesTold}
 use Rattle.each_once.specs.NodeHost.{node_host}
 use Rattle.each_once.proofs.CommandBodies.{bodies-accept, bodies-after_told, bodies-after_tick, bodies-next}
@@ -45,7 +45,7 @@ use Rattle.half_line.proofs.Once.EachStation.{listed-numbers}
 use Rattle.half_line.proofs.Once.WholeRun.{IsPlain, ArePlain, plain-with, plain-master, plain-take}
 use Rattle.half_line.specs.declared.way.Way.{Way}
 use Rattle.half_line.specs.declared.way.Way.TheVariants.{ToStation, ToMaster}
-use Rattle.half_line.specs.Acts.{StationSide, HalfState, LinkState, LinkDeed, Issue, Give, Tick, StationGives, OnLane, Deliver, Lose, Alter, Foreign, moved, lane_of, arriving, master_after, master_lines, after_arrival, arrival_lines, after_link_deed, link_lines, step_of, body_heard}
+use Rattle.half_line.specs.Acts.{LineStationState, HalfState, LinkState, LinkDeed, Issue, Give, Tick, StationGives, OnLane, Deliver, Lose, Alter, Foreign, moved, lane_of, arriving, master_after, master_lines, after_arrival, arrival_lines, after_link_deed, link_lines, step_of, body_heard}
 use Rattle.half_line.specs.Issues.{issued_of, bodies_of}
 use Rattle.half_line.specs.Run.{station_at, number_of, station_between, way_from, place_of, steps_of, after_event, giver, lines_of, state_after, lines_after, start, last_state}
 use Rattle.half_line.specs.Steps.{UnitStep, AtMaster, AtStation, link_of, after_with, after_step, lines_with, lines_at, bytes_over, after_steps, lines_over}
@@ -261,7 +261,7 @@ recounts-link : (numbers : List ℕ) (s : LinkState) (deed : LinkDeed) (lines : 
 recounts-link numbers s StationGives lines r = rw (append-nil lines) r
 recounts-link numbers s (OnLane way deed) lines r = recounts-arrival numbers way s (moved way s deed) (arriving (lane_of way s.side) deed) lines refl r
 
-recounts-with : (numbers : List ℕ) (s : HalfState) (place : ℕ) (deed : LinkDeed) (o : Option StationSide) (lines : List Line) → Recounts numbers s.master lines → Recounts numbers (after_with s place deed o).master (lines ++ lines_with s deed o)
+recounts-with : (numbers : List ℕ) (s : HalfState) (place : ℕ) (deed : LinkDeed) (o : Option LineStationState) (lines : List Line) → Recounts numbers s.master lines → Recounts numbers (after_with s place deed o).master (lines ++ lines_with s deed o)
 recounts-with numbers s place deed None lines r = rw (append-nil lines) r
 recounts-with numbers s place deed (Some side) lines r = recounts-link numbers (link_of s side) deed lines r
 

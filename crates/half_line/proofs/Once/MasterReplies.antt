@@ -3,10 +3,10 @@ use Rattle.std.proofs.Common.{◌≡◌, ◌∙◌, ℕ, zero, suc, Bool, true, 
 use Rattle.std.specs.Prelude.{All, IsTrue, slice_get, slice_index, ◌==◌, ◌||◌}
 use Rattle.std.proofs.lemmas.Bool.{eq-eqb}
 use Rattle.std.proofs.lemmas.List.Elements.{All-push, All-nil}
-use Rattle.line_statement.specs.declared.who.Who.TheVariants.{M}
+use Rattle.script_statement.specs.declared.who.Who.TheVariants.{M}
 use Rattle.script_parts.specs.HalfPlayable.{is_declared}
-use Rattle.line_report.specs.declared.record.Line.{Line}
-use Rattle.line_report.specs.declared.record.Line.TheVariants as line
+use Rattle.replay_report.specs.declared.record.Line.{Line}
+use Rattle.replay_report.specs.declared.record.Line.TheVariants as line
 use Rattle.each_once.specs.Tells.{executed_at, answer_at, stray_at, executed_in, answers_in, strays_in}
 use Rattle.each_once.proofs.Sublists.{same-some}
 use Rattle.each_once.proofs.ToldLines.{adds, adds-none}

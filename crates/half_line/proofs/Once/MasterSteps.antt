@@ -15,16 +15,16 @@ use Rattle.half_master.specs.Stations.{is_listed}
 use Rattle.half_master.proofs.KeyLemmas.{signal-numbers}
 use Rattle.half_master.proofs.LastMessage.{sends-host, sends-take, sends-tick, sent-ends, next-of}
 use Rattle.half_master.proofs.Seen.{at-tick}
-use Rattle.line_statement.specs.Statements.{is_payload}
-use Rattle.line_statement.specs.declared.who.Who.TheVariants.{M}
-use Rattle.line_report.specs.declared.record.Line.{Line}
-use Rattle.line_cells.specs.Cells.{LaneCell}
+use Rattle.script_statement.specs.Statements.{is_payload}
+use Rattle.script_statement.specs.declared.who.Who.TheVariants.{M}
+use Rattle.replay_report.specs.declared.record.Line.{Line}
+use Rattle.lane_cells.specs.Cells.{LaneCell}
 use Rattle.each_once.specs.NodeHost.{node_host}
 use Rattle.each_once.proofs.ContinuedCommands.{Continues, continues-same, continues-both, continues-told, continues-tick, continues-next}
 use Rattle.each_once.proofs.IssuingNode.{Issues, issues-issue, issues-told, issues-tick, issues-next}
 use Rattle.each_once.proofs.Sublists.{from-map}
 use Rattle.each_once.proofs.ToldLines.{stays-more}
-use Rattle.half_line.specs.Acts.{StationSide, HalfState, Issue, Give, Tick, after_master_deed, master_lines, cells_given, joined}
+use Rattle.half_line.specs.Acts.{LineStationState, HalfState, Issue, Give, Tick, after_master_deed, master_lines, cells_given, joined}
 use Rattle.half_line.proofs.Once.GivenCell.{way-given}
 use Rattle.half_line.specs.Issues.{issued_of}
 use Rattle.half_line.proofs.Once.Invariant.{shared, SideHolds, side-issued, side-lines, side-commands, side-heard, side-lanes, Setting, Holds}
@@ -116,7 +116,7 @@ begins first e commands heard (Some body) is h =
     (λ listed. (next, one, refl))
     (λ not. (issues-told fate.Undelivered next, continues-both (issued_of e) node.initiator.issued (after_told node fate.Undelivered).initiator.issued one (continues-told node fate.Undelivered), refl))
 
-joined-numbers : (cells : List LaneCell) (stations : List StationSide) → map (λ (side : StationSide). side.number) (map (joined cells) stations) ≡ map (λ (side : StationSide). side.number) stations
+joined-numbers : (cells : List LaneCell) (stations : List LineStationState) → map (λ (side : LineStationState). side.number) (map (joined cells) stations) ≡ map (λ (side : LineStationState). side.number) stations
 joined-numbers cells [] = refl
 joined-numbers cells (side ∷ stations) = ap (λ ns. side.number ∷ ns) (joined-numbers cells stations)
 
@@ -128,7 +128,7 @@ holds-give setting count s lines h =
     let more = option_to_list next in
     let b = begins setting.of_master m h.commands h.heard next refl h.master.issues in
     let cells = cells_given m in
-    let given : (p : ℕ) (side : StationSide) → slice_get s.stations p ≡ Some side → SideHolds (shared (h.commands ++ more) h.heard (issued_of after) lines) (setting.first p) (kept_at after.stations p) (joined cells side) = λ p side at.
+    let given : (p : ℕ) (side : LineStationState) → slice_get s.stations p ≡ Some side → SideHolds (shared (h.commands ++ more) h.heard (issued_of after) lines) (setting.first p) (kept_at after.stations p) (joined cells side) = λ p side at.
     let old = side-issued (issued_of after) b.1.stays (side-heard h.heard (kept_at after.stations p) refl (ap (λ l. kept_at l p) b.2) (side-commands more (h.sides p side at))) in
     side-lanes (side.to_it ++ cells) side.from_it old
     (way-given (h.commands ++ more) after.sending side.to_it (out_at_take node_host m) side.slave.kept old.executed (λ out number is last. sent-ends node_host m out number h.master.sends is last) old.way)
@@ -146,5 +146,5 @@ holds-give setting count s lines h =
       numbers_are = joined-numbers cells s.stations ∙ h.numbers_are;
       sides = λ p side at.
           let was = from-map (joined cells) s.stations p side at in
-          subst (λ (x : StationSide). SideHolds (shared (h.commands ++ more) h.heard (issued_of after) lines) (setting.first p) (kept_at after.stations p) x) was.2 (given p was.0 was.1);
+          subst (λ (x : LineStationState). SideHolds (shared (h.commands ++ more) h.heard (issued_of after) lines) (setting.first p) (kept_at after.stations p) x) was.2 (given p was.0 was.1);
     }

@@ -11,12 +11,12 @@ use Rattle.df1_base.specs.declared.link.Turn.{Turn}
 use Rattle.df1_base.specs.declared.link.Turn.TheVariants as turn
 use Rattle.df1_node.specs.Answer.{StationState}
 use Rattle.df1_node.specs.Initiator.{Issued}
-use Rattle.line_statement.specs.declared.who.Who.{Who}
-use Rattle.line_statement.specs.declared.who.Who.TheVariants.{M, S}
-use Rattle.line_report.specs.declared.record.Line.{Line}
-use Rattle.line_report.specs.declared.record.Line.TheVariants as line
-use Rattle.line_report.specs.Report.{sent_lines}
-use Rattle.told_lines.specs.NodeLines.{act_lines, news_lines, step_lines, turn_lines, gone_lines}
+use Rattle.script_statement.specs.declared.who.Who.{Who}
+use Rattle.script_statement.specs.declared.who.Who.TheVariants.{M, S}
+use Rattle.replay_report.specs.declared.record.Line.{Line}
+use Rattle.replay_report.specs.declared.record.Line.TheVariants as line
+use Rattle.replay_report.specs.Report.{sent_lines}
+use Rattle.report_lines.specs.NodeLines.{act_lines, news_lines, step_lines, turn_lines, gone_lines}
 use Rattle.each_once.specs.OfStation.{is_line_of, lines_of}
 use Rattle.each_once.proofs.ToldLines.{IsTold, AreSilent, silent-none, silent-both, told-silent}
 

@@ -16,12 +16,12 @@ use Rattle.df1_node.specs.Node.{NodeState, did_accept}
 use Rattle.half_master.specs.Keys.{kept_at}
 use Rattle.half_master.specs.Master.{MasterState}
 use Rattle.half_slave.specs.Slave.{body_of, listened, slave_after_byte, step_at_byte}
-use Rattle.line_statement.specs.declared.who.Who.{Who}
-use Rattle.line_statement.specs.declared.who.Who.TheVariants.{M, S}
-use Rattle.line_report.specs.declared.record.Line.{Line}
-use Rattle.line_report.specs.declared.record.Line.TheVariants as line
-use Rattle.line_cells.specs.Cells.{LaneCell, Ending}
-use Rattle.told_lines.specs.NodeLines.{step_lines}
+use Rattle.script_statement.specs.declared.who.Who.{Who}
+use Rattle.script_statement.specs.declared.who.Who.TheVariants.{M, S}
+use Rattle.replay_report.specs.declared.record.Line.{Line}
+use Rattle.replay_report.specs.declared.record.Line.TheVariants as line
+use Rattle.lane_cells.specs.Cells.{LaneCell, Ending}
+use Rattle.report_lines.specs.NodeLines.{step_lines}
 use Rattle.each_once.specs.NodeHost.{node_host}
 use Rattle.each_once.specs.OfStation.{is_from, lines_of}
 use Rattle.each_once.proofs.AnsweringStation.{Serves, serves-accept}
@@ -30,7 +30,7 @@ use Rattle.each_once.proofs.OneDirection.{Way, way-more, way-leaves, way-accepts
 use Rattle.each_once.proofs.Sublists.{Has, within-has, get-last, same-some}
 use Rattle.each_once.proofs.ToldLines.{IsTold, told-executes}
 use Rattle.half_line.specs.declared.way.Way.TheVariants.{ToStation}
-use Rattle.half_line.specs.Acts.{StationSide, link_state, after_cell, cell_lines, deceptions_at}
+use Rattle.half_line.specs.Acts.{LineStationState, link_state, after_cell, cell_lines, deceptions_at}
 use Rattle.half_line.proofs.Once.Honest.{honest-station}
 use Rattle.half_line.specs.Issues.{issued_of}
 use Rattle.half_line.proofs.Once.Invariant.{marks, AreTo, side-lines, Setting, LinkHolds, other-number}
@@ -68,10 +68,10 @@ to-push number (b ∷ bodies) body all is (suc k) other at = to-push number bodi
 -- ---- the cell
 
 -- the station with a cell that arrives next, and with those behind it
-abbrev pub coming : StationSide → List LaneCell → StationSide
+abbrev pub coming : LineStationState → List LaneCell → LineStationState
 coming side cells = record { number = side.number; slave = side.slave; to_it = cells; from_it = side.from_it }
 
-arrives-accepted : (setting : Setting) (count : ℕ) (stations : List StationSide) (place : ℕ) (m : MasterState NodeState) (side : StationSide) (cell : LaneCell) (cells : List LaneCell) (d : ℕ) (lines : List Line)
+arrives-accepted : (setting : Setting) (count : ℕ) (stations : List LineStationState) (place : ℕ) (m : MasterState NodeState) (side : LineStationState) (cell : LaneCell) (cells : List LaneCell) (d : ℕ) (lines : List Line)
     → deceptions_at ToStation (link_state m (coming side cells) d) cell ≡ 0 → Accepts side.slave cell.byte → LinkHolds setting count stations place (link_state m (coming side (cell ∷ cells)) d) lines
     → LinkHolds setting count stations place (after_cell ToStation (link_state m (coming side cells) d) cell) (lines ++ cell_lines ToStation (link_state m (coming side cells) d) cell)
 arrives-accepted setting count stations place m side cell cells d lines none a h =
@@ -117,7 +117,7 @@ arrives-accepted setting count stations place m side cell cells d lines none a h
           (h.others p other at differ);
     }
 
-arrives-passed : (setting : Setting) (count : ℕ) (stations : List StationSide) (place : ℕ) (m : MasterState NodeState) (side : StationSide) (cell : LaneCell) (cells : List LaneCell) (d : ℕ) (lines : List Line)
+arrives-passed : (setting : Setting) (count : ℕ) (stations : List LineStationState) (place : ℕ) (m : MasterState NodeState) (side : LineStationState) (cell : LaneCell) (cells : List LaneCell) (d : ℕ) (lines : List Line)
     → PassesOver side.slave cell.byte → LinkHolds setting count stations place (link_state m (coming side (cell ∷ cells)) d) lines
     → LinkHolds setting count stations place (after_cell ToStation (link_state m (coming side cells) d) cell) (lines ++ cell_lines ToStation (link_state m (coming side cells) d) cell)
 arrives-passed setting count stations place m side cell cells d lines o h =
@@ -150,7 +150,7 @@ arrives-passed setting count stations place m side cell cells d lines o h =
       others = λ p other at differ. side-lines more (silent other.number) (h.others p other at differ);
     }
 
-pub station-arrival : (setting : Setting) (count : ℕ) (stations : List StationSide) (place : ℕ) (m : MasterState NodeState) (side : StationSide) (cell : LaneCell) (cells : List LaneCell) (d : ℕ) (lines : List Line)
+pub station-arrival : (setting : Setting) (count : ℕ) (stations : List LineStationState) (place : ℕ) (m : MasterState NodeState) (side : LineStationState) (cell : LaneCell) (cells : List LaneCell) (d : ℕ) (lines : List Line)
     → deceptions_at ToStation (link_state m (coming side cells) d) cell ≡ 0 → LinkHolds setting count stations place (link_state m (coming side (cell ∷ cells)) d) lines
     → LinkHolds setting count stations place (after_cell ToStation (link_state m (coming side cells) d) cell) (lines ++ cell_lines ToStation (link_state m (coming side cells) d) cell)
 station-arrival setting count stations place m side cell cells d lines none h = elim (at-byte side.slave cell.byte) [

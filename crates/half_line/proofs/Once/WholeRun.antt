@@ -3,14 +3,14 @@ use Rattle.std.proofs.Common.{◌≡◌, ◌∙◌, ℕ, zero, suc, ◌+◌, ◌
 use Rattle.std.specs.Prelude.{All, IsTrue, slice_get, replicate, count_by}
 use Rattle.std.proofs.lemmas.List.Elements.{All-head, All-tail}
 use Rattle.std.proofs.lemmas.List.Sums.{sum_by-cons}
-use Rattle.line_statement.specs.declared.who.Who.{Who}
-use Rattle.line_statement.specs.Statements.{is_payload}
+use Rattle.script_statement.specs.declared.who.Who.{Who}
+use Rattle.script_statement.specs.Statements.{is_payload}
 use Rattle.script_parts.specs.declared.script.Event.{Event}
 use Rattle.script_parts.specs.declared.script.Event.TheVariants as event
 use Rattle.script_parts.specs.HalfPlayable.{IsHalfPossible, is_issue}
-use Rattle.line_report.specs.declared.record.Line.{Line}
-use Rattle.line_report.specs.Report.{sent_lines}
-use Rattle.half_line.specs.Acts.{StationSide, HalfState, MasterDeed, LinkDeed, Issue, Give, Tick, StationGives, OnLane, Deliver, Lose, Alter, Foreign, after_link_deed, link_lines}
+use Rattle.replay_report.specs.declared.record.Line.{Line}
+use Rattle.replay_report.specs.Report.{sent_lines}
+use Rattle.half_line.specs.Acts.{LineStationState, HalfState, MasterDeed, LinkDeed, Issue, Give, Tick, StationGives, OnLane, Deliver, Lose, Alter, Foreign, after_link_deed, link_lines}
 use Rattle.half_line.specs.Steps.{UnitStep, AtMaster, AtStation, link_of, after_with, after_step, lines_with, lines_at, bytes_over, after_steps, lines_over}
 use Rattle.half_line.specs.Run.{station_at, number_of, station_between, way_from, place_of, steps_with, steps_at, steps_of, after_event, giver, lines_of, state_after, lines_after}
 use Rattle.half_line.proofs.Once.Invariant.{side-lines, Setting, Holds, entered, left}
@@ -47,7 +47,7 @@ abbrev pub ArePlain : List UnitStep → Type 0
 ArePlain [] = Unit {0}
 ArePlain (step ∷ steps) = IsPlain step × ArePlain steps
 
-kept-with : (setting : Setting) (count : ℕ) (place : ℕ) (deed : LinkDeed) (s : HalfState) (o : Option StationSide) (lines : List Line) → count ≤ 65535 → slice_get s.stations place ≡ o → Kept setting count s lines
+kept-with : (setting : Setting) (count : ℕ) (place : ℕ) (deed : LinkDeed) (s : HalfState) (o : Option LineStationState) (lines : List Line) → count ≤ 65535 → slice_get s.stations place ≡ o → Kept setting count s lines
     → Kept setting count (after_with s place deed o) (lines ++ lines_with s deed o)
 kept-with setting count place deed s None lines few at k none = rw (append-nil lines) (k none)
 kept-with setting count place deed s (Some side) lines few at k none =
@@ -80,7 +80,7 @@ pub plain-master : (deed : MasterDeed) → IsPlain (AtMaster deed) → (n : ℕ)
 plain-master deed plain zero = tt
 plain-master deed plain (suc n) = (plain, plain-master deed plain n)
 
-pub plain-take : (stations : List StationSide) (who : Who) (n : ℕ) (o : Option ℕ) → ArePlain (steps_at stations o (event.Take who n))
+pub plain-take : (stations : List LineStationState) (who : Who) (n : ℕ) (o : Option ℕ) → ArePlain (steps_at stations o (event.Take who n))
 plain-take stations who n None = plain-master Give tt n
 plain-take stations who n (Some number) = plain-with (place_of stations number) (replicate n StationGives)
 

@@ -9,10 +9,10 @@ use Rattle.script_parts.specs.declared.script.Event.TheVariants as event
 use Rattle.script_parts.specs.declared.script.Script.{Script}
 use Rattle.script_parts.specs.HalfPlayable.{is_issue, half_count_of, numbers_of, station_plans}
 use Rattle.df1_check.specs.declared.Check.{Check}
-use Rattle.line_cells.specs.Cells.{LaneCell}
+use Rattle.lane_cells.specs.Cells.{LaneCell}
 use Rattle.half_line.specs.declared.way.Way.{Way}
 use Rattle.half_line.specs.declared.way.Way.TheVariants.{ToStation, ToMaster}
-use Rattle.half_line.specs.Acts.{StationSide, HalfState, LinkState, Issue, Give, Tick, LinkDeed, StationGives, OnLane, LaneDeed, joined, cells_given, moved, after_arrival, after_link_deed}
+use Rattle.half_line.specs.Acts.{LineStationState, HalfState, LinkState, Issue, Give, Tick, LinkDeed, StationGives, OnLane, LaneDeed, joined, cells_given, moved, after_arrival, after_link_deed}
 use Rattle.half_line.specs.Steps.{UnitStep, AtMaster, AtStation, link_of, after_with, after_step, after_steps}
 use Rattle.half_line.specs.Run.{first_side, start, steps_of, after_event}
 use Rattle.half_line.specs.Issues.{requests_in}
@@ -34,16 +34,16 @@ link-number : (s : LinkState) (deed : LinkDeed) → (after_link_deed s deed).sid
 link-number s StationGives = refl
 link-number s (OnLane way deed) = arrival-number way (moved way s deed) _ ∙ moved-number way s deed
 
-joined-numbers : (cells : List LaneCell) (stations : List StationSide) → numbers_at (map (joined cells) stations) ≡ numbers_at stations
+joined-numbers : (cells : List LaneCell) (stations : List LineStationState) → numbers_at (map (joined cells) stations) ≡ numbers_at stations
 joined-numbers cells [] = refl
 joined-numbers cells (side ∷ stations) = ap (λ (numbers : List ℕ). side.number ∷ numbers) (joined-numbers cells stations)
 
-set-numbers : (stations : List StationSide) (place : ℕ) (old new : StationSide) → slice_get stations place ≡ Some old → new.number ≡ old.number → numbers_at (slice_set stations place new) ≡ numbers_at stations
+set-numbers : (stations : List LineStationState) (place : ℕ) (old new : LineStationState) → slice_get stations place ≡ Some old → new.number ≡ old.number → numbers_at (slice_set stations place new) ≡ numbers_at stations
 set-numbers [] place old new found same = refl
-set-numbers (side ∷ stations) zero old new found same = ap (λ (number : ℕ). number ∷ numbers_at stations) (same ∙ ap (λ (s : StationSide). s.number) (sym (some-same found)))
+set-numbers (side ∷ stations) zero old new found same = ap (λ (number : ℕ). number ∷ numbers_at stations) (same ∙ ap (λ (s : LineStationState). s.number) (sym (some-same found)))
 set-numbers (side ∷ stations) (suc place) old new found same = ap (λ (numbers : List ℕ). side.number ∷ numbers) (set-numbers stations place old new found same)
 
-with-numbers : (s : HalfState) (place : ℕ) (deed : LinkDeed) (o : Option StationSide) → slice_get s.stations place ≡ o → numbers_at (after_with s place deed o).stations ≡ numbers_at s.stations
+with-numbers : (s : HalfState) (place : ℕ) (deed : LinkDeed) (o : Option LineStationState) → slice_get s.stations place ≡ o → numbers_at (after_with s place deed o).stations ≡ numbers_at s.stations
 with-numbers s place deed None found = refl
 with-numbers s place deed (Some side) found = set-numbers s.stations place side (after_link_deed (link_of s side) deed).side found (link-number (link_of s side) deed)
 

@@ -12,9 +12,9 @@ use Rattle.script_parts.specs.declared.script.Script.{Script}
 use Rattle.script_parts.specs.Plans.{first_plan}
 use Rattle.script_parts.specs.HalfPlayable.{AreHalfEnds, IsStationPlan, IsStationNumber, station_plans}
 use Rattle.outset.specs.Outset.{first_node}
-use Rattle.line_statement.specs.declared.who.Who.TheVariants.{M}
-use Rattle.line_report.specs.declared.record.Line.{Line}
-use Rattle.half_line.specs.Acts.{StationSide, half_state}
+use Rattle.script_statement.specs.declared.who.Who.TheVariants.{M}
+use Rattle.replay_report.specs.declared.record.Line.{Line}
+use Rattle.half_line.specs.Acts.{LineStationState, half_state}
 use Rattle.half_line.specs.Run.{master_setup, first_side, plan_of_m}
 use Rattle.half_line.specs.Plays.{begun}
 
@@ -38,7 +38,7 @@ first-is : (ends : List EndPlan) (d other : EndPlan) → AreHalfEnds ends → ge
 first-is [] d other h = absurd h
 first-is (master ∷ stations) d other h = refl
 
-pub begins : (script : Script) (plan d : EndPlan) (m : MasterState NodeState) (setup : MasterSetup) (host : NodeState) (numbers : List ℕ) (sides : List StationSide) (lines : List Line) → AreHalfEnds script.ends
+pub begins : (script : Script) (plan d : EndPlan) (m : MasterState NodeState) (setup : MasterSetup) (host : NodeState) (numbers : List ℕ) (sides : List LineStationState) (lines : List Line) → AreHalfEnds script.ends
     → plan ≡ get_or script.ends 0 d → m ≡ new_master setup numbers host → setup ≡ master_setup script.check plan → host ≡ first_node plan
     → numbers ≡ map (λ (p : EndPlan). p.node) (station_plans script.ends) → sides ≡ map (first_side script.check) (station_plans script.ends) → lines ≡ []
     → record { state = half_state m sides 0; lines = lines; events = 0 } ≡ begun script

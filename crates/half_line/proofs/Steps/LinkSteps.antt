@@ -6,13 +6,13 @@ use Rattle.df1_base.specs.declared.link.Out.{Out}
 use Rattle.df1_node.specs.Node.{NodeState}
 use Rattle.half_slave.specs.Slave.{SlaveState, out_at_take}
 use Rattle.half_slave.proofs.Draining.{quiet-same}
-use Rattle.line_report.specs.declared.record.Line.{Line}
-use Rattle.line_report.specs.Report.{sent_lines}
-use Rattle.line_cells.specs.Cells.{LaneCell, cell_of, bare}
-use Rattle.line_statement.specs.declared.who.Who.TheVariants.{S}
+use Rattle.replay_report.specs.declared.record.Line.{Line}
+use Rattle.replay_report.specs.Report.{sent_lines}
+use Rattle.lane_cells.specs.Cells.{LaneCell, cell_of, bare}
+use Rattle.script_statement.specs.declared.who.Who.TheVariants.{S}
 use Rattle.half_line.specs.declared.way.Way.{Way}
 use Rattle.half_line.specs.declared.way.Way.TheVariants.{ToStation, ToMaster}
-use Rattle.half_line.specs.Acts.{StationSide, LinkState, link_state, LinkDeed, StationGives, OnLane, Deliver, Lose, Foreign, LaneDeed, lane_of, with_lane, side_moved, moved, after_cell, cell_lines, deceptions_at, byte_taken, after_take, after_arrival, arrival_lines, after_link_deed}
+use Rattle.half_line.specs.Acts.{LineStationState, LinkState, link_state, LinkDeed, StationGives, OnLane, Deliver, Lose, Foreign, LaneDeed, lane_of, with_lane, side_moved, moved, after_cell, cell_lines, deceptions_at, byte_taken, after_take, after_arrival, arrival_lines, after_link_deed}
 use Rattle.half_line.specs.Steps.{after_link_deeds, link_bytes_over, link_lines_over}
 
 -- ---- a station that has nothing to give
@@ -21,17 +21,17 @@ none-out : (out : Option Out) → option_map (λ (o : Out). o.byte) out ≡ None
 none-out None e = refl
 none-out (Some out) e = cc
 
-pub take-none : (side : StationSide) → byte_taken side ≡ None → after_take side ≡ side
+pub take-none : (side : LineStationState) → byte_taken side ≡ None → after_take side ≡ side
 take-none side e =
     let nothing = none-out (out_at_take side.slave) e in
     let same = quiet-same side.slave (rw nothing refl) in
-    let after : SlaveState NodeState → Option Out → StationSide = λ s out. record { number = side.number; slave = s; to_it = side.to_it; from_it = side.from_it ++ option_to_list (option_map (cell_of s.sending) out) } in
+    let after : SlaveState NodeState → Option Out → LineStationState = λ s out. record { number = side.number; slave = s; to_it = side.to_it; from_it = side.from_it ++ option_to_list (option_map (cell_of s.sending) out) } in
     ap (λ (s : SlaveState NodeState). after s (out_at_take side.slave)) same
     ∙ ap (after side.slave) nothing
-    ∙ ap (λ (lane : List LaneCell). let t : StationSide = record side { from_it = lane } in t) (append-nil side.from_it)
+    ∙ ap (λ (lane : List LaneCell). let t : LineStationState = record side { from_it = lane } in t) (append-nil side.from_it)
 
 take-none-link : (s : LinkState) → byte_taken s.side ≡ None → after_link_deed s StationGives ≡ s
-take-none-link s e = ap (λ (side : StationSide). link_state s.master side s.deceived) (take-none s.side e)
+take-none-link s e = ap (λ (side : LineStationState). link_state s.master side s.deceived) (take-none s.side e)
 
 pub takes-none : (n : ℕ) (s : LinkState) → byte_taken s.side ≡ None → after_link_deeds s (replicate n StationGives) ≡ s
 takes-none zero s e = refl
@@ -67,16 +67,16 @@ leaving-none : (lane cells : List LaneCell) → lane ≡ cells → slice_get cel
 leaving-none lane [] e none = ap (λ (l : List LaneCell). drop 1 l) e ∙ sym e
 leaving-none lane (cell ∷ cells) e none = absurd cc
 
-same-lane : (way : Way) (side : StationSide) → with_lane way side (lane_of way side) ≡ side
+same-lane : (way : Way) (side : LineStationState) → with_lane way side (lane_of way side) ≡ side
 same-lane ToStation side = refl
 same-lane ToMaster side = refl
 
 -- nothing leaves it
-pub leave-none : (way : Way) (side : StationSide) → slice_get (lane_of way side) 0 ≡ None → side_moved way side Lose ≡ side
+pub leave-none : (way : Way) (side : LineStationState) → slice_get (lane_of way side) 0 ≡ None → side_moved way side Lose ≡ side
 leave-none way side none = ap (with_lane way side) (leaving-none (lane_of way side) (lane_of way side) refl none) ∙ same-lane way side
 
 lose-none : (way : Way) (s : LinkState) → slice_get (lane_of way s.side) 0 ≡ None → after_link_deed s (OnLane way Lose) ≡ s
-lose-none way s none = ap (λ (side : StationSide). link_state s.master side s.deceived) (leave-none way s.side none)
+lose-none way s none = ap (λ (side : LineStationState). link_state s.master side s.deceived) (leave-none way s.side none)
 
 pub loses-none : (way : Way) (n : ℕ) (s : LinkState) → slice_get (lane_of way s.side) 0 ≡ None → after_link_deeds s (replicate n (OnLane way Lose)) ≡ s
 loses-none way zero s none = refl

@@ -8,12 +8,12 @@ use Rattle.df1_node.specs.Node.{NodeState}
 use Rattle.half_mouth.specs.Giving.{Giving, is_done, take}
 use Rattle.half_master.specs.Master.{MasterState, is_idle, is_quiet, begun_of, begun, given_next, master_after_take, out_at_take}
 use Rattle.half_master.proofs.Draining.{done-none, none-done}
-use Rattle.line_report.specs.declared.record.Line.{Line}
-use Rattle.line_report.specs.Report.{sent_lines}
-use Rattle.line_cells.specs.Cells.{LaneCell, cell_of}
+use Rattle.replay_report.specs.declared.record.Line.{Line}
+use Rattle.replay_report.specs.Report.{sent_lines}
+use Rattle.lane_cells.specs.Cells.{LaneCell, cell_of}
 use Rattle.each_once.specs.NodeHost.{node_host}
-use Rattle.line_statement.specs.declared.who.Who.TheVariants.{M}
-use Rattle.half_line.specs.Acts.{StationSide, HalfState, MasterDeed, Give, Tick, half_state, byte_given, joined, master_after, after_master_deed}
+use Rattle.script_statement.specs.declared.who.Who.TheVariants.{M}
+use Rattle.half_line.specs.Acts.{LineStationState, HalfState, MasterDeed, Give, Tick, half_state, byte_given, joined, master_after, after_master_deed}
 use Rattle.half_line.specs.Steps.{after_master_deeds, master_bytes_over, master_lines_over}
 
 -- ---- a master that is quiet
@@ -46,18 +46,18 @@ quiet-same m quiet =
     let same = (none-done m.mouth (rw none refl)).1 in
     ap given_next (quiet-begun m quiet) ∙ ap (λ (g : Giving). let e : MasterState NodeState = record m { mouth = g } in e) same
 
-pub joins-nothing : (stations : List StationSide) → map (joined []) stations ≡ stations
+pub joins-nothing : (stations : List LineStationState) → map (joined []) stations ≡ stations
 joins-nothing [] = refl
 joins-nothing (side ∷ stations) =
-    ap (λ (lane : List LaneCell). (let s : StationSide = record side { to_it = lane } in s) ∷ map (joined []) stations) (append-nil side.to_it)
-    ∙ ap (λ (more : List StationSide). side ∷ more) (joins-nothing stations)
+    ap (λ (lane : List LaneCell). (let s : LineStationState = record side { to_it = lane } in s) ∷ map (joined []) stations) (append-nil side.to_it)
+    ∙ ap (λ (more : List LineStationState). side ∷ more) (joins-nothing stations)
 
 pub quiet-deed : (s : HalfState) → is_quiet node_host s.master ≡ true → after_master_deed s Give ≡ s
 quiet-deed s quiet =
     let after : MasterState NodeState → Option Out → HalfState = λ m out. half_state m (map (joined (option_to_list (option_map (cell_of m.sending) out))) s.stations) s.deceived in
     ap (λ (m : MasterState NodeState). after m (out_at_take node_host s.master)) (quiet-same s.master quiet)
     ∙ ap (after s.master) (quiet-nothing s.master quiet)
-    ∙ ap (λ (stations : List StationSide). half_state s.master stations s.deceived) (joins-nothing s.stations)
+    ∙ ap (λ (stations : List LineStationState). half_state s.master stations s.deceived) (joins-nothing s.stations)
 
 pub quiet-deeds : (n : ℕ) (s : HalfState) → is_quiet node_host s.master ≡ true → after_master_deeds s (replicate n Give) ≡ s
 quiet-deeds zero s quiet = refl

@@ -1,11 +1,11 @@
 -- What a world holds after an event, by what it did at the master, or with one station.
 use Rattle.std.proofs.Common.{◌≡◌, ◌∙◌, ℕ, ◌+◌, List, ◌++◌, map, Option, Some, None, Result, Ok, Err, OnOk, sym, ap}
 use Rattle.std.specs.Prelude.{slice_get}
-use Rattle.line_statement.specs.declared.who.Who.TheVariants.{M, S}
+use Rattle.script_statement.specs.declared.who.Who.TheVariants.{M, S}
 use Rattle.script_parts.specs.declared.script.Event.{Event}
-use Rattle.line_report.specs.declared.record.Line.{Line}
-use Rattle.line_report.specs.Report.{sent_lines}
-use Rattle.half_line.specs.Acts.{StationSide, HalfState, LinkState}
+use Rattle.replay_report.specs.declared.record.Line.{Line}
+use Rattle.replay_report.specs.Report.{sent_lines}
+use Rattle.half_line.specs.Acts.{LineStationState, HalfState, LinkState}
 use Rattle.half_line.specs.Steps.{AtMaster, AtStation, UnitStep, link_of, rejoined, after_steps, lines_over, bytes_over, after_master_deeds, master_lines_over, master_bytes_over, after_link_deeds, link_lines_over, link_bytes_over}
 use Rattle.half_line.specs.Run.{place_of, station_at, master_deeds, link_deeds, steps_with, steps_at, giver, after_event, lines_of}
 use Rattle.half_line.specs.Plays.{Played, played, weight}
@@ -36,11 +36,11 @@ played-master p e s lines events none is told counted =
 steps-of : (s : HalfState) (e : Event) (number place : ℕ) → station_at e ≡ Some number → place_of s.stations number ≡ Some place → steps_at s.stations (station_at e) e ≡ map (AtStation place) (link_deeds e)
 steps-of s e number place at is = ap (λ (o : Option ℕ). steps_at s.stations o e) at ∙ ap (λ (o : Option ℕ). steps_with o (link_deeds e)) is
 
-station-state : (s : HalfState) (e : Event) (number place : ℕ) (side : StationSide) → station_at e ≡ Some number → place_of s.stations number ≡ Some place → slice_get s.stations place ≡ Some side
+station-state : (s : HalfState) (e : Event) (number place : ℕ) (side : LineStationState) → station_at e ≡ Some number → place_of s.stations number ≡ Some place → slice_get s.stations place ≡ Some side
     → after_event s e ≡ rejoined s place (after_link_deeds (link_of s side) (link_deeds e))
 station-state s e number place side at is there = ap (after_steps s) (steps-of s e number place at is) ∙ station-steps place (link_deeds e) s side there
 
-station-told : (s : HalfState) (e : Event) (number place : ℕ) (side : StationSide) → station_at e ≡ Some number → place_of s.stations number ≡ Some place → slice_get s.stations place ≡ Some side
+station-told : (s : HalfState) (e : Event) (number place : ℕ) (side : LineStationState) → station_at e ≡ Some number → place_of s.stations number ≡ Some place → slice_get s.stations place ≡ Some side
     → lines_of s e ≡ link_lines_over (link_of s side) (link_deeds e) ++ sent_lines (S number) (link_bytes_over (link_of s side) (link_deeds e))
 station-told s e number place side at is there =
     ap (λ (steps : List UnitStep). lines_over s steps ++ sent_lines (giver (station_at e)) (bytes_over s steps)) (steps-of s e number place at is)
@@ -48,7 +48,7 @@ station-told s e number place side at is there =
     ∙ ap (λ (lines : List Line). lines ++ sent_lines (S number) (bytes_over s (map (AtStation place) (link_deeds e)))) (station-lines place (link_deeds e) s side there)
     ∙ ap (λ (bytes : List ℕ). link_lines_over (link_of s side) (link_deeds e) ++ sent_lines (S number) bytes) (station-bytes place (link_deeds e) s side there)
 
-pub played-station : (p : Played) (e : Event) (number place : ℕ) (side : StationSide) (link : LinkState) (lines : List Line) (events : ℕ) → station_at e ≡ Some number → place_of p.state.stations number ≡ Some place
+pub played-station : (p : Played) (e : Event) (number place : ℕ) (side : LineStationState) (link : LinkState) (lines : List Line) (events : ℕ) → station_at e ≡ Some number → place_of p.state.stations number ≡ Some place
     → slice_get p.state.stations place ≡ Some side → link ≡ after_link_deeds (link_of p.state side) (link_deeds e)
     → lines ≡ p.lines ++ (link_lines_over (link_of p.state side) (link_deeds e) ++ sent_lines (S number) (link_bytes_over (link_of p.state side) (link_deeds e))) → events ≡ p.events + weight p e
     → record { state = rejoined p.state place link; lines = lines; events = events } ≡ played p e
@@ -66,7 +66,7 @@ pub master-ok : {T E : Type 0} (r : Result T E) (p self : Played) (e : Event) (s
 master-ok (Ok t) p self e s lines events same none is told counted = played-master p e s lines events none is told counted ∙ ap (λ (q : Played). played q e) same
 master-ok (Err f) p self e s lines events same none is told counted = tt
 
-pub station-ok : {T E : Type 0} (r : Result T E) (p self : Played) (e : Event) (number place : ℕ) (side : StationSide) (link : LinkState) (lines : List Line) (events : ℕ) → p ≡ self → station_at e ≡ Some number → place_of p.state.stations number ≡ Some place
+pub station-ok : {T E : Type 0} (r : Result T E) (p self : Played) (e : Event) (number place : ℕ) (side : LineStationState) (link : LinkState) (lines : List Line) (events : ℕ) → p ≡ self → station_at e ≡ Some number → place_of p.state.stations number ≡ Some place
     → slice_get p.state.stations place ≡ Some side → OnOk r (link ≡ after_link_deeds (link_of p.state side) (link_deeds e))
     → OnOk r (lines ≡ p.lines ++ (link_lines_over (link_of p.state side) (link_deeds e) ++ sent_lines (S number) (link_bytes_over (link_of p.state side) (link_deeds e)))) → events ≡ p.events + weight p e
     → OnOk r (record { state = rejoined p.state place link; lines = lines; events = events } ≡ played self e)

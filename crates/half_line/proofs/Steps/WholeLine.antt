@@ -2,8 +2,8 @@
 use Rattle.std.proofs.Common.{◌≡◌, ◌∙◌, ℕ, zero, suc, ◌<◌, List, [], ◌∷◌, ◌++◌, map, take, drop, length, get_or, Option, Some, None, refl, sym, ap, arith}
 use Rattle.std.specs.Prelude.{slice_get, slice_set}
 use Rattle.half_master.proofs.Draining.{some-same}
-use Rattle.line_report.specs.declared.record.Line.{Line}
-use Rattle.half_line.specs.Acts.{StationSide, HalfState, MasterDeed, LinkDeed, after_master_deed, master_lines, master_bytes, after_link_deed, link_lines, link_bytes}
+use Rattle.replay_report.specs.declared.record.Line.{Line}
+use Rattle.half_line.specs.Acts.{LineStationState, HalfState, MasterDeed, LinkDeed, after_master_deed, master_lines, master_bytes, after_link_deed, link_lines, link_bytes}
 use Rattle.half_line.specs.Steps.{AtMaster, AtStation, link_of, rejoined, after_with, lines_with, bytes_with, after_steps, lines_over, bytes_over, after_master_deeds, master_lines_over, master_bytes_over, after_link_deeds, link_lines_over, link_bytes_over}
 
 -- ---- lists
@@ -46,33 +46,33 @@ master-bytes (deed ∷ deeds) s = ap (λ (bytes : List ℕ). master_bytes s.mast
 -- ---- with one station
 
 -- the line after one deed there
-abbrev after_one : HalfState → ℕ → StationSide → LinkDeed → HalfState
+abbrev after_one : HalfState → ℕ → LineStationState → LinkDeed → HalfState
 after_one s place side deed = rejoined s place (after_link_deed (link_of s side) deed)
 
-pub station-steps : (place : ℕ) (deeds : List LinkDeed) (s : HalfState) (side : StationSide) → slice_get s.stations place ≡ Some side → after_steps s (map (AtStation place) deeds) ≡ rejoined s place (after_link_deeds (link_of s side) deeds)
-station-steps place [] s side at = ap (λ (stations : List StationSide). let t : HalfState = record { master = s.master; stations = stations; deceived = s.deceived } in t) (sym (set-same s.stations place side at))
+pub station-steps : (place : ℕ) (deeds : List LinkDeed) (s : HalfState) (side : LineStationState) → slice_get s.stations place ≡ Some side → after_steps s (map (AtStation place) deeds) ≡ rejoined s place (after_link_deeds (link_of s side) deeds)
+station-steps place [] s side at = ap (λ (stations : List LineStationState). let t : HalfState = record { master = s.master; stations = stations; deceived = s.deceived } in t) (sym (set-same s.stations place side at))
 station-steps place (deed ∷ deeds) s side at =
     let next = after_link_deed (link_of s side) deed in
     let last = after_link_deeds next deeds in
-    ap (λ (o : Option StationSide). after_steps (after_with s place deed o) (map (AtStation place) deeds)) at
+    ap (λ (o : Option LineStationState). after_steps (after_with s place deed o) (map (AtStation place) deeds)) at
     ∙ station-steps place deeds (after_one s place side deed) next.side (get-set s.stations place side next.side at)
-    ∙ ap (λ (stations : List StationSide). let t : HalfState = record { master = last.master; stations = stations; deceived = last.deceived } in t) (set-twice s.stations place next.side last.side)
+    ∙ ap (λ (stations : List LineStationState). let t : HalfState = record { master = last.master; stations = stations; deceived = last.deceived } in t) (set-twice s.stations place next.side last.side)
 
-pub station-lines : (place : ℕ) (deeds : List LinkDeed) (s : HalfState) (side : StationSide) → slice_get s.stations place ≡ Some side → lines_over s (map (AtStation place) deeds) ≡ link_lines_over (link_of s side) deeds
+pub station-lines : (place : ℕ) (deeds : List LinkDeed) (s : HalfState) (side : LineStationState) → slice_get s.stations place ≡ Some side → lines_over s (map (AtStation place) deeds) ≡ link_lines_over (link_of s side) deeds
 station-lines place [] s side at = refl
 station-lines place (deed ∷ deeds) s side at =
     let next = after_link_deed (link_of s side) deed in
-    ap (λ (o : Option StationSide). lines_with s deed o ++ lines_over (after_with s place deed o) (map (AtStation place) deeds)) at
+    ap (λ (o : Option LineStationState). lines_with s deed o ++ lines_over (after_with s place deed o) (map (AtStation place) deeds)) at
     ∙ ap (λ (lines : List Line). link_lines (link_of s side) deed ++ lines) (station-lines place deeds (after_one s place side deed) next.side (get-set s.stations place side next.side at))
 
-pub station-bytes : (place : ℕ) (deeds : List LinkDeed) (s : HalfState) (side : StationSide) → slice_get s.stations place ≡ Some side → bytes_over s (map (AtStation place) deeds) ≡ link_bytes_over (link_of s side) deeds
+pub station-bytes : (place : ℕ) (deeds : List LinkDeed) (s : HalfState) (side : LineStationState) → slice_get s.stations place ≡ Some side → bytes_over s (map (AtStation place) deeds) ≡ link_bytes_over (link_of s side) deeds
 station-bytes place [] s side at = refl
 station-bytes place (deed ∷ deeds) s side at =
     let next = after_link_deed (link_of s side) deed in
-    ap (λ (o : Option StationSide). bytes_with deed o ++ bytes_over (after_with s place deed o) (map (AtStation place) deeds)) at
+    ap (λ (o : Option LineStationState). bytes_with deed o ++ bytes_over (after_with s place deed o) (map (AtStation place) deeds)) at
     ∙ ap (λ (bytes : List ℕ). link_bytes side deed ++ bytes) (station-bytes place deeds (after_one s place side deed) next.side (get-set s.stations place side next.side at))
 
 -- nothing happens where no station is
 pub nowhere-steps : (place : ℕ) (deeds : List LinkDeed) (s : HalfState) → slice_get s.stations place ≡ None → after_steps s (map (AtStation place) deeds) ≡ s
 nowhere-steps place [] s none = refl
-nowhere-steps place (deed ∷ deeds) s none = ap (λ (o : Option StationSide). after_steps (after_with s place deed o) (map (AtStation place) deeds)) none ∙ nowhere-steps place deeds s none
+nowhere-steps place (deed ∷ deeds) s none = ap (λ (o : Option LineStationState). after_steps (after_with s place deed o) (map (AtStation place) deeds)) none ∙ nowhere-steps place deeds s none

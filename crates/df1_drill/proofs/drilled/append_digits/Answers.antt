@@ -1,6 +1,6 @@
 use Rattle.std.proofs.Common.{◌/◌, ◌%◌, ◌∷◌, [], append_assoc}
 use Rattle.hex.specs.Hex.{encode_upper}
-use Rattle.line_report.proofs.Pairs.{two_bytes}
+use Rattle.replay_report.proofs.Pairs.{two_bytes}
 use Rattle.df1_drill.proofs.drilled.append_digits.Goals as goal
 
 pub returns-clause-text : goal.returns-clause-text

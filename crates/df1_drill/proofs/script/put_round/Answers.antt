@@ -1,6 +1,6 @@
 use Rattle.std.proofs.Common.{◌≡◌, ◌∙◌, [], ◌∷◌, map, ap, append_assoc}
 use Rattle.std.proofs.lemmas.Result.{on_ok_weaker}
-use Rattle.line_statement.specs.declared.who.Who.TheVariants.{A}
+use Rattle.script_statement.specs.declared.who.Who.TheVariants.{A}
 use Rattle.script_parts.specs.declared.script.Event.TheVariants.{Issue}
 use Rattle.df1_drill.specs.Drill.{course_of, event_of, pattern_of, payload_of, plan_of_b}
 use Rattle.df1_drill.proofs.script.put_round.Goals as goal

@@ -1,7 +1,7 @@
 use Rattle.std.proofs.Common.{◌∙◌, ◌++◌, ℕ, List, ap, sym}
 use Rattle.std.specs.List.{flat_map}
 use Rattle.std.proofs.lemmas.List.{take_all}
-use Rattle.line_report.proofs.Pairs.{by_bytes, pair_of}
+use Rattle.replay_report.proofs.Pairs.{by_bytes, pair_of}
 use Rattle.df1_service.proofs.outcomes.append_hex.Goals as goal
 
 pub returns-clause-text : goal.returns-clause-text

@@ -1,7 +1,7 @@
 use Rattle.std.proofs.Common.{◌≡◌, ◌+◌, ◌*◌, ◌++◌, take}
 use Rattle.std.specs.List.{flat_map}
 use Rattle.arrayvec.specs.ArrayVec.{array_vec_len}
-use Rattle.line_report.proofs.Pairs.{pair_of}
+use Rattle.replay_report.proofs.Pairs.{pair_of}
 use Rattle.df1_service.proofs.outcomes.append_hex.Given as goal
 
 abbrev pub invariant-loop-byte : goal.invariant-loop-byte

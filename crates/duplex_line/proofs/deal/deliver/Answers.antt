@@ -1,7 +1,7 @@
 use Rattle.std.proofs.Common.{◌≡◌, ◌-◌, ◌+◌, ◌∙◌, ◌++◌, List, None, Some, sym, ap, append_assoc, append-nil, arith}
 use Rattle.std.specs.Prelude.{replicate, slice_get}
-use Rattle.line_report.specs.declared.record.Line.{Line}
-use Rattle.duplex_line.specs.Acts.{SideState, LineState, Deliver, after_deeds}
+use Rattle.replay_report.specs.declared.record.Line.{Line}
+use Rattle.duplex_line.specs.Acts.{LineEndState, LineState, Deliver, after_deeds}
 use Rattle.each_once.proofs.CountedUp.{repeat-next}
 use Rattle.duplex_line.proofs.Steps.NothingToGive.{leave-none, delivers-none, delivers-no-lines, deliver-one, deliver-lines}
 use Rattle.duplex_line.proofs.deal.deliver.Goals as goal
@@ -24,7 +24,7 @@ pub returns-in_default-clause-state : goal.returns-in_default-clause-state
 returns-in_default-clause-state c =
     let s : LineState = record { a = c.loop.near; b = c.loop.far; deceived = c.loop.reported.deceived } in
     let nothing : slice_get s.a.lane 0 ≡ None = sym c.leave.ensures.cell ∙ c.in_default.is in
-    ap (λ (a : SideState). let after : LineState = record { a = a; b = c.loop.far; deceived = c.loop.reported.deceived } in after) (c.leave.ensures.state ∙ leave-none c.loop.near nothing)
+    ap (λ (a : LineEndState). let after : LineState = record { a = a; b = c.loop.far; deceived = c.loop.reported.deceived } in after) (c.leave.ensures.state ∙ leave-none c.loop.near nothing)
     ∙ sym (delivers-none s nothing (c.args.n - c.loop.counter)) ∙ c.loop.invariant.state
 
 pub returns-in_default-clause-lines : goal.returns-in_default-clause-lines

@@ -1,6 +1,6 @@
 use Rattle.std.proofs.Common.{◌≡◌, ◌≤◌, ◌+◌, ◌++◌, ◌-◌}
 use Rattle.std.specs.Prelude.{replicate}
-use Rattle.line_statement.specs.declared.who.Who.{Who}
+use Rattle.script_statement.specs.declared.who.Who.{Who}
 use Rattle.duplex_line.specs.Acts.{LineState, Deliver, after_deeds, lines_over}
 use Rattle.duplex_line.proofs.deal.deliver.Given as goal
 

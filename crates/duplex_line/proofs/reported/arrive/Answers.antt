@@ -1,7 +1,7 @@
 use Rattle.std.proofs.Common.{◌≡◌, ◌∙◌, ◌++◌, List, ap, sym, append-nil, arith}
 use Rattle.df1_base.specs.declared.link.Act.TheVariants as act
 use Rattle.df1_base.specs.declared.link.Step.{Step}
-use Rattle.line_report.specs.declared.record.Line.{Line}
+use Rattle.replay_report.specs.declared.record.Line.{Line}
 use Rattle.duplex_line.specs.Acts.{step_of, deceptions_at}
 use Rattle.duplex_line.proofs.Steps.NothingMeant.{no-lines, no-deception}
 use Rattle.duplex_line.proofs.reported.arrive.Goals as goal

@@ -1,8 +1,8 @@
 -- Deliveries, one after another.
 use Rattle.std.proofs.Common.{◌≡◌, ◌-◌, ◌+◌, ◌∙◌, ◌++◌, List, None, Some, sym, ap, append_assoc, append-nil, arith}
 use Rattle.std.specs.Prelude.{replicate, slice_get}
-use Rattle.line_report.specs.declared.record.Line.{Line}
-use Rattle.half_line.specs.Acts.{StationSide, LinkState, OnLane, Deliver, lane_of, link_state}
+use Rattle.replay_report.specs.declared.record.Line.{Line}
+use Rattle.half_line.specs.Acts.{LineStationState, LinkState, OnLane, Deliver, lane_of, link_state}
 use Rattle.half_line.specs.Steps.{after_link_deeds}
 use Rattle.each_once.proofs.CountedUp.{repeat-next}
 use Rattle.half_line.proofs.Steps.LinkSteps.{leave-none, delivers-none, delivers-no-lines, deliver-one, deliver-lines}
@@ -15,7 +15,7 @@ loop-preserved c =
     let s : LinkState = link_state c.loop.master c.loop.side c.loop.reported.deceived in
     let head : slice_get (lane_of way s.side) 0 ≡ Some c.in-Some.cell = sym c.in-Some.ensures.cell in
     let rest = replicate (c.args.n - (c.loop.counter + 1)) (OnLane way Deliver) in
-    let kept = ap (λ (side : StationSide). link_state c.arrive.new.master side c.arrive.new.reported.deceived) c.keep.ensures in
+    let kept = ap (λ (side : LineStationState). link_state c.arrive.new.master side c.arrive.new.reported.deceived) c.keep.ensures in
     let arrived = kept ∙ (rw c.leave.ensures.state at c.in_ok-arrive.ensures.state) in
     let told = rw c.leave.ensures.state at c.in_ok-arrive.ensures.lines in
     record {
@@ -30,7 +30,7 @@ returns-in_default-clause-state c =
     let way = c.args.way in
     let s : LinkState = link_state c.loop.master c.loop.side c.loop.reported.deceived in
     let nothing : slice_get (lane_of way s.side) 0 ≡ None = sym c.leave.ensures.cell ∙ c.in_default.is in
-    ap (λ (side : StationSide). link_state c.loop.master side c.loop.reported.deceived) (c.leave.ensures.state ∙ leave-none way c.loop.side nothing)
+    ap (λ (side : LineStationState). link_state c.loop.master side c.loop.reported.deceived) (c.leave.ensures.state ∙ leave-none way c.loop.side nothing)
     ∙ sym (delivers-none way (c.args.n - c.loop.counter) s nothing) ∙ c.loop.invariant.state
 
 pub returns-in_default-clause-lines : goal.returns-in_default-clause-lines

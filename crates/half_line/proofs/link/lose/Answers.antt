@@ -1,7 +1,7 @@
 -- Losses, one after another.
 use Rattle.std.proofs.Common.{◌≡◌, ◌-◌, ◌∙◌, sym, ap, None}
 use Rattle.std.specs.Prelude.{slice_get}
-use Rattle.half_line.specs.Acts.{StationSide, OnLane, Lose, lane_of, link_state}
+use Rattle.half_line.specs.Acts.{LineStationState, OnLane, Lose, lane_of, link_state}
 use Rattle.each_once.proofs.CountedUp.{repeat-next}
 use Rattle.half_line.proofs.Steps.LinkSteps.{leave-none, loses-none}
 use Rattle.half_line.proofs.link.lose.Goals as goal
@@ -12,6 +12,6 @@ loop-preserved c master deceived = rw (c.keep.ensures, c.leave.ensures.state) (r
 pub returns-in_default : goal.returns-in_default
 returns-in_default c master deceived =
     let nothing : slice_get (lane_of c.args.way c.loop.side) 0 ≡ None = sym c.leave.ensures.cell ∙ c.in_default.is in
-    ap (λ (side : StationSide). link_state master side deceived) (c.leave.ensures.state ∙ leave-none c.args.way c.loop.side nothing)
+    ap (λ (side : LineStationState). link_state master side deceived) (c.leave.ensures.state ∙ leave-none c.args.way c.loop.side nothing)
     ∙ sym (loses-none c.args.way (c.args.n - c.loop.counter) (link_state master c.loop.side deceived) nothing)
     ∙ c.loop.invariant master deceived

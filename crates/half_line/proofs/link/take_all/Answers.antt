@@ -1,7 +1,7 @@
 -- Takes at a station, one after another.
 use Rattle.std.proofs.Common.{◌≡◌, ◌-◌, ◌+◌, ◌∙◌, ◌++◌, List, ℕ, None, Some, sym, ap, append_assoc, append-nil}
 use Rattle.std.specs.Prelude.{replicate}
-use Rattle.half_line.specs.Acts.{StationSide, StationGives, byte_taken, link_state}
+use Rattle.half_line.specs.Acts.{LineStationState, StationGives, byte_taken, link_state}
 use Rattle.each_once.proofs.CountedUp.{repeat-next}
 use Rattle.half_line.proofs.Steps.LinkSteps.{take-none, takes-none, gives-nothing, gives-byte}
 use Rattle.half_line.proofs.link.take_all.Goals as goal
@@ -20,7 +20,7 @@ loop-preserved c =
 pub returns-in_default-clause-state : goal.returns-in_default-clause-state
 returns-in_default-clause-state c master deceived =
     let nothing : byte_taken c.loop.side ≡ None = sym c.in_ok-byte.ensures.byte ∙ c.in_default.is in
-    ap (λ (side : StationSide). link_state master side deceived) (c.in_ok-byte.ensures.state ∙ take-none c.loop.side nothing)
+    ap (λ (side : LineStationState). link_state master side deceived) (c.in_ok-byte.ensures.state ∙ take-none c.loop.side nothing)
     ∙ sym (takes-none (c.args.n - c.loop.counter) (link_state master c.loop.side deceived) nothing)
     ∙ c.loop.invariant.state master deceived
 

@@ -1,7 +1,7 @@
 -- A cell joins the queue to one station more.
 use Rattle.std.proofs.Common.{◌∙◌, ◌<◌, [], ◌∷◌, ◌++◌, ℕ, map, take, drop, length, ap}
 use Rattle.std.proofs.Math.Numerals.{suc-eq-add-one}
-use Rattle.line_cells.specs.Cells.{cell_of}
+use Rattle.lane_cells.specs.Cells.{cell_of}
 use Rattle.half_line.specs.Acts.{joined}
 use Rattle.half_line.proofs.Steps.WholeLine.{set-next}
 use Rattle.half_line.proofs.master.join_all.Goals as goal

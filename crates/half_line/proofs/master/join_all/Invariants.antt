@@ -1,6 +1,6 @@
 -- The cells that have joined, and the stations that they are still to join.
 use Rattle.std.proofs.Common.{◌≡◌, ◌++◌, [], ◌∷◌, map, take, drop}
-use Rattle.line_cells.specs.Cells.{cell_of}
+use Rattle.lane_cells.specs.Cells.{cell_of}
 use Rattle.half_line.specs.Acts.{joined}
 use Rattle.half_line.proofs.master.join_all.Given as goal
 

@@ -3,7 +3,7 @@ use Rattle.std.proofs.Common.{◌≡◌, ◌∙◌, map, Option, None, sym, ap}
 use Rattle.std.specs.Option.{option_map, option_to_list}
 use Rattle.df1_base.specs.declared.link.Out.{Out}
 use Rattle.half_master.specs.Master.{master_after_take, out_at_take}
-use Rattle.line_cells.specs.Cells.{cell_of}
+use Rattle.lane_cells.specs.Cells.{cell_of}
 use Rattle.each_once.specs.NodeHost.{node_host}
 use Rattle.half_line.specs.Acts.{joined}
 use Rattle.half_line.proofs.Steps.MasterSteps.{joins-nothing}

@@ -1,5 +1,5 @@
 use Rattle.std.proofs.Common.{◌≡◌, ◌∙◌, ◌+◌, ◌++◌, take, drop, ap, refl, sym, subst, take-append-drop}
-use Rattle.line_report.specs.declared.record.Record.{Record}
+use Rattle.replay_report.specs.declared.record.Record.{Record}
 use Rattle.line_replay.specs.declared.world.World.{World}
 use Rattle.line_replay.specs.Complete.{IsUndisturbed, IsComplete}
 use Rattle.line_replay.specs.Once.{EachCommandOnce}

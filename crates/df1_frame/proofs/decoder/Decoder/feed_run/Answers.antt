@@ -3,8 +3,8 @@ use Rattle.std.proofs.Common.{◌≡◌, ◌∙◌, ℕ, ◌<◌, List, ◌++◌
 use Rattle.std.specs.List.{fold}
 use Rattle.df1_check.specs.declared.Check.{Check}
 use Rattle.df1_frame.specs.declared.heard.Heard.TheVariants as heard
-use Rattle.df1_frame.specs.declared.decoder.Place.{Place}
-use Rattle.df1_frame.specs.declared.decoder.Place.TheVariants as place
+use Rattle.df1_frame.specs.declared.decoder.DecoderPlace.{DecoderPlace}
+use Rattle.df1_frame.specs.declared.decoder.DecoderPlace.TheVariants as place
 use Rattle.df1_frame.specs.Line.{ReadOff}
 use Rattle.df1_frame.specs.Grammar.{full_duplex}
 use Rattle.df1_frame.specs.Gathered.{Gathered, gather}
@@ -40,34 +40,34 @@ ran-stands N d d' run r check before stands = rw r (stands-steps (full_duplex ch
 
 pub returns-in-Inside-clause-value : goal.returns-in-Inside-clause-value
 returns-in-Inside-clause-value g c =
-    let is : c.args.self.now ≡ placed c.self.inside.check (standing_of place.Inside c.self.inside.gathered) = sym c.self.view_is ∙ ap (λ (p : Place). placed c.self.inside.check (standing_of p c.self.inside.gathered)) c.in-Inside.is in
+    let is : c.args.self.now ≡ placed c.self.inside.check (standing_of place.Inside c.self.inside.gathered) = sym c.self.view_is ∙ ap (λ (p : DecoderPlace). placed c.self.inside.check (standing_of p c.self.inside.gathered)) c.in-Inside.is in
     let ran = from-inside g.row.N c.self.inside.check c.self.inside.gathered c.gather_all.new.self c.args.self.now c.plain_len-count.result c.args.bytes.now c.plain_len-count.ensures is c.gather_all.ensures in
     rw c.in-Inside.is ran
 
 pub returns-in-Inside-clause-stands : goal.returns-in-Inside-clause-stands
 returns-in-Inside-clause-stands g c =
-    let is : c.args.self.now ≡ placed c.self.inside.check (standing_of place.Inside c.self.inside.gathered) = sym c.self.view_is ∙ ap (λ (p : Place). placed c.self.inside.check (standing_of p c.self.inside.gathered)) c.in-Inside.is in
+    let is : c.args.self.now ≡ placed c.self.inside.check (standing_of place.Inside c.self.inside.gathered) = sym c.self.view_is ∙ ap (λ (p : DecoderPlace). placed c.self.inside.check (standing_of p c.self.inside.gathered)) c.in-Inside.is in
     let ran = from-inside g.row.N c.self.inside.check c.self.inside.gathered c.gather_all.new.self c.args.self.now c.plain_len-count.result c.args.bytes.now c.plain_len-count.ensures is c.gather_all.ensures in
     rw c.in-Inside.is (ran-stands g.row.N _ _ _ ran)
 
 pub returns-in-Outside-clause-value : goal.returns-in-Outside-clause-value
 returns-in-Outside-clause-value g c =
-    let is : c.args.self.now ≡ placed c.self.inside.check (standing_of place.Outside c.self.inside.gathered) = sym c.self.view_is ∙ ap (λ (p : Place). placed c.self.inside.check (standing_of p c.self.inside.gathered)) c.in-Outside.is in
+    let is : c.args.self.now ≡ placed c.self.inside.check (standing_of place.Outside c.self.inside.gathered) = sym c.self.view_is ∙ ap (λ (p : DecoderPlace). placed c.self.inside.check (standing_of p c.self.inside.gathered)) c.in-Outside.is in
     from-outside g.row.N c.self.inside.check c.args.self.now c.plain_len.result c.args.bytes.now c.plain_len.ensures is
 
 pub returns-in-Outside-clause-stands : goal.returns-in-Outside-clause-stands
 returns-in-Outside-clause-stands g c =
-    let is : c.args.self.now ≡ placed c.self.inside.check (standing_of place.Outside c.self.inside.gathered) = sym c.self.view_is ∙ ap (λ (p : Place). placed c.self.inside.check (standing_of p c.self.inside.gathered)) c.in-Outside.is in
+    let is : c.args.self.now ≡ placed c.self.inside.check (standing_of place.Outside c.self.inside.gathered) = sym c.self.view_is ∙ ap (λ (p : DecoderPlace). placed c.self.inside.check (standing_of p c.self.inside.gathered)) c.in-Outside.is in
     let ran = from-outside g.row.N c.self.inside.check c.args.self.now c.plain_len.result c.args.bytes.now c.plain_len.ensures is in
     ran-stands g.row.N _ _ _ ran
 
 pub returns-then-count-gt0-clause-value : goal.returns-then-count-gt0-clause-value
 returns-then-count-gt0-clause-value g c =
-    let is : c.args.self.now ≡ placed c.self.inside.check (standing_of place.Ended c.self.inside.gathered) = sym c.self.view_is ∙ ap (λ (p : Place). placed c.self.inside.check (standing_of p c.self.inside.gathered)) c.in-Ended.is in
+    let is : c.args.self.now ≡ placed c.self.inside.check (standing_of place.Ended c.self.inside.gathered) = sym c.self.view_is ∙ ap (λ (p : DecoderPlace). placed c.self.inside.check (standing_of p c.self.inside.gathered)) c.in-Ended.is in
     from-ended g.row.N c.self.inside.check c.self.inside.gathered.bytes c.args.self.now c.plain_len-count-in-Ended.result c.args.bytes.now c.plain_len-count-in-Ended.ensures is c.if-count-gt0.true
 
 pub returns-then-count-gt0-clause-stands : goal.returns-then-count-gt0-clause-stands
 returns-then-count-gt0-clause-stands g c =
-    let is : c.args.self.now ≡ placed c.self.inside.check (standing_of place.Ended c.self.inside.gathered) = sym c.self.view_is ∙ ap (λ (p : Place). placed c.self.inside.check (standing_of p c.self.inside.gathered)) c.in-Ended.is in
+    let is : c.args.self.now ≡ placed c.self.inside.check (standing_of place.Ended c.self.inside.gathered) = sym c.self.view_is ∙ ap (λ (p : DecoderPlace). placed c.self.inside.check (standing_of p c.self.inside.gathered)) c.in-Ended.is in
     let ran = from-ended g.row.N c.self.inside.check c.self.inside.gathered.bytes c.args.self.now c.plain_len-count-in-Ended.result c.args.bytes.now c.plain_len-count-in-Ended.ensures is c.if-count-gt0.true in
     ran-stands g.row.N _ _ _ ran

@@ -1,5 +1,5 @@
 use Rattle.std.proofs.Common.{◌∙◌, ◌++◌, List, ap, sym}
-use Rattle.line_report.specs.declared.record.Line.{Line}
+use Rattle.replay_report.specs.declared.record.Line.{Line}
 use Rattle.duplex_line.proofs.Steps.EventSteps.{on_ok}
 use Rattle.duplex_line.proofs.Told.{one-sent}
 use Rattle.duplex_line.proofs.sent.Sent.put_behind.Goals as goal

@@ -7,10 +7,10 @@ use Rattle.df1_frame.specs.Gathered.{Gathered, gather}
 use Rattle.df1_frame.specs.Runs.{plain_len, steps}
 use Rattle.df1_frame.proofs.RunLemmas.{ran-ended, ran-inside, ran-outside, stands-steps}
 use Rattle.half_frame.specs.declared.heard.SlaveHeard.TheVariants as heard
-use Rattle.half_frame.specs.declared.text.Place.{Place as TextPlace}
-use Rattle.half_frame.specs.declared.text.Place.TheVariants as text
-use Rattle.half_frame.specs.declared.slave_ear.Place.{Place}
-use Rattle.half_frame.specs.declared.slave_ear.Place.TheVariants as place
+use Rattle.half_frame.specs.declared.text.TextPlace.{TextPlace}
+use Rattle.half_frame.specs.declared.text.TextPlace.TheVariants as text
+use Rattle.half_frame.specs.declared.slave_ear.SlavePlace.{SlavePlace}
+use Rattle.half_frame.specs.declared.slave_ear.SlavePlace.TheVariants as place
 use Rattle.half_frame.specs.TextStep.{Inside}
 use Rattle.half_frame.specs.SlaveGrammar.{slave_hears}
 use Rattle.half_frame.specs.SlaveStanding.{Outside, Ended, AtText, Listening, listening}
@@ -45,7 +45,7 @@ pub returns-in-InText-default-Inside-clause-value : goal.returns-in-InText-defau
 returns-in-InText-default-Inside-clause-value g c =
     let inner : c.in-InText-default-Inside.field-1 ≡ text.Inside = rw c.in-InText-default-Inside.is at c.in-InText-default-Inside.field-1-is in
     let is_text : c.self.inside.place ≡ place.InText c.in-InText-default-Inside.field-0 text.Inside = c.in-InText-default-Inside.is ∙ ap (λ (t : TextPlace). place.InText c.in-InText-default-Inside.field-0 t) inner in
-    let is : c.args.self.now ≡ placed c.self.inside.check (AtText c.in-InText-default-Inside.field-0 (Inside c.self.inside.gathered)) = sym c.self.view_is ∙ ap (λ (p : Place). placed c.self.inside.check (standing_of p c.self.inside.gathered)) is_text in
+    let is : c.args.self.now ≡ placed c.self.inside.check (AtText c.in-InText-default-Inside.field-0 (Inside c.self.inside.gathered)) = sym c.self.view_is ∙ ap (λ (p : SlavePlace). placed c.self.inside.check (standing_of p c.self.inside.gathered)) is_text in
     let ran = from-inside g.row.N c.self.inside.check c.in-InText-default-Inside.field-0 c.self.inside.gathered c.gather_all.new.self c.args.self.now c.plain_len-count.result c.args.bytes.now c.plain_len-count.ensures is c.gather_all.ensures in
     rw is_text ran
 
@@ -53,28 +53,28 @@ pub returns-in-InText-default-Inside-clause-stands : goal.returns-in-InText-defa
 returns-in-InText-default-Inside-clause-stands g c =
     let inner : c.in-InText-default-Inside.field-1 ≡ text.Inside = rw c.in-InText-default-Inside.is at c.in-InText-default-Inside.field-1-is in
     let is_text : c.self.inside.place ≡ place.InText c.in-InText-default-Inside.field-0 text.Inside = c.in-InText-default-Inside.is ∙ ap (λ (t : TextPlace). place.InText c.in-InText-default-Inside.field-0 t) inner in
-    let is : c.args.self.now ≡ placed c.self.inside.check (AtText c.in-InText-default-Inside.field-0 (Inside c.self.inside.gathered)) = sym c.self.view_is ∙ ap (λ (p : Place). placed c.self.inside.check (standing_of p c.self.inside.gathered)) is_text in
+    let is : c.args.self.now ≡ placed c.self.inside.check (AtText c.in-InText-default-Inside.field-0 (Inside c.self.inside.gathered)) = sym c.self.view_is ∙ ap (λ (p : SlavePlace). placed c.self.inside.check (standing_of p c.self.inside.gathered)) is_text in
     let ran = from-inside g.row.N c.self.inside.check c.in-InText-default-Inside.field-0 c.self.inside.gathered c.gather_all.new.self c.args.self.now c.plain_len-count.result c.args.bytes.now c.plain_len-count.ensures is c.gather_all.ensures in
     rw is_text (ran-stands g.row.N _ _ _ ran)
 
 pub returns-in-Outside-clause-value : goal.returns-in-Outside-clause-value
 returns-in-Outside-clause-value g c =
-    let is : c.args.self.now ≡ placed c.self.inside.check Outside = sym c.self.view_is ∙ ap (λ (p : Place). placed c.self.inside.check (standing_of p c.self.inside.gathered)) c.in-Outside.is in
+    let is : c.args.self.now ≡ placed c.self.inside.check Outside = sym c.self.view_is ∙ ap (λ (p : SlavePlace). placed c.self.inside.check (standing_of p c.self.inside.gathered)) c.in-Outside.is in
     from-outside g.row.N c.self.inside.check c.args.self.now c.plain_len.result c.args.bytes.now c.plain_len.ensures is
 
 pub returns-in-Outside-clause-stands : goal.returns-in-Outside-clause-stands
 returns-in-Outside-clause-stands g c =
-    let is : c.args.self.now ≡ placed c.self.inside.check Outside = sym c.self.view_is ∙ ap (λ (p : Place). placed c.self.inside.check (standing_of p c.self.inside.gathered)) c.in-Outside.is in
+    let is : c.args.self.now ≡ placed c.self.inside.check Outside = sym c.self.view_is ∙ ap (λ (p : SlavePlace). placed c.self.inside.check (standing_of p c.self.inside.gathered)) c.in-Outside.is in
     let ran = from-outside g.row.N c.self.inside.check c.args.self.now c.plain_len.result c.args.bytes.now c.plain_len.ensures is in
     ran-stands g.row.N _ _ _ ran
 
 pub returns-then-count-gt0-clause-value : goal.returns-then-count-gt0-clause-value
 returns-then-count-gt0-clause-value g c =
-    let is : c.args.self.now ≡ placed c.self.inside.check (Ended c.self.inside.gathered.bytes) = sym c.self.view_is ∙ ap (λ (p : Place). placed c.self.inside.check (standing_of p c.self.inside.gathered)) c.in-Ended.is in
+    let is : c.args.self.now ≡ placed c.self.inside.check (Ended c.self.inside.gathered.bytes) = sym c.self.view_is ∙ ap (λ (p : SlavePlace). placed c.self.inside.check (standing_of p c.self.inside.gathered)) c.in-Ended.is in
     from-ended g.row.N c.self.inside.check c.self.inside.gathered.bytes c.args.self.now c.plain_len-count-in-Ended.result c.args.bytes.now c.plain_len-count-in-Ended.ensures is c.if-count-gt0.true
 
 pub returns-then-count-gt0-clause-stands : goal.returns-then-count-gt0-clause-stands
 returns-then-count-gt0-clause-stands g c =
-    let is : c.args.self.now ≡ placed c.self.inside.check (Ended c.self.inside.gathered.bytes) = sym c.self.view_is ∙ ap (λ (p : Place). placed c.self.inside.check (standing_of p c.self.inside.gathered)) c.in-Ended.is in
+    let is : c.args.self.now ≡ placed c.self.inside.check (Ended c.self.inside.gathered.bytes) = sym c.self.view_is ∙ ap (λ (p : SlavePlace). placed c.self.inside.check (standing_of p c.self.inside.gathered)) c.in-Ended.is in
     let ran = from-ended g.row.N c.self.inside.check c.self.inside.gathered.bytes c.args.self.now c.plain_len-count-in-Ended.result c.args.bytes.now c.plain_len-count-in-Ended.ensures is c.if-count-gt0.true in
     ran-stands g.row.N _ _ _ ran

@@ -3,7 +3,7 @@ use Rattle.std.proofs.lemmas.Result.{on_ok_weaker}
 use Rattle.std.specs.List.{flat_map}
 use Rattle.df1_base.specs.Outside.{Put, WrotePart}
 use Rattle.df1_base.proofs.Laws.{wrote_none}
-use Rattle.line_report.specs.Report.{line_text}
+use Rattle.replay_report.specs.Report.{line_text}
 use Rattle.line_script.specs.Lines.{script_with}
 use Rattle.line_replay.specs.declared.world.World.{World}
 use Rattle.line_replay.specs.Runs.{IsNext, after_event, last_world, lines_in, played}

@@ -2,7 +2,7 @@ use Rattle.std.proofs.Common.{◌≡◌, ◌∙◌, OnOk, Some, List, ℕ, ap, s
 use Rattle.df1_base.specs.Outside.{Put, WrotePart}
 use Rattle.df1_base.proofs.Laws.{wrote_none}
 use Rattle.line_script.specs.Lines.{script_with}
-use Rattle.line_report.specs.Report.{report}
+use Rattle.replay_report.specs.Report.{report}
 use Rattle.line_replay.specs.declared.world.World.{World}
 use Rattle.line_replay.specs.Runs.{last_world, lines_in, record_from}
 use Rattle.line_replay.specs.Fed.{Replaying}

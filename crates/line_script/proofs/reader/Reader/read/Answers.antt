@@ -1,8 +1,8 @@
 use Rattle.std.proofs.Common.{◌≡◌, ◌∙◌, ℕ, false, cond, List, [], ◌∷◌, Ok, Err, None, Option, Bor, refl, sym, ap, length, map, take}
 use Rattle.std.proofs.lemmas.Bool.{le-ltb}
-use Rattle.line_statement.specs.Words.{words}
-use Rattle.line_statement.specs.declared.statement.Statement.{Statement}
-use Rattle.line_statement.proofs.Forms.{first_six}
+use Rattle.script_statement.specs.Words.{words}
+use Rattle.script_statement.specs.declared.statement.Statement.{Statement}
+use Rattle.script_statement.proofs.Forms.{first_six}
 use Rattle.line_script.specs.declared.fault.Cause.TheVariants as cause
 use Rattle.line_script.specs.declared.reader.Reader.{Reader}
 use Rattle.line_script.specs.Readers.{stage_of}

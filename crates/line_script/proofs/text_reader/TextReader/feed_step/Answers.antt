@@ -5,7 +5,7 @@ use Rattle.line_script.specs.Fed.{Fed, HasNoFeed, StandsFor}
 use Rattle.line_script.specs.Lines.{after_line, text_line}
 use Rattle.line_script.specs.Steps.{step_before}
 use Rattle.line_script.specs.Unfinished.{unfinished}
-use Rattle.line_script.specs.declared.step.Step.{Step}
+use Rattle.line_script.specs.declared.step.TimesEvent.{TimesEvent}
 use Rattle.line_script.proofs.Runs.{faulty-line, is-empty, line-read-whole, none-begun}
 use Rattle.line_script.proofs.Shown.{left-begun}
 use Rattle.line_script.proofs.StepLines.{before_size, none_behind, step_line}
@@ -53,7 +53,7 @@ returns-clause-stands c text events h x is =
     let read = line-read-whole text line events r new (Ok (Some (times_event step.side step.verb step.n))) (step_line line step taken.0) (subst (StandsFor text events) (sym c.self.view_is) h) empty (taken.1, empty, refl, refl) in
     let front : text ++ take (length line + 1) bytes ≡ (text ++ line) ++ 10 ∷ [] = ap (λ t. text ++ t) c.in_ok-line.ensures.cut.2 ∙ sym (append_assoc text line (10 ∷ [])) in
     let stands : StandsFor (text ++ take (length line + 1) bytes) (events ++ times_event step.side step.verb step.n ∷ []) new = subst (λ t. StandsFor t (events ++ times_event step.side step.verb step.n ∷ []) new) (sym front) read in
-    subst (λ (t : Step × ℕ). StandsFor (text ++ take t.1 bytes) (events ++ times_event t.0.side t.0.verb t.0.n ∷ []) new) (ap (λ (o : Option (Step × ℕ)). unwrap_or o (step, length line + 1)) is) stands
+    subst (λ (t : TimesEvent × ℕ). StandsFor (text ++ take t.1 bytes) (events ++ times_event t.0.side t.0.verb t.0.n ∷ []) new) (ap (λ (o : Option (TimesEvent × ℕ)). unwrap_or o (step, length line + 1)) is) stands
 
 pub returns-clause-line : goal.returns-clause-line
 returns-clause-line c x is =
@@ -63,4 +63,4 @@ returns-clause-line c x is =
     let known = c.in_ok-step.ensures.step.0 in
     let cut : (l : List ℕ) × (take (length line + 1) bytes ≡ l ++ 10 ∷ []) × HasNoFeed l × (step_before l ≡ Some step) =
     (line, c.in_ok-line.ensures.cut.2, step_line line step known, known) in
-    subst (λ (t : Step × ℕ). (l : List ℕ) × (take t.1 bytes ≡ l ++ 10 ∷ []) × HasNoFeed l × (step_before l ≡ Some t.0)) (ap (λ (o : Option (Step × ℕ)). unwrap_or o (step, length line + 1)) is) cut
+    subst (λ (t : TimesEvent × ℕ). (l : List ℕ) × (take t.1 bytes ≡ l ++ 10 ∷ []) × HasNoFeed l × (step_before l ≡ Some t.0)) (ap (λ (o : Option (TimesEvent × ℕ)). unwrap_or o (step, length line + 1)) is) cut

@@ -1,0 +1,148 @@
+//! An end of the line with its node, and the queue of the bytes that it gave.
+
+ghost use Rattle.std.specs.Prelude.{◌≡◌, [], ◌++◌, IfOk, OnOk, None, slice_get};
+ghost use Rattle.duplex_receiver.specs.Receiver.{body_at};
+ghost use Rattle.df1_node.specs.Initiator.{issue_fault};
+ghost use Rattle.duplex_end.specs.End.{turn_at_tick, gone_at_tick, out_at_take};
+ghost use Rattle.script_parts.specs.Playable.{IsPlanOf};
+ghost use Rattle.each_once.specs.NodeHost.{node_host};
+ghost use Rattle.duplex_line.specs.Acts.{after_issue, after_take, after_leaving, after_alter, after_cell, after_tick, byte_taken, step_of, taken};
+ghost use Rattle.duplex_line.specs.Run.{first_side, tables_of};
+
+use arrayvec::ArrayVec;
+use df1_base::{NoMemory, Step, Turn};
+use df1_check::Check;
+use df1_node::{IssueFault, Node, Tables};
+use duplex_end::End;
+use lane_cells::{Cell, Spare};
+use outset::{node_of, setup_of};
+use script_parts::EndPlan;
+use std::alloc::Global;
+use std::collections::VecDeque;
+use std::marker::Model;
+
+/// An end, and the bytes on their way from it to the other end, with memory for what is known of the end of a transmission.
+#[derive(Drop)]
+pub(crate) struct LineEnd {
+    end: End<Node>,
+    lane: VecDeque<Cell>,
+    spare: Spare,
+}
+
+impl Model for LineEnd {
+    ghost use Rattle.std.specs.Coded.{codes};
+    ghost use Rattle.df1_node.specs.contracts.node.Node as node_row;
+    ghost use Rattle.duplex_line.specs.Acts.{LineEndState};
+
+    ghost Value = { LineEndState };
+
+    ghost coded = { Prim.hlevel (codes, node_row.the_row.coded) };
+
+    ghost view = { λ s. record { end = s.end; lane = s.lane.items } };
+}
+
+impl LineEnd {
+    /// An end with an empty queue.
+    pub fn new(alloc: Global, end: End<Node>) -> LineEnd
+        ensures { result ≡ record { end = end; lane = [] } }
+    {
+        LineEnd {
+            end,
+            lane: VecDeque::new(alloc),
+            spare: Spare::new(),
+        }
+    }
+
+    /// Issues a command. The payload has 1 to 245 bytes, bit 6 of its CMD is clear, and the end has issued fewer than
+    /// 65,535 commands.
+    pub fn issue(&mut self, dst: u8, payload: &[u8]) -> Result<(), NoMemory>
+        requires { issue_fault self.old.end.host.initiator payload.now ≡ None }
+        ensures { OnOk result (self.new ≡ after_issue self.old dst payload.now) }
+    {
+        match self.end.host_mut().issue(dst, payload) {
+            Ok(_) => Ok(()),
+            Err(IssueFault::NoMemory) => Err(NoMemory),
+            Err(_) => unreachable!(),
+        }
+    }
+
+    /// Gives the next byte, which joins the back of the queue, and answers it: None exactly where there is none.
+    #[inline(always)]
+    pub fn take(&mut self, alloc: Global) -> Result<Option<u8>, NoMemory>
+        ensures state { OnOk result (self.new ≡ after_take self.old) }
+        ensures byte { IfOk result (λ byte. byte ≡ byte_taken self.old) }
+    {
+        let Some(out) = self.end.take() else {
+            return Ok(None);
+        };
+        let cell = Cell::given(alloc, &out, self.end.sending(), &mut self.spare)?;
+        self.lane.push_back(cell)?;
+        Ok(Some(out.byte))
+    }
+
+    /// Takes the head off the queue: None exactly where the queue is empty.
+    pub fn leave(&mut self) -> Option<Cell>
+        ensures state { self.new ≡ after_leaving self.old }
+        ensures cell { result ≡ slice_get self.old.lane 0 }
+    {
+        self.lane.pop_front()
+    }
+
+    /// Keeps the memory of a cell that has arrived or is lost.
+    #[inline(always)]
+    pub fn keep(&mut self, cell: Cell)
+        ensures { self.new ≡ self.old }
+    {
+        cell.spend(&mut self.spare);
+    }
+
+    /// Alters the head of the queue, if there is one, by exclusive or with `mask`.
+    pub fn alter(&mut self, mask: u8)
+        ensures { self.new ≡ after_alter self.old mask }
+    {
+        if let Some(cell) = self.lane.front_mut() {
+            cell.alter(mask, &mut self.spare);
+        }
+    }
+
+    /// Takes a byte that arrives, and says what the end made of it.
+    #[inline(always)]
+    pub fn hear(&mut self, cell: &Cell) -> Step
+        ensures state { self.new ≡ after_cell self.old cell.now }
+        ensures step { result ≡ step_of self.old cell.now }
+    {
+        self.end.on_byte(cell.byte)
+    }
+
+    /// The body of the frame that ended at the last byte heard, empty where none did.
+    pub fn body(&self) -> &[u8]
+        ensures { result.now ≡ body_at self.now.end.receiver }
+    {
+        self.end.body()
+    }
+
+    /// A unit of time passes. `gone` is replaced by the commands that are unanswered from this tick on.
+    pub fn tick(&mut self, gone: &mut ArrayVec<u32, 16>) -> Turn
+        ensures state { self.new ≡ after_tick self.old }
+        ensures turn { result ≡ turn_at_tick node_host self.old.end }
+        ensures gone { gone.new.items ≡ gone_at_tick node_host self.old.end }
+    {
+        self.end.on_tick(gone)
+    }
+
+    /// The data tables of the node.
+    pub fn tables(&self) -> &Tables
+        ensures { result.now ≡ tables_of self.now }
+    {
+        self.end.host().tables()
+    }
+}
+
+/// An end by its plan, with nothing heard, given or issued.
+pub(crate) fn side_of(alloc: Global, check: Check, plan: &EndPlan) -> Result<LineEnd, NoMemory>
+    requires { IsPlanOf plan.now.who plan.now }
+    ensures { IfOk result (λ side. side ≡ first_side check plan.now) }
+{
+    let node = node_of(alloc, plan)?;
+    Ok(LineEnd::new(alloc, End::new(setup_of(check, plan), node)))
+}

@@ -1,0 +1,162 @@
+//! A station of the line with its node, and the queues of the bytes to it and from it.
+
+ghost use Rattle.std.specs.Prelude.{◌≡◌, [], ◌∷◌, ◌++◌, IfOk, OnOk, None, slice_get};
+ghost use Rattle.half_slave.specs.Slave.{body_of};
+ghost use Rattle.half_slave.specs.Slave as slave_of;
+ghost use Rattle.script_parts.specs.HalfPlayable.{IsStationPlan, IsStationNumber};
+ghost use Rattle.lane_cells.specs.Cells.{altered, cell_of};
+ghost use Rattle.each_once.specs.NodeHost.{node_host};
+ghost use Rattle.half_line.specs.Acts.{LaneDeed, Lose, Alter, joined, side_moved, lane_of, after_take, byte_taken, station_heard};
+ghost use Rattle.half_line.specs.Run.{first_side, tables_of};
+
+use crate::setup::slave_setup;
+use crate::way::Way;
+use df1_base::{NoMemory, Out, Step};
+use df1_check::Check;
+use df1_node::{Node, Tables};
+use half_slave::Slave;
+use lane_cells::{Cell, Spare};
+use outset::node_of;
+use script_parts::EndPlan;
+use std::alloc::Global;
+use std::collections::VecDeque;
+use std::marker::Model;
+
+/// A station, and the bytes on their way to it and from it.
+#[derive(Drop)]
+pub(crate) struct LineStation {
+    /// Its number.
+    number: u8,
+    slave: Slave<Node>,
+    to_it: VecDeque<Cell>,
+    from_it: VecDeque<Cell>,
+    /// Memory for the next cell that ends a transmission.
+    spare: Spare,
+}
+
+impl Model for LineStation {
+    ghost use Rattle.std.specs.Coded.{codes};
+    ghost use Rattle.df1_node.specs.contracts.node.Node as node_row;
+    ghost use Rattle.half_line.specs.Acts.{LineStationState};
+
+    ghost Value = { LineStationState };
+
+    ghost coded = { Prim.hlevel (codes, node_row.the_row.coded) };
+
+    ghost view = { λ s. record { number = s.number; slave = s.slave; to_it = s.to_it.items; from_it = s.from_it.items } };
+}
+
+impl LineStation {
+    /// A station with empty queues.
+    pub fn new(alloc: Global, number: u8, slave: Slave<Node>) -> LineStation
+        ensures { result ≡ record { number = number; slave = slave; to_it = []; from_it = [] } }
+    {
+        LineStation {
+            number,
+            slave,
+            to_it: VecDeque::new(alloc),
+            from_it: VecDeque::new(alloc),
+            spare: Spare::new(),
+        }
+    }
+
+    /// Its number.
+    pub fn number(&self) -> u8
+        ensures { result ≡ self.now.number }
+    {
+        self.number
+    }
+
+    /// A byte of the master, given while it sent this body, joins the back of the queue to the station.
+    pub fn join(&mut self, alloc: Global, out: &Out, sending: &[u8]) -> Result<(), NoMemory>
+        ensures { OnOk result (self.new ≡ joined (cell_of sending.now out.now ∷ []) self.old) }
+    {
+        let cell = Cell::given(alloc, out, sending, &mut self.spare)?;
+        self.to_it.push_back(cell)?;
+        Ok(())
+    }
+
+    /// Gives the next byte, which joins the back of the queue to the master, and answers it: None exactly where there is
+    /// none.
+    pub fn take(&mut self, alloc: Global) -> Result<Option<u8>, NoMemory>
+        ensures state { OnOk result (self.new ≡ after_take self.old) }
+        ensures byte { IfOk result (λ byte. byte ≡ byte_taken self.old) }
+    {
+        let Some(out) = self.slave.take() else {
+            return Ok(None);
+        };
+        let cell = Cell::given(alloc, &out, self.slave.sending(), &mut self.spare)?;
+        self.from_it.push_back(cell)?;
+        Ok(Some(out.byte))
+    }
+
+    /// Takes the head off the queue that goes this way: None exactly where the queue is empty.
+    pub fn leave(&mut self, way: Way) -> Option<Cell>
+        ensures state { self.new ≡ side_moved way self.old Lose }
+        ensures cell { result ≡ slice_get (lane_of way self.old) 0 }
+    {
+        match way {
+            Way::ToStation => self.to_it.pop_front(),
+            Way::ToMaster => self.from_it.pop_front(),
+        }
+    }
+
+    /// Alters the head of the queue that goes this way, if there is one, by exclusive or with `mask`.
+    pub fn alter(&mut self, way: Way, mask: u8)
+        ensures { self.new ≡ side_moved way self.old (Alter mask) }
+    {
+        match way {
+            Way::ToStation => alter(&mut self.to_it, &mut self.spare, mask),
+            Way::ToMaster => alter(&mut self.from_it, &mut self.spare, mask),
+        }
+    }
+
+    /// Keeps the memory of a cell that has arrived or is lost.
+    pub fn keep(&mut self, cell: Cell)
+        ensures { self.new ≡ self.old }
+    {
+        cell.spend(&mut self.spare);
+    }
+
+    /// The station takes a byte that arrives, and says what it made of it.
+    pub fn hear(&mut self, byte: u8) -> Step
+        ensures state { self.new ≡ station_heard self.old byte }
+        ensures step { result ≡ slave_of.step_at_byte node_host self.old.slave byte }
+    {
+        self.slave.on_byte(byte)
+    }
+
+    /// The body of the message that was heard whole at the last byte, to whatever station; empty where none was.
+    pub fn body(&self) -> &[u8]
+        ensures { result.now ≡ body_of self.now.slave }
+    {
+        self.slave.body()
+    }
+
+    /// The data tables of the node.
+    pub fn tables(&self) -> &Tables
+        ensures { result.now ≡ tables_of self.now }
+    {
+        self.slave.host().tables()
+    }
+}
+
+/// Alters the head of a queue, if there is one, by exclusive or with `mask`.
+fn alter(lane: &mut VecDeque<Cell>, spare: &mut Spare, mask: u8)
+    ensures { lane.new.items ≡ altered mask lane.old.items }
+{
+    if let Some(cell) = lane.front_mut() {
+        cell.alter(mask, spare);
+    }
+}
+
+/// A station by its plan, with nothing heard or given.
+pub(crate) fn side_of(alloc: Global, check: Check, plan: &EndPlan) -> Result<LineStation, NoMemory>
+    requires plan { IsStationPlan plan.now }
+    requires number { IsStationNumber plan.now.node }
+    ensures { IfOk result (λ side. side ≡ first_side check plan.now) }
+{
+    let node = node_of(alloc, plan)?;
+    let slave = Slave::new(slave_setup(check, plan), node);
+    Ok(LineStation::new(alloc, plan.node, slave))
+}

@@ -1,7 +1,0 @@
-use Rattle.std.proofs.Common.{refl}
-use Rattle.hex.specs.Hex.{encode_with}
-use Rattle.line_report.proofs.digits.pair.Goals as goal
-
-pub returns : goal.returns
-unfolding encode_with
-returns c = rw (c.from.ensures, c.from-2.ensures) refl

@@ -1,8 +1,0 @@
-use Rattle.std.proofs.Common.{◌≡◌, ◌∙◌}
-use Rattle.line_report.specs.Report.{word_text}
-use Rattle.line_report.proofs.printing.put_word.Goals as goal
-
-pub returns-clause-part : goal.returns-clause-part
-returns-clause-part g c =
-    let same : c.deref.result.now ≡ word_text c.args.word = c.deref.ensures.0 ∙ c.word_line.ensures in
-    rw same at c.write_all.ensures.part

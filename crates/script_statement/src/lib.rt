@@ -1,0 +1,34 @@
+//! What one line of a script says: its words, and the statement that they make by the table of the forms; with the
+//! names and values that statements are made of. A line says the same in either mode; whether it may stand there is for
+//! the reader of the lines.
+//!
+//! The forms, by the count of their words. E is an end: `a` or `b` of a full-duplex link, `m` or the number S of a station
+//! of a half-duplex line; `n` is a number, HH, HHHH and HEX are pairs of hexadecimal digits.
+//!
+//! | Words | Forms |
+//! |---|---|
+//! | one | `end`; `Ek`, `Et`, `Ed`, `Ex` of a and b; `mk`, `mt`; `Sk`, `Sd`, `Sx` |
+//! | two | `station S`; `Ek n`, `Et n`, `Ed n`, `Ex n`, `Ei HEX`, `Ec HH`, `En HEX` of a and b; `mk n`, `mt n`, `md S`, `mx S`; `Sk n`, `Sd n`, `Sx n`, `Sc HH`, `Sn HEX` |
+//! | three | `set mode full`, `set mode half`, `set check VALUE`, `set E.NAME VALUE`; `mi S HEX`, `md S n`, `mx S n`, `mc S HH`, `mn S HEX` |
+//! | five | `file E NUMBER TYPE COUNT`; `word E NUMBER INDEX HHHH` |
+#![tactic(auto)]
+
+mod event_line;
+mod half_event;
+mod items;
+mod set_line;
+mod setup_statement;
+mod statement;
+mod who;
+mod words;
+
+pub use event_line::{payload_of, verb_of};
+pub use half_event::{HalfEvent, Way};
+pub use items::{Bytes, Items};
+pub use setup_statement::{Setting, SetupStatement};
+pub use statement::{EVENTS, EndLetter, EndName, Statement, Verb, file_number, statement_of};
+pub use who::Who;
+pub use words::{FirstWords, first_words, hex_of, number_of, register_of};
+
+#[cfg(test)]
+mod tests;

@@ -1,0 +1,227 @@
+//! The lines that begin with `set`: the mode, the check, and of an end the settings, the compatibility file and the block,
+//! each with the values that it may have.
+ghost use Rattle.std.specs.Prelude.{◌≡◌, ◌==◌, IfOk, IsTrue, OnErr, codes, position};
+ghost use Rattle.std.specs.Str.{bytes_eq};
+ghost use Rattle.script_statement.specs.Statements.{set_line as the_set, end_setting as the_end_setting, named_line as the_named, compat_line as the_compat, block_line as the_block_line, block_of as the_block, file_number as the_file, is_block_key, set_statement as the_set_statement, setting_of as the_setting, check_of as the_check, switch_of as the_switch, mode_of as the_mode};
+ghost use Rattle.script_statement.specs.Words.{number_of as the_number, within as the_bounded};
+
+use crate::Bytes;
+use crate::setup_statement::{Setting, SetupStatement};
+use crate::statement::{EndName, Statement, end_of, file_number};
+use crate::words::{hex_of, is, is_within, number_of, within};
+use df1_base::{MAX_DATA, NoMemory};
+use df1_check::Check;
+use std::alloc::Global;
+
+/// The highest count of ticks.
+const TICKS: u32 = 1_000_000;
+
+/// What `set` with a key and a value says, if the key is one.
+#[inline(never)]
+pub(crate) fn set_line(
+    alloc: Global,
+    key: &[u8],
+    value: &[u8],
+) -> Result<Option<Statement>, NoMemory>
+    ensures value { IfOk result (λ s. s ≡ the_set key.now value.now) }
+    ensures memory { OnErr result (IsTrue (is_block_key key.now)) }
+{
+    if is(key, "mode") {
+        Ok(mode_of(value))
+    } else if is(key, "check") {
+        Ok(Some(Statement::Check(check_of(value))))
+    } else {
+        end_setting(alloc, key, value)
+    }
+}
+
+/// The mode that a word names.
+fn mode_of(value: &[u8]) -> Option<Statement>
+    ensures { result ≡ the_mode value.now }
+{
+    if is(value, "full") {
+        Some(Statement::Mode { half: false })
+    } else if is(value, "half") {
+        Some(Statement::Mode { half: true })
+    } else {
+        None
+    }
+}
+
+/// The check that a word names.
+fn check_of(value: &[u8]) -> Option<Check>
+    ensures { result ≡ the_check value.now }
+{
+    if is(value, "bcc") {
+        Some(Check::Bcc)
+    } else if is(value, "crc") {
+        Some(Check::Crc)
+    } else {
+        None
+    }
+}
+
+/// A setting of an end: its key is the end, a full stop and a name.
+fn end_setting(alloc: Global, key: &[u8], value: &[u8]) -> Result<Option<Statement>, NoMemory>
+    ensures value { IfOk result (λ s. s ≡ the_end_setting key.now value.now) }
+    ensures memory { OnErr result (IsTrue (is_block_key key.now)) }
+{
+    match stop_of(key) {
+        Some(stop) => {
+            let (end, name) = key.split_at(stop);
+            named_line(alloc, end_of(end), name, value)
+        }
+        None => Ok(None),
+    }
+}
+
+/// What a name with its full stop and a value say of an end. A block alone takes memory.
+fn named_line(
+    alloc: Global,
+    end: Option<EndName>,
+    name: &[u8],
+    value: &[u8],
+) -> Result<Option<Statement>, NoMemory>
+    ensures value { IfOk result (λ s. s ≡ the_named end name.now value.now) }
+    ensures memory { OnErr result (IsTrue (bytes_eq name.now (codes ".block"))) }
+{
+    if is(name, ".compat") {
+        Ok(compat_line(end, file_of(value)))
+    } else if is(name, ".block") {
+        Ok(block_line(end, hex_of(alloc, value)?))
+    } else {
+        Ok(set_statement(end, setting_of(name, value)))
+    }
+}
+
+/// The number of a file: None for a word that is no number, and None inside for a number that no file has.
+fn file_of(value: &[u8]) -> Option<Option<u16>>
+    ensures { result ≡ the_file value.now }
+{
+    number_of(value).map(file_number)
+}
+
+/// The compatibility file of an end.
+fn compat_line(end: Option<EndName>, file: Option<Option<u16>>) -> Option<Statement>
+    ensures { result ≡ the_compat end file }
+{
+    Some(Statement::Setup {
+        end: end?,
+        line: SetupStatement::Compat(file),
+    })
+}
+
+/// The block of an end.
+fn block_line(end: Option<EndName>, bytes: Option<Bytes>) -> Option<Statement>
+    ensures { result ≡ the_block_line end bytes }
+{
+    Some(Statement::Setup {
+        end: end?,
+        line: SetupStatement::Block(block_of(bytes)),
+    })
+}
+
+/// A block, where it has 1 to 244 bytes.
+fn block_of(bytes: Option<Bytes>) -> Option<Bytes>
+    ensures { result ≡ the_block bytes }
+{
+    let bytes = bytes?;
+    if is_within(1, MAX_DATA, bytes.as_slice()) {
+        Some(bytes)
+    } else {
+        None
+    }
+}
+
+/// Where the first full stop stands.
+fn stop_of(key: &[u8]) -> Option<usize>
+    ensures { result ≡ position (λ byte. byte == 46) key.now }
+{
+    key.iter().position(|byte| *byte == b'.')
+}
+
+/// The setting of an end, where there is such an end and such a setting.
+fn set_statement(end: Option<EndName>, setting: Option<Setting>) -> Option<Statement>
+    ensures { result ≡ the_set_statement end setting }
+{
+    Some(Statement::Setup {
+        end: end?,
+        line: SetupStatement::Set(setting?),
+    })
+}
+
+/// The setting that a name with its full stop and a value are: None for a name that is none of the table, and None
+/// inside for a value that the table hasn't.
+fn setting_of(name: &[u8], value: &[u8]) -> Option<Setting>
+    ensures { result ≡ the_setting name.now value.now }
+{
+    if is(name, ".embed") {
+        Some(Setting::Embed(switch_of(value)))
+    } else if is(name, ".node") {
+        Some(Setting::Node(node_of(value)))
+    } else if is(name, ".tns") {
+        Some(Setting::Tns(tns_of(value)))
+    } else if is(name, ".ack_ticks") {
+        Some(Setting::AckTicks(number_in(1, TICKS, value)))
+    } else if is(name, ".max_naks") {
+        Some(Setting::MaxNaks(number_in(0, 255, value)))
+    } else if is(name, ".max_enqs") {
+        Some(Setting::MaxEnqs(number_in(0, 255, value)))
+    } else if is(name, ".reply_ticks") {
+        Some(Setting::ReplyTicks(number_in(33, TICKS, value)))
+    } else if is(name, ".max_resends") {
+        Some(Setting::MaxResends(number_in(0, 255, value)))
+    } else if is(name, ".poll_ticks") {
+        Some(Setting::PollTicks(number_in(1, TICKS, value)))
+    } else if is(name, ".max_sends") {
+        Some(Setting::MaxSends(number_in(1, 255, value)))
+    } else if is(name, ".room") {
+        Some(Setting::Room(room_of(value)))
+    } else {
+        None
+    }
+}
+
+/// A word that is a number within bounds.
+fn number_in(least: u32, most: u32, value: &[u8]) -> Option<u32>
+    ensures { result ≡ the_bounded least most (the_number value.now) }
+{
+    within(least, most, number_of(value))
+}
+
+/// `on` or `off`.
+fn switch_of(value: &[u8]) -> Option<bool>
+    ensures { result ≡ the_switch value.now }
+{
+    if is(value, "on") {
+        Some(true)
+    } else if is(value, "off") {
+        Some(false)
+    } else {
+        None
+    }
+}
+
+/// An address of one byte.
+fn node_of(value: &[u8]) -> Option<u8>
+    ensures { result ≡ the_bounded 0 255 (the_number value.now) }
+{
+    let node = number_in(0, 255, value)?;
+    Some(node as u8)
+}
+
+/// A TNS.
+fn tns_of(value: &[u8]) -> Option<u16>
+    ensures { result ≡ the_bounded 0 65535 (the_number value.now) }
+{
+    let tns = number_in(0, 65535, value)?;
+    Some(tns as u16)
+}
+
+/// How many replies may wait.
+fn room_of(value: &[u8]) -> Option<usize>
+    ensures { result ≡ the_bounded 2 64 (the_number value.now) }
+{
+    let room = number_in(2, 64, value)?;
+    Some(room as usize)
+}
