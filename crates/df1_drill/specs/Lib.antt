@@ -1,2 +1,3 @@
 pub mod Drill
 pub mod Tally
+pub mod Telling

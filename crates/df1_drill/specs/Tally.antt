@@ -7,7 +7,7 @@ use Rattle.replay_report.specs.declared.record.Line.{Line}
 use Rattle.replay_report.specs.declared.record.Line.TheVariants.{Exec, Answered, Damaged, Repeat, Enquiry}
 use Rattle.replay_report.specs.declared.record.Record.{Record}
 use Rattle.replay_report.specs.Report.{report, word_digits}
-use Rattle.line_replay.specs.Runs.{record_of}
+use Rattle.line_world.specs.Runs.{record_of}
 use Rattle.df1_drill.specs.declared.drilled.Drilled.{Drilled}
 use Rattle.df1_drill.specs.Drill.{drill_script}
 

@@ -10,7 +10,7 @@ use crate::tally::{answered, damaged, enquiries, executed, issued, repeats};
 use arrayvec::ArrayVec;
 use df1_base::NoMemory;
 use df1_check::crc;
-use line_replay::replay;
+use line_world::replay;
 use replay_report::pair;
 use std::alloc::Global;
 

@@ -6,9 +6,11 @@ mod drilled;
 mod report_text;
 mod script;
 mod tally;
+mod telling;
 
 pub use drilled::{Drilled, LINE, drill};
 pub use script::{MOST_ROUNDS, drill_script, each_drill_can_be_played};
+pub use telling::{DrillFault, write_drill};
 
 #[cfg(test)]
 mod tests;

@@ -4,11 +4,12 @@ use Rattle.std.proofs.lemmas.Bool.{le-ltb, lt-ltb}
 use Rattle.df1_base.specs.Signals.{input_limit}
 use Rattle.df1_check.specs.declared.Check.{Check}
 use Rattle.df1_dissect.specs.declared.ear.Side.{Side}
-use Rattle.df1_tool.specs.declared.capture.CaptureFault.{CaptureFault}
-use Rattle.df1_tool.specs.declared.capture.CaptureFault.TheVariants as fault
-use Rattle.df1_tool.specs.Captures.{IsOver, IsWhole, IsWithoutNote, Notes, Streams, status_of_capture}
-use Rattle.df1_tool.specs.Counted.{CheckEnd, CheckRun, Counts, status_of_counts}
-use Rattle.df1_tool.specs.Dissected.{DissectEnd, DissectRun}
+use Rattle.df1_capture.specs.declared.capture.CaptureFault.{CaptureFault}
+use Rattle.df1_capture.specs.declared.capture.CaptureFault.TheVariants as fault
+use Rattle.df1_capture.specs.Captures.{IsOver, IsWhole}
+use Rattle.df1_capture.specs.Counted.{CheckEnd, Counts}
+use Rattle.df1_capture.specs.Dissected.{DissectEnd}
+use Rattle.df1_tool.specs.Captures.{CheckRun, DissectRun, IsWithoutNote, Notes, Streams, status_of_capture, status_of_counts}
 use Rattle.df1_tool.proofs.Statuses.{whole, at_end}
 
 -- ---- the size of the input

@@ -1,41 +1,42 @@
 -- What a run of `drill` shows, by how it ended, and how many rounds the words may ask for.
-use Rattle.std.proofs.Common.{◌≡◌, ◌≤◌, ℕ, Bool, true, false, List, [], ◌∷◌, Option, None, Some, Result, Ok, Err, inl, inr, refl, ap, arith}
-use Rattle.std.specs.Prelude.{MatchResult, IfSome, if◌then◌else◌, codes, option_map}
+use Rattle.std.proofs.Common.{◌≡◌, ◌≤◌, ℕ, Bool, true, false, List, [], ◌∷◌, Option, None, Some, Result, Ok, Err, inl, inr, refl, arith}
+use Rattle.std.specs.Prelude.{IfSome, if◌then◌else◌, codes, option_map}
 use Rattle.std.specs.Str.{bytes_eq}
 use Rattle.script_statement.specs.Words.{within}
 use Rattle.df1_tool.specs.declared.form.Form.{Form}
 use Rattle.df1_tool.specs.declared.form.Form.TheVariants.{Replay, Serve, Issue, Dissect, Check as Count, Drill}
-use Rattle.df1_tool.specs.declared.capture.Capture.{Capture}
-use Rattle.df1_tool.specs.declared.trouble.Trouble.{Trouble}
-use Rattle.df1_tool.specs.declared.trouble.Trouble.TheVariants.{Usage, Refusal, Input, Output, NoMemory}
-use Rattle.df1_tool.specs.Outcome.{IsNoted}
-use Rattle.df1_tool.specs.Tool.{capture_of, drill_by, form_of, form_of_three, note_of, number_of, status_of}
-use Rattle.df1_tool.specs.Drilling.{DrillEnd, DrillRun}
+use Rattle.df1_capture.specs.declared.capture.Capture.{Capture}
+use Rattle.df1_drill.specs.Telling.{DrillEnd}
+use Rattle.df1_drill.specs.declared.telling.DrillFault.{DrillFault}
+use Rattle.df1_drill.specs.declared.telling.DrillFault.TheVariants as fault
+use Rattle.df1_tool.specs.Notes.{IsNoted}
+use Rattle.df1_tool.specs.Forms.{capture_of, drill_by, form_of, form_of_three, number_of}
+use Rattle.df1_tool.specs.Drilling.{DrillRun, Sinks, note_of_drill, status_of_drill}
 
 -- ---- how it ended
 
-pub drill-ended : {N : Type 0} (noted : N → Option (List ℕ)) (faults : N → ℕ) (note note' : N) (seed count : ℕ) (held held' : Option (List ℕ)) (out out' : ℕ) (status : ℕ) (ended : Result (Unit {0}) Trouble)
-    → DrillEnd seed count held held' out out' ended → status ≡ status_of ended
-    → MatchResult ended (λ done. note' ≡ note) (λ trouble. IsNoted (noted note) (noted note') (faults note) (faults note') (note_of trouble))
-    → DrillRun seed count (record { held = held; out_faults = out; noted = noted note; note_faults = faults note }) (record { held = held'; out_faults = out'; noted = noted note'; note_faults = faults note' }) status
-drill-ended noted faults note note' seed count held held' out out' status (Ok done) (put, steady) is same = record {
+-- what is told of a drill that ended so
+abbrev pub Told : Sinks → Sinks → ℕ → Result (Unit {0}) DrillFault → Type 0
+Told before after status (Ok done) = (status ≡ 0) × (after.noted ≡ before.noted) × (after.note_faults ≡ before.note_faults)
+Told before after status (Err why) = (status ≡ status_of_drill why) × IsNoted before.noted after.noted before.note_faults after.note_faults (note_of_drill why)
+
+pub drill-ended : (seed count : ℕ) (before after : Sinks) (status : ℕ) (ended : Result (Unit {0}) DrillFault) → Told before after status ended
+    → DrillEnd seed count before.held after.held before.out_faults after.out_faults ended → DrillRun seed count before after status
+drill-ended seed count before after status (Ok done) (is, silent, calm) (put, steady) = record {
   statuses = inl is;
-  done = λ at. (put, ap noted same, ap faults same);
+  done = λ at. (put, silent, calm);
   cut = λ at. absurd (omega (arith, is, at));
   wanting = λ at. absurd (omega (arith, is, at));
   steady = λ at. steady;
 }
-drill-ended noted faults note note' seed count held held' out out' status (Err Usage) none is told = absurd none
-drill-ended noted faults note note' seed count held held' out out' status (Err (Refusal line cause)) none is told = absurd none
-drill-ended noted faults note note' seed count held held' out out' status (Err Input) none is told = absurd none
-drill-ended noted faults note note' seed count held held' out out' status (Err Output) (part, rose) is told = record {
+drill-ended seed count before after status (Err fault.Output) (is, told) (part, rose) = record {
   statuses = inr (inl is);
   done = λ at. absurd (omega (arith, is, at));
   cut = λ at. (rose, part, told);
   wanting = λ at. absurd (omega (arith, is, at));
   steady = λ at. absurd (at is);
 }
-drill-ended noted faults note note' seed count held held' out out' status (Err NoMemory) (same, steady) is told = record {
+drill-ended seed count before after status (Err fault.NoMemory) (is, told) (same, steady) = record {
   statuses = inr (inr is);
   done = λ at. absurd (omega (arith, is, at));
   cut = λ at. absurd (omega (arith, is, at));

@@ -1,9 +1,4 @@
 pub mod CaptureRuns
-pub mod Counting
 pub mod Drills
-pub mod Headline
-pub mod HeardSoFar
 pub mod Services
 pub mod Statuses
-pub mod Taken
-pub mod Written

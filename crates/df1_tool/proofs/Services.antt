@@ -20,7 +20,7 @@ use Rattle.df1_service.specs.declared.service.Service.{Service}
 use Rattle.df1_service.specs.declared.fault.ServiceFault.{ServiceFault}
 use Rattle.df1_service.specs.declared.fault.ServiceFault.TheVariants as fault
 use Rattle.df1_tool.specs.Served.{IsFinished, Outside, ServiceRun, IsUntouched, Notes, note_of_fault, outcomes_told, status_of_fault}
-use Rattle.df1_tool.specs.Outcome.{IsNoted}
+use Rattle.df1_tool.specs.Notes.{IsNoted}
 use Rattle.df1_tool.proofs.Statuses.{whole, at_end}
 
 -- what a service that didn't end well tells

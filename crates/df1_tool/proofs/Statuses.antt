@@ -5,10 +5,10 @@ use Rattle.std.specs.Io.KnownBytes.{IsAtEnd}
 use Rattle.df1_base.specs.Outside.{Rose, Took}
 use Rattle.line_script.specs.declared.fault.Cause.{Cause}
 use Rattle.line_script.specs.ScriptText.{script_of}
-use Rattle.df1_tool.specs.declared.trouble.Trouble.{Trouble}
-use Rattle.df1_tool.specs.declared.trouble.Trouble.TheVariants.{Usage, Refusal, Input, Output, NoMemory}
-use Rattle.df1_tool.specs.Tool.{replayed, report_of, status_for, status_of}
-use Rattle.df1_tool.specs.Outcome.{Answered, BrokenOff, CutOff, Refused, TellsRefusal}
+use Rattle.df1_replay.specs.declared.fault.ReplayFault.{ReplayFault}
+use Rattle.df1_replay.specs.declared.fault.ReplayFault.TheVariants.{Refusal, Input, Output, NoMemory}
+use Rattle.df1_replay.specs.Outcome.{Answered, BrokenOff, CutOff, Refused, TellsRefusal, replayed, report_of}
+use Rattle.df1_tool.specs.Replays.{status_for, status_of_replay}
 
 -- a source that tells what is left tells what was taken
 pub whole : (bytes all : List ℕ) (left left' : Option (List ℕ)) → left ≡ Some all → Took left left' bytes → (rest : List ℕ) × (left' ≡ Some rest) × (all ≡ bytes ++ rest)
@@ -37,18 +37,21 @@ refused_status all left left' held held' faults faults' line fault known_left r 
     let w = whole r.bytes all left left' known_left r.took in
     refused_by all (ap report_of (ap script_of w.2 ∙ r.refused w.0 (at_end left' w.0 w.1)))
 
+-- the status of a replay that ended so
+abbrev pub status_of : Result (Unit {0}) ReplayFault → ℕ
+status_of (Ok done) = 0
+status_of (Err fault) = status_of_replay fault
+
 -- what is known of how a replay ended
-pub record Ended (left left' held held' : Option (List ℕ)) (input input' output output' : ℕ) (ended : Result (Unit {0}) Trouble) : Type 0 where
-  pub known : IfErr ended (λ trouble. trouble ≡ Usage → ⊥)
+pub record Ended (left left' held held' : Option (List ℕ)) (input input' output output' : ℕ) (ended : Result (Unit {0}) ReplayFault) : Type 0 where
   pub done : OnOk ended (Answered replayed left left' held held')
   pub refusal : IfErr ended (TellsRefusal (Refused left left' held held' input input'))
   pub failed_input : IsErrOf ended Input → BrokenOff left left' held held' input input'
   pub failed_output : IsErrOf ended Output → Rose output output' × (input' ≡ input) × CutOff left left' held held'
 
-pub exact_status : (all : List ℕ) (left left' held held' : Option (List ℕ)) (input input' output output' : ℕ) (ended : Result (Unit {0}) Trouble) → Ended left left' held held' input input' output output' ended
+pub exact_status : (all : List ℕ) (left left' held held' : Option (List ℕ)) (input input' output output' : ℕ) (ended : Result (Unit {0}) ReplayFault) → Ended left left' held held' input input' output output' ended
     → (Rose input input' → ⊥) → (Rose output output' → ⊥) → left ≡ Some all → (status_of ended ≡ status_for all) ⊎ (status_of ended ≡ 7)
 exact_status all left left' held held' input input' output output' (Ok done) e no_input no_output known_left = inl (sym (answered_status all left left' held held' known_left e.done))
-exact_status all left left' held held' input input' output output' (Err Usage) e no_input no_output known_left = absurd (e.known refl)
 exact_status all left left' held held' input input' output output' (Err (Refusal line fault)) e no_input no_output known_left =
     inl (sym (refused_status all left left' held held' input input' line fault known_left e.refusal))
 exact_status all left left' held held' input input' output output' (Err Input) e no_input no_output known_left = absurd (no_input (e.failed_input refl).rose)

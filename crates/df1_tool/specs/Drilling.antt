@@ -1,15 +1,18 @@
 -- What a run of `drill` shows: its status, what it wrote, and its note.
-use Rattle.std.specs.Prelude.{◌≡◌, ◌≢◌, ◌⊎◌, ℕ, List, Option, Result, Ok, Err}
+use Rattle.std.specs.Prelude.{◌≡◌, ◌≢◌, ◌⊎◌, ℕ, List, Option}
 use Rattle.df1_base.specs.Outside.{Rose, Put, WroteLess}
-use Rattle.df1_drill.specs.Tally.{drilled, line_of}
-use Rattle.df1_tool.specs.declared.trouble.Trouble.{Trouble}
-use Rattle.df1_tool.specs.declared.trouble.Trouble.TheVariants.{Usage, Refusal, Input, Output, NoMemory}
-use Rattle.df1_tool.specs.Notes.{output_failed, no_memory}
-use Rattle.df1_tool.specs.Outcome.{IsNoted}
+use Rattle.df1_drill.specs.Telling.{drill_line}
+use Rattle.df1_drill.specs.declared.telling.DrillFault.{DrillFault}
+use Rattle.df1_drill.specs.declared.telling.DrillFault.TheVariants as fault
+use Rattle.df1_tool.specs.Notes.{IsNoted, no_memory, output_failed}
 
--- the line for the run of a drill's script
-abbrev pub drill_line : ℕ → ℕ → List ℕ
-drill_line seed count = line_of (drilled seed count)
+abbrev pub status_of_drill : DrillFault → ℕ
+status_of_drill fault.Output = 5
+status_of_drill fault.NoMemory = 7
+
+abbrev pub note_of_drill : DrillFault → List ℕ
+note_of_drill fault.Output = output_failed
+note_of_drill fault.NoMemory = no_memory
 
 -- what the output and the note hold, and how often each has failed
 pub record Sinks : Type 0 where
@@ -17,15 +20,6 @@ pub record Sinks : Type 0 where
   pub out_faults : ℕ
   pub noted : Option (List ℕ)
   pub note_faults : ℕ
-
--- how a drill ended
-abbrev pub DrillEnd : (seed count : ℕ) (held held' : Option (List ℕ)) (faults faults' : ℕ) → Result (Unit {0}) Trouble → Type 0
-DrillEnd seed count held held' faults faults' (Ok done) = Put held held' (drill_line seed count) × (faults' ≡ faults)
-DrillEnd seed count held held' faults faults' (Err Usage) = ⊥
-DrillEnd seed count held held' faults faults' (Err (Refusal line cause)) = ⊥
-DrillEnd seed count held held' faults faults' (Err Input) = ⊥
-DrillEnd seed count held held' faults faults' (Err Output) = WroteLess held held' (drill_line seed count) × Rose faults faults'
-DrillEnd seed count held held' faults faults' (Err NoMemory) = (held' ≡ held) × (faults' ≡ faults)
 
 -- What a run of `drill` with these numbers shows, by its status.
 --

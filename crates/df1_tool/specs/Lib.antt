@@ -1,9 +1,6 @@
 pub mod Captures
-pub mod Counted
-pub mod Dissected
 pub mod Drilling
+pub mod Forms
 pub mod Notes
-pub mod Outcome
-pub mod Replayed
+pub mod Replays
 pub mod Served
-pub mod Tool

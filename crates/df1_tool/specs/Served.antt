@@ -18,8 +18,7 @@ use Rattle.df1_service.specs.Wire.{HasNoForm, IsCut, IsServed, OfPlan, Reached, 
 use Rattle.df1_service.specs.declared.service.Service.{Service}
 use Rattle.df1_service.specs.declared.fault.ServiceFault.{ServiceFault}
 use Rattle.df1_service.specs.declared.fault.ServiceFault.TheVariants as fault
-use Rattle.df1_tool.specs.Notes.{input_failed, input_too_long, output_failed, no_memory}
-use Rattle.df1_tool.specs.Outcome.{IsNoted}
+use Rattle.df1_tool.specs.Notes.{IsNoted, input_failed, input_too_long, output_failed, no_memory}
 
 -- ---- statuses and notes
 

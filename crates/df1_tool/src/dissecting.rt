@@ -1,16 +1,16 @@
-//! The command `dissect`: what is heard in a capture is written line by line. Of each piece that was read the lines are
-//! collected, and written before the next piece is read.
-ghost use Rattle.std.specs.Prelude.{◌≡◌, ◌≤◌, ◌+◌, [], ℕ, List, length, OnOk, OnErr};
-ghost use Rattle.arrayvec.specs.ArrayVec.{array_vec_len};
-ghost use Rattle.df1_base.specs.Outside.{Rose, Put, WrotePart};
-ghost use Rattle.df1_check.specs.declared.Check.{Check as CheckKind};
-ghost use Rattle.df1_dissect.specs.declared.ear.Side.{Side as Captured};
-ghost use Rattle.df1_dissect.specs.Reading.{StandsFor};
-ghost use Rattle.df1_tool.specs.Dissected.{CloseEnd, DissectEnd, DissectRun, HasHeard, IsMoved, PieceEnd, PutEnd};
+//! The command `dissect`, and how either command over a capture ends that doesn't hear it to its end.
+//!
+//! | Status | Note |
+//! |---|---|
+//! | 4 | `df1: input cannot be read` |
+//! | 5 | `df1: output cannot be written` |
+//! | 8 | `df1: input is over 268435456 bytes` |
+ghost use Rattle.df1_tool.specs.Captures.{DissectRun};
 
-use crate::capture::{Capture, CaptureFault, PIECE, refuse, within_limit};
-use df1_base::{Failed, Sink, Source, write_all};
-use df1_dissect::{CollectedLines, Dissector, LINE};
+use crate::note::{Note, input_failed, input_too_long, output_failed};
+use crate::refusal::{Refusal, refuse};
+use df1_base::{Sink, Source};
+use df1_capture::{Capture, CaptureFault, dissect};
 
 /// Dissects the input to the output, and answers the status. Where it isn't 0, the note is written.
 pub(crate) fn run<S: Source, K: Sink, N: Sink>(
@@ -26,137 +26,31 @@ pub(crate) fn run<S: Source, K: Sink, N: Sink>(
 {
     match dissect(capture, input, out) {
         Ok(()) => 0,
-        Err(fault) => refuse(fault, note),
+        Err(fault) => refuse(&fault, note),
     }
 }
 
-/// Writes the lines of all that is heard in the input, and that of an unfinished item.
-fn dissect<S: Source, K: Sink>(
-    capture: Capture,
-    input: &mut S,
-    out: &mut K,
-) -> Result<(), CaptureFault>
-    ensures { DissectEnd capture.side capture.check (S.left input.old) (S.left input.new) (S.faults input.old) (S.faults input.new)
-        (K.held out.old) (K.held out.new) (K.faults out.old) (K.faults out.new) result }
-{
-    let mut dissector = Dissector::new(capture.side, capture.check);
-    let mut lines = CollectedLines::new();
-    dissect_all(&mut dissector, &mut lines, input, out)
-}
+impl Refusal for CaptureFault {
+    ghost use Rattle.std.specs.Prelude.{◌≡◌};
+    ghost use Rattle.df1_tool.specs.Captures.{note_of_capture, status_of_capture};
 
-/// Reads the whole input, piece by piece, with a dissector that has taken no byte.
-fn dissect_all<S: Source, K: Sink>(
-    dissector: &mut Dissector,
-    lines: &mut CollectedLines,
-    input: &mut S,
-    out: &mut K,
-) -> Result<(), CaptureFault>
-    requires none { lines.old.items ≡ [] }
-    requires new { dissector.old.fed ≡ 0 }
-    ensures { (side : Captured) (check : CheckKind) → StandsFor side check [] dissector.old
-        → DissectEnd side check (S.left input.old) (S.left input.new) (S.faults input.old) (S.faults input.new)
-        (K.held out.old) (K.held out.new) (K.faults out.old) (K.faults out.new) result }
-{
-    let mut piece = [0; PIECE];
-    'pieces: loop {
-        match input.read(&mut piece) {
-            Ok(0) => return close(dissector, out),
-            Ok(count) => match dissect_piece(dissector, &piece[..count], lines, out) {
-                Ok(()) => {}
-                Err(fault) => return Err(fault),
-            },
-            Err(Failed) => return Err(CaptureFault::Input),
+    ghost status_of = { status_of_capture };
+
+    ghost note_of = { note_of_capture };
+
+    fn status(&self) -> u8 {
+        match self {
+            CaptureFault::Input => 4,
+            CaptureFault::Output => 5,
+            CaptureFault::TooLong => 8,
         }
     }
-}
 
-/// Writes the line of an unfinished item.
-fn close<K: Sink>(dissector: &mut Dissector, out: &mut K) -> Result<(), CaptureFault>
-    ensures { (side : Captured) (check : CheckKind) (bytes text : List ℕ) → HasHeard side check bytes text dissector.old
-        → CloseEnd side check bytes text (K.held out.old) (K.held out.new) (K.faults out.old) (K.faults out.new) result }
-{
-    match dissector.finish(out) {
-        Ok(()) => Ok(()),
-        Err(Failed) => Err(CaptureFault::Output),
-    }
-}
-
-/// Hears what of a piece is within the limit, and writes the lines of it.
-fn dissect_piece<K: Sink>(
-    dissector: &mut Dissector,
-    piece: &[u8],
-    lines: &mut CollectedLines,
-    out: &mut K,
-) -> Result<(), CaptureFault>
-    requires none { lines.old.items ≡ [] }
-    requires few { dissector.old.fed ≤ 268435456 }
-    ensures ends { (side : Captured) (check : CheckKind) (bytes text : List ℕ) → HasHeard side check bytes text dissector.old
-        → PieceEnd side check bytes piece.now text dissector.new (K.held out.old) (K.held out.new) (K.faults out.old) (K.faults out.new) result }
-    ensures none { OnOk result (lines.new.items ≡ []) }
-    ensures calm { OnOk result (K.faults out.new ≡ K.faults out.old) }
-    ensures fed { OnOk result (dissector.new.fed ≡ dissector.old.fed + length piece.now) }
-    ensures few { OnOk result (dissector.new.fed ≤ 268435456) }
-{
-    let heard = within_limit(piece, dissector.fed());
-    match put_lines(dissector, heard, lines, out) {
-        Ok(()) if heard.len() < piece.len() => Err(CaptureFault::TooLong),
-        Ok(()) => Ok(()),
-        Err(Failed) => Err(CaptureFault::Output),
-    }
-}
-
-/// Hears bytes, and writes the lines of them.
-fn put_lines<K: Sink>(
-    dissector: &mut Dissector,
-    heard: &[u8],
-    lines: &mut CollectedLines,
-    out: &mut K,
-) -> Result<(), Failed>
-    requires none { lines.old.items ≡ [] }
-    requires few { dissector.old.fed + length heard.now ≤ 268435456 }
-    ensures ends { (side : Captured) (check : CheckKind) (bytes text : List ℕ) → HasHeard side check bytes text dissector.old
-        → PutEnd side check bytes heard.now text dissector.new (K.held out.old) (K.held out.new) (K.faults out.old) (K.faults out.new) result }
-    ensures none { OnOk result (lines.new.items ≡ []) }
-    ensures calm { OnOk result (K.faults out.new ≡ K.faults out.old) }
-    ensures fed { OnOk result (dissector.new.fed ≡ dissector.old.fed + length heard.now) }
-{
-    for byte in heard {
-        match make_room(lines, out) {
-            Ok(()) => dissector.collect(*byte, lines),
-            Err(failed) => return Err(failed),
+    fn note(&self) -> Note {
+        match self {
+            CaptureFault::Input => input_failed(),
+            CaptureFault::Output => output_failed(),
+            CaptureFault::TooLong => input_too_long(),
         }
-    }
-    hand_on(lines, out)
-}
-
-/// Writes the lines that were collected, where there is no room for one more.
-fn make_room<K: Sink>(lines: &mut CollectedLines, out: &mut K) -> Result<(), Failed>
-    ensures room { OnOk result (array_vec_len lines.new + 700 ≤ 8192) }
-    ensures moved { OnOk result (IsMoved (K.held out.old) (K.held out.new) lines.old.items lines.new.items) }
-    ensures part { OnErr result (WrotePart (K.held out.old) (K.held out.new) lines.old.items) }
-    ensures calm { OnOk result (K.faults out.new ≡ K.faults out.old) }
-    ensures cause { OnErr result (Rose (K.faults out.old) (K.faults out.new)) }
-{
-    if lines.remaining_capacity() < LINE {
-        hand_on(lines, out)
-    } else {
-        Ok(())
-    }
-}
-
-/// Writes the lines that were collected.
-fn hand_on<K: Sink>(lines: &mut CollectedLines, out: &mut K) -> Result<(), Failed>
-    ensures none { OnOk result (lines.new.items ≡ []) }
-    ensures ok { OnOk result (Put (K.held out.old) (K.held out.new) lines.old.items) }
-    ensures part { OnErr result (WrotePart (K.held out.old) (K.held out.new) lines.old.items) }
-    ensures calm { OnOk result (K.faults out.new ≡ K.faults out.old) }
-    ensures cause { OnErr result (Rose (K.faults out.old) (K.faults out.new)) }
-{
-    match write_all(out, lines) {
-        Ok(()) => {
-            lines.clear();
-            Ok(())
-        }
-        Err(failed) => Err(failed),
     }
 }

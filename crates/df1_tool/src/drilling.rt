@@ -1,16 +1,17 @@
-//! The command `drill`: a script that is made from two numbers is run, and one line tells what the run came to.
+//! The command `drill`: how a drill ends whose line is to be written.
 //!
-//! | Status | Comes |
-//! |---|---|
-//! | 0 | the line is written |
-//! | 5 | the output has failed, and a first part of the line is written |
-//! | 7 | want of memory, before anything is written |
+//! | Status | Comes | Note |
+//! |---|---|---|
+//! | 0 | the line is written | none |
+//! | 5 | the output has failed, and a first part of the line is written | `df1: output cannot be written` |
+//! | 7 | want of memory, before anything is written | `df1: no memory` |
 ghost use Rattle.std.specs.Prelude.{◌≡◌, ◌≤◌};
-ghost use Rattle.df1_tool.specs.Drilling.{DrillEnd, DrillRun};
+ghost use Rattle.df1_tool.specs.Drilling.{DrillRun};
 
-use crate::trouble::{Trouble, tell};
-use df1_base::{Failed, Sink, write_all};
-use df1_drill::{MOST_ROUNDS, drill};
+use crate::note::{Note, no_memory, output_failed};
+use crate::refusal::{Refusal, refuse};
+use df1_base::Sink;
+use df1_drill::{DrillFault, MOST_ROUNDS, write_drill};
 use std::alloc::Global;
 
 /// Runs the drill of `count` rounds, at most 20,000, writes its line to the output, and answers the status. Where it isn't
@@ -28,20 +29,31 @@ pub(crate) fn run<K: Sink, N: Sink>(
         (record { held = K.held out.new; out_faults = K.faults out.new; noted = N.held note.new; note_faults = N.faults note.new })
         result }
 {
-    let ended = answer(alloc, seed, count, out);
-    tell(ended, note)
+    match write_drill(alloc, seed, count, out) {
+        Ok(()) => 0,
+        Err(fault) => refuse(&fault, note),
+    }
 }
 
-/// Runs the drill, and writes its line.
-fn answer<K: Sink>(alloc: Global, seed: u32, count: u32, out: &mut K) -> Result<(), Trouble>
-    requires { count ≤ MOST_ROUNDS }
-    ensures { DrillEnd seed count (K.held out.old) (K.held out.new) (K.faults out.old) (K.faults out.new) result }
-{
-    match drill(alloc, seed, count) {
-        Ok(drilled) => match write_all(out, &drilled.line()) {
-            Ok(()) => Ok(()),
-            Err(Failed) => Err(Trouble::Output),
-        },
-        Err(want) => Err(want.into()),
+impl Refusal for DrillFault {
+    ghost use Rattle.std.specs.Prelude.{◌≡◌};
+    ghost use Rattle.df1_tool.specs.Drilling.{note_of_drill, status_of_drill};
+
+    ghost status_of = { status_of_drill };
+
+    ghost note_of = { note_of_drill };
+
+    fn status(&self) -> u8 {
+        match self {
+            DrillFault::Output => 5,
+            DrillFault::NoMemory => 7,
+        }
+    }
+
+    fn note(&self) -> Note {
+        match self {
+            DrillFault::Output => output_failed(),
+            DrillFault::NoMemory => no_memory(),
+        }
     }
 }

@@ -1,9 +1,11 @@
 //! What the words of a call ask for.
 ghost use Rattle.std.specs.Prelude.{◌≡◌, ◌≤◌, IfSome, IsSome, length, map, string_bytes};
-ghost use Rattle.df1_tool.specs.Tool.{capture_of as the_capture, captured, check_of as the_check, drill_by as the_drill, drill_of as drill_asked, form_of as the_form, form_of_three as of_three, form_of_two as of_two, mode_of as the_mode, service_of, side_of as the_side};
+ghost use Rattle.df1_tool.specs.Forms.{capture_of as the_capture, captured, check_of as the_check, drill_by as the_drill, drill_of as drill_asked, form_of as the_form, form_of_three as of_three, form_of_two as of_two, mode_of as the_mode, service_of, side_of as the_side};
 
-use crate::capture::Capture;
+use crate::note::{Note, noted};
 use crate::number::number_within;
+use crate::refusal::Refusal;
+use df1_capture::Capture;
 use df1_check::Check;
 use df1_dissect::Side;
 use df1_drill::MOST_ROUNDS;
@@ -33,8 +35,31 @@ pub(crate) enum Form {
     },
 }
 
+/// The words are none of the forms.
+#[derive(Clone, Copy, Debug, PartialEq, Eq)]
+pub(crate) struct NoForm;
+
+impl Refusal for NoForm {
+    ghost use Rattle.std.specs.Prelude.{◌≡◌};
+    ghost use Rattle.df1_tool.specs.Notes.{usage};
+
+    ghost status_of = { λ _. 2 };
+
+    ghost note_of = { λ _. usage };
+
+    fn status(&self) -> u8 {
+        2
+    }
+
+    fn note(&self) -> Note {
+        noted(
+            b"df1: usage: df1 replay | serve PLAN raw|timed | issue PLAN | dissect SIDE CHECK | check SIDE CHECK | drill SEED COUNT\n",
+        )
+    }
+}
+
 /// What the words ask for, if they are one of the forms. A plan's name is the second word.
-#[tactic(auto, unfolding(crate::specs::Tool::form_of))]
+#[tactic(auto, unfolding(crate::specs::Forms::form_of))]
 pub(crate) fn form_of(words: &[String]) -> Option<Form>
     ensures value { result ≡ the_form (map string_bytes words.now) }
     ensures named { IfSome result (λ form. IsSome (service_of form) → 2 ≤ length words.now) }

@@ -1,7 +1,7 @@
 //! Numbers among the words of a call.
 ghost use Rattle.std.specs.Prelude.{◌≡◌};
 ghost use Rattle.script_statement.specs.Words.{within};
-ghost use Rattle.df1_tool.specs.Tool.{number_of as the_number};
+ghost use Rattle.df1_tool.specs.Forms.{number_of as the_number};
 
 /// The most decimal digits that a number has.
 const DIGITS: usize = 10;
@@ -17,7 +17,7 @@ pub(crate) fn number_within(word: &str, least: u32, most: u32) -> Option<u32>
 }
 
 /// The number that a word of 1 to 10 decimal digits is. Leading zeros are digits like others.
-#[tactic(auto, unfolding(crate::specs::Tool::number_of))]
+#[tactic(auto, unfolding(crate::specs::Forms::number_of))]
 fn number_of(word: &[u8]) -> Option<u64>
     ensures { result ≡ the_number word.now }
 {

@@ -1,26 +1,28 @@
-//! The command `replay`: its script is read piece by piece, and what a piece shows is written before the next is read.
-ghost use Rattle.std.specs.Prelude.{◌≡◌, ◌⊎◌, ◌≢◌, [], ◌++◌, List, ℕ, Some, Err, OnOk, OnErr, IfErr, IsErrOf};
-ghost use Rattle.std.specs.Io.KnownBytes.{Keeps};
-ghost use Rattle.df1_base.specs.Outside.{Rose, Later};
-ghost use Rattle.df1_buffer.specs.Buffered.{buffer_out, buffer_waiting, buffer_name, buffer_held, buffer_mark};
-ghost use Rattle.line_script.specs.ScriptText.{script_of};
-ghost use Rattle.line_replay.specs.Fed.{IsReplay, IsReplayOf, IsScript, ShowsFront, ShowsMore, shown, told};
-ghost use Rattle.line_script.specs.declared.fault.Cause.{Cause as Fault};
-ghost use Rattle.df1_tool.specs.Tool.{IsReplayStatus, line_note, note_at, replayed, result_of, status_for};
-ghost use Rattle.df1_tool.specs.Replayed.{Replayed};
+//! The command `replay`: how a replay of the input ends.
+//!
+//! | Status | Note |
+//! |---|---|
+//! | 0 | none |
+//! | 3 | `df1: line N: CAUSE` |
+//! | 4 | `df1: input cannot be read` |
+//! | 5 | `df1: output cannot be written` |
+//! | 7 | `df1: no memory` |
+ghost use Rattle.std.specs.Prelude.{◌≡◌, ◌≤◌, ◌⊎◌, ◌≢◌, length};
 ghost use Rattle.std.specs.Option.{ForSome};
-ghost use Rattle.df1_tool.specs.Outcome.{Answered, BrokenOff, CutOff, IsFromPiece, IsNoted, Refused, TellsRefusal, Written};
-ghost use Rattle.df1_tool.specs.declared.trouble.Trouble.{Trouble as Ending};
+ghost use Rattle.df1_base.specs.Outside.{Rose};
+ghost use Rattle.line_replay.specs.Fed.{told};
+ghost use Rattle.line_script.specs.declared.fault.Cause.{Cause as Fault};
+ghost use Rattle.df1_replay.specs.Outcome.{Answered, BrokenOff, CutOff, Refused, Written, replayed};
+ghost use Rattle.df1_replay.specs.Replayed.{Replayed};
+ghost use Rattle.df1_tool.specs.Notes.{IsNoted};
+ghost use Rattle.df1_tool.specs.Replays.{IsReplayStatus, cause_text, line_note, note_at, status_for};
 
-use crate::trouble::{Trouble, tell};
-use df1_base::{Failed, Sink, Source};
-use df1_buffer::Buffered;
-use line_replay::{Replayer, StreamFault};
-use line_script::{LINE, SCRIPT};
+use crate::note::{Note, append, input_failed, no_memory, noted, output_failed};
+use crate::refusal::{Refusal, refuse};
+use df1_base::{Sink, Source};
+use df1_replay::{ReplayFault, replay_input};
+use line_replay::Cause;
 use std::alloc::Global;
-
-/// How many bytes one read asks for.
-const PIECE: usize = 4096;
 
 /// Replays the input to the output, and answers the status. Where it isn't 0, the note is written.
 pub(crate) fn run<S: Source, K: Sink, N: Sink>(
@@ -46,125 +48,68 @@ pub(crate) fn run<S: Source, K: Sink, N: Sink>(
     ensures written { Written told (S.left input.old) (S.left input.new) (K.held out.old) (K.held out.new) }
     ensures note { result ≢ 0 → result ≢ 3 → IsNoted (N.held note.old) (N.held note.new) (N.faults note.old) (N.faults note.new) (note_at result) }
 {
-    let ended = answer(alloc, input, out);
-    tell(ended, note)
+    match replay_input(alloc, input, out) {
+        Ok(()) => 0,
+        Err(fault) => refuse(&fault, note),
+    }
 }
 
-/// Reads a script from the input, runs it and writes its report, in the order in which things happen: of each piece that
-/// was read, first its lines' events happen, then the report's lines of these are written, and then the next is read.
-fn answer<S: Source, K: Sink>(alloc: Global, input: &mut S, out: &mut K) -> Result<(), Trouble>
-    ensures done { OnOk result (Answered replayed (S.left input.old) (S.left input.new) (K.held out.old) (K.held out.new)) }
-    ensures calm { OnOk result (S.faults input.new ≡ S.faults input.old) }
-    ensures refusal { IfErr result (TellsRefusal (Refused (S.left input.old) (S.left input.new) (K.held out.old) (K.held out.new) (S.faults input.old) (S.faults input.new))) }
-    ensures input { IsErrOf result Trouble.Input → BrokenOff (S.left input.old) (S.left input.new) (K.held out.old) (K.held out.new) (S.faults input.old) (S.faults input.new) }
-    ensures output { IsErrOf result Trouble.Output → Rose (K.faults out.old) (K.faults out.new) × (S.faults input.new ≡ S.faults input.old)
-        × CutOff (S.left input.old) (S.left input.new) (K.held out.old) (K.held out.new) }
-    ensures memory { IsErrOf result Trouble.NoMemory → S.faults input.new ≡ S.faults input.old }
-    ensures steady { OnOk result (K.faults out.new ≡ K.faults out.old) }
-    ensures steady_else { IfErr result (λ trouble. trouble ≢ Ending.Output → K.faults out.new ≡ K.faults out.old) }
-    ensures known { IfErr result (λ trouble. trouble ≢ Ending.Usage) }
-    ensures written { Written told (S.left input.old) (S.left input.new) (K.held out.old) (K.held out.new) }
-{
-    let mut replayer = Replayer::new(alloc);
-    let mut report = Buffered::new(out);
-    replay_all(&mut replayer, &mut report, input)
-}
+impl Refusal for ReplayFault {
+    ghost use Rattle.std.specs.Prelude.{◌≡◌};
+    ghost use Rattle.df1_tool.specs.Replays.{note_of_replay, status_of_replay};
 
-/// Reads the whole script, piece by piece, over a replay that was fed nothing.
-fn replay_all<S: Source, K: Sink>(
-    replayer: &mut Replayer,
-    report: &mut Buffered<'_, K>,
-    input: &mut S,
-) -> Result<(), Trouble>
-    requires nothing { IsReplayOf [] replayer.old }
-    requires none { buffer_waiting report.old ≡ [] }
-    ensures same_reference { buffer_name report.new ≡ buffer_name report.old }
-    ensures done { OnOk result (Answered replayed (S.left input.old) (S.left input.new) (K.held (buffer_out report.old)) (K.held (buffer_out report.new))) }
-    ensures calm { OnOk result (S.faults input.new ≡ S.faults input.old) }
-    ensures refusal { IfErr result (TellsRefusal (Refused (S.left input.old) (S.left input.new) (K.held (buffer_out report.old)) (K.held (buffer_out report.new)) (S.faults input.old) (S.faults input.new))) }
-    ensures input { IsErrOf result Trouble.Input → BrokenOff (S.left input.old) (S.left input.new) (K.held (buffer_out report.old)) (K.held (buffer_out report.new)) (S.faults input.old) (S.faults input.new) }
-    ensures output { IsErrOf result Trouble.Output → Rose (K.faults (buffer_out report.old)) (K.faults (buffer_out report.new)) × (S.faults input.new ≡ S.faults input.old)
-        × CutOff (S.left input.old) (S.left input.new) (K.held (buffer_out report.old)) (K.held (buffer_out report.new)) }
-    ensures memory { IsErrOf result Trouble.NoMemory → S.faults input.new ≡ S.faults input.old }
-    ensures steady { OnOk result (K.faults (buffer_out report.new) ≡ K.faults (buffer_out report.old)) }
-    ensures steady_else { IfErr result (λ trouble. trouble ≢ Ending.Output → K.faults (buffer_out report.new) ≡ K.faults (buffer_out report.old)) }
-    ensures known { IfErr result (λ trouble. trouble ≢ Ending.Usage) }
-    ensures written { Written told (S.left input.old) (S.left input.new) (K.held (buffer_out report.old)) (K.held (buffer_out report.new)) }
-{
-    let mut piece = [0; PIECE];
-    while replayer.fed() <= SCRIPT {
-        let begun = replayer.held();
-        prove!(begun <= LINE);
-        match input.read(&mut piece) {
-            Ok(0) => return close(replayer, report),
-            Ok(count) => match go_on(replayer, &piece[..count], report) {
-                Ok(()) => {}
-                Err(trouble) => return Err(trouble),
-            },
-            Err(Failed) => return Err(Trouble::Input),
+    ghost status_of = { status_of_replay };
+
+    ghost note_of = { note_of_replay };
+
+    fn status(&self) -> u8 {
+        match self {
+            ReplayFault::Refusal { .. } => 3,
+            ReplayFault::Input => 4,
+            ReplayFault::Output => 5,
+            ReplayFault::NoMemory => 7,
         }
     }
-    unreachable!()
-}
 
-/// Lets the events of a piece happen, and writes the report's lines of them.
-fn go_on<K: Sink>(
-    replayer: &mut Replayer,
-    piece: &[u8],
-    report: &mut Buffered<'_, K>,
-) -> Result<(), Trouble>
-    requires replay { IsReplay replayer.old }
-    requires none { buffer_waiting report.old ≡ [] }
-    ensures same_reference { buffer_name report.new ≡ buffer_name report.old }
-    ensures none { OnOk result (buffer_waiting report.new ≡ []) }
-    ensures ok { (text : List ℕ) → IsReplayOf text replayer.old → OnOk result
-        (IsReplayOf (text ++ piece.now) replayer.new × ShowsMore (shown text) (shown (text ++ piece.now)) (K.held (buffer_out report.old)) (K.held (buffer_out report.new))) }
-    ensures refused { (text : List ℕ) → IsReplayOf text replayer.old → IfErr result (TellsRefusal (λ line cause. (more : List ℕ) → (script_of ((text ++ piece.now) ++ more) ≡ Err (line, cause)) × ShowsMore (shown text) (told ((text ++ piece.now) ++ more)) (K.held (buffer_out report.old)) (K.held (buffer_out report.new)))) }
-    ensures front { (text : List ℕ) → IsReplayOf text replayer.old → OnErr result (ShowsFront (shown text) (told (text ++ piece.now)) (K.held (buffer_out report.old)) (K.held (buffer_out report.new))) }
-    ensures known { IfErr result IsFromPiece }
-    ensures output { IsErrOf result Trouble.Output → Rose (K.faults (buffer_out report.old)) (K.faults (buffer_out report.new)) }
-    ensures steady { OnOk result (K.faults (buffer_out report.new) ≡ K.faults (buffer_out report.old)) }
-    ensures steady_else { IfErr result (λ trouble. trouble ≢ Ending.Output → K.faults (buffer_out report.new) ≡ K.faults (buffer_out report.old)) }
-{
-    let fed = replayer.feed_all(piece, report);
-    hand_on(fed, report)
-}
-
-/// Ends the script, and writes what follows.
-fn close<K: Sink>(replayer: &mut Replayer, report: &mut Buffered<'_, K>) -> Result<(), Trouble>
-    requires replay { IsReplay replayer.old }
-    requires none { buffer_waiting report.old ≡ [] }
-    ensures same_reference { buffer_name report.new ≡ buffer_name report.old }
-    ensures ok { (text : List ℕ) → IsReplayOf text replayer.old → OnOk result (IsScript text × ShowsMore (shown text) (told text) (K.held (buffer_out report.old)) (K.held (buffer_out report.new))) }
-    ensures refused { (text : List ℕ) → IsReplayOf text replayer.old → IfErr result (TellsRefusal (λ line cause. (script_of text ≡ Err (line, cause)) × ShowsMore (shown text) (told text) (K.held (buffer_out report.old)) (K.held (buffer_out report.new)))) }
-    ensures front { (text : List ℕ) → IsReplayOf text replayer.old → OnErr result (ShowsFront (shown text) (told text) (K.held (buffer_out report.old)) (K.held (buffer_out report.new))) }
-    ensures known { IfErr result IsFromPiece }
-    ensures output { IsErrOf result Trouble.Output → Rose (K.faults (buffer_out report.old)) (K.faults (buffer_out report.new)) }
-    ensures steady { OnOk result (K.faults (buffer_out report.new) ≡ K.faults (buffer_out report.old)) }
-    ensures steady_else { IfErr result (λ trouble. trouble ≢ Ending.Output → K.faults (buffer_out report.new) ≡ K.faults (buffer_out report.old)) }
-{
-    let ended = replayer.finish(report);
-    hand_on(ended, report)
-}
-
-/// Writes what still waits of the lines of a piece, and tells what else happened.
-fn hand_on<K: Sink>(
-    ended: Result<(), StreamFault>,
-    report: &mut Buffered<'_, K>,
-) -> Result<(), Trouble>
-    ensures ends { (IsErrOf result Trouble.Output × (IsErrOf ended StreamFault.SinkFailed ⊎ Rose (K.faults (buffer_out report.old)) (K.faults (buffer_out report.new))))
-        ⊎ ((result ≡ result_of ended) × ((buffer_waiting report.new ≡ []) × (K.faults (buffer_out report.new) ≡ K.faults (buffer_out report.old)))) }
-    ensures kept { Keeps (buffer_held K.held report.old) (buffer_held K.held report.new) }
-    ensures later { Later (buffer_mark K.held K.mark report.old) (buffer_mark K.held K.mark report.new) (K.faults (buffer_out report.old)) (K.faults (buffer_out report.new)) }
-{
-    if let Err(StreamFault::SinkFailed) = ended {
-        return Err(Trouble::Output);
+    fn note(&self) -> Note {
+        match self {
+            ReplayFault::Refusal { line, cause } => refused(*line, *cause),
+            ReplayFault::Input => input_failed(),
+            ReplayFault::Output => output_failed(),
+            ReplayFault::NoMemory => no_memory(),
+        }
     }
-    if let Err(Failed) = report.flush() {
-        return Err(Trouble::Output);
-    }
-    match ended {
-        Ok(()) => Ok(()),
-        Err(fault) => Err(fault.into()),
+}
+
+/// The note of a refused line.
+fn refused(line: u32, cause: Cause) -> Note
+    ensures { result.items ≡ line_note line cause }
+{
+    let mut note = noted(b"df1: line ");
+    let mut digits = itoa::Buffer::new();
+    append(&mut note, digits.format(line).as_bytes());
+    append(&mut note, b": ");
+    append(&mut note, text_of(cause));
+    append(&mut note, b"\n");
+    note
+}
+
+/// The word of a cause.
+fn text_of(cause: Cause) -> &'static [u8]
+    ensures value { result.now ≡ cause_text cause }
+    ensures short { length result.now ≤ 8 }
+{
+    match cause {
+        Cause::Size => b"size",
+        Cause::Long => b"long",
+        Cause::After => b"after",
+        Cause::Form => b"form",
+        Cause::Place => b"place",
+        Cause::Missing => b"missing",
+        Cause::Value => b"value",
+        Cause::Twice => b"twice",
+        Cause::Spent => b"spent",
+        Cause::Events => b"events",
+        Cause::NoEnd => b"open",
     }
 }

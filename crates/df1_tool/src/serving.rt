@@ -10,14 +10,15 @@
 //! | 7 | `df1: no memory` |
 //! | 8 | `df1: input is over 268435456 bytes` |
 ghost use Rattle.std.specs.Prelude.{◌≡◌, ◌⊎◌, ◌≤◌, ◌++◌, IfErr, IfOk, codes, length};
-ghost use Rattle.df1_tool.specs.Outcome.{IsNoted};
+ghost use Rattle.df1_tool.specs.Notes.{IsNoted};
 ghost use Rattle.df1_tool.specs.Served.{IsFinished, ServiceRun, note_of_fault, outcomes_told, status_of_fault};
 
 use crate::note::{
     Note, append, input_failed, input_too_long, no_memory, noted, output_failed, with_number,
 };
+use crate::refusal::{Refusal, refuse};
 use crate::top::Ran;
-use df1_base::{Sink, Source, write_all};
+use df1_base::{Sink, Source};
 use df1_node::Node;
 use df1_plan::PlanFault;
 use df1_service::{Service, ServiceFault, serve_plan, write_outcomes};
@@ -59,7 +60,7 @@ fn tell<N: Sink>(ended: &Result<End<Node>, ServiceFault>, issues: bool, note: &m
 {
     match ended {
         Ok(end) => finish(end, issues, note),
-        Err(fault) => refuse(*fault, note),
+        Err(fault) => refuse(fault, note),
     }
 }
 
@@ -73,43 +74,37 @@ fn finish<N: Sink>(end: &End<Node>, issues: bool, note: &mut N) -> u8
     0
 }
 
-/// Writes the note of a fault, once, and answers its status. A note that fails changes no status.
-fn refuse<N: Sink>(fault: ServiceFault, note: &mut N) -> u8
-    ensures status { result ≡ status_of_fault fault }
-    ensures note { IsNoted (N.held note.old) (N.held note.new) (N.faults note.old) (N.faults note.new) (note_of_fault fault) }
-{
-    let _ = write_all(note, &note_of(fault));
-    status_of(fault)
-}
+impl Refusal for ServiceFault {
+    ghost use Rattle.std.specs.Prelude.{◌≡◌};
+    ghost use Rattle.df1_tool.specs.Served.{note_of_fault, status_of_fault};
 
-/// The status of a fault.
-fn status_of(fault: ServiceFault) -> u8
-    ensures { result ≡ status_of_fault fault }
-{
-    match fault {
-        ServiceFault::Plan(_) | ServiceFault::Form(_) | ServiceFault::Cut(_) => 3,
-        ServiceFault::Input => 4,
-        ServiceFault::Output => 5,
-        ServiceFault::PlanFailed | ServiceFault::PlanTooLong => 6,
-        ServiceFault::NoMemory => 7,
-        ServiceFault::TooLong => 8,
+    ghost status_of = { status_of_fault };
+
+    ghost note_of = { note_of_fault };
+
+    fn status(&self) -> u8 {
+        match self {
+            ServiceFault::Plan(_) | ServiceFault::Form(_) | ServiceFault::Cut(_) => 3,
+            ServiceFault::Input => 4,
+            ServiceFault::Output => 5,
+            ServiceFault::PlanFailed | ServiceFault::PlanTooLong => 6,
+            ServiceFault::NoMemory => 7,
+            ServiceFault::TooLong => 8,
+        }
     }
-}
 
-/// The note of a fault.
-fn note_of(fault: ServiceFault) -> Note
-    ensures { result.items ≡ note_of_fault fault }
-{
-    match fault {
-        ServiceFault::PlanFailed => noted(b"df1: plan cannot be read\n"),
-        ServiceFault::PlanTooLong => noted(b"df1: plan is over 1048576 bytes\n"),
-        ServiceFault::Plan(cause) => plan_note(cause),
-        ServiceFault::Form(at) => with_number(b"df1: record at ", at, b": form\n"),
-        ServiceFault::Cut(at) => with_number(b"df1: record at ", at, b": cut\n"),
-        ServiceFault::Input => input_failed(),
-        ServiceFault::Output => output_failed(),
-        ServiceFault::TooLong => input_too_long(),
-        ServiceFault::NoMemory => no_memory(),
+    fn note(&self) -> Note {
+        match self {
+            ServiceFault::PlanFailed => noted(b"df1: plan cannot be read\n"),
+            ServiceFault::PlanTooLong => noted(b"df1: plan is over 1048576 bytes\n"),
+            ServiceFault::Plan(cause) => plan_note(*cause),
+            ServiceFault::Form(at) => with_number(b"df1: record at ", *at, b": form\n"),
+            ServiceFault::Cut(at) => with_number(b"df1: record at ", *at, b": cut\n"),
+            ServiceFault::Input => input_failed(),
+            ServiceFault::Output => output_failed(),
+            ServiceFault::TooLong => input_too_long(),
+            ServiceFault::NoMemory => no_memory(),
+        }
     }
 }
 

@@ -16,22 +16,22 @@
 ghost use Rattle.std.specs.Prelude.{◌≡◌, ◌⊎◌, ◌↔◌, ◌≢◌, ℕ, None, Some, map, string_bytes};
 ghost use Rattle.std.specs.Option.{ForSome};
 ghost use Rattle.df1_base.specs.Outside.{Rose};
-ghost use Rattle.df1_tool.specs.Outcome.{Answered, BrokenOff, CutOff, IsNoted, Refused, Written};
-ghost use Rattle.df1_tool.specs.Replayed.{Replayed};
+ghost use Rattle.df1_replay.specs.Outcome.{Answered, BrokenOff, CutOff, Refused, Written, replayed};
+ghost use Rattle.df1_replay.specs.Replayed.{Replayed};
+ghost use Rattle.df1_tool.specs.Notes.{IsNoted, usage};
 ghost use Rattle.df1_tool.specs.Served.{ServiceRun};
-ghost use Rattle.df1_tool.specs.Counted.{CheckRun};
-ghost use Rattle.df1_tool.specs.Dissected.{DissectRun};
+ghost use Rattle.df1_tool.specs.Captures.{CheckRun, DissectRun};
 ghost use Rattle.df1_tool.specs.Drilling.{DrillRun};
-ghost use Rattle.df1_tool.specs.declared.capture.Capture.{Capture as OneCapture};
+ghost use Rattle.df1_capture.specs.declared.capture.Capture.{Capture as OneCapture};
 ghost use Rattle.df1_tool.specs.declared.form.Form.TheVariants.{Replay, Dissect, Check as Count, Drill};
-ghost use Rattle.df1_tool.specs.Tool.{form_of as the_form, line_note, note_at, note_of, plan_name, replayed, service_for, status_for, IsReplayStatus};
-ghost use Rattle.df1_tool.specs.declared.trouble.Trouble.TheVariants.{Usage as ForNone};
+ghost use Rattle.df1_tool.specs.Forms.{form_of as the_form, plan_name, service_for};
+ghost use Rattle.df1_tool.specs.Replays.{line_note, note_at, status_for, IsReplayStatus};
 ghost use Rattle.df1_service.specs.declared.service.Service.{Service as OneService};
 ghost use Rattle.line_replay.specs.Fed.{told};
 ghost use Rattle.line_script.specs.declared.fault.Cause.{Cause as Fault};
 
-use crate::form::{Form, form_of};
-use crate::trouble::{Trouble, tell};
+use crate::form::{Form, NoForm, form_of};
+use crate::refusal::refuse;
 use crate::{checking, dissecting, drilling, replaying, serving};
 use df1_base::{Sink, Source};
 use df1_service::Service;
@@ -81,7 +81,7 @@ pub fn run<H: Shelf, S: Source, K: Sink, N: Sink>(
     // 2 is for words that are none of the forms.
     ensures usage { (result.status ≡ 2) ↔ (the_form (map string_bytes words.now) ≡ None) }
     ensures untouched { result.status ≡ 2 → (result.shelf ≡ shelf) × (result.input ≡ input) × (result.out ≡ out)
-        × IsNoted (N.held note) (N.held result.note) (N.faults note) (N.faults result.note) (note_of ForNone) }
+        × IsNoted (N.held note) (N.held result.note) (N.faults note) (N.faults result.note) usage }
 
     // `serve` and `issue`.
     ensures serves { (service : OneService) → service_for (map string_bytes words.now) ≡ Some service → ServiceRun service (plan_name (map string_bytes words.now))
@@ -153,7 +153,7 @@ pub fn run<H: Shelf, S: Source, K: Sink, N: Sink>(
         IsNoted (N.held note) (N.held result.note) (N.faults note) (N.faults result.note) (note_at result.status) }
 {
     let Some(form) = form_of(words) else {
-        let status = tell(Err(Trouble::Usage), &mut note);
+        let status = refuse(&NoForm, &mut note);
         return Ran::new(status, shelf, input, out, note);
     };
     match form {

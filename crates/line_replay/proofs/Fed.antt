@@ -23,10 +23,10 @@ use Rattle.line_script.specs.ScriptText.{script_of}
 use Rattle.line_script.proofs.Setup.{Extends, TellsEvents, script-accepted}
 use Rattle.line_script.proofs.Shown.{shown-script, script-at-end, tells, front-of, front-by-byte, front-at-end, playable, playable-at-end}
 use Rattle.replay_report.specs.Report.{line_text, report}
-use Rattle.line_replay.specs.declared.world.World.{World}
-use Rattle.line_replay.specs.Runs.{IsNext, after_event, after_events, all_lines, begun, begun_in, last_world, lines_in, lines_of, lines_after, played, record_of}
-use Rattle.line_replay.proofs.EitherMode.{after-behind, lines-behind, no-lines, report-from}
-use Rattle.line_replay.proofs.Next.{next-at}
+use Rattle.line_world.specs.declared.world.World.{World}
+use Rattle.line_world.specs.Runs.{IsNext, after_event, after_events, all_lines, begun, begun_in, last_world, lines_in, lines_of, lines_after, played, record_of}
+use Rattle.line_world.proofs.EitherMode.{after-behind, lines-behind, no-lines, report-from}
+use Rattle.line_world.proofs.Next.{next-at}
 use Rattle.line_replay.specs.declared.replayer.StreamFault.{StreamFault}
 use Rattle.line_replay.specs.declared.replayer.StreamFault.TheVariants as stream
 use Rattle.line_replay.specs.Fed.{Replaying, IsReplayOf, IsReplayAtEnd, IsWorldOf, IsDue, IsRefusedAs, IsRefusedHere, IsRefusedWith, ShowsFront, ShowsMore, event_text, events_text, rest_text, shown, stream_fault, told, told_by, world_for}

@@ -1,4 +1,2 @@
-pub mod EitherMode
 pub mod Fed
-mod Next
 pub mod Runs

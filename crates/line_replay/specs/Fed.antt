@@ -12,8 +12,8 @@ use Rattle.line_script.specs.Lines.{script_with}
 use Rattle.script_parts.specs.HalfPlayable.{CanBePlayed}
 use Rattle.line_script.specs.ScriptText.{script_of}
 use Rattle.replay_report.specs.Report.{line_text, report}
-use Rattle.line_replay.specs.declared.world.World.{World}
-use Rattle.line_replay.specs.Runs.{all_lines, begun, last_world, lines_of, record_from, record_of}
+use Rattle.line_world.specs.declared.world.World.{World}
+use Rattle.line_world.specs.Runs.{all_lines, begun, last_world, lines_of, record_from, record_of}
 use Rattle.line_replay.specs.declared.replayer.StreamFault.{StreamFault}
 use Rattle.line_replay.specs.declared.replayer.StreamFault.TheVariants as stream
 

@@ -1,4 +1,1 @@
-pub mod Complete
 pub mod Fed
-pub mod Once
-pub mod Runs

@@ -1,18 +1,16 @@
-//! Replaying a script of either mode: it is read, its run is played over the line, and the record of what happened is printed.
+//! Replaying a script of either mode: it is read, its run is played over the line, and the record of what happened is printed;
+//! and the same while the script comes, byte by byte or line by line.
 #![tactic(auto)]
 
-mod play;
 mod replayer;
-mod world;
 
 pub use line_script::{
     Bytes, Cause, EndPlan, Ends, Event, Events, Items, Lane, Script, ScriptFault, Specs, Who,
     WordOf, Words, read_script,
 };
-pub use play::replay;
+pub use line_world::{World, replay};
 pub use replay_report::{Line, Lines, Record, print};
 pub use replayer::{Replayer, StreamFault};
-pub use world::World;
 
 #[cfg(test)]
 mod tests;

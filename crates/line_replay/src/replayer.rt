@@ -7,7 +7,7 @@ ghost use Rattle.line_script.specs.Fed.{HasNoFeed, accepted_script};
 ghost use Rattle.line_script.specs.Lines.{script_with};
 ghost use Rattle.script_parts.specs.HalfPlayable.{CanBePlayed};
 ghost use Rattle.line_script.specs.Unfinished.{unfinished};
-ghost use Rattle.line_replay.specs.Runs.{IsNext, begun, lines_in, played, printed, record_from};
+ghost use Rattle.line_world.specs.Runs.{IsNext, begun, lines_in, played, printed, record_from};
 ghost use Rattle.replay_report.specs.Report.{line_text, report};
 ghost use Rattle.std.specs.List.{flat_map};
 ghost use Rattle.line_replay.specs.Fed.{IsDue, IsEndedReplay, IsFromPlay, IsRefusedAs, IsRefusedHere, IsRefusedWith, IsReplay, IsReplayAtEnd, IsReplayOf, IsScript, IsWorldOf, ShowsFront, ShowsMore, event_text, events_text, rest_text, shown, told, world_for};
@@ -81,7 +81,7 @@ pub struct Replayer {
 
 impl Model for Replayer {
     ghost use Rattle.std.specs.Coded.{codes};
-    ghost use Rattle.line_replay.specs.contracts.world.World as world_row;
+    ghost use Rattle.line_world.specs.contracts.world.World as world_row;
     ghost use Rattle.line_replay.specs.Fed.{Replaying};
 
     ghost Value = { Replaying };

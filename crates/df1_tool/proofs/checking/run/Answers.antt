@@ -1,7 +1,7 @@
 -- The run shows how the count ended.
 use Rattle.std.proofs.Common.{◌≡◌, ◌∙◌, Bool, true, false, Ok, Err, refl}
 use mir.Val.{bool_byte}
-use Rattle.df1_tool.specs.Counted.{status_of_counts}
+use Rattle.df1_tool.specs.Captures.{status_of_counts}
 use Rattle.df1_tool.proofs.CaptureRuns.{checked}
 use Rattle.df1_tool.proofs.checking.run.Goals as goal
 

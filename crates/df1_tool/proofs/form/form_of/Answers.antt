@@ -1,7 +1,7 @@
 -- What two words ask for.
 use Rattle.std.proofs.Common.{◌≡◌, ◌∙◌, ◌≤◌, ◌<◌, ℕ, List, [], ◌∷◌, length, get_or, map, ap, arith}
 use Rattle.std.specs.Prelude.{string_bytes}
-use Rattle.df1_tool.specs.Tool.{form_of, form_of_two}
+use Rattle.df1_tool.specs.Forms.{form_of, form_of_two}
 use Rattle.df1_tool.proofs.form.form_of.Goals as goal
 
 two-words : {X : Type 0} (bytes : X → List ℕ) (words : List X) (word : X) → 2 ≤ length words → length words < 3 → word ≡ get_or words 0 word → form_of_two (bytes word) ≡ form_of (map bytes words)

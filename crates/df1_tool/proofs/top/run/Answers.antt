@@ -2,7 +2,7 @@
 use Rattle.std.proofs.Common.{◌≡◌, Some, map}
 use Rattle.std.specs.Prelude.{string_bytes}
 use Rattle.df1_tool.specs.declared.form.Form.TheVariants.{Drill}
-use Rattle.df1_tool.specs.Tool.{form_of}
+use Rattle.df1_tool.specs.Forms.{form_of}
 use Rattle.df1_tool.proofs.Drills.{few-rounds}
 use Rattle.df1_tool.proofs.top.run.Goals as goal
 

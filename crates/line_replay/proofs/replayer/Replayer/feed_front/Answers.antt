@@ -2,7 +2,7 @@
 use Rattle.std.proofs.Common.{◌≡◌, ◌∙◌, ◌++◌, ◌∷◌, [], List, Option, ℕ, ap, drop, sym, subst, take}
 use Rattle.script_parts.specs.declared.script.Event.{Event}
 use Rattle.line_script.specs.Fed.{Fed, StandsFor}
-use Rattle.line_replay.specs.declared.world.World.{World}
+use Rattle.line_world.specs.declared.world.World.{World}
 use Rattle.line_replay.specs.Fed.{IsReplay, IsReplayOf, Replaying, ShowsFront, ShowsMore, shown, told}
 use Rattle.line_replay.proofs.Fed.{due-by, plays-by, replay-with, front-with}
 use Rattle.line_replay.proofs.Runs.{line-and-rest, line-whole, shows-no-more, stands-with}

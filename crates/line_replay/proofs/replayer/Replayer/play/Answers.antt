@@ -5,8 +5,8 @@ use Rattle.df1_base.specs.Outside.{Put, WrotePart}
 use Rattle.df1_base.proofs.Laws.{wrote_none}
 use Rattle.replay_report.specs.Report.{line_text}
 use Rattle.line_script.specs.Lines.{script_with}
-use Rattle.line_replay.specs.declared.world.World.{World}
-use Rattle.line_replay.specs.Runs.{IsNext, after_event, last_world, lines_in, played}
+use Rattle.line_world.specs.declared.world.World.{World}
+use Rattle.line_world.specs.Runs.{IsNext, after_event, last_world, lines_in, played}
 use Rattle.line_replay.specs.Fed.{Replaying}
 use Rattle.line_replay.proofs.Fed.{is-next, lines-with, world-is, world-same, world-with}
 use Rattle.line_replay.proofs.replayer.Replayer.play.Goals as goal

@@ -3,10 +3,10 @@ use Rattle.df1_base.specs.Outside.{Put, WrotePart}
 use Rattle.df1_base.proofs.Laws.{wrote_none}
 use Rattle.line_script.specs.Lines.{script_with}
 use Rattle.replay_report.specs.Report.{report}
-use Rattle.line_replay.specs.declared.world.World.{World}
-use Rattle.line_replay.specs.Runs.{last_world, lines_in, record_from}
+use Rattle.line_world.specs.declared.world.World.{World}
+use Rattle.line_world.specs.Runs.{last_world, lines_in, record_from}
 use Rattle.line_replay.specs.Fed.{Replaying}
-use Rattle.line_replay.proofs.EitherMode.{last-lines}
+use Rattle.line_world.proofs.EitherMode.{last-lines}
 use Rattle.line_replay.proofs.Fed.{world-is, world-same}
 use Rattle.line_replay.proofs.replayer.Replayer.write_rest.Goals as goal
 

@@ -1,0 +1,3 @@
+pub mod Captures
+pub mod Counted
+pub mod Dissected

@@ -1,0 +1,3 @@
+mod Headline
+mod Taken
+mod Written

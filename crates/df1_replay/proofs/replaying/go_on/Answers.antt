@@ -1,0 +1,45 @@
+use Rattle.std.proofs.Common.{◌≡◌, ◌∙◌, ◌++◌, ℕ, List, Err}
+use Rattle.line_script.specs.ScriptText.{script_of}
+use Rattle.line_replay.specs.Fed.{ShowsMore, shown, told}
+use Rattle.df1_buffer.specs.Buffered.{buffer_out, buffer_waiting, buffer_held}
+use Rattle.df1_buffer.proofs.Handed.{same_borrow}
+use Rattle.df1_replay.proofs.Written.{le_then, front-on, more-is-front, ok-on, output-rose, refused-on, steady-on, written-more}
+use Rattle.df1_replay.proofs.replaying.go_on.Goals as goal
+
+pub returns-clause-same_reference : goal.returns-clause-same_reference
+returns-clause-same_reference g c = same_borrow _ _ _ _ (c.hand_on.ensures.later.0 ∙ c.feed_all-fed.ensures.later.0)
+
+pub returns-clause-ok : goal.returns-clause-ok
+returns-clause-ok g c text h =
+    let b = c.args.report.now in
+    let b' = c.hand_on.new.report in
+    ok-on c.feed_all-fed.result c.hand_on.result c.hand_on.ensures.ends (c.feed_all-fed.ensures.ok text h)
+    (λ ended fed. (fed.0, written-more (shown text) (shown (text ++ c.args.piece.now)) (buffer_waiting b) (buffer_waiting b') (g.K.Sink.held (buffer_out b)) (g.K.Sink.held (buffer_out b')) (buffer_held g.K.Sink.held c.feed_all-fed.new.sink) c.requires.none ended.0 fed.1 c.hand_on.ensures.kept))
+
+pub returns-clause-refused : goal.returns-clause-refused
+returns-clause-refused g c text h =
+    let all = text ++ c.args.piece.now in
+    let b = c.args.report.now in
+    let b' = c.hand_on.new.report in
+    let held = g.K.Sink.held (buffer_out b) in
+    let held' = g.K.Sink.held (buffer_out b') in
+    let between = buffer_held g.K.Sink.held c.feed_all-fed.new.sink in
+    refused-on (λ line cause. (more : List ℕ) → (script_of (all ++ more) ≡ Err (line, cause)) × ShowsMore (shown text) (told (all ++ more)) held held') all (shown text) (buffer_held g.K.Sink.held b) between
+    c.feed_all-fed.result c.hand_on.result c.hand_on.ensures.ends (c.feed_all-fed.ensures.refused text h)
+    (λ ended line cause refused more. ((refused more).0, written-more (shown text) (told (all ++ more)) (buffer_waiting b) (buffer_waiting b') held held' between c.requires.none ended.0 (refused more).1 c.hand_on.ensures.kept))
+
+pub returns-clause-front : goal.returns-clause-front
+returns-clause-front g c text h =
+    let all = text ++ c.args.piece.now in
+    let b = c.args.report.now in
+    let b' = c.hand_on.new.report in
+    let between = buffer_held g.K.Sink.held c.feed_all-fed.new.sink in
+    let grown = le_then _ _ _ c.feed_all-fed.ensures.later.1 c.hand_on.ensures.later.1 in
+    front-on c.feed_all-fed.result c.hand_on.result (shown text) (told all) (buffer_waiting b) (buffer_waiting b') (g.K.Sink.held (buffer_out b)) (g.K.Sink.held (buffer_out b')) between c.requires.none grown c.hand_on.ensures.kept
+    (c.feed_all-fed.ensures.ok text h) (λ fed. more-is-front all c.feed_all-fed.new.self (shown text) (buffer_held g.K.Sink.held b) between fed.0 fed.1) (c.feed_all-fed.ensures.front text h)
+
+pub returns-clause-output : goal.returns-clause-output
+returns-clause-output g c is = output-rose c.feed_all-fed.result c.hand_on.result _ _ _ c.hand_on.ensures.ends c.feed_all-fed.ensures.cause c.feed_all-fed.ensures.later.2 c.hand_on.ensures.later.2 is
+
+pub returns-clause-steady_else : goal.returns-clause-steady_else
+returns-clause-steady_else g c = steady-on c.feed_all-fed.result c.hand_on.result _ _ _ c.hand_on.ensures.ends c.feed_all-fed.ensures.steady

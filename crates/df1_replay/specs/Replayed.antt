@@ -1,0 +1,25 @@
+-- What a run of `replay` shows that ended well: its script, the report, each command once, and all of them where nothing
+-- disturbs the line.
+use Rattle.std.specs.Prelude.{◌≡◌, ℕ, List, Option, Ok}
+use Rattle.std.specs.Io.KnownBytes.{IsAtEnd}
+use Rattle.df1_base.specs.Outside.{Took, Put}
+use Rattle.script_parts.specs.declared.script.Script.{Script}
+use Rattle.line_script.specs.ScriptText.{script_of}
+use Rattle.replay_report.specs.Report.{report}
+use Rattle.line_world.specs.Complete.{IsUndisturbed, IsComplete}
+use Rattle.line_world.specs.Once.{EachCommandOnce}
+use Rattle.line_world.specs.Runs.{record_of}
+
+-- The input was read to its end and is a script. The report of its run is written, and nothing else. Where no end was
+-- deceived, each station executed commands that were issued to it, in their order, each once, and each accepted reply is
+-- what it answered to that very command. Where nothing disturbs the line and nothing is under way in the end, and on a
+-- half-duplex line no reply is left at a station either, no end was deceived, and all commands were executed and answered.
+pub record Replayed (left left' held held' : Option (List ℕ)) : Type 0 where
+  pub input : List ℕ
+  pub script : Script
+  pub took : Took left left' input
+  pub end : IsAtEnd left'
+  pub reads : script_of input ≡ Ok script
+  pub put : Put held held' (report (record_of script))
+  pub once : (record_of script).deceived ≡ 0 → EachCommandOnce script (record_of script)
+  pub complete : IsUndisturbed script → IsComplete script (record_of script)

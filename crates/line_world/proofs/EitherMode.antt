@@ -1,0 +1,228 @@
+-- Runs of either mode: some events and then others, the lines that stand, and what the run of a full-duplex script is.
+use Rattle.std.proofs.Common.{◌≡◌, ◌∙◌, ℕ, ◌+◌, ◌<◌, ◌≤◌, suc, Bool, true, false, List, [], ◌∷◌, ◌++◌, length, take, drop, drop-cons, get_or, Result, Ok, Err, IfOk, refl, sym, ap, subst, arith, append_assoc, append-nil}
+use Rattle.std.proofs.Math.Numerals.{suc-eq-add-one}
+use Rattle.std.proofs.lemmas.List.{take_more, drop_all, take_all}
+use Rattle.std.specs.Prelude.{sum_by}
+use Rattle.std.specs.List.{flat_map}
+use Rattle.std.proofs.lemmas.List.Sums.{sum_by-cons}
+use Rattle.script_parts.specs.declared.script.Event.{Event}
+use Rattle.script_parts.specs.declared.script.Script.{Script}
+use Rattle.script_parts.specs.Playable.{IsPlayable, count_of}
+use Rattle.script_parts.specs.HalfPlayable.{CanBePlayed, IsHalfPlayable, half_count_of, numbers_of}
+use Rattle.replay_report.specs.declared.record.Line.{Line}
+use Rattle.replay_report.specs.declared.record.Record.{Record}
+use Rattle.replay_report.specs.Report.{line_text, word_text, deceived_text, report}
+use Rattle.half_line.specs.Acts.{HalfState}
+use Rattle.half_line.specs.Plays.{Played as HalfPlayed, numbers_at, weight}
+use Rattle.half_line.specs.Run as polled
+use Rattle.half_line.specs.Once.{EachOnce as HalfOnce}
+use Rattle.half_line.specs.Prompt.{IsUndisturbed as HalfUndisturbed}
+use Rattle.half_line.specs.Complete.{IsComplete as HalfComplete}
+use Rattle.half_line.proofs.Complete.WholeRun.{is-complete as polled-is-complete}
+use Rattle.half_line.proofs.Once.EachStation.{each-once as polled-each-once}
+use Rattle.half_line.proofs.Once.MasterCommands.{issued-run}
+use Rattle.half_line.proofs.Once.MasterOutcomes.{outcomes-run}
+use Rattle.half_line.proofs.Steps.EventsToCome.{event-numbers, start-numbers}
+use Rattle.duplex_line.specs.Acts.{LineState}
+use Rattle.duplex_line.specs.Plays.{Played}
+use Rattle.duplex_line.specs.Run as duplex
+use Rattle.duplex_line.specs.Once.{EachOnce}
+use Rattle.duplex_line.specs.Prompt.{IsPrompt, EndsQuiet}
+use Rattle.duplex_line.specs.Complete.{IsComplete as DuplexComplete}
+use Rattle.duplex_line.proofs.Complete.WholeRun.{is-complete as duplex-is-complete}
+use Rattle.duplex_line.proofs.Once.WholeRun.{each-once}
+use Rattle.line_world.specs.declared.world.World.{World}
+use Rattle.line_world.specs.declared.world.World.TheVariants.{Duplex, Polled}
+use Rattle.line_world.specs.Complete.{IsUndisturbed, IsUndisturbedIn, IsComplete, IsCompleteIn}
+use Rattle.line_world.specs.Once.{EachCommandOnce, EachOnceIn}
+use Rattle.line_world.specs.Runs.{after_event, after_events, all_lines, begun, begun_in, last_world, lines_in, lines_of, lines_after, played, printed, record_from, record_of, IsNext}
+
+-- ---- some events, and then others
+
+pub after-behind : (w : World) (events more : List Event) → after_events w (events ++ more) ≡ after_events (after_events w events) more
+after-behind w [] more = refl
+after-behind w (e ∷ events) more = after-behind (after_event w e) events more
+
+pub lines-behind : (w : World) (events more : List Event) → lines_after w (events ++ more) ≡ lines_after w events ++ lines_after (after_events w events) more
+lines-behind w [] more = refl
+lines-behind w (e ∷ events) more =
+    ap (λ l. lines_of w e ++ l) (lines-behind (after_event w e) events more) ∙ sym (append_assoc (lines_of w e) (lines_after (after_event w e) events) (lines_after (after_events (after_event w e) events) more))
+
+-- ---- the lines that stand
+
+printed-lines : (w : World) → lines_in (printed w) ≡ []
+printed-lines (Duplex p) = refl
+printed-lines (Polled p) = refl
+
+after-lines : (w : World) (events : List Event) → lines_in w ≡ [] → lines_in (after_events w events) ≡ []
+after-lines w [] none = none
+after-lines w (e ∷ events) none = after-lines (after_event w e) events (printed-lines (played w e))
+
+begun-lines : (half : Bool) (script : Script) → lines_in (begun_in half script.check script.ends) ≡ []
+begun-lines true script = refl
+begun-lines false script = refl
+
+pub played-lines : (w : World) (e : Event) → lines_in (played w e) ≡ lines_in w ++ lines_of w e
+played-lines (Duplex p) e = refl
+played-lines (Polled p) e = refl
+
+pub last-lines : (script : Script) → lines_in (last_world script) ≡ []
+last-lines script = after-lines (begun script) script.events (begun-lines script.half script)
+
+pub no-lines : (script : Script) (e : Event) → lines_in (played (last_world script) e) ≡ lines_of (last_world script) e
+no-lines script e = played-lines (last_world script) e ∙ ap (λ l. l ++ lines_of (last_world script) e) (last-lines script)
+
+-- ---- lines that are not printed
+
+-- what may happen next, and what it does, doesn't depend on the lines that stand
+pub printed-next : (w : World) (e : Event) → IsNext (printed w) e → IsNext w e
+printed-next (Duplex p) e next = record { possible = next.possible; unspent = next.unspent; sum = next.sum }
+printed-next (Polled p) e next = record { possible = next.possible; unspent = next.unspent; sum = next.sum }
+
+pub printed-then : (w : World) (e : Event) → printed (played w e) ≡ after_event (printed w) e
+printed-then (Duplex p) e = refl
+printed-then (Polled p) e = refl
+
+pub printed-of : (w : World) (e : Event) → lines_of (printed w) e ≡ lines_of w e
+printed-of (Duplex p) e = refl
+printed-of (Polled p) e = refl
+
+pub printed-record : (w : World) (lines : List Line) → record_from (printed w) lines ≡ record_from w lines
+printed-record (Duplex p) lines = refl
+printed-record (Polled p) lines = refl
+
+-- ---- one event after another, of a script
+
+pub events-next : (events : List Event) (i : ℕ) (e : Event) → i < length events → e ≡ get_or events i e → drop i events ≡ e ∷ drop (i + 1) events
+events-next events i e lt is =
+    drop-cons events i e lt ∙ ap (λ (x : Event). x ∷ drop (suc i) events) (sym is) ∙ ap (λ (j : ℕ). e ∷ drop j events) (suc-eq-add-one i)
+
+pub world-more : (script : Script) (w : World) (i : ℕ) (e : Event) → i < length script.events → e ≡ get_or script.events i e → printed w ≡ after_events (begun script) (take i script.events)
+    → printed (played w e) ≡ after_events (begun script) (take (i + 1) script.events)
+world-more script w i e lt is so_far =
+    printed-then w e ∙ ap (λ (v : World). after_event v e) so_far ∙ sym (after-behind (begun script) (take i script.events) (e ∷ []))
+    ∙ ap (after_events (begun script)) (ap (λ (x : Event). take i script.events ++ x ∷ []) is ∙ sym (take_more script.events i e lt))
+
+pub lines-more : (script : Script) (w : World) (i : ℕ) (e : Event) → i < length script.events → e ≡ get_or script.events i e
+    → lines_in w ++ lines_after (printed w) (drop i script.events) ≡ all_lines script → lines_in (played w e) ++ lines_after (printed (played w e)) (drop (i + 1) script.events) ≡ all_lines script
+lines-more script w i e lt is so_far =
+    let rest = drop (i + 1) script.events in
+    let next = events-next script.events i e lt is in
+    ap (λ l. l ++ lines_after (printed (played w e)) rest) (played-lines w e) ∙ append_assoc (lines_in w) (lines_of w e) (lines_after (printed (played w e)) rest)
+    ∙ ap (λ l. lines_in w ++ l) (ap (λ l. l ++ lines_after (printed (played w e)) rest) (sym (printed-of w e)) ∙ ap (λ (v : World). lines_of (printed w) e ++ lines_after v rest) (printed-then w e))
+    ∙ ap (λ events. lines_in w ++ lines_after (printed w) events) (sym next) ∙ so_far
+
+-- what holds of the record of the run holds of the record of a world that has played all events
+pub record-at-end : {E : Type 0} (P : Record → Type 0) (script : Script) (i : ℕ) (w : World) → length script.events ≤ i → printed w ≡ after_events (begun script) (take i script.events)
+    → lines_in w ++ lines_after (printed w) (drop i script.events) ≡ all_lines script → (result : Result Record E) → IfOk result (λ r. r ≡ record_from w (lines_in w)) → P (record_of script) → IfOk result P
+unfolding record_of
+record-at-end P script i w over world lines (Err e) is p = tt
+record-at-end P script i w over world lines (Ok r) is p =
+    let none : drop i script.events ≡ [] = drop_all i script.events over in
+    let all : take i script.events ≡ script.events = take_all i script.events over in
+    let same_world : printed w ≡ last_world script = rw all at world in
+    let same_lines : lines_in w ≡ all_lines script = sym (append-nil (lines_in w)) ∙ rw none at lines in
+    subst P (sym (is ∙ sym (printed-record w (lines_in w)) ∙ ap (λ (v : World). record_from v (lines_in w)) same_world ∙ ap (record_from (last_world script)) same_lines)) p
+
+-- ---- the report
+
+pub report-from : (w : World) (lines : List Line) → report (record_from w lines) ≡ flat_map line_text lines ++ report (record_from w [])
+unfolding report
+report-from (Duplex p) lines = append_assoc (flat_map line_text lines) (flat_map word_text (duplex.all_words p.state)) (deceived_text p.state.deceived)
+report-from (Polled p) lines = append_assoc (flat_map line_text lines) (flat_map word_text (polled.all_words p.state)) (deceived_text p.state.deceived)
+
+-- ---- a full-duplex script
+
+duplex-state : (s : LineState) (sum : ℕ) (events : List Event) → after_events (Duplex (record { state = s; lines = []; events = sum })) events
+    ≡ Duplex (record { state = duplex.state_after s events; lines = []; events = sum + sum_by count_of events })
+duplex-state s sum [] = let same : sum ≡ sum + sum_by count_of [] = omega arith in ap (λ (n : ℕ). Duplex (record { state = s; lines = []; events = n })) same
+duplex-state s sum (e ∷ events) =
+    let one = sum_by-cons count_of e events in
+    let same : (sum + count_of e) + sum_by count_of events ≡ sum + sum_by count_of (e ∷ events) = omega (arith, one) in
+    duplex-state (duplex.after_event s e) (sum + count_of e) events
+    ∙ ap (λ (n : ℕ). Duplex (record { state = duplex.state_after (duplex.after_event s e) events; lines = []; events = n })) same
+
+duplex-lines : (p : Played) (events : List Event) → lines_after (Duplex p) events ≡ duplex.lines_after p.state events
+duplex-lines p [] = refl
+duplex-lines p (e ∷ events) = ap (λ l. duplex.lines_of p.state e ++ l) (duplex-lines (record { state = duplex.after_event p.state e; lines = []; events = p.events + count_of e }) events)
+
+-- the world after some events of a full-duplex script
+pub duplex-after : (script : Script) (events : List Event) → script.half ≡ false → after_events (begun script) events
+    ≡ Duplex (record { state = duplex.state_after (duplex.start script) events; lines = []; events = 0 + sum_by count_of events })
+duplex-after script events mode = rw mode (duplex-state (duplex.start script) 0 events)
+
+-- ---- a half-duplex script
+
+polled-state : (numbers : List ℕ) (s : HalfState) (sum : ℕ) (events : List Event) → numbers_at s.stations ≡ numbers → after_events (Polled (record { state = s; lines = []; events = sum })) events
+    ≡ Polled (record { state = polled.state_after s events; lines = []; events = sum + sum_by (half_count_of numbers) events })
+polled-state numbers s sum [] are = let same : sum ≡ sum + sum_by (half_count_of numbers) [] = omega arith in ap (λ (n : ℕ). Polled (record { state = s; lines = []; events = n })) same
+polled-state numbers s sum (e ∷ events) are =
+    let one = sum_by-cons (half_count_of numbers) e events in
+    let count = half_count_of numbers e in
+    let weight : half_count_of (numbers_at s.stations) e ≡ count = ap (λ ns. half_count_of ns e) are in
+    let same : (sum + half_count_of (numbers_at s.stations) e) + sum_by (half_count_of numbers) events ≡ sum + sum_by (half_count_of numbers) (e ∷ events) = omega (arith, one, weight) in
+    polled-state numbers (polled.after_event s e) (sum + half_count_of (numbers_at s.stations) e) events (event-numbers s e ∙ are)
+    ∙ ap (λ (n : ℕ). Polled (record { state = polled.state_after (polled.after_event s e) events; lines = []; events = n })) same
+
+polled-lines : (p : HalfPlayed) (events : List Event) → lines_after (Polled p) events ≡ polled.lines_after p.state events
+polled-lines p [] = refl
+polled-lines p (e ∷ events) = ap (λ l. polled.lines_of p.state e ++ l) (polled-lines (record { state = polled.after_event p.state e; lines = []; events = p.events + weight p e }) events)
+
+-- the world after some events of a half-duplex script
+pub polled-after : (script : Script) (events : List Event) → script.half ≡ true → after_events (begun script) events
+    ≡ Polled (record { state = polled.state_after (polled.start script) events; lines = []; events = 0 + sum_by (half_count_of (numbers_of script.ends)) events })
+polled-after script events mode = rw mode (polled-state (numbers_of script.ends) (polled.start script) 0 events (start-numbers script))
+
+-- its record is that of the run of a master and its stations
+pub polled-record : (script : Script) → script.half ≡ true → record_of script ≡ polled.record_of script
+unfolding record_of polled.record_of
+polled-record script mode =
+    ap (λ (w : World). record_from w (all_lines script)) (polled-after script script.events mode)
+    ∙ ap (λ l. polled.record_from (polled.last_state script) l) (rw mode (polled-lines _ script.events))
+
+-- the record of a full-duplex script is that of the run of two ends
+pub duplex-record : (script : Script) → script.half ≡ false → record_of script ≡ duplex.record_of script
+unfolding record_of duplex.record_of
+duplex-record script mode =
+    ap (λ (w : World). record_from w (all_lines script)) (duplex-after script script.events mode)
+    ∙ ap (λ l. duplex.record_from (duplex.last_state script) l) (rw mode (duplex-lines _ script.events))
+
+-- ---- each command once, and all of them, on a full-duplex line
+
+pub duplex-once : (script : Script) → IsPlayable script → (record_of script).deceived ≡ 0 → EachOnce script (record_of script)
+unfolding duplex.record_of
+duplex-once script playable = subst (λ (r : Record). r.deceived ≡ 0 → EachOnce script r) (sym (duplex-record script playable.mode)) (each-once script playable)
+
+duplex-complete : (script : Script) → IsPlayable script → IsPrompt script → EndsQuiet script → DuplexComplete script (record_of script)
+unfolding duplex.record_of
+duplex-complete script playable = subst (λ (r : Record). IsPrompt script → EndsQuiet script → DuplexComplete script r) (sym (duplex-record script playable.mode)) (duplex-is-complete script playable)
+
+-- ---- and on a half-duplex line
+
+polled-honest : (script : Script) → IsHalfPlayable script → (polled.record_of script).deceived ≡ 0 → HalfOnce script (polled.record_of script)
+unfolding polled.record_of
+polled-honest script playable none = polled-each-once script playable (issued-run script).bodies (outcomes-run script playable) none
+
+pub polled-once : (script : Script) → IsHalfPlayable script → (record_of script).deceived ≡ 0 → HalfOnce script (record_of script)
+polled-once script playable = subst (λ (r : Record). r.deceived ≡ 0 → HalfOnce script r) (sym (polled-record script playable.mode)) (polled-honest script playable)
+
+once-in : (half : Bool) (script : Script) → script.half ≡ half → CanBePlayed script → (record_of script).deceived ≡ 0 → EachOnceIn half script (record_of script)
+once-in true script mode h = polled-once script (h.half mode)
+once-in false script mode h = duplex-once script (h.full mode)
+
+pub each-command-once : (script : Script) → CanBePlayed script → (record_of script).deceived ≡ 0 → EachCommandOnce script (record_of script)
+each-command-once script h = once-in script.half script refl h
+
+polled-undisturbed : (script : Script) → IsHalfPlayable script → HalfUndisturbed script → HalfComplete script (polled.record_of script)
+unfolding polled.record_of
+polled-undisturbed script playable undisturbed = polled-is-complete script playable undisturbed
+
+polled-complete : (script : Script) → IsHalfPlayable script → HalfUndisturbed script → HalfComplete script (record_of script)
+polled-complete script playable = subst (λ (r : Record). HalfUndisturbed script → HalfComplete script r) (sym (polled-record script playable.mode)) (polled-undisturbed script playable)
+
+complete-in : (half : Bool) (script : Script) → script.half ≡ half → CanBePlayed script → IsUndisturbedIn half script → IsCompleteIn half script (record_of script)
+complete-in true script mode h undisturbed = polled-complete script (h.half mode) undisturbed
+complete-in false script mode h undisturbed = duplex-complete script (h.full mode) undisturbed.0 undisturbed.1
+
+pub all-complete : (script : Script) → CanBePlayed script → IsUndisturbed script → IsComplete script (record_of script)
+all-complete script h = complete-in script.half script refl h

@@ -1,0 +1,2 @@
+pub mod EitherMode
+pub mod Next

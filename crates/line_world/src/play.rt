@@ -1,0 +1,30 @@
+//! Playing a script: its run, as a record.
+
+ghost use Rattle.std.specs.Prelude.{◌≡◌, IfOk};
+ghost use Rattle.script_parts.specs.HalfPlayable.{CanBePlayed};
+ghost use Rattle.line_world.specs.Complete.{IsUndisturbed, IsComplete};
+ghost use Rattle.line_world.specs.Once.{EachCommandOnce};
+ghost use Rattle.line_world.specs.Runs.{record_of};
+
+use crate::World;
+use df1_base::NoMemory;
+use replay_report::Record;
+use script_parts::Script;
+use std::alloc::Global;
+
+/// Plays a script that can be read, and answers the record of its run. Where no end was deceived, each command of the script was
+/// executed once at most, in order, by the station that it was issued to, the words are those that the executed ones make, and
+/// each accepted reply was the one to that very command. Where nothing disturbed the line, no end was deceived, and all commands
+/// were executed and answered, in their order.
+pub fn replay(alloc: Global, script: &Script) -> Result<Record, NoMemory>
+    requires { CanBePlayed script.now }
+    ensures record { IfOk result (λ r. r ≡ record_of script.now) }
+    ensures complete { IfOk result (λ r. IsUndisturbed script.now → IsComplete script.now r) }
+    ensures once { IfOk result (λ r. r.deceived ≡ 0 → EachCommandOnce script.now r) }
+{
+    let mut world = World::new(alloc, script)?;
+    for event in script.events.as_slice() {
+        world.step(event)?;
+    }
+    world.finish()
+}

@@ -1,0 +1,82 @@
+//! The command `drill`, over the outside in memory.
+use crate::program::{USAGE, words};
+use df1_base::{BytesIn, BytesOut};
+use df1_check::crc;
+use df1_shelf::ShelfMem;
+use df1_tool::{Ran, run};
+use std::alloc::Global;
+use std::test::Fail;
+
+/// The drill's script of four rounds from the seed 0: the patterns 1, 2, 3 and 0.
+const SCRIPT: &str = concat!(
+    "file b 7 89 16\n",
+    "ai 0FAA02078901000100\nak 23\nad 2\nac 01\nad 21\nbk 2\nbd 2\nak 23\nad 23\nbk 15\nbd 15\nak 2\nad 2\n",
+    "ai 0FAA02078902000200\nak 23\nad 23\nbk 2\nbx 2\nat 10\nak 2\nad 2\nbk 15\nbd 15\nak 2\nad 2\n",
+    "ai 0FAA02078903000300\nak 23\nad 23\nbk 2\nbx 2\nbn 1015\nak 23\nad 23\nbk 15\nbd 15\nak 2\nad 2\n",
+    "ai 0FAA02078904000400\nak 23\nad 23\nbk 15\nbd 15\nak 2\nad 2\n",
+    "end\n",
+);
+
+/// What `drill 0 4` tells before the CRC of the report.
+const COUNTS: &str = "issued 4 executed 4 answered 4 damaged 1 repeats 1 enquiries 1 deceived 0";
+
+fn ran(
+    alloc: Global,
+    asked: &[&str],
+    input: &str,
+    room: usize,
+) -> Result<Ran<ShelfMem, BytesIn, BytesOut, BytesOut>, Fail> {
+    let words = words(alloc, asked)?;
+    Ok(run(
+        alloc,
+        &words,
+        ShelfMem::new(alloc),
+        BytesIn::new(alloc, input.as_bytes(), 4096, &[])?,
+        BytesOut::new(alloc, room, 4096, &[])?,
+        BytesOut::new(alloc, 200, 200, &[])?,
+    ))
+}
+
+#[test]
+fn a_drill_tells_the_replay_of_its_script_and_leaves_the_input(
+    rt: HostRuntime,
+) -> Result<(), Fail> {
+    let replayed = ran(rt.alloc(), &["replay"], SCRIPT, 4096)?;
+    let [high, low] = crc(replayed.out.held()).to_be_bytes();
+    let line = format!(in rt.alloc(); "{COUNTS} report {high:02X}{low:02X}\n")?;
+    let cases: [(&[&str], usize, u8, &str, &str); 13] = [
+        (&["drill", "0", "4"], 4096, 0, line.as_str(), ""),
+        (
+            &["drill", "0000000000", "0000000004"],
+            4096,
+            0,
+            line.as_str(),
+            "",
+        ),
+        (
+            &["drill", "0", "4"],
+            3,
+            5,
+            "iss",
+            "df1: output cannot be written\n",
+        ),
+        (&["drill"], 4096, 2, "", USAGE),
+        (&["drill", "0"], 4096, 2, "", USAGE),
+        (&["drill", "0", "0"], 4096, 2, "", USAGE),
+        (&["drill", "0", "20001"], 4096, 2, "", USAGE),
+        (&["drill", "4294967296", "1"], 4096, 2, "", USAGE),
+        (&["drill", "-1", "1"], 4096, 2, "", USAGE),
+        (&["drill", "+1", "1"], 4096, 2, "", USAGE),
+        (&["drill", "00000000000", "1"], 4096, 2, "", USAGE),
+        (&["drill", "", "1"], 4096, 2, "", USAGE),
+        (&["drill", "0", "4", "4"], 4096, 2, "", USAGE),
+    ];
+    for (asked, room, status, out, note) in cases {
+        let ran = ran(rt.alloc(), asked, "end\n", room)?;
+        assert_eq!(rt; ran.status, status);
+        assert_eq!(rt; ran.out.held(), out.as_bytes());
+        assert_eq!(rt; ran.note.held(), note.as_bytes());
+        assert_eq!(rt; ran.input.left(), b"end\n".as_slice());
+    }
+    Ok(())
+}
