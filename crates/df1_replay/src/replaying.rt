@@ -57,6 +57,7 @@ fn replay_all<S: Source, K: Sink>(
     requires none { buffer_waiting report.old ≡ [] }
     ensures same_reference { buffer_name report.new ≡ buffer_name report.old }
     ensures done { OnOk result (Answered replayed (S.left input.old) (S.left input.new) (K.held (buffer_out report.old)) (K.held (buffer_out report.new))) }
+    ensures replayed { OnOk result (Replayed (S.left input.old) (S.left input.new) (K.held (buffer_out report.old)) (K.held (buffer_out report.new))) }
     ensures calm { OnOk result (S.faults input.new ≡ S.faults input.old) }
     ensures refusal { IfErr result (TellsRefusal (Refused (S.left input.old) (S.left input.new) (K.held (buffer_out report.old)) (K.held (buffer_out report.new)) (S.faults input.old) (S.faults input.new))) }
     ensures input { IsErrOf result ReplayFault.Input → BrokenOff (S.left input.old) (S.left input.new) (K.held (buffer_out report.old)) (K.held (buffer_out report.new)) (S.faults input.old) (S.faults input.new) }

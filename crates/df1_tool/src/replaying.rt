@@ -7,7 +7,7 @@
 //! | 4 | `df1: input cannot be read` |
 //! | 5 | `df1: output cannot be written` |
 //! | 7 | `df1: no memory` |
-ghost use Rattle.std.specs.Prelude.{◌≡◌, ◌≤◌, ◌⊎◌, ◌≢◌, length};
+ghost use Rattle.std.specs.Prelude.{◌≡◌, ◌≤◌, ◌⊎◌, ◌≢◌, ℕ, length};
 ghost use Rattle.std.specs.Option.{ForSome};
 ghost use Rattle.df1_base.specs.Outside.{Rose};
 ghost use Rattle.line_replay.specs.Fed.{told};

@@ -8,6 +8,7 @@ use Rattle.line_script.specs.ScriptText.{script_of}
 use Rattle.line_replay.specs.Fed.{ShowsMore, shown, told}
 use Rattle.df1_buffer.specs.Buffered.{buffer_out}
 use Rattle.df1_replay.specs.declared.fault.ReplayFault.TheVariants.{Output}
+use Rattle.df1_replay.proofs.Headline.{replayed-on}
 use Rattle.df1_replay.proofs.Taken.{at_output, broken-off, broken-written, end-answered, end-cut, end-refused, end-written, fed-is, none-taken, piece-cut, piece-refused, piece-taken, piece-written, rose-from, tells-more, tells-one}
 use Rattle.df1_replay.proofs.replaying.replay_all.Goals as goal
 
@@ -35,6 +36,9 @@ returns-in-Ok-eq0-clause-done g c =
     let some : 0 < length c.read.new.into = grind (arith, common_steps) in
     let end = e.end c.in-Ok-eq0.field-0-test some in
     on_ok_weaker c.close.result (λ on. end-answered left left' left'' held held' held'' l.replayer s took end on) (c.close.ensures.ok s.text s.replay)
+
+pub returns-in-Ok-eq0-clause-replayed : goal.returns-in-Ok-eq0-clause-replayed
+returns-in-Ok-eq0-clause-replayed g c = replayed-on _ _ _ _ c.close.result (returns-in-Ok-eq0-clause-done g c)
 
 pub returns-in-Ok-eq0-clause-refusal : goal.returns-in-Ok-eq0-clause-refusal
 returns-in-Ok-eq0-clause-refusal g c =
@@ -145,7 +149,7 @@ returns-in-Err-go_on-clause-refusal g c =
     let held'' = g.K.Sink.held (buffer_out c.go_on.new.report) in
     let e = c.in-Ok.ensures in
     let piece = take c.in-Ok.count c.read.new.into in
-    tells-one c.in-Err-go_on.trouble (λ line cause. (more : List ℕ) → (script_of ((s.text ++ piece) ++ more) ≡ Err (line, cause)) × ShowsMore (shown s.text) (told ((s.text ++ piece) ++ more)) held' held'') _
+    tells-one c.in-Err-go_on.fault (λ line cause. (more : List ℕ) → (script_of ((s.text ++ piece) ++ more) ≡ Err (line, cause)) × ShowsMore (shown s.text) (told ((s.text ++ piece) ++ more)) held' held'') _
     (λ line cause refused. piece-refused left left' left'' held held' held'' (g.S.Source.faults c.args.input.now) (g.S.Source.faults c.read.new.self) line cause l.replayer piece s e.took (e.calm ∙ l.invariant.input_calm) refused)
     (c.in-Err-go_on.ensures.refused s.text s.replay)
 
