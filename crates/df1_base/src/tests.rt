@@ -1,68 +1,10 @@
-//! The calls of each source and sink, one by one.
+//! The calls of sources and sinks over std, one by one, with their counts of faults.
 ghost use Rattle.std.specs.Prelude.{◌≤◌, IfOk};
 
-use crate::{
-    ByteRun, BytesIn, BytesOut, Collected, Failed, Nowhere, Sink, Source, StdIn, StdOut, write_all,
-};
+use crate::{Failed, Sink, Source, StdIn, StdOut, write_all};
 use std::alloc::Global;
 use std::io::{self, ErrorKind, Read, Write};
 use std::test::Fail;
-
-#[test]
-fn a_source_in_memory_gives_pieces_and_fails_as_told(rt: HostRuntime) -> Result<(), Fail> {
-    let mut source = BytesIn::new(rt.alloc(), b"abcde", 2, &[2])?;
-    let mut into = [0; 4];
-    assert_eq!(rt; source.read(&mut into), Ok(2));
-    assert_eq!(rt; source.read(&mut into), Err(Failed));
-    assert_eq!(rt; source.left(), b"cde".as_slice());
-    assert_eq!(rt; source.read(&mut into), Ok(2));
-    assert_eq!(rt; into, *b"cd\0\0");
-    assert_eq!(rt; source.read(&mut into), Ok(1));
-    assert_eq!(rt; source.read(&mut into), Ok(0));
-    let mut slow = BytesIn::new(rt.alloc(), b"ab", 0, &[])?;
-    assert_eq!(rt; slow.read(&mut into), Ok(1));
-    Ok(())
-}
-
-#[test]
-fn a_sink_in_memory_fails_where_it_is_full_and_as_told(rt: HostRuntime) -> Result<(), Fail> {
-    let mut sink = BytesOut::new(rt.alloc(), 3, 2, &[2])?;
-    assert_eq!(rt; sink.write(b"abcd"), Ok(2));
-    assert_eq!(rt; sink.write(b"cd"), Err(Failed));
-    assert_eq!(rt; sink.write(b"cd"), Ok(1));
-    assert_eq!(rt; sink.write(b"d"), Err(Failed));
-    assert_eq!(rt; sink.write(b""), Ok(0));
-    assert_eq!(rt; sink.held(), b"abc".as_slice());
-    Ok(())
-}
-
-#[test]
-fn a_run_of_a_byte_ends_and_nowhere_takes_all(rt: HostRuntime) -> Result<(), Fail> {
-    let mut source = ByteRun::new(85, 6);
-    let mut into = [0; 4];
-    assert_eq!(rt; source.read(&mut into), Ok(4));
-    assert_eq!(rt; into, [85; 4]);
-    assert_eq!(rt; source.read(&mut into[1..]), Ok(2));
-    assert_eq!(rt; source.read(&mut into), Ok(0));
-    let mut sink = Nowhere::new();
-    assert_eq!(rt; sink.write(&into), Ok(4));
-    assert_eq!(rt; sink.write(b""), Ok(0));
-    Ok(())
-}
-
-#[test]
-fn a_sink_that_grows_holds_what_was_written_since_it_was_cleared(
-    rt: HostRuntime,
-) -> Result<(), Fail> {
-    let mut sink = Collected::new(rt.alloc());
-    assert_eq!(rt; sink.write(b"abc"), Ok(3));
-    assert_eq!(rt; sink.write(b"de"), Ok(2));
-    assert_eq!(rt; sink.bytes(), b"abcde".as_slice());
-    sink.clear();
-    assert_eq!(rt; sink.write(b"f"), Ok(1));
-    assert_eq!(rt; sink.bytes(), b"f".as_slice());
-    Ok(())
-}
 
 /// The numbers 0 to 4,999, each less a multiple of 251.
 fn five_thousand(alloc: Global) -> Result<Vec<u8>, Fail> {

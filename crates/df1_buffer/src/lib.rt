@@ -2,7 +2,5 @@
 #![tactic(auto)]
 
 mod buffered;
-#[cfg(test)]
-mod tests;
 
 pub use buffered::{Buffered, PIECE};

@@ -76,6 +76,3 @@ pub fn worked_values()
     ensures nothing { bcc [] ≡ 0 }
     ensures digits { crc (0x31 ∷ 0x32 ∷ 0x33 ∷ 0x34 ∷ 0x35 ∷ 0x36 ∷ 0x37 ∷ 0x38 ∷ 0x39 ∷ []) ≡ 0xBB3D }
 {}
-
-#[cfg(test)]
-mod tests;

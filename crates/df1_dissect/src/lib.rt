@@ -16,8 +16,6 @@ mod kind;
 mod laws;
 mod line;
 mod reader;
-#[cfg(test)]
-mod tests;
 
 pub use dissector::{CollectedLines, Dissector, LINE, LINES};
 pub use ear::Side;

@@ -24,6 +24,3 @@ pub use plain::plain_len;
 
 /// A second code that is read as NAK, and never sent.
 pub const SHORT_NAK: u8 = 0x0F;
-
-#[cfg(test)]
-mod tests;

@@ -39,10 +39,6 @@ ghost use Rattle.duplex_end.specs.contracts.End.{the_row};
 mod laws;
 mod parts;
 mod serving;
-#[cfg(test)]
-mod serving_tests;
-#[cfg(test)]
-mod tests;
 
 use arrayvec::ArrayVec;
 use df1_base::{Act, Host, News, Out, Step, Turn};

@@ -25,8 +25,6 @@ ghost use Rattle.duplex_receiver.specs.Receiver.{Hearing, verdict_act, act_of, k
 ghost use Rattle.duplex_receiver.specs.Hearing.{Stands, act_after};
 
 mod laws;
-#[cfg(test)]
-mod tests;
 
 use df1_base::{Act, Host};
 use df1_check::Check;

@@ -18,9 +18,6 @@ ghost use Rattle.std.specs.Prelude.{◌≡◌, ◌≤◌, length};
 ghost use Rattle.df1_base.specs.Host.{IsBody};
 ghost use Rattle.duplex_sender.specs.Sender.{idle, phase_of, body_of, load, sent_last, on_ack, ack_fate, on_nak, nak_fate, on_tick, tick_turn};
 
-#[cfg(test)]
-mod tests;
-
 use arrayvec::ArrayVec;
 use df1_base::Fate;
 use std::marker::Model;

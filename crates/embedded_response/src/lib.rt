@@ -15,9 +15,6 @@ ghost use Rattle.std.specs.Prelude.{◌≡◌, ◌≤◌, ◌↔◌, [], length,
 ghost use Rattle.std.specs.Option.{option_map};
 ghost use Rattle.embedded_response.specs.Giving.{Giving, bytes_left, nothing, offer, forget, answer_enq, ask, unask, begin, is_begun, chosen, take, plain, unit_out, code_of};
 
-#[cfg(test)]
-mod tests;
-
 use df1_base::{ACK, DLE, ENQ, NAK, Out, Resp};
 use df1_check::Check;
 use df1_frame::{Framer, Unit};

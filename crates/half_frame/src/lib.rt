@@ -36,6 +36,3 @@ pub const SOH: u8 = 0x01;
 
 /// End of transmission: DLE EOT is the answer of a slave that was polled and has no message.
 pub const EOT: u8 = 0x04;
-
-#[cfg(test)]
-mod tests;

@@ -41,8 +41,6 @@ mod laws;
 mod parts;
 mod stations;
 mod table;
-#[cfg(test)]
-mod tests;
 
 use arrayvec::ArrayVec;
 use df1_base::{ACK, Fate, Host, Out, Step, Turn};

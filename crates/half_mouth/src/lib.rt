@@ -10,9 +10,6 @@ ghost use Rattle.half_frame.specs.declared.framer.Sent.{Sent as ByteSent};
 ghost use Rattle.half_mouth.specs.Giving.{Giving, nothing, transmit, give, is_done, bytes_left, take, out_of};
 ghost use Rattle.half_mouth.specs.View.{left_of};
 
-#[cfg(test)]
-mod tests;
-
 use df1_base::Out;
 use half_frame::{HalfFramer, Sent};
 use std::marker::Model;

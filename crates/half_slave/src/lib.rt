@@ -42,8 +42,6 @@ ghost use Rattle.half_slave.specs.contracts.Slave.{the_row};
 
 mod held;
 mod laws;
-#[cfg(test)]
-mod tests;
 
 use arrayvec::ArrayVec;
 use df1_base::{ACK, Act, Did, Fate, Host, NAK, News, Out, Resp, Step};

@@ -1,5 +1,6 @@
-use super::*;
+//! Messages, polls and pairs of a half-duplex line, as each side hears them and as they are given.
 use df1_check::Check;
+use half_frame::{EOT, HalfFramer, MasterEar, MasterHeard, Sent, SlaveEar, SlaveHeard};
 use std::process::Abort;
 
 // Feeds a slave's ear the bytes, and compares what is heard, each with the place of its byte from 1.

@@ -1,5 +1,8 @@
-use super::*;
+//! What a half-duplex end gives, with the marks of its bytes.
+use df1_base::Out;
 use df1_check::Check;
+use half_frame::HalfFramer;
+use half_mouth::HalfMouth;
 use std::process::Abort;
 
 // Takes this byte, with the number 1 where it is the last of a transmission, or a byte of its body.

@@ -1,7 +1,7 @@
 //! What a buffer hands on, and when.
 
-use crate::Buffered;
 use df1_base::{BytesOut, Failed, Sink, write_all};
+use df1_buffer::Buffered;
 use std::alloc::Global;
 use std::test::Fail;
 

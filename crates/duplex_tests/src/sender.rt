@@ -1,6 +1,6 @@
 //! Messages that are delivered and given up, at small limits.
-use crate::{Limits, Phase, SendTurn, Sender};
 use df1_base::Fate;
+use duplex_sender::{Limits, Phase, SendTurn, Sender};
 
 const BODY: [u8; 8] = [0x01, 0x00, 0x06, 0x00, 0x01, 0x00, 0x00, 0x55];
 

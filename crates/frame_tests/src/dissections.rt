@@ -1,8 +1,8 @@
 //! Captures of each side with their text and their counts, and the names of messages.
 
-use crate::{Dissector, Reader, Side};
 use df1_base::BytesOut;
 use df1_check::{Check, bcc};
+use df1_dissect::{Dissector, Reader, Side};
 use std::alloc::{AllocError, Global};
 use std::process::Abort;
 use std::test::Fail;

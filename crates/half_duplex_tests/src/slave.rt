@@ -1,8 +1,8 @@
 //! A slave of station 3, over a host that has one reply to hand out and may have room.
-use crate::{Slave, SlaveSetup};
 use arrayvec::ArrayVec;
 use df1_base::{Act, Did, Fate, Host, News, Step};
 use df1_check::Check;
+use half_slave::{Slave, SlaveSetup};
 use std::process::Abort;
 
 const COMMAND: [u8; 14] = [
@@ -49,7 +49,7 @@ impl Host for OneReply {
     ghost use Rattle.df1_base.specs.declared.host.Did.TheVariants as did_of;
     ghost use Rattle.df1_base.specs.declared.host.Fate.TheVariants as fate_of;
     ghost use Rattle.df1_base.specs.declared.host.News.TheVariants as news_of;
-    ghost use Rattle.half_slave.specs.declared.tests.TheConstants.{REPLY};
+    ghost use Rattle.half_duplex_tests.specs.declared.slave.TheConstants.{REPLY};
 
     ghost room_for = { λ h _. h.has_room };
 

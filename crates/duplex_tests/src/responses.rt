@@ -1,4 +1,7 @@
-use super::*;
+//! Which byte goes out next, with responses in frames and without.
+use df1_base::{Out, Resp};
+use df1_check::Check;
+use embedded_response::Mouth;
 use std::process::Abort;
 
 const BODY: [u8; 8] = [0x01, 0x00, 0x06, 0x00, 0x01, 0x00, 0x00, 0x55];

@@ -1,6 +1,6 @@
 use Rattle.std.proofs.Common.{[], nat_eq, arith}
 use Rattle.std.specs.List.{IsDistinct}
-use Rattle.half_master.proofs.tests.master_of_none.Goals as goal
+use Rattle.half_duplex_tests.proofs.master.master_of_none.Goals as goal
 
 distinct : IsDistinct nat_eq []
 unfolding IsDistinct

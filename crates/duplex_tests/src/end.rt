@@ -1,8 +1,8 @@
 //! One end with a host that has one message to send and takes every message.
-use crate::{End, Setup};
 use arrayvec::ArrayVec;
 use df1_base::{Act, Did, Fate, Host, News, Turn};
 use df1_check::Check;
+use duplex_end::{End, Setup};
 use duplex_sender::Limits;
 use std::process::Abort;
 
@@ -32,7 +32,7 @@ impl Host for OneCommand {
     ghost use Rattle.df1_base.specs.declared.host.Did.TheVariants as did_of;
     ghost use Rattle.df1_base.specs.declared.host.Fate.TheVariants as fate_of;
     ghost use Rattle.df1_base.specs.declared.host.News.TheVariants as news_of;
-    ghost use Rattle.duplex_end.specs.declared.tests.TheConstants.{COMMAND};
+    ghost use Rattle.duplex_tests.specs.declared.end.TheConstants.{COMMAND};
 
     ghost room_for = { λ _ _. true };
 

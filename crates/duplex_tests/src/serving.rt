@@ -1,7 +1,7 @@
 //! An end over ports.
-use crate::tests::{COMMAND_FRAME, REPLY_FRAME, end_with_embedding};
-use crate::{Served, serve};
+use crate::end::{COMMAND_FRAME, REPLY_FRAME, end_with_embedding};
 use df1_base::{BytesIn, BytesOut, FeedPort, PortMem, Signal};
+use duplex_end::{Served, serve};
 use std::alloc::Global;
 use std::test::Fail;
 

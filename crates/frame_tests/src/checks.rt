@@ -1,4 +1,5 @@
-use super::*;
+//! The checks of known bytes, whole and byte by byte.
+use df1_check::{CRC_TABLE, Check, Running, bcc, crc};
 
 #[test]
 fn checks_of_known_bytes(rt: HostRuntime) {

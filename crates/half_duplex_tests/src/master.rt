@@ -1,8 +1,8 @@
 //! A master with a host that has one message to send, for station 3, and takes every message while it has room.
-use crate::{Master, MasterSetup};
 use arrayvec::ArrayVec;
 use df1_base::{Act, Did, Fate, Host, News, Out, Turn};
 use df1_check::Check;
+use half_master::{Master, MasterSetup};
 use std::process::Abort;
 
 const COMMAND: [u8; 14] = [
@@ -46,7 +46,7 @@ impl Host for OneCommand {
     ghost use Rattle.df1_base.specs.declared.host.Did.TheVariants as did_of;
     ghost use Rattle.df1_base.specs.declared.host.Fate.TheVariants as fate_of;
     ghost use Rattle.df1_base.specs.declared.host.News.TheVariants as news_of;
-    ghost use Rattle.half_master.specs.declared.tests.TheConstants.{COMMAND};
+    ghost use Rattle.half_duplex_tests.specs.declared.master.TheConstants.{COMMAND};
 
     ghost room_for = { λ h _. h.room };
 

@@ -2,7 +2,7 @@ use Rattle.std.proofs.Common.{ℕ, zero, suc, ◌<◌, [], ◌∷◌, nat_eq, re
 use Rattle.std.specs.Prelude.{slice_index_or}
 use Rattle.std.specs.List.{IsDistinct}
 use Rattle.half_master.specs.Stations.{IsNumber}
-use Rattle.half_master.proofs.tests.master_of_two.Goals as goal
+use Rattle.half_duplex_tests.proofs.master.master_of_two.Goals as goal
 
 distinct : IsDistinct nat_eq (3 ∷ 5 ∷ [])
 unfolding IsDistinct

@@ -1,8 +1,8 @@
 //! What a receiver makes of the things it hears, beside a host with and without room.
-use crate::Receiver;
 use arrayvec::ArrayVec;
 use df1_base::{Act, Did, Fate, Host, News};
 use df1_check::Check;
+use duplex_receiver::Receiver;
 
 /// A host that has room for any message while it is open.
 #[derive(Drop)]

@@ -1,5 +1,6 @@
-use super::*;
+//! Frames of either check, as they are heard and as they are given.
 use df1_check::Check;
+use df1_frame::{Decoder, Framer, Heard};
 use std::process::Abort;
 
 // Feeds the bytes, and compares what is heard, each with the place of its byte from 1. Lends the decoder.

@@ -1,0 +1,12 @@
+//! Tests of what stands on the line: the checks, the frames and messages of either kind of line, and the dissection of a
+//! capture.
+#![tactic(auto)]
+
+#[cfg(test)]
+mod checks;
+#[cfg(test)]
+mod dissections;
+#[cfg(test)]
+mod frames;
+#[cfg(test)]
+mod half_frames;
