@@ -8,8 +8,6 @@ pub mod laws;
 mod make_fault;
 mod place;
 mod tables;
-#[cfg(test)]
-mod tests;
 mod word_bytes;
 
 pub use faults::MAX_FILES;

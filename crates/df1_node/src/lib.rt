@@ -2,8 +2,6 @@
 //! initiator that issues commands, and the node that joins the two.
 #![tactic(auto)]
 
-#[cfg(test)]
-mod answer_tests;
 mod commands;
 mod handed;
 mod initiator;
@@ -13,8 +11,6 @@ mod node;
 mod outcome;
 mod part;
 mod station;
-#[cfg(test)]
-mod tests;
 
 pub use data_files::{FileSpec, MakeFault, Tables};
 pub use initiator::Initiator;

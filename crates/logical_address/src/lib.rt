@@ -14,8 +14,6 @@
 mod laws;
 mod levels;
 mod param;
-#[cfg(test)]
-mod tests;
 mod three;
 mod value;
 

@@ -8,8 +8,6 @@
 pub mod duplicate_filter;
 mod envelope;
 mod key;
-#[cfg(test)]
-mod tests;
 
 pub use envelope::{Envelope, is_reply, read_envelope, reply_of, write_envelope};
 pub use key::{Key, key_of};

@@ -26,8 +26,6 @@ mod range;
 mod read;
 mod sets;
 mod span;
-#[cfg(test)]
-mod tests;
 mod typed;
 mod unprotected;
 

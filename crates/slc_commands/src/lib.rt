@@ -16,8 +16,6 @@
 mod execute;
 pub mod laws;
 mod order;
-#[cfg(test)]
-mod tests;
 mod words;
 
 pub use execute::do_slc;

@@ -1,7 +1,7 @@
 //! The worked bodies: a logical write to station 1 and its reply.
-use crate::duplicate_filter::Filter;
-use crate::{Envelope, Key, is_reply, key_of, read_envelope, reply_of, write_envelope};
 use arrayvec::ArrayVec;
+use pccc_envelope::duplicate_filter::Filter;
+use pccc_envelope::{Envelope, Key, is_reply, key_of, read_envelope, reply_of, write_envelope};
 
 const WRITE: [u8; 14] = [
     0x01, 0x00, 0x0F, 0x00, 0x01, 0x00, 0xAA, 0x02, 0x07, 0x89, 0x00, 0x00, 0x34, 0x12,

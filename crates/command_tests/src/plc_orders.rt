@@ -1,8 +1,8 @@
 //! Orders of known payloads on known tables, as they are read and executed.
-use crate::{PlcOrder, do_plc, read_plc};
 use arrayvec::ArrayVec;
 use data_files::{FileSpec, MakeFault, Tables};
 use df1_base::{Code, FileType};
+use plc_commands::{PlcOrder, do_plc, read_plc};
 use std::alloc::Global;
 use std::test::Fail;
 

@@ -1,10 +1,10 @@
 //! Addresses and parameters of known bytes.
-use crate::{
+use arrayvec::ArrayVec;
+use df1_base::FileType;
+use logical_address::{
     LevelFault, Levels, Param, ParamFault, Three, read_levels, read_param, read_three, read_value,
     write_array, write_levels, write_three,
 };
-use arrayvec::ArrayVec;
-use df1_base::FileType;
 use std::process::Abort;
 
 #[test]

@@ -1,8 +1,8 @@
 //! Orders and what they do to worked tables.
-use crate::{SlcFnc, do_slc, read_slc};
 use arrayvec::ArrayVec;
 use data_files::{FileSpec, MakeFault, Tables};
 use df1_base::{Code, FileType};
+use slc_commands::{SlcFnc, do_slc, read_slc};
 use std::alloc::Global;
 use std::test::Fail;
 

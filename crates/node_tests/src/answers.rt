@@ -1,7 +1,7 @@
 //! What a station answers: a table of commands, each to a fresh station.
-use crate::{FileSpec, MakeFault, Station, Tables};
 use arrayvec::ArrayVec;
 use df1_base::FileType;
+use df1_node::{FileSpec, MakeFault, Station, Tables};
 use std::alloc::Global;
 use std::process::Abort;
 use std::test::Fail;

@@ -1,7 +1,7 @@
 //! Worked exchanges.
-use crate::{FileSpec, Initiator, IssueFault, Node, NodeSetup, Outcome, Station, Tables};
 use arrayvec::ArrayVec;
 use df1_base::{Did, Fate, FileType, Host, News};
+use df1_node::{FileSpec, Initiator, IssueFault, Node, NodeSetup, Outcome, Station, Tables};
 use std::test::Fail;
 
 #[test]
@@ -63,28 +63,35 @@ const REPLIES: [&[u8]; 2] = [REPLY, b"\x00\x01\x46\x00\x02\x00"];
 
 #[test]
 fn each_reply_stays_as_it_came(rt: HostRuntime) -> Result<(), Fail> {
-    let mut initiator = Initiator::new(rt.alloc(), 0, 1, 1);
+    let tables = Tables::new(rt.alloc(), &[])?;
+    let setup = NodeSetup {
+        node: 0,
+        tns: 1,
+        reply_ticks: 1,
+        room: 2,
+    };
+    let mut node = Node::new(rt.alloc(), setup, Station::new(tables, None, b""))?;
     let mut body = ArrayVec::new();
     let mut gone = ArrayVec::new();
     for n in 1..=3u32 {
-        assert_eq!(rt; initiator.issue(1, b"\x06\x00\x55"), Ok(n));
+        assert_eq!(rt; node.issue(1, b"\x06\x00\x55"), Ok(n));
     }
-    for (place, reply) in REPLIES.iter().enumerate() {
-        assert_eq!(rt; initiator.hand_out(&mut body), Some(place));
-        assert_eq!(rt; initiator.take_reply(reply), Some(place));
+    for (n, reply) in (1..).zip(REPLIES) {
+        assert!(rt; node.next(&mut body));
+        assert_eq!(rt; node.accept(reply), Did::Answered(n));
     }
-    assert_eq!(rt; initiator.hand_out(&mut body), Some(2));
+    assert!(rt; node.next(&mut body));
     assert_eq!(rt;
         body.as_slice(),
         b"\x01\x00\x06\x00\x03\x00\x00\x55".as_slice()
     );
-    initiator.tick(&mut gone);
+    node.tick(&mut gone);
     assert_eq!(rt; gone.as_slice(), [3].as_slice());
-    assert_eq!(rt; initiator.issue(1, b"\x06\x00"), Ok(4));
-    assert_eq!(rt; initiator.reply(1), REPLIES[0]);
-    assert_eq!(rt; initiator.reply(2), REPLIES[1]);
-    assert_eq!(rt; initiator.reply(3), b"".as_slice());
-    assert_eq!(rt; initiator.reply(4), b"".as_slice());
+    assert_eq!(rt; node.issue(1, b"\x06\x00"), Ok(4));
+    assert_eq!(rt; node.initiator().reply(1), REPLIES[0]);
+    assert_eq!(rt; node.initiator().reply(2), REPLIES[1]);
+    assert_eq!(rt; node.initiator().reply(3), b"".as_slice());
+    assert_eq!(rt; node.initiator().reply(4), b"".as_slice());
     Ok(())
 }
 

@@ -1,5 +1,5 @@
 //! Worked tables.
-use crate::{FileSpec, MakeFault, Tables};
+use data_files::{FileSpec, MakeFault, Tables};
 use df1_base::FileType;
 use std::test::Fail;
 
