@@ -11,6 +11,3 @@ mod stations;
 pub use laws::{what_is_left_is_what_the_statements_leave, what_is_read_can_be_played};
 pub use reader::HalfReader;
 pub use stations::{StationDraft, Stations};
-
-#[cfg(test)]
-mod tests;

@@ -23,6 +23,3 @@ pub use script_parts::{
 pub use step::TimesEvent;
 pub use text_reader::TextReader;
 pub use whole_text::read_script;
-
-#[cfg(test)]
-mod tests;

@@ -12,6 +12,3 @@ pub use digits::pair;
 pub use page::Page;
 pub use printing::{print, print_lines, put_line, put_sent};
 pub use record::{Line, Lines, Record};
-
-#[cfg(test)]
-mod tests;

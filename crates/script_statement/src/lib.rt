@@ -29,6 +29,3 @@ pub use setup_statement::{Setting, SetupStatement};
 pub use statement::{EVENTS, EndLetter, EndName, Statement, Verb, file_number, statement_of};
 pub use who::Who;
 pub use words::{FirstWords, first_words, hex_of, number_of, register_of};
-
-#[cfg(test)]
-mod tests;

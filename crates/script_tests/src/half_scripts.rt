@@ -1,8 +1,8 @@
 //! Lines with the first that has a flaw, and one script field by field.
 
-use crate::HalfReader;
 use df1_check::Check;
 use end_drafts::{Flaw, StatementFault};
+use half_script::HalfReader;
 use script_parts::{EndPlan, Event, Events, Script, WordOf};
 use script_statement::{Items, Who, first_words, statement_of};
 use std::alloc::{AllocError, Global};

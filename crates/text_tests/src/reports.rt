@@ -1,7 +1,7 @@
 //! Lines of each kind with their text, and the report of a run.
 
-use crate::{Line, Record, print, put_line};
 use df1_base::BytesOut;
+use replay_report::{Line, Record, print, put_line};
 use script_parts::WordOf;
 use script_statement::{Bytes, Items, Who};
 use std::alloc::{AllocError, Global};

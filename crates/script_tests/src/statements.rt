@@ -1,10 +1,10 @@
 //! The words of a line, and the statement that they make.
 
-use crate::{
+use df1_base::FileType;
+use script_statement::{
     EndLetter, EndName, HalfEvent, Setting, SetupStatement, Statement, Verb, Way, first_words,
     statement_of,
 };
-use df1_base::FileType;
 use std::alloc::Global;
 use std::test::Fail;
 

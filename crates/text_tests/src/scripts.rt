@@ -1,11 +1,11 @@
 //! Texts with their first faulty line and its cause, and one script field by field.
 
-use crate::{
-    Cause, EndPlan, Event, LineFault, Reader, Script, ScriptFault, Who, WordOf, read_script,
-};
 use data_files::FileSpec;
 use df1_base::FileType;
 use df1_check::Check;
+use line_script::{
+    Cause, EndPlan, Event, LineFault, Reader, Script, ScriptFault, Who, WordOf, read_script,
+};
 use std::alloc::{AllocError, Global};
 use std::process::Abort;
 use std::test::Fail;

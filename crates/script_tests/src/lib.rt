@@ -1,0 +1,7 @@
+//! Tests of what the lines of a script say: each by itself, and those of a half-duplex script one after another.
+#![tactic(auto)]
+
+#[cfg(test)]
+mod half_scripts;
+#[cfg(test)]
+mod statements;
