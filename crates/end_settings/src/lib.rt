@@ -1,0 +1,11 @@
+//! The keys of an end, each with one row of a table: its name, the kinds of end that have it, its values and its first one;
+//! and the settings that lines of a script or a plan give.
+#![tactic(auto)]
+
+mod key;
+mod row;
+mod settings;
+
+pub use key::{KEYS, Key};
+pub use row::{First, Role, Roles, Values};
+pub use settings::{Setting, Settings};
