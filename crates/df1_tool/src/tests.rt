@@ -2,7 +2,8 @@
 use crate::run;
 use df1_base::{BytesIn, BytesOut, Failed, NoMemory};
 use df1_node::{IssueFault, MakeFault};
-use df1_plan::{Key, PlanFault};
+use df1_plan::{PlanFault, PlanKey};
+use end_settings::Key;
 use df1_service::ServiceFault;
 use df1_shelf::{FetchFault, ShelfMem};
 use line_replay::StreamFault;
@@ -417,7 +418,7 @@ fn faults_of_a_service_have_texts(rt: HostRuntime) -> Result<(), Fail> {
     for (cause, text) in [
         (PlanFault::Text, "text"),
         (PlanFault::UnknownKey, "unknown key"),
-        (PlanFault::Key(Key::Room), "key room"),
+        (PlanFault::Key(PlanKey::Setting(Key::Room)), "key room"),
         (PlanFault::File(2), "file 2"),
         (PlanFault::Issue(3), "issue 3"),
         (PlanFault::NoMemory, "no memory"),

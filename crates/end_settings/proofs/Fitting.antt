@@ -1,5 +1,5 @@
 -- Settings have values that their keys may have.
-use Rattle.std.proofs.Common.{◌≡◌, ℕ, zero, suc, ◌≤◌, true, List, [], ◌∷◌, Option, Some, None, refl, ap, subst, arith, nat_le, get_or, set}
+use Rattle.std.proofs.Common.{◌≡◌, ℕ, zero, suc, ◌≤◌, Bool, true, false, List, [], ◌∷◌, Option, Some, None, refl, ap, subst, arith, nat_le, get_or, set}
 use Rattle.std.specs.Prelude.{◌&&◌, unwrap_or}
 use Rattle.std.proofs.lemmas.Bool.{cond_both}
 use Rattle.std.proofs.lemmas.Bool.Decides.{nat_tests}
@@ -38,6 +38,16 @@ pub IfFits-fitting : (values : Values) (o : Option ℕ) → IfFits values (fitti
 IfFits-fitting values None = tt
 IfFits-fitting values (Some n) = cond_both (nat_le (least_of values) n && nat_le n (most_of values)) (Some n) None (IfFits values) (bounds (least_of values) (most_of values) n) (λ _. tt)
 
+-- a value that fits is itself what fits
+both-tests : (b c : Bool) → b ≡ true → c ≡ true → (b && c) ≡ true
+both-tests true true b c = refl
+both-tests true false b c = c
+both-tests false c' b c = b
+
+pub fitting-same : (values : Values) (o : Option ℕ) → IfFits values o → fitting values o ≡ o
+fitting-same values None h = refl
+fitting-same values (Some n) h = rw (both-tests (nat_le (least_of values) n) (nat_le n (most_of values)) (grind (arith, nat_tests, h)) (grind (arith, nat_tests, h))) refl
+
 none-at : (key : Key) → IfFits (row_of key).values (value_of no_settings key)
 none-at Node = tt
 none-at other = tt
@@ -60,9 +70,9 @@ pub Fits-first : (address : ℕ) → address ≤ 255 → (key : Key) → Fits (r
 Fits-first address few Node = (omega arith, few)
 Fits-first address few other = (omega arith, omega arith)
 
-or-first : (values : Values) (o : Option ℕ) (first : ℕ) → IfFits values o → Fits values first → Fits values (unwrap_or o first)
-or-first values None first told at_first = at_first
-or-first values (Some n) first told at_first = told
+pub Fits-unwrap_or : (values : Values) (o : Option ℕ) (first : ℕ) → IfFits values o → Fits values first → Fits values (unwrap_or o first)
+Fits-unwrap_or values None first told at_first = at_first
+Fits-unwrap_or values (Some n) first told at_first = told
 
 pub Fits-chosen : (given : List (Option ℕ)) (address : ℕ) → AreFitting given → address ≤ 255 → (key : Key) → Fits (row_of key).values (chosen given address key)
-Fits-chosen given address h few key = or-first (row_of key).values (value_of given key) (first_of address key) (h.each key) (Fits-first address few key)
+Fits-chosen given address h few key = Fits-unwrap_or (row_of key).values (value_of given key) (first_of address key) (h.each key) (Fits-first address few key)

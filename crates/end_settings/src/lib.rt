@@ -3,9 +3,13 @@
 #![tactic(auto)]
 
 mod key;
+mod laws;
 mod row;
 mod settings;
+#[cfg(test)]
+mod tests;
 
 pub use key::{KEYS, Key};
+pub use laws::each_key_has_its_name;
 pub use row::{First, Role, Roles, Values};
 pub use settings::{Setting, Settings};

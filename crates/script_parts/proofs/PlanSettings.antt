@@ -1,5 +1,6 @@
 -- The keys of a plan have values that they may have.
-use Rattle.std.proofs.Common.{◌≡◌, ℕ, ◌≤◌, Bool, true, false, cond, eqb, List, [], Option, None, arith}
+use Rattle.std.proofs.Common.{◌≡◌, ℕ, ◌≤◌, Bool, true, false, cond, eqb, List, [], Option, None, refl, arith}
+use Rattle.std.proofs.lemmas.Bool.Decides.{nat_tests}
 use Rattle.data_files.specs.declared.file_spec.FileSpec.{FileSpec}
 use Rattle.end_settings.specs.declared.key.Key.{Key}
 use Rattle.end_settings.specs.declared.key.Key.TheVariants.{Embed}
@@ -14,7 +15,15 @@ switch : (on : Bool) → Fits (row_of Embed).values (cond on 1 0)
 switch true = (omega arith, omega arith)
 switch false = (omega arith, omega arith)
 
--- a plan has the values that it is made with
+-- a plan has the values that it is made with, and so they are such as the keys may have
+switch-same : (n : ℕ) → Fits (row_of Embed).values n → cond (eqb n 1) 1 0 ≡ n
+switch-same n h = grind (arith, nat_tests, h)
+
+pub setting_in-plan_with : (who : Who) (value : Key → ℕ) (compat : Option ℕ) (block : List ℕ) (files : List FileSpec) (words : List WordOf) → Fits (row_of Embed).values (value Embed)
+    → (key : Key) → setting_in (plan_with who value compat block files words) key ≡ value key
+setting_in-plan_with who value compat block files words h Embed = switch-same (value Embed) h
+setting_in-plan_with who value compat block files words h other = refl
+
 pub Fits-plan_with : (who : Who) (value : Key → ℕ) (compat : Option ℕ) (block : List ℕ) (files : List FileSpec) (words : List WordOf) → ((key : Key) → Fits (row_of key).values (value key))
     → (key : Key) → Fits (row_of key).values (setting_in (plan_with who value compat block files words) key)
 Fits-plan_with who value compat block files words fits Embed = switch (eqb (value Embed) 1)
