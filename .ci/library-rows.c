@@ -160,7 +160,7 @@ static int texts(void)
     uint32_t code;
     size_t last;
 
-    for (code = 0; code <= DF1_NO_FILE + 1; code++) {
+    for (code = 0; code <= DF1_BAD_MAX_RESENDS + 1; code++) {
         size_t length = 0, again = 0;
 
         ROW(df1_code_text(code, text, 0, &length) == DF1_NO_ROOM && length >= 2 && length <= 80);
@@ -168,7 +168,7 @@ static int texts(void)
         ROW(df1_code_text(code, text, length - 1, &again) == DF1_NO_ROOM && again == length && are_all(text, 'x', sizeof text));
         ROW(df1_code_text(code, text, length, &again) == DF1_DONE && again == length);
         ROW(strlen(text) + 1 == length && text[length] == 'x');
-        ROW((strcmp(text, "no code of df1") == 0) == (code > DF1_NO_FILE));
+        ROW((strcmp(text, "no code of df1") == 0) == (code > DF1_BAD_MAX_RESENDS));
     }
     ROW(df1_code_text(0xFFFFFFFF, text, 80, &last) == DF1_DONE && strcmp(text, "no code of df1") == 0);
     return 0;
@@ -379,6 +379,15 @@ static void spoil(struct parts *parts, uint32_t code)
     case DF1_BAD_ACK_TICKS:
         parts->duplex.ack_ticks = parts->master.ack_ticks = 0;
         break;
+    case DF1_BAD_MAX_NAKS:
+        parts->duplex.max_naks = 256;
+        break;
+    case DF1_BAD_MAX_ENQS:
+        parts->duplex.max_enqs = 256;
+        break;
+    case DF1_BAD_MAX_RESENDS:
+        parts->master.max_resends = 256;
+        break;
     case DF1_BAD_POLL_TICKS:
         parts->master.poll_ticks = 0;
         break;
@@ -431,10 +440,10 @@ static void spoil(struct parts *parts, uint32_t code)
 
 /* The refusals of each kind, in the order of the header; those of one part, of which only one can be told, are one after another. */
 static const uint32_t refusals[3][16] = {
-    {DF1_BAD_ACK_TICKS, DF1_BAD_REPLY_TICKS, DF1_BAD_ROOM, DF1_TOO_MANY_FILES, DF1_BAD_TYPE, DF1_EMPTY_FILE, DF1_BAD_COMPAT,
-     DF1_NO_WORD, DF1_LONG_BLOCK, DF1_DONE},
-    {DF1_BAD_ACK_TICKS, DF1_BAD_POLL_TICKS, DF1_TOO_MANY_STATIONS, DF1_BAD_STATION, DF1_BAD_REPLY_TICKS, DF1_BAD_ROOM,
-     DF1_TOO_MANY_FILES, DF1_BAD_TYPE, DF1_LARGE_FILE, DF1_BAD_COMPAT, DF1_NO_WORD, DF1_LONG_BLOCK, DF1_DONE},
+    {DF1_BAD_ACK_TICKS, DF1_BAD_MAX_NAKS, DF1_BAD_MAX_ENQS, DF1_BAD_REPLY_TICKS, DF1_BAD_ROOM, DF1_TOO_MANY_FILES, DF1_BAD_TYPE,
+     DF1_EMPTY_FILE, DF1_BAD_COMPAT, DF1_NO_WORD, DF1_LONG_BLOCK, DF1_DONE},
+    {DF1_BAD_ACK_TICKS, DF1_BAD_MAX_RESENDS, DF1_BAD_POLL_TICKS, DF1_TOO_MANY_STATIONS, DF1_BAD_STATION, DF1_BAD_REPLY_TICKS,
+     DF1_BAD_ROOM, DF1_TOO_MANY_FILES, DF1_BAD_TYPE, DF1_LARGE_FILE, DF1_BAD_COMPAT, DF1_NO_WORD, DF1_LONG_BLOCK, DF1_DONE},
     {DF1_BAD_MAX_SENDS, DF1_BAD_STATION, DF1_BAD_REPLY_TICKS, DF1_BAD_ROOM, DF1_TOO_MANY_FILES, DF1_BAD_TYPE, DF1_FILE_TWICE,
      DF1_BAD_COMPAT, DF1_NO_WORD, DF1_LONG_BLOCK, DF1_DONE},
 };
@@ -485,6 +494,17 @@ static int edges_of_links(void)
     parts.node.reply_ticks = 1;
     parts.node.room = 64;
     ROW(tried(DUPLEX, &parts) == DF1_DONE && tried(MASTER, &parts) == DF1_DONE && tried(SLAVE, &parts) == DF1_DONE);
+    parts.duplex.ack_ticks = parts.master.ack_ticks = parts.master.poll_ticks = parts.node.reply_ticks = 1000000;
+    parts.duplex.max_naks = parts.duplex.max_enqs = parts.master.max_resends = parts.slave.max_sends = 255;
+    ROW(tried(DUPLEX, &parts) == DF1_DONE && tried(MASTER, &parts) == DF1_DONE && tried(SLAVE, &parts) == DF1_DONE);
+    parts.node.reply_ticks = 1000001;
+    ROW(tried(DUPLEX, &parts) == DF1_BAD_REPLY_TICKS);
+    parts.master.poll_ticks = 1000001;
+    ROW(tried(MASTER, &parts) == DF1_BAD_POLL_TICKS);
+    parts.duplex.ack_ticks = parts.master.ack_ticks = 1000001;
+    parts.slave.max_sends = 256;
+    ROW(tried(DUPLEX, &parts) == DF1_BAD_ACK_TICKS && tried(MASTER, &parts) == DF1_BAD_ACK_TICKS && tried(SLAVE, &parts) == DF1_BAD_MAX_SENDS);
+    set_parts(&parts);
     for (at = 0; at < COUNT(right); at++) {
         parts.node.address = parts.stations[1] = right[at];
         ROW(tried(SLAVE, &parts) == DF1_DONE && tried(MASTER, &parts) == DF1_DONE);

@@ -35,14 +35,14 @@ enum df1_code {
     DF1_NO_HANDLE = 1,         /* the handle holds nothing that the call is for */
     DF1_NO_MEMORY = 2,         /* malloc gave no memory */
     DF1_NO_ROOM = 3,           /* the buffer is too small */
-    DF1_BAD_ACK_TICKS = 4,     /* ack_ticks is 0 */
-    DF1_BAD_POLL_TICKS = 5,    /* poll_ticks is 0 */
-    DF1_BAD_MAX_SENDS = 6,     /* max_sends is 0 */
+    DF1_BAD_ACK_TICKS = 4,     /* ack_ticks is out of its range */
+    DF1_BAD_POLL_TICKS = 5,    /* poll_ticks is out of its range */
+    DF1_BAD_MAX_SENDS = 6,     /* max_sends is out of its range */
     DF1_BAD_STATION = 7,       /* a station's number is 16 or 255 */
     DF1_TOO_MANY_STATIONS = 8, /* over 32 stations */
     DF1_STATION_TWICE = 9,     /* a station is listed twice */
-    DF1_BAD_REPLY_TICKS = 10,  /* reply_ticks is 0 */
-    DF1_BAD_ROOM = 11,         /* room is not 2 to 64 */
+    DF1_BAD_REPLY_TICKS = 10,  /* reply_ticks is out of its range */
+    DF1_BAD_ROOM = 11,         /* room is out of its range */
     DF1_TOO_MANY_FILES = 12,   /* over 256 data files */
     DF1_BAD_TYPE = 13,         /* a file's type is none of df1_file_type */
     DF1_EMPTY_FILE = 14,       /* a file has no elements */
@@ -58,7 +58,10 @@ enum df1_code {
     DF1_SPENT = 24,            /* 65,535 commands were issued already */
     DF1_NO_COMMAND = 25,       /* no command of this number was issued */
     DF1_NOT_ANSWERED = 26,     /* no reply to it was accepted */
-    DF1_NO_FILE = 27           /* there is no file at this place */
+    DF1_NO_FILE = 27,          /* there is no file at this place */
+    DF1_BAD_MAX_NAKS = 28,     /* max_naks is out of its range */
+    DF1_BAD_MAX_ENQS = 29,     /* max_enqs is out of its range */
+    DF1_BAD_MAX_RESENDS = 30   /* max_resends is out of its range */
 };
 
 /* ---- Checks and frames ---- */
@@ -136,30 +139,30 @@ uint32_t df1_decoder_body(df1_decoder *decoder, uint8_t *into, size_t room, size
 typedef struct df1_duplex {
     bool crc;           /* CRC, and not BCC, ends its frames */
     bool embed;         /* responses may stand inside the frames that the end gives */
-    uint32_t ack_ticks; /* ticks without a response until it asks with an ENQ: at least 1 */
-    uint32_t max_naks;  /* how many NAKs one message may have before it is given up */
-    uint32_t max_enqs;  /* how many ENQs one message may cost before it is given up */
+    uint32_t ack_ticks; /* ticks without a response until it asks with an ENQ: 1 to 1,000,000 */
+    uint32_t max_naks;  /* how many NAKs one message may have before it is given up: 0 to 255 */
+    uint32_t max_enqs;  /* how many ENQs one message may cost before it is given up: 0 to 255 */
 } df1_duplex;
 
 /* The link of a half-duplex master. */
 typedef struct df1_master {
     bool crc;             /* CRC, and not BCC, ends its messages */
-    uint32_t ack_ticks;   /* the ticks of a wait for ACK: at least 1 */
-    uint32_t max_resends; /* how often a message is given again before it is given up */
-    uint32_t poll_ticks;  /* the ticks of a wait after a poll: at least 1 */
+    uint32_t ack_ticks;   /* the ticks of a wait for ACK: 1 to 1,000,000 */
+    uint32_t max_resends; /* how often a message is given again before it is given up: 0 to 255 */
+    uint32_t poll_ticks;  /* the ticks of a wait after a poll: 1 to 1,000,000 */
 } df1_master;
 
 /* The link of a half-duplex slave. Its station number is the address of its node, neither 16 nor 255. */
 typedef struct df1_slave {
     bool crc;           /* CRC, and not BCC, ends its messages */
-    uint32_t max_sends; /* how often a message is given before it is given up: at least 1 */
+    uint32_t max_sends; /* how often a message is given before it is given up: 1 to 255 */
 } df1_slave;
 
 /* What stands behind an end: it executes the commands that come, and issues some. */
 typedef struct df1_node {
     uint8_t address;      /* SRC of its commands, DST of theirs */
     uint16_t tns;         /* the transaction number of its first command; each further command has the next */
-    uint32_t reply_ticks; /* ticks without a reply until a command is unanswered: at least 1 */
+    uint32_t reply_ticks; /* ticks without a reply until a command is unanswered: 1 to 1,000,000 */
     uint32_t room;        /* how many replies may wait to be given: 2 to 64 */
     bool has_compat;      /* whether there is a file for the basic reads and writes */
     uint16_t compat;      /* its number: a Bit or Integer file */

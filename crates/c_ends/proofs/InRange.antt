@@ -1,15 +1,21 @@
 -- What is in range where nothing is out of range. Assumes nothing.
 use Rattle.std.proofs.Common.{◌≡◌, ◌≤◌, ℕ, Bool, true, false, cond, List, [], ◌∷◌, length, refl, arith}
-use Rattle.std.specs.Prelude.{Option, Some, None, ◌==◌, ◌||◌, nat_lt}
+use Rattle.std.specs.Prelude.{Option, Some, None, ◌&&◌, is_some, nat_le, nat_lt}
 use Rattle.std.specs.Option.{option_map}
+use Rattle.std.proofs.lemmas.Bool.Decides.{nat_tests}
 use Rattle.data_files.specs.Tables.{faults, fits_compat}
 use Rattle.data_files.specs.declared.make_fault.MakeFault.{MakeFault}
+use Rattle.end_settings.specs.declared.key.Key.{Key}
+use Rattle.end_settings.specs.declared.key.Key.TheVariants.{ReplyTicks, Room}
+use Rattle.end_settings.specs.declared.row.Values.{Values}
+use Rattle.end_settings.specs.Rows.{Fits, fitting, least_of, most_of}
 use Rattle.c_ends.specs.declared.code.Code.{Code}
 use Rattle.c_ends.specs.declared.code.Code.TheVariants as code
 use Rattle.c_ends.specs.declared.parts.NodeParts.{NodeParts}
 use Rattle.c_ends.specs.declared.parts.FileParts.{FileParts}
 use Rattle.c_ends.specs.declared.parts.WordParts.{WordParts}
-use Rattle.c_ends.specs.Parts.{first_of, node_fault, ticks_fault, room_fault, count_fault, type_fault, each_fault, compat_fault, word_fault, block_fault, compat_of, make_code, specs_of}
+use Rattle.c_ends.specs.Parts.{first_of, node_fault, count_fault, type_fault, each_fault, compat_fault, word_fault, block_fault, compat_of, make_code, specs_of}
+use Rattle.c_ends.specs.Values.{value_fault, values_of}
 
 pub first_of-none : (fault : Option Code) (faults : List (Option Code)) → first_of (fault ∷ faults) ≡ None → (fault ≡ None) × (first_of faults ≡ None)
 first_of-none None faults e = (refl, e)
@@ -28,11 +34,14 @@ pub fits-none : (fits : Bool) (answer : Code) → cond fits None (Some answer) �
 fits-none true answer e = refl
 fits-none false answer e = cc
 
-pub not_zero : (n : ℕ) → (n == 0) ≡ false → 1 ≤ n
-not_zero n e = grind arith
+-- a number that is told by no code is one of these values
+fits-if : (values : Values) (n : ℕ) (test : Bool) → (nat_le (least_of values) n && nat_le n (most_of values)) ≡ test → is_some (cond test (Some n) None) ≡ true → Fits values n
+fits-if values n true e some = (grind (arith, nat_tests), grind (arith, nat_tests))
+fits-if values n false e some = cc
 
-pub within : (n low high : ℕ) → (nat_lt n low || nat_lt high n) ≡ false → (low ≤ n) × (n ≤ high)
-within n low high e = grind arith
+pub value-fits : (key : Key) (answer : Code) (n : ℕ) → value_fault key answer n ≡ None → Fits (values_of key) n
+value-fits key answer n e =
+    fits-if (values_of key) n (nat_le (least_of (values_of key)) n && nat_le n (most_of (values_of key))) refl (fits-none (is_some (fitting (values_of key) (Some n))) answer e)
 
 pub at_most : (n high : ℕ) → nat_lt high n ≡ false → n ≤ high
 at_most n high e = grind arith
@@ -53,9 +62,9 @@ in_range node files words block e =
     let after_types : List (Option Code) = each_fault files ∷ after_each in
     let after_count : List (Option Code) = type_fault files ∷ after_types in
     let after_room : List (Option Code) = count_fault files ∷ after_count in
-    let after_ticks : List (Option Code) = room_fault node ∷ after_room in
-    let ticks = first_of-none (ticks_fault node) after_ticks e in
-    let room = first_of-none (room_fault node) after_room ticks.1 in
+    let after_ticks : List (Option Code) = value_fault Room code.BadRoom node.room ∷ after_room in
+    let ticks = first_of-none (value_fault ReplyTicks code.BadReplyTicks node.reply_ticks) after_ticks e in
+    let room = first_of-none (value_fault Room code.BadRoom node.room) after_room ticks.1 in
     let count = first_of-none (count_fault files) after_count room.1 in
     let types = first_of-none (type_fault files) after_types count.1 in
     let each = first_of-none (each_fault files) after_each types.1 in
@@ -63,8 +72,8 @@ in_range node files words block e =
     let known = first_of-none (word_fault files words) after_words compat.1 in
     let short = first_of-none (block_fault block) [] known.1 in
     record {
-      reply_ticks = not_zero node.reply_ticks (test-none (node.reply_ticks == 0) code.BadReplyTicks ticks.0);
-      room = within node.room 2 64 (test-none (nat_lt node.room 2 || nat_lt 64 node.room) code.BadRoom room.0);
+      reply_ticks = (value-fits ReplyTicks code.BadReplyTicks node.reply_ticks ticks.0).0;
+      room = value-fits Room code.BadRoom node.room room.0;
       sound = map-none (faults (specs_of files)) each.0;
       compat = fits-none (fits_compat (specs_of files) (compat_of node)) code.BadCompat compat.0;
       short = at_most (length block) 244 (test-none (nat_lt 244 (length block)) code.LongBlock short.0);

@@ -1,3 +1,4 @@
 pub mod FileLemmas
 pub mod InRange
+pub mod LinksInRange
 pub mod StationLemmas

@@ -10,13 +10,8 @@ use Rattle.std.proofs.lemmas.Map.Keys.{IsDistinct-push}
 use Rattle.half_master.specs.Stations.{AreStations, IsNumber}
 use Rattle.c_ends.specs.declared.code.Code.{Code}
 use Rattle.c_ends.specs.declared.code.Code.TheVariants as code
-use Rattle.c_ends.specs.declared.parts.MasterLink.{MasterLink}
-use Rattle.c_ends.specs.declared.parts.NodeParts.{NodeParts}
-use Rattle.c_ends.specs.declared.parts.FileParts.{FileParts}
-use Rattle.c_ends.specs.declared.parts.WordParts.{WordParts}
-use Rattle.c_ends.specs.Parts.{node_fault}
-use Rattle.c_ends.specs.Links.{ack_ticks_fault, poll_ticks_fault, many_fault, master_fault, number_fault, station_fault, twice_fault}
-use Rattle.c_ends.proofs.InRange.{at_most, first_of-none, test-none}
+use Rattle.c_ends.specs.Links.{many_fault, number_fault, station_fault, twice_fault}
+use Rattle.c_ends.proofs.InRange.{at_most, test-none}
 
 or-none : (a b : Option Code) → option_or a b ≡ None → (a ≡ None) × (b ≡ None)
 or-none None b e = (refl, e)
@@ -50,16 +45,3 @@ pub are_stations : (numbers : List ℕ) → many_fault numbers ≡ None → stat
 are_stations numbers many each =
     let a = apart [] numbers none_apart each in
     record { at_most = at_most (length numbers) 32 (test-none (nat_lt 32 (length numbers)) code.TooManyStations many); distinct = a.distinct; each = a.each }
-
-pub master_stations : (link : MasterLink) (stations : List ℕ) (node : NodeParts) (files : List FileParts) (words : List WordParts) (block : List ℕ)
-    → master_fault link stations node files words block ≡ None → AreStations stations
-master_stations link stations node files words block e =
-    let after_each : List (Option Code) = node_fault node files words block ∷ [] in
-    let after_many : List (Option Code) = station_fault [] stations ∷ after_each in
-    let after_polls : List (Option Code) = many_fault stations ∷ after_many in
-    let after_acks : List (Option Code) = poll_ticks_fault link.poll_ticks ∷ after_polls in
-    let acks = first_of-none (ack_ticks_fault link.ack_ticks) after_acks e in
-    let polls = first_of-none (poll_ticks_fault link.poll_ticks) after_polls acks.1 in
-    let many = first_of-none (many_fault stations) after_many polls.1 in
-    let each = first_of-none (station_fault [] stations) after_each many.1 in
-    are_stations stations many.0 each.0

@@ -32,11 +32,14 @@ code_number code.Spent = 24
 code_number code.NoCommand = 25
 code_number code.NotAnswered = 26
 code_number code.NoFile = 27
+code_number code.BadMaxNaks = 28
+code_number code.BadMaxEnqs = 29
+code_number code.BadMaxResends = 30
 
 -- all codes, by their numbers
 abbrev pub all_codes : List Code
 all_codes =
-    code.Done ∷ code.NoHandle ∷ code.NoMemory ∷ code.NoRoom ∷ code.BadAckTicks ∷ code.BadPollTicks ∷ code.BadMaxSends ∷ code.BadStation ∷ code.TooManyStations ∷ code.StationTwice ∷ code.BadReplyTicks ∷ code.BadRoom ∷ code.TooManyFiles ∷ code.BadType ∷ code.EmptyFile ∷ code.LargeFile ∷ code.FileTwice ∷ code.NoWord ∷ code.BadCompat ∷ code.LongBlock ∷ code.LongBody ∷ code.NoPayload ∷ code.LongPayload ∷ code.NotCommand ∷ code.Spent ∷ code.NoCommand ∷ code.NotAnswered ∷ code.NoFile ∷ []
+    code.Done ∷ code.NoHandle ∷ code.NoMemory ∷ code.NoRoom ∷ code.BadAckTicks ∷ code.BadPollTicks ∷ code.BadMaxSends ∷ code.BadStation ∷ code.TooManyStations ∷ code.StationTwice ∷ code.BadReplyTicks ∷ code.BadRoom ∷ code.TooManyFiles ∷ code.BadType ∷ code.EmptyFile ∷ code.LargeFile ∷ code.FileTwice ∷ code.NoWord ∷ code.BadCompat ∷ code.LongBlock ∷ code.LongBody ∷ code.NoPayload ∷ code.LongPayload ∷ code.NotCommand ∷ code.Spent ∷ code.NoCommand ∷ code.NotAnswered ∷ code.NoFile ∷ code.BadMaxNaks ∷ code.BadMaxEnqs ∷ code.BadMaxResends ∷ []
 
 -- the code of a number, if it is one's
 abbrev pub code_of : ℕ → Option Code
@@ -47,14 +50,14 @@ code_text code.Done = codes "the call did what it is for"
 code_text code.NoHandle = codes "the handle holds nothing that the call is for"
 code_text code.NoMemory = codes "malloc gave no memory"
 code_text code.NoRoom = codes "the buffer is too small"
-code_text code.BadAckTicks = codes "ack_ticks is 0"
-code_text code.BadPollTicks = codes "poll_ticks is 0"
-code_text code.BadMaxSends = codes "max_sends is 0"
+code_text code.BadAckTicks = codes "ack_ticks is out of its range"
+code_text code.BadPollTicks = codes "poll_ticks is out of its range"
+code_text code.BadMaxSends = codes "max_sends is out of its range"
 code_text code.BadStation = codes "a station's number is 16 or 255"
 code_text code.TooManyStations = codes "over 32 stations"
 code_text code.StationTwice = codes "a station is listed twice"
-code_text code.BadReplyTicks = codes "reply_ticks is 0"
-code_text code.BadRoom = codes "room is not 2 to 64"
+code_text code.BadReplyTicks = codes "reply_ticks is out of its range"
+code_text code.BadRoom = codes "room is out of its range"
 code_text code.TooManyFiles = codes "over 256 data files"
 code_text code.BadType = codes "a file's type is none of df1_file_type"
 code_text code.EmptyFile = codes "a file has no elements"
@@ -71,3 +74,6 @@ code_text code.Spent = codes "65,535 commands were issued already"
 code_text code.NoCommand = codes "no command of this number was issued"
 code_text code.NotAnswered = codes "no reply to it was accepted"
 code_text code.NoFile = codes "there is no file at this place"
+code_text code.BadMaxNaks = codes "max_naks is out of its range"
+code_text code.BadMaxEnqs = codes "max_enqs is out of its range"
+code_text code.BadMaxResends = codes "max_resends is out of its range"

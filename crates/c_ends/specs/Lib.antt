@@ -2,3 +2,4 @@ pub mod Code
 pub mod Held
 pub mod Links
 pub mod Parts
+pub mod Values

@@ -6,6 +6,7 @@ use Rattle.df1_check.specs.declared.Check.{Check as CheckKind}
 use Rattle.df1_check.specs.declared.Check.TheVariants as check
 use Rattle.duplex_end.specs.declared.Setup.{Setup}
 use Rattle.duplex_end.specs.End.{new_end}
+use Rattle.end_settings.specs.declared.key.Key.TheVariants.{AckTicks, MaxEnqs, MaxNaks, MaxResends, MaxSends, PollTicks}
 use Rattle.half_master.specs.declared.MasterSetup.{MasterSetup}
 use Rattle.half_master.specs.Master.{new_master}
 use Rattle.half_slave.specs.declared.SlaveSetup.{SlaveSetup}
@@ -21,20 +22,12 @@ use Rattle.c_ends.specs.declared.parts.NodeParts.{NodeParts}
 use Rattle.c_ends.specs.declared.parts.FileParts.{FileParts}
 use Rattle.c_ends.specs.declared.parts.WordParts.{WordParts}
 use Rattle.c_ends.specs.Parts.{first_of, node_fault, first_node}
+use Rattle.c_ends.specs.Values.{value_fault}
 
 abbrev pub check_of : Bool → CheckKind
 check_of crc = if crc then check.Crc else check.Bcc
 
 -- ---- which part is out of range
-
-abbrev pub ack_ticks_fault : ℕ → Option Code
-ack_ticks_fault ticks = if ticks == 0 then Some code.BadAckTicks else None
-
-abbrev pub poll_ticks_fault : ℕ → Option Code
-poll_ticks_fault ticks = if ticks == 0 then Some code.BadPollTicks else None
-
-abbrev pub sends_fault : ℕ → Option Code
-sends_fault sends = if sends == 0 then Some code.BadMaxSends else None
 
 abbrev pub number_fault : ℕ → Option Code
 number_fault number = if number == 16 || number == 255 then Some code.BadStation else None
@@ -55,20 +48,23 @@ many_fault stations = if nat_lt 32 (length stations) then Some code.TooManyStati
 -- the first of these
 abbrev pub duplex_fault : DuplexLink → NodeParts → List FileParts → List WordParts → List ℕ → Option Code
 duplex_fault link node files words block = first_of (
-    ack_ticks_fault link.ack_ticks ∷
+    value_fault AckTicks code.BadAckTicks link.ack_ticks ∷
+    value_fault MaxNaks code.BadMaxNaks link.max_naks ∷
+    value_fault MaxEnqs code.BadMaxEnqs link.max_enqs ∷
     node_fault node files words block ∷ [])
 
 abbrev pub master_fault : MasterLink → List ℕ → NodeParts → List FileParts → List WordParts → List ℕ → Option Code
 master_fault link stations node files words block = first_of (
-    ack_ticks_fault link.ack_ticks ∷
-    poll_ticks_fault link.poll_ticks ∷
+    value_fault AckTicks code.BadAckTicks link.ack_ticks ∷
+    value_fault MaxResends code.BadMaxResends link.max_resends ∷
+    value_fault PollTicks code.BadPollTicks link.poll_ticks ∷
     many_fault stations ∷
     station_fault [] stations ∷
     node_fault node files words block ∷ [])
 
 abbrev pub slave_fault : SlaveLink → NodeParts → List FileParts → List WordParts → List ℕ → Option Code
 slave_fault link node files words block = first_of (
-    sends_fault link.max_sends ∷
+    value_fault MaxSends code.BadMaxSends link.max_sends ∷
     number_fault node.address ∷
     node_fault node files words block ∷ [])
 

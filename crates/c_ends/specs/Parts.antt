@@ -11,11 +11,13 @@ use Rattle.data_files.specs.declared.make_fault.MakeFault.{MakeFault}
 use Rattle.data_files.specs.declared.make_fault.MakeFault.TheVariants as fault
 use Rattle.df1_node.specs.Node.{NodeState}
 use Rattle.df1_node.specs.declared.handed.Handed.TheVariants as handed
+use Rattle.end_settings.specs.declared.key.Key.TheVariants.{ReplyTicks, Room}
 use Rattle.c_ends.specs.declared.code.Code.{Code}
 use Rattle.c_ends.specs.declared.code.Code.TheVariants as code
 use Rattle.c_ends.specs.declared.parts.NodeParts.{NodeParts}
 use Rattle.c_ends.specs.declared.parts.FileParts.{FileParts}
 use Rattle.c_ends.specs.declared.parts.WordParts.{WordParts}
+use Rattle.c_ends.specs.Values.{value_fault}
 
 -- the first that there is
 abbrev pub first_of : List (Option Code) → Option Code
@@ -37,12 +39,6 @@ abbrev pub specs_of : List FileParts → List FileSpec
 specs_of files = map spec_of files
 
 -- ---- which part is out of range
-
-abbrev pub ticks_fault : NodeParts → Option Code
-ticks_fault node = if node.reply_ticks == 0 then Some code.BadReplyTicks else None
-
-abbrev pub room_fault : NodeParts → Option Code
-room_fault node = if nat_lt node.room 2 || nat_lt 64 node.room then Some code.BadRoom else None
 
 abbrev pub count_fault : List FileParts → Option Code
 count_fault files = if nat_lt 256 (length files) then Some code.TooManyFiles else None
@@ -76,8 +72,8 @@ block_fault block = if nat_lt 244 (length block) then Some code.LongBlock else N
 -- what is out of range of what stands behind an end: the first of these
 abbrev pub node_fault : NodeParts → List FileParts → List WordParts → List ℕ → Option Code
 node_fault node files words block = first_of (
-    ticks_fault node ∷
-    room_fault node ∷
+    value_fault ReplyTicks code.BadReplyTicks node.reply_ticks ∷
+    value_fault Room code.BadRoom node.room ∷
     count_fault files ∷
     type_fault files ∷
     each_fault files ∷

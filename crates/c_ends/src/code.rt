@@ -14,11 +14,11 @@ pub enum Code {
     NoMemory = 2,
     /// The buffer is too small.
     NoRoom = 3,
-    /// `ack_ticks` is 0.
+    /// `ack_ticks` is out of its range.
     BadAckTicks = 4,
-    /// `poll_ticks` is 0.
+    /// `poll_ticks` is out of its range.
     BadPollTicks = 5,
-    /// `max_sends` is 0.
+    /// `max_sends` is out of its range.
     BadMaxSends = 6,
     /// A station's number is 16 or 255.
     BadStation = 7,
@@ -26,9 +26,9 @@ pub enum Code {
     TooManyStations = 8,
     /// A station is listed twice.
     StationTwice = 9,
-    /// `reply_ticks` is 0.
+    /// `reply_ticks` is out of its range.
     BadReplyTicks = 10,
-    /// `room` is not 2 to 64.
+    /// `room` is out of its range.
     BadRoom = 11,
     /// Over 256 data files.
     TooManyFiles = 12,
@@ -62,10 +62,16 @@ pub enum Code {
     NotAnswered = 26,
     /// There is no file at this place.
     NoFile = 27,
+    /// `max_naks` is out of its range.
+    BadMaxNaks = 28,
+    /// `max_enqs` is out of its range.
+    BadMaxEnqs = 29,
+    /// `max_resends` is out of its range.
+    BadMaxResends = 30,
 }
 
 /// All codes, by their numbers.
-const CODES: [Code; 28] = [
+const CODES: [Code; 31] = [
     Code::Done,
     Code::NoHandle,
     Code::NoMemory,
@@ -94,6 +100,9 @@ const CODES: [Code; 28] = [
     Code::NoCommand,
     Code::NotAnswered,
     Code::NoFile,
+    Code::BadMaxNaks,
+    Code::BadMaxEnqs,
+    Code::BadMaxResends,
 ];
 
 impl Code {
@@ -121,14 +130,14 @@ impl Code {
             Code::NoHandle => "the handle holds nothing that the call is for",
             Code::NoMemory => "malloc gave no memory",
             Code::NoRoom => "the buffer is too small",
-            Code::BadAckTicks => "ack_ticks is 0",
-            Code::BadPollTicks => "poll_ticks is 0",
-            Code::BadMaxSends => "max_sends is 0",
+            Code::BadAckTicks => "ack_ticks is out of its range",
+            Code::BadPollTicks => "poll_ticks is out of its range",
+            Code::BadMaxSends => "max_sends is out of its range",
             Code::BadStation => "a station's number is 16 or 255",
             Code::TooManyStations => "over 32 stations",
             Code::StationTwice => "a station is listed twice",
-            Code::BadReplyTicks => "reply_ticks is 0",
-            Code::BadRoom => "room is not 2 to 64",
+            Code::BadReplyTicks => "reply_ticks is out of its range",
+            Code::BadRoom => "room is out of its range",
             Code::TooManyFiles => "over 256 data files",
             Code::BadType => "a file's type is none of df1_file_type",
             Code::EmptyFile => "a file has no elements",
@@ -145,6 +154,9 @@ impl Code {
             Code::NoCommand => "no command of this number was issued",
             Code::NotAnswered => "no reply to it was accepted",
             Code::NoFile => "there is no file at this place",
+            Code::BadMaxNaks => "max_naks is out of its range",
+            Code::BadMaxEnqs => "max_enqs is out of its range",
+            Code::BadMaxResends => "max_resends is out of its range",
         }
     }
 }

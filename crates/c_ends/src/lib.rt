@@ -7,6 +7,7 @@ mod held;
 mod links;
 mod node;
 mod parts;
+mod values;
 
 pub use code::Code;
 pub use held::Held;

@@ -5,15 +5,17 @@
 ghost use Rattle.std.specs.Prelude.{◌≡◌, ◌==◌, [], Err, IfErr, IfOk, MatchOption};
 ghost use Rattle.std.specs.Option.{option_or};
 ghost use Rattle.std.specs.List.{list_any};
-ghost use Rattle.c_ends.specs.Links.{ack_ticks_fault, check_of, duplex_fault, duplex_setup, first_duplex, first_master, first_slave, many_fault, master_fault, master_setup, number_fault, poll_ticks_fault, sends_fault, slave_fault, slave_setup, station_fault, twice_fault};
+ghost use Rattle.c_ends.specs.Links.{check_of, duplex_fault, duplex_setup, first_duplex, first_master, first_slave, many_fault, master_fault, master_setup, number_fault, slave_fault, slave_setup, station_fault, twice_fault};
 
 use crate::code::Code;
 use crate::held::Held;
 use crate::node::{node_fault, node_of};
 use crate::parts::{DuplexLink, FileParts, MasterLink, NodeParts, SlaveLink, WordParts};
+use crate::values::value_fault;
 use df1_check::Check;
 use duplex_end::{End, Setup};
 use duplex_sender::Limits;
+use end_settings::Key;
 use half_master::{Master, MasterSetup};
 use half_slave::{Slave, SlaveSetup};
 use std::alloc::Global;
@@ -100,7 +102,10 @@ fn duplex_fault(
 ) -> Option<Code>
     ensures { result ≡ duplex_fault link.now node.now files.now words.now block.now }
 {
-    ack_ticks_fault(link.ack_ticks).or_else(|| node_fault(node, files, words, block))
+    value_fault(Key::AckTicks, Code::BadAckTicks, link.ack_ticks)
+        .or_else(|| value_fault(Key::MaxNaks, Code::BadMaxNaks, link.max_naks))
+        .or_else(|| value_fault(Key::MaxEnqs, Code::BadMaxEnqs, link.max_enqs))
+        .or_else(|| node_fault(node, files, words, block))
 }
 
 /// What is out of range of a master.
@@ -114,8 +119,9 @@ fn master_fault(
 ) -> Option<Code>
     ensures { result ≡ master_fault link.now stations.now node.now files.now words.now block.now }
 {
-    ack_ticks_fault(link.ack_ticks)
-        .or_else(|| poll_ticks_fault(link.poll_ticks))
+    value_fault(Key::AckTicks, Code::BadAckTicks, link.ack_ticks)
+        .or_else(|| value_fault(Key::MaxResends, Code::BadMaxResends, link.max_resends))
+        .or_else(|| value_fault(Key::PollTicks, Code::BadPollTicks, link.poll_ticks))
         .or_else(|| many_fault(stations))
         .or_else(|| station_fault(stations))
         .or_else(|| node_fault(node, files, words, block))
@@ -131,7 +137,7 @@ fn slave_fault(
 ) -> Option<Code>
     ensures { result ≡ slave_fault link.now node.now files.now words.now block.now }
 {
-    sends_fault(link.max_sends)
+    value_fault(Key::MaxSends, Code::BadMaxSends, link.max_sends)
         .or_else(|| number_fault(node.address))
         .or_else(|| node_fault(node, files, words, block))
 }
@@ -178,39 +184,6 @@ fn slave_setup(link: &SlaveLink, node: &NodeParts) -> SlaveSetup
         station: node.address,
         check: check_of(link.crc),
         max_sends: link.max_sends,
-    }
-}
-
-/// A wait for a response of no ticks.
-fn ack_ticks_fault(ticks: u32) -> Option<Code>
-    ensures { result ≡ ack_ticks_fault ticks }
-{
-    if ticks == 0 {
-        Some(Code::BadAckTicks)
-    } else {
-        None
-    }
-}
-
-/// A wait after a poll of no ticks.
-fn poll_ticks_fault(ticks: u32) -> Option<Code>
-    ensures { result ≡ poll_ticks_fault ticks }
-{
-    if ticks == 0 {
-        Some(Code::BadPollTicks)
-    } else {
-        None
-    }
-}
-
-/// A message that is never given.
-fn sends_fault(sends: u32) -> Option<Code>
-    ensures { result ≡ sends_fault sends }
-{
-    if sends == 0 {
-        Some(Code::BadMaxSends)
-    } else {
-        None
     }
 }
 

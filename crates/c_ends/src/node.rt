@@ -2,13 +2,15 @@
 
 ghost use Rattle.std.specs.Prelude.{◌≡◌, None, Some, IfOk};
 ghost use Rattle.data_files.specs.Tables.{fits_compat};
-ghost use Rattle.c_ends.specs.Parts.{block_fault, compat_fault, compat_of, first_node, node_fault, room_fault, specs_of, ticks_fault};
+ghost use Rattle.c_ends.specs.Parts.{block_fault, compat_fault, compat_of, first_node, node_fault, specs_of};
 
 use crate::code::Code;
 use crate::files::{count_fault, each_fault, file_in, tables_of, type_fault, word_fault};
 use crate::parts::{FileParts, NodeParts, WordParts};
+use crate::values::value_fault;
 use df1_base::{MAX_DATA, NoMemory};
 use df1_node::{Node, NodeSetup, Station};
+use end_settings::Key;
 use std::alloc::Global;
 
 /// What is out of range of what stands behind an end.
@@ -20,36 +22,14 @@ pub(crate) fn node_fault(
 ) -> Option<Code>
     ensures { result ≡ node_fault node.now files.now words.now block.now }
 {
-    ticks_fault(node)
-        .or_else(|| room_fault(node))
+    value_fault(Key::ReplyTicks, Code::BadReplyTicks, node.reply_ticks)
+        .or_else(|| value_fault(Key::Room, Code::BadRoom, node.room))
         .or_else(|| count_fault(files))
         .or_else(|| type_fault(files))
         .or_else(|| each_fault(files))
         .or_else(|| compat_fault(node, files))
         .or_else(|| word_fault(files, words))
         .or_else(|| block_fault(block))
-}
-
-/// A reply that may take no ticks.
-fn ticks_fault(node: &NodeParts) -> Option<Code>
-    ensures { result ≡ ticks_fault node.now }
-{
-    if node.reply_ticks == 0 {
-        Some(Code::BadReplyTicks)
-    } else {
-        None
-    }
-}
-
-/// Room for under 2 or over 64 replies.
-fn room_fault(node: &NodeParts) -> Option<Code>
-    ensures { result ≡ room_fault node.now }
-{
-    if node.room < 2 || node.room > 64 {
-        Some(Code::BadRoom)
-    } else {
-        None
-    }
 }
 
 /// A compatibility file that is no Bit or Integer file.

@@ -8,7 +8,7 @@ pub struct DuplexLink {
     pub crc: bool,
     /// Whether responses may stand inside the frames that the end gives.
     pub embed: bool,
-    /// The ticks without a response until it asks with an ENQ, at least 1.
+    /// The ticks without a response until it asks with an ENQ.
     pub ack_ticks: u32,
     /// How many NAKs one message may have.
     pub max_naks: u32,
@@ -22,11 +22,11 @@ pub struct DuplexLink {
 pub struct MasterLink {
     /// CRC, and not BCC, ends its messages.
     pub crc: bool,
-    /// The ticks of a wait for ACK, at least 1.
+    /// The ticks of a wait for ACK.
     pub ack_ticks: u32,
     /// How often a message is given again.
     pub max_resends: u32,
-    /// The ticks of a wait after a poll, at least 1.
+    /// The ticks of a wait after a poll.
     pub poll_ticks: u32,
 }
 
@@ -36,7 +36,7 @@ pub struct MasterLink {
 pub struct SlaveLink {
     /// CRC, and not BCC, ends its messages.
     pub crc: bool,
-    /// How often a message is given, at least once.
+    /// How often a message is given.
     pub max_sends: u32,
 }
 
@@ -48,9 +48,9 @@ pub struct NodeParts {
     pub address: u8,
     /// TNS of its first command.
     pub tns: u16,
-    /// The ticks, at least 1, that a reply may take.
+    /// The ticks that a reply may take.
     pub reply_ticks: u32,
-    /// How many replies may wait: 2 to 64.
+    /// How many replies may wait.
     pub room: u32,
     /// Whether there is a file for the basic reads and writes.
     pub has_compat: bool,

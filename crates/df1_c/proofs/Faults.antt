@@ -1,11 +1,14 @@
 -- What is out of range of an end is never told as the code of what was done. Assumes nothing.
 use Rattle.std.proofs.Common.{◌≡◌, ℕ, Bool, true, false, List, [], ◌∷◌, ◌++◌, length, nat_lt, Option, Some, None, refl}
-use Rattle.std.specs.Prelude.{◌==◌, ◌||◌, not, is_none, if◌then◌else◌}
+use Rattle.std.specs.Prelude.{◌==◌, ◌||◌, not, is_none, is_some, if◌then◌else◌}
 use Rattle.std.specs.Option.{option_map, option_or}
 use Rattle.std.specs.List.{list_any}
 use Rattle.data_files.specs.Tables.{faults, fits_compat, has_word}
 use Rattle.data_files.specs.declared.make_fault.MakeFault.{MakeFault}
 use Rattle.data_files.specs.declared.make_fault.MakeFault.TheVariants as make
+use Rattle.end_settings.specs.declared.key.Key.{Key}
+use Rattle.end_settings.specs.declared.key.Key.TheVariants.{AckTicks, MaxEnqs, MaxNaks, MaxResends, MaxSends, PollTicks, ReplyTicks, Room}
+use Rattle.end_settings.specs.Rows.{fitting}
 use Rattle.c_ends.specs.declared.code.Code.{Code}
 use Rattle.c_ends.specs.declared.code.Code.TheVariants as code
 use Rattle.c_ends.specs.declared.held.Held.{Held}
@@ -18,6 +21,7 @@ use Rattle.c_ends.specs.declared.parts.WordParts.{WordParts}
 use Rattle.c_ends.specs.Code.{code_number}
 use Rattle.c_ends.specs.Links.{number_fault, station_fault, duplex_fault, master_fault, slave_fault}
 use Rattle.c_ends.specs.Parts.{kind_of, specs_of, make_code, compat_of, node_fault}
+use Rattle.c_ends.specs.Values.{value_fault, values_of}
 use Rattle.df1_c.specs.Held.{taken_fault}
 
 abbrev pub NeverDone : Option Code → Type 0
@@ -38,6 +42,9 @@ pub first-or : (first second : Option Code) → NeverDone first → NeverDone se
 first-or None second never other = other
 first-or (Some fault) second never other = never
 
+value-never : (key : Key) (fault : Code) (number : ℕ) → NeverDone (Some fault) → NeverDone (value_fault key fault number)
+value-never key fault number never = one-unless (is_some (fitting (values_of key) (Some number))) fault never
+
 -- ---- of what is made
 
 made-never : (fault : Option MakeFault) → NeverDone (option_map make_code fault)
@@ -50,8 +57,8 @@ made-never (Some make.NoMemory) = refl
 
 node-never : (node : NodeParts) (files : List FileParts) (words : List WordParts) (block : List ℕ) → NeverDone (node_fault node files words block)
 node-never node files words block =
-    first-or _ _ (one-if (node.reply_ticks == 0) code.BadReplyTicks refl)
-    (first-or _ _ (one-if (nat_lt node.room 2 || nat_lt 64 node.room) code.BadRoom refl)
+    first-or _ _ (value-never ReplyTicks code.BadReplyTicks node.reply_ticks refl)
+    (first-or _ _ (value-never Room code.BadRoom node.room refl)
     (first-or _ _ (one-if (nat_lt 256 (length files)) code.TooManyFiles refl)
     (first-or _ _ (one-if (list_any (λ (file : FileParts). is_none (kind_of file.kind)) files) code.BadType refl)
     (first-or _ _ (made-never (faults (specs_of files)))
@@ -71,20 +78,24 @@ stations-never before (number ∷ numbers) =
 
 pub duplex-never : (link : DuplexLink) (node : NodeParts) (files : List FileParts) (words : List WordParts) (block : List ℕ) → NeverDone (duplex_fault link node files words block)
 duplex-never link node files words block =
-    first-or _ _ (one-if (link.ack_ticks == 0) code.BadAckTicks refl) (first-or _ _ (node-never node files words block) tt)
+    first-or _ _ (value-never AckTicks code.BadAckTicks link.ack_ticks refl)
+    (first-or _ _ (value-never MaxNaks code.BadMaxNaks link.max_naks refl)
+    (first-or _ _ (value-never MaxEnqs code.BadMaxEnqs link.max_enqs refl)
+    (first-or _ _ (node-never node files words block) tt)))
 
 pub master-never : (link : MasterLink) (stations : List ℕ) (node : NodeParts) (files : List FileParts) (words : List WordParts) (block : List ℕ)
     → NeverDone (master_fault link stations node files words block)
 master-never link stations node files words block =
-    first-or _ _ (one-if (link.ack_ticks == 0) code.BadAckTicks refl)
-    (first-or _ _ (one-if (link.poll_ticks == 0) code.BadPollTicks refl)
+    first-or _ _ (value-never AckTicks code.BadAckTicks link.ack_ticks refl)
+    (first-or _ _ (value-never MaxResends code.BadMaxResends link.max_resends refl)
+    (first-or _ _ (value-never PollTicks code.BadPollTicks link.poll_ticks refl)
     (first-or _ _ (one-if (nat_lt 32 (length stations)) code.TooManyStations refl)
     (first-or _ _ (stations-never [] stations)
-    (first-or _ _ (node-never node files words block) tt))))
+    (first-or _ _ (node-never node files words block) tt)))))
 
 pub slave-never : (link : SlaveLink) (node : NodeParts) (files : List FileParts) (words : List WordParts) (block : List ℕ) → NeverDone (slave_fault link node files words block)
 slave-never link node files words block =
-    first-or _ _ (one-if (link.max_sends == 0) code.BadMaxSends refl)
+    first-or _ _ (value-never MaxSends code.BadMaxSends link.max_sends refl)
     (first-or _ _ (number-never node.address)
     (first-or _ _ (node-never node files words block) tt))
 

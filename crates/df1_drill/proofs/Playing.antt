@@ -10,6 +10,7 @@ use Rattle.script_statement.specs.declared.who.Who.TheVariants.{A, B}
 use Rattle.script_statement.specs.Statements.{is_payload}
 use Rattle.script_parts.specs.declared.script.Event.{Event}
 use Rattle.script_parts.specs.declared.script.Event.TheVariants.{Issue}
+use Rattle.script_parts.proofs.PlanSettings.{Fits-first_plan}
 use Rattle.script_parts.specs.Playable.{IsBetween, IsPossible, IsPlayable, issues, count_of}
 use Rattle.script_parts.specs.HalfPlayable.{CanBePlayed}
 use Rattle.df1_drill.specs.declared.course.Pattern.{Pattern}
@@ -83,8 +84,8 @@ playable seed count most =
     record {
       mode = refl;
       ends = (
-        record { end = refl; files = refl; words = All-nil _; ack_ticks = (omega arith, omega arith); max_naks = omega arith; max_enqs = omega arith; reply_ticks = (omega arith, omega arith); max_resends = omega arith; poll_ticks = (omega arith, omega arith); max_sends = (omega arith, omega arith); room = (omega arith, omega arith); compat = refl; block = omega arith },
-        record { end = refl; files = refl; words = All-nil _; ack_ticks = (omega arith, omega arith); max_naks = omega arith; max_enqs = omega arith; reply_ticks = (omega arith, omega arith); max_resends = omega arith; poll_ticks = (omega arith, omega arith); max_sends = (omega arith, omega arith); room = (omega arith, omega arith); compat = refl; block = omega arith },
+        record { end = refl; files = refl; words = All-nil _; settings = Fits-first_plan A 0 (omega arith); compat = refl; block = omega arith },
+        record { end = refl; files = refl; words = All-nil _; settings = Fits-first_plan B 1 (omega arith); compat = refl; block = omega arith },
       );
       events = few.possible;
       commands_of_a = omega (arith, a, most);

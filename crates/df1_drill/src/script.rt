@@ -2,15 +2,15 @@
 //! to the bytes by the round's pattern.
 ghost use Rattle.std.specs.Prelude.{◌≡◌, ◌≤◌, ◌+◌, ◌∷◌, ◌++◌, [], ℕ, IfOk, OnOk, map};
 ghost use Rattle.script_parts.specs.HalfPlayable.{CanBePlayed};
+ghost use Rattle.script_parts.specs.Plans.{first_plan};
 ghost use Rattle.df1_drill.specs.Drill.{drill_script as the_script, event_of, payload_of, plan_of_b, round_of, setup};
 
 use crate::course::{CourseEvent, Pattern};
 use data_files::FileSpec;
 use df1_base::{FileType, NoMemory};
-use duplex_script::DuplexReader;
-use end_drafts::StatementFault;
-use script_parts::{Bytes, Event, Events, Items, Script, Who};
-use script_statement::{EndLetter, EndName, SetupStatement, Statement};
+use df1_check::Check;
+use end_settings::Settings;
+use script_parts::{Bytes, EndPlan, Event, Events, Items, Script, Specs, Who};
 use std::alloc::Global;
 
 /// The most rounds of a drill.
@@ -41,16 +41,33 @@ pub fn drill_script(alloc: Global, seed: u32, count: u32) -> Result<Script, NoMe
 fn setup(alloc: Global) -> Result<Script, NoMemory>
     ensures { IfOk result (λ script. script ≡ setup) }
 {
-    let mut reader = DuplexReader::new(alloc);
-    let file = Statement::Setup {
-        end: EndName::Known(EndLetter::B),
-        line: SetupStatement::File(Some(FILE)),
-    };
-    match reader.take(file) {
-        Ok(_) => reader.setup(alloc),
-        Err(StatementFault::NoMemory) => Err(NoMemory),
-        Err(StatementFault::Flawed(_)) => unreachable!(),
-    }
+    let mut files = Items::new(alloc);
+    files.push(FILE)?;
+    let mut ends = Items::new(alloc);
+    ends.push(end(alloc, Who::A, 0, Items::new(alloc)))?;
+    ends.push(end(alloc, Who::B, 1, files))?;
+    Ok(Script {
+        half: false,
+        check: Check::Bcc,
+        ends,
+        events: Items::new(alloc),
+    })
+}
+
+/// The plan of an end with this address and these files. All else is as it is at first.
+fn end(alloc: Global, who: Who, address: u8, files: Specs) -> EndPlan
+    ensures { result ≡ record (first_plan who address) { files = files } }
+{
+    let settings = Settings::new();
+    EndPlan::new(
+        who,
+        address,
+        &settings,
+        None,
+        Items::new(alloc),
+        files,
+        Items::new(alloc),
+    )
 }
 
 /// Puts the events of a round, counted from 1, behind those of the rounds before it. The command goes to the address `dst`.

@@ -1,13 +1,17 @@
 -- What is told by a key is within its bounds.
-use Rattle.std.proofs.Common.{◌≡◌, ℕ, Option, Some, None, Result, Ok, refl, arith, pos, negsuc}
+use Rattle.std.proofs.Common.{◌≡◌, ℕ, Bool, true, false, cond, Option, Some, None, refl, arith, pos, negsuc}
+use Rattle.std.specs.Option.{option_and_then, option_map}
 use Rattle.std.proofs.lemmas.Bool.Decides.{nat_tests}
+use Rattle.end_settings.specs.declared.key.Key.{Key}
+use Rattle.end_settings.specs.declared.row.Values.{Values}
+use Rattle.end_settings.specs.declared.row.Values.TheVariants.{Switch, Number}
+use Rattle.end_settings.specs.Rows.{Fits, IfFits}
+use Rattle.end_settings.specs.Table.{row_of}
 use Rattle.script_statement.specs.Words.{within}
 use Rattle.script_parts.specs.Playable.{IsBetween}
-use Rattle.toml.specs.Data.{Data, string, integer, float, boolean, datetime, array, table, Members, get_member}
-use Rattle.df1_plan.specs.declared.key.Key.{Key}
-use Rattle.df1_plan.specs.declared.fault.PlanFault.{PlanFault}
-use Rattle.df1_plan.specs.Keys.{name_of, read_or, told, told_or}
-use Rattle.df1_plan.specs.Values.{integer_in}
+use Rattle.toml.specs.Data.{Data, string, integer, float, boolean, datetime, array, table, Members, as_bool}
+use Rattle.df1_plan.specs.Values.{integer_in, value_in}
+use Rattle.df1_plan.specs.Settings.{given_at, setting_at}
 
 within-between : (least most n m : ℕ) → within least most (Some n) ≡ Some m → IsBetween least most m
 within-between least most n m h = grind (arith, nat_tests, h)
@@ -22,16 +26,24 @@ integer-between least most (datetime d) n h = cc
 integer-between least most (array ds) n h = cc
 integer-between least most (table ms) n h = cc
 
-ok-is : (r : Result ℕ PlanFault) (x y : ℕ) → r ≡ Ok x → r ≡ Ok y → x ≡ y
-ok-is r x y e f = grind (arith, e, f)
+-- ---- settings
 
-read-is : (key : Key) (o : Option ℕ) (n : ℕ) → read_or key o ≡ Ok n → o ≡ Some n
-read-is key None n h = cc
-read-is key (Some m) n h = grind (arith, h)
+if-some : (values : Values) (o : Option ℕ) → ((n : ℕ) → o ≡ Some n → Fits values n) → IfFits values o
+if-some values None fits = tt
+if-some values (Some n) fits = fits n refl
 
-told-value : (key : Key) (least most standard : ℕ) (o : Option Data) (n : ℕ) → IsBetween least most standard → told_or key (integer_in least most) standard o ≡ Ok n → IsBetween least most n
-told-value key least most standard None n h e = rw (← ok-is (Ok standard) standard n refl e) h
-told-value key least most standard (Some value) n h e = integer-between least most value n (read-is key (integer_in least most value) n e)
+switch-fits : (o : Option Bool) → IfFits Switch (option_map (λ on. cond on 1 0) o)
+switch-fits None = tt
+switch-fits (Some true) = (omega arith, omega arith)
+switch-fits (Some false) = (omega arith, omega arith)
 
-pub told-between : (key : Key) (least most standard : ℕ) (members : Members) (n : ℕ) → IsBetween least most standard → told key (integer_in least most) standard members ≡ Ok n → IsBetween least most n
-told-between key least most standard members n h e = told-value key least most standard (get_member (name_of key) members) n h e
+value-fits : (values : Values) (value : Data) → IfFits values (value_in values value)
+value-fits Switch value = switch-fits (as_bool value)
+value-fits (Number least most) value = if-some (Number least most) (integer_in least most value) (integer-between least most value)
+
+at-fits : (values : Values) (o : Option Data) → IfFits values (option_and_then (value_in values) o)
+at-fits values None = tt
+at-fits values (Some value) = value-fits values value
+
+pub given-fits : (members : Members) (setting : Key) → IfFits (row_of setting).values (given_at members setting)
+given-fits members setting = at-fits (row_of setting).values (setting_at members setting)

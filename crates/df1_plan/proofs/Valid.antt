@@ -1,26 +1,31 @@
 -- A plan that is told is one that an end can be made of.
-use Rattle.std.proofs.Common.{◌≡◌, ℕ, ◌+◌, ◌≤◌, Bool, true, false, cond, List, [], ◌∷◌, ◌++◌, length, nat_le, nat_lt, ◌&&◌, Option, Some, None, Result, Ok, Err, refl, arith, length-append}
+use Rattle.std.proofs.Common.{◌≡◌, ℕ, ◌+◌, ◌≤◌, Bool, true, false, cond, List, [], ◌∷◌, ◌++◌, length, nat_le, nat_lt, ◌&&◌, Option, Some, None, Result, Ok, Err, refl, sym, subst, ◌∙◌, arith, length-append}
 use Rattle.std.specs.Prelude.{IsTrue, All, codes}
 use Rattle.std.specs.Option.{option_and_then}
 use Rattle.std.proofs.lemmas.Bool.{and_parts}
 use Rattle.std.proofs.lemmas.Bool.Decides.{nat_tests}
 use Rattle.std.proofs.lemmas.List.Elements.{All-nil, All-push}
 use Rattle.data_files.specs.Tables.{fits_compat}
+use Rattle.end_settings.specs.Rows.{Fits}
+use Rattle.end_settings.specs.Table.{first_of, row_of}
+use Rattle.end_settings.proofs.Fitting.{Fits-first, Fits-unwrap_or}
 use Rattle.script_statement.specs.Statements.{is_payload}
 use Rattle.script_statement.specs.declared.who.Who.TheVariants.{A}
 use Rattle.script_parts.specs.Playable.{IsPlanOf}
 use Rattle.toml.specs.Data.{Data, Items, no_items, item, Members, as_array, get_member}
 use Rattle.df1_plan.specs.declared.plan.Plan.{Plan}
-use Rattle.df1_plan.specs.declared.key.Key.TheVariants as key
+use Rattle.df1_plan.specs.declared.plan_key.PlanKey.TheVariants as key
 use Rattle.df1_plan.specs.declared.fault.PlanFault.{PlanFault}
 use Rattle.df1_plan.specs.declared.fault.PlanFault.TheVariants as fault
 use Rattle.df1_plan.specs.Keys.{has_other, is_known, read_or, told_or}
 use Rattle.df1_plan.specs.Values.{at_most, block_in, hex_in}
 use Rattle.df1_plan.specs.Files.{specs_of}
 use Rattle.df1_plan.specs.Issues.{next_of, next_payload, payloads_after, payloads_in, payloads_of_array}
-use Rattle.df1_plan.specs.Plans.{Says, first_cause, first_there}
+use Rattle.df1_plan.specs.Plans.{Says, back_causes, compat, compat_refusal, entry_causes, files, first_cause, first_there, front_causes}
+use Rattle.df1_plan.specs.Settings.{given_at}
+use Rattle.df1_plan.proofs.Causes.{compat-first}
 use Rattle.df1_plan.proofs.Planned.{planned_right}
-use Rattle.df1_plan.proofs.Told.{told-between}
+use Rattle.df1_plan.proofs.Told.{given-fits}
 
 -- ---- the block
 
@@ -87,39 +92,40 @@ fits-if : (b : Bool) → cond b None (Some (fault.Key key.Compat)) ≡ None → 
 fits-if true h = refl
 fits-if false h = cc
 
-last-none : (o : Option PlanFault) → first_there (o ∷ []) ≡ None → o ≡ None
-last-none None h = refl
-last-none (Some e) h = cc
-
-others-none : (members : Members) (plan : Plan) → has_other is_known members ≡ false → Says members plan → first_cause members ≡ None → fits_compat plan.end.files plan.end.compat ≡ true
-others-none members plan known s h =
-    let fits : fits_compat (specs_of s.planned) plan.end.compat ≡ true = fits-if (fits_compat (specs_of s.planned) plan.end.compat) (last-none _ (rw (known, s.ack_ticks_are, s.block_is, s.check_is, s.compat_is, s.embed_is, s.files_are, s.issue_is, s.max_enqs_are, s.max_naks_are, s.node_is, s.peer_is, s.reply_ticks_are, s.room_is, s.tns_is) at h)) in
-    rw s.specs_are fits
-
 known-if : (b : Bool) (others : List (Option PlanFault)) → first_there (cond b (Some fault.UnknownKey) None ∷ others) ≡ None → b ≡ false
 known-if true others h = cc
 known-if false others h = refl
+
+none-if : {T : Type 0} (found others : List (Option T)) → first_there (found ++ others) ≡ None → (first_there found ≡ None) × (first_there others ≡ None)
+none-if [] others h = (refl, h)
+none-if (Some x ∷ found) others h = cc
+none-if (None ∷ found) others h = none-if found others h
+
+fits-none : (members : Members) (plan : Plan) → Says members plan → first_cause members ≡ None → fits_compat plan.end.files plan.end.compat ≡ true
+fits-none members plan s none =
+    let known : has_other is_known members ≡ false = known-if (has_other is_known members) _ none in
+    let behind_front = none-if (front_causes members) (entry_causes members ++ back_causes members ++ compat_refusal (files members) (compat members) ∷ []) (rw known at none) in
+    let behind_entries = none-if (entry_causes members) (back_causes members ++ compat_refusal (files members) (compat members) ∷ []) behind_front.1 in
+    let behind_back = none-if (back_causes members) (compat_refusal (files members) (compat members) ∷ []) behind_entries.1 in
+    let first : first_cause members ≡ compat_refusal (files members) (compat members) = compat-first members known behind_front.0 behind_entries.0 behind_back.0 in
+    let refusal : compat_refusal (files members) (compat members) ≡ None = sym first ∙ none in
+    let fits : fits_compat (specs_of s.planned) plan.end.compat ≡ true = fits-if (fits_compat (specs_of s.planned) plan.end.compat) (rw (s.files_are, s.compat_is) at refusal) in
+    rw s.specs_are fits
 
 -- ---- all of it
 
 pub says_valid : (members : Members) (plan : Plan) → first_cause members ≡ None → Says members plan → IsPlanOf A plan.end × All (λ payload. IsTrue (is_payload payload)) plan.issue × (length plan.issue ≤ 65535)
 says_valid members plan none says =
     let right = planned_right (get_member (codes "file") members) says.planned says.files_are in
-    let commands = commands-in (get_member (codes "issue") members) plan.issue says.issue_is in
-    let known : has_other is_known members ≡ false = known-if (has_other is_known members) _ none in (
+    let commands = commands-in (get_member (codes "issue") members) plan.issue says.issue_is in (
       record {
-        end = says.untold.who;
+        end = says.end_is;
         files = rw says.specs_are right.none;
         words = rw (says.specs_are, says.words_are) right.words;
-        ack_ticks = told-between key.AckTicks 1 1000000 10 members plan.end.ack_ticks (omega arith, omega arith) says.ack_ticks_are;
-        max_naks = (told-between key.MaxNaks 0 255 3 members plan.end.max_naks (omega arith, omega arith) says.max_naks_are).1;
-        max_enqs = (told-between key.MaxEnqs 0 255 3 members plan.end.max_enqs (omega arith, omega arith) says.max_enqs_are).1;
-        reply_ticks = told-between key.ReplyTicks 33 1000000 100 members plan.end.reply_ticks (omega arith, omega arith) says.reply_ticks_are;
-        max_resends = rw says.untold.max_resends (omega arith);
-        poll_ticks = rw says.untold.poll_ticks (omega arith, omega arith);
-        max_sends = rw says.untold.max_sends (omega arith, omega arith);
-        room = told-between key.Room 2 64 2 members plan.end.room (omega arith, omega arith) says.room_is;
-        compat = others-none members plan known says none;
+        settings = λ key.
+            subst (Fits (row_of key).values) (sym (says.settings_are key))
+            (Fits-unwrap_or (row_of key).values (given_at members key) (first_of 1 key) (given-fits members key) (Fits-first 1 (omega arith) key));
+        compat = fits-none members plan says none;
         block = short-told (get_member (codes "block") members) plan.end.block says.block_is;
       },
       commands.each,

@@ -14,7 +14,7 @@ use Rattle.toml.specs.Data.{Data, table, Items, no_items, item, Members, get_mem
 use Rattle.df1_plan.specs.declared.files.PlannedFile.{PlannedFile}
 use Rattle.df1_plan.specs.declared.fault.PlanFault.{PlanFault}
 use Rattle.df1_plan.specs.declared.fault.PlanFault.TheVariants as fault
-use Rattle.df1_plan.specs.declared.key.Key.TheVariants as key
+use Rattle.df1_plan.specs.declared.plan_key.PlanKey.TheVariants as key
 use Rattle.df1_plan.specs.Keys.{has_other}
 use Rattle.df1_plan.specs.Values.{integer_in, kind_in, hex_in}
 

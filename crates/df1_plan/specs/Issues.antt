@@ -4,7 +4,7 @@ use Rattle.script_statement.specs.Statements.{is_payload}
 use Rattle.toml.specs.Data.{Data, Items, no_items, item, as_array}
 use Rattle.df1_plan.specs.declared.fault.PlanFault.{PlanFault}
 use Rattle.df1_plan.specs.declared.fault.PlanFault.TheVariants as fault
-use Rattle.df1_plan.specs.declared.key.Key.TheVariants as key
+use Rattle.df1_plan.specs.declared.plan_key.PlanKey.TheVariants as key
 use Rattle.df1_plan.specs.Values.{hex_in}
 
 -- a payload of a command that fewer than 65,535 stand before

@@ -1,5 +1,6 @@
 pub mod Keys
 pub mod Values
+pub mod Settings
 pub mod Files
 pub mod Issues
 pub mod Plans

@@ -1,28 +1,29 @@
 -- What a plan says, and the first cause why a table is none.
-use Rattle.std.specs.Prelude.{◌≡◌, ℕ, Bool, false, List, [], ◌∷◌, ◌++◌, Option, Some, None, Result, Ok, Err, if◌then◌else◌}
+use Rattle.std.specs.Prelude.{◌≡◌, ℕ, List, [], ◌∷◌, ◌++◌, Option, Some, None, Result, Ok, Err, unwrap_or, if◌then◌else◌}
 use Rattle.std.specs.Option.{option_map}
 use Rattle.std.specs.Str.{IsUtf8}
 use Rattle.df1_check.specs.declared.Check.{Check}
 use Rattle.df1_check.specs.declared.Check.TheVariants.{Bcc}
 use Rattle.data_files.specs.Tables.{fits_compat}
+use Rattle.end_settings.specs.declared.key.Key.{Key}
+use Rattle.end_settings.specs.Table.{first_of}
 use Rattle.script_statement.specs.declared.who.Who.TheVariants.{A}
-use Rattle.script_parts.specs.declared.script.EndPlan.{EndPlan}
-use Rattle.toml.specs.Data.{Members, get_member, as_bool}
+use Rattle.script_parts.specs.Plans.{setting_in}
+use Rattle.toml.specs.Data.{Members, get_member}
 use Rattle.toml.specs.Parse.{parse_document}
 use Rattle.df1_plan.specs.declared.plan.Plan.{Plan}
 use Rattle.df1_plan.specs.declared.files.PlannedFile.{PlannedFile}
-use Rattle.df1_plan.specs.declared.key.Key.TheVariants as key
+use Rattle.df1_plan.specs.declared.plan_key.PlanKey.{PlanKey}
+use Rattle.df1_plan.specs.declared.plan_key.PlanKey.TheVariants as key
 use Rattle.df1_plan.specs.declared.fault.PlanFault.{PlanFault}
 use Rattle.df1_plan.specs.declared.fault.PlanFault.TheVariants as fault
 use Rattle.df1_plan.specs.Keys.{is_known, has_other, name_of, told}
+use Rattle.df1_plan.specs.Settings.{given_at, refused_before, refused_in, refused_last}
 use Rattle.df1_plan.specs.Values.{integer_in, check_in, block_in}
 use Rattle.df1_plan.specs.Files.{files_in, specs_of, words_of_all}
 use Rattle.df1_plan.specs.Issues.{payloads_in}
 
--- ---- what stands at each key
-
-abbrev pub ack_ticks : Members → Result ℕ PlanFault
-ack_ticks = told key.AckTicks (integer_in 1 1000000) 10
+-- ---- what stands at each key that is no setting
 
 abbrev pub block : Members → Result (List ℕ) PlanFault
 block = told key.Block block_in []
@@ -33,35 +34,14 @@ check = told key.Check check_in Bcc
 abbrev pub compat : Members → Result (Option ℕ) PlanFault
 compat = told key.Compat (λ value. option_map Some (integer_in 0 999 value)) None
 
-abbrev pub embed : Members → Result Bool PlanFault
-embed = told key.Embed as_bool false
-
 abbrev pub files : Members → Result (List PlannedFile) PlanFault
 files members = files_in (get_member (name_of key.File) members)
 
 abbrev pub issue : Members → Result (List (List ℕ)) PlanFault
 issue members = payloads_in (get_member (name_of key.Issue) members)
 
-abbrev pub max_enqs : Members → Result ℕ PlanFault
-max_enqs = told key.MaxEnqs (integer_in 0 255) 3
-
-abbrev pub max_naks : Members → Result ℕ PlanFault
-max_naks = told key.MaxNaks (integer_in 0 255) 3
-
-abbrev pub node : Members → Result ℕ PlanFault
-node = told key.Node (integer_in 0 255) 1
-
 abbrev pub peer : Members → Result ℕ PlanFault
 peer = told key.Peer (integer_in 0 255) 0
-
-abbrev pub reply_ticks : Members → Result ℕ PlanFault
-reply_ticks = told key.ReplyTicks (integer_in 33 1000000) 100
-
-abbrev pub room : Members → Result ℕ PlanFault
-room = told key.Room (integer_in 2 64) 2
-
-abbrev pub tns : Members → Result ℕ PlanFault
-tns = told key.Tns (integer_in 0 65535) 1
 
 -- ---- the first cause
 
@@ -75,24 +55,39 @@ abbrev pub compat_refusal : Result (List PlannedFile) PlanFault → Result (Opti
 compat_refusal (Ok planned) (Ok number) = if fits_compat (specs_of planned) number then None else Some (fault.Key key.Compat)
 compat_refusal planned number = None
 
+-- a setting that is refused, where it stands before this key
+abbrev pub before : PlanKey → Members → Option PlanFault
+before other members = refused_before other (refused_in members)
+
 -- the keys before `file`, in the order of their bytes
 abbrev pub front_causes : Members → List (Option PlanFault)
-front_causes members = refusal (ack_ticks members) ∷ refusal (block members) ∷ refusal (check members) ∷ refusal (compat members) ∷ refusal (embed members) ∷ []
+front_causes members =
+    before key.Block members ∷ refusal (block members)
+    ∷ before key.Check members ∷ refusal (check members)
+    ∷ before key.Compat members ∷ refusal (compat members)
+    ∷ []
+
+-- the keys that have entries, and those between them
+abbrev pub entry_causes : Members → List (Option PlanFault)
+entry_causes members =
+    before key.File members ∷ refusal (files members)
+    ∷ before key.Issue members ∷ refusal (issue members)
+    ∷ []
 
 -- the keys after `issue`, in the order of their bytes
 abbrev pub back_causes : Members → List (Option PlanFault)
 back_causes members =
-    refusal (max_enqs members) ∷ refusal (max_naks members) ∷ refusal (node members) ∷ refusal (peer members)
-    ∷ refusal (reply_ticks members) ∷ refusal (room members) ∷ refusal (tns members) ∷ []
+    before key.Peer members ∷ refusal (peer members)
+    ∷ refused_last (refused_in members)
+    ∷ []
 
 -- in this order: a key that is none; the keys in the order of their bytes; the compatibility file
 abbrev pub causes : Members → List (Option PlanFault)
 causes members =
     (if has_other is_known members then Some fault.UnknownKey else None)
     ∷ front_causes members
-    ++ refusal (files members)
-    ∷ refusal (issue members)
-    ∷ back_causes members
+    ++ entry_causes members
+    ++ back_causes members
     ++ compat_refusal (files members) (compat members)
     ∷ []
 
@@ -107,33 +102,19 @@ first_cause members = first_there (causes members)
 
 -- ---- a plan that is told
 
--- what no key tells has its standard value, that of a script that doesn't tell it
-pub record HasStandards (end : EndPlan) : Type 0 where
-  pub who : end.who ≡ A
-  pub max_resends : end.max_resends ≡ 3
-  pub poll_ticks : end.poll_ticks ≡ 10
-  pub max_sends : end.max_sends ≡ 3
-
--- the plan says what the table says, key by key
+-- the plan says what the table says, key by key; a setting that is left out has its value at first, at the address 1
 pub record Says (members : Members) (plan : Plan) : Type 0 where
-  pub ack_ticks_are : ack_ticks members ≡ Ok plan.end.ack_ticks
+  pub end_is : plan.end.who ≡ A
+  pub settings_are : (setting : Key) → setting_in plan.end setting ≡ unwrap_or (given_at members setting) (first_of 1 setting)
   pub block_is : block members ≡ Ok plan.end.block
   pub check_is : check members ≡ Ok plan.check
   pub compat_is : compat members ≡ Ok plan.end.compat
-  pub embed_is : embed members ≡ Ok plan.end.embed
   pub planned : List PlannedFile
   pub files_are : files members ≡ Ok planned
   pub specs_are : plan.end.files ≡ specs_of planned
   pub words_are : plan.end.words ≡ words_of_all planned
   pub issue_is : issue members ≡ Ok plan.issue
-  pub max_enqs_are : max_enqs members ≡ Ok plan.end.max_enqs
-  pub max_naks_are : max_naks members ≡ Ok plan.end.max_naks
-  pub node_is : node members ≡ Ok plan.end.node
   pub peer_is : peer members ≡ Ok plan.peer
-  pub reply_ticks_are : reply_ticks members ≡ Ok plan.end.reply_ticks
-  pub room_is : room members ≡ Ok plan.end.room
-  pub tns_is : tns members ≡ Ok plan.end.tns
-  pub untold : HasStandards plan.end
 
 -- the text is a document with this table, of which this is the plan, and no cause stands against it
 pub record IsPlanOfText (text : List ℕ) (plan : Plan) : Type 0 where

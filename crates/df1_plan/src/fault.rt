@@ -1,7 +1,7 @@
 //! Why a document is no plan.
 ghost use Rattle.std.specs.Prelude.{◌≡◌};
 
-use crate::Key;
+use crate::PlanKey;
 use df1_base::NoMemory;
 use std::alloc::{AllocError, AllocFailed};
 use thiserror::Error;
@@ -18,7 +18,7 @@ pub enum PlanFault {
     UnknownKey,
     /// The value of this key is refused.
     #[error("key {0}")]
-    Key(Key),
+    Key(PlanKey),
     /// This entry of `file`, counted from 1, is no data file, has the number of an earlier one, or is the 257th.
     #[error("file {0}")]
     File(u32),

@@ -8,7 +8,7 @@ ghost use Rattle.df1_plan.specs.Plans.{files};
 ghost use Rattle.df1_plan.specs.Files.{HoldsItsWords, file_in as the_file, file_with as the_file_with, files_after, is_field as the_field, next_file as the_next, numbered, spec_in as the_spec, specs_of as the_specs, with_words, words_in as the_words_in, words_of_all as all_words};
 
 use crate::values::{hex_in, integer_in, kind_in, value_at};
-use crate::{Key, PlanFault};
+use crate::{PlanFault, PlanKey};
 use data_files::FileSpec;
 use df1_base::NoMemory;
 use script_parts::{Specs, WordOf, Words};
@@ -31,11 +31,11 @@ pub(crate) fn files_at(alloc: Global, table: &Table) -> Result<Items<PlannedFile
     ensures ok { IfOk result (λ planned. files (table_view table.now) ≡ Ok planned) }
     ensures refused { IfErr result (λ e. e ≢ PlanFault.NoMemory → files (table_view table.now) ≡ Err e) }
 {
-    match value_at(table, Key::File.name()) {
+    match value_at(table, PlanKey::File.name()) {
         None => Ok(Items::new(alloc)),
         Some(value) => match value.as_array() {
             Some(entries) => files_of(alloc, entries.as_slice()),
-            None => Err(PlanFault::Key(Key::File)),
+            None => Err(PlanFault::Key(PlanKey::File)),
         },
     }
 }

@@ -7,7 +7,7 @@ ghost use Rattle.df1_plan.specs.Issues.{next_payload as the_next, payloads_after
 
 use crate::plan::Payloads;
 use crate::values::{hex_in, value_at};
-use crate::{Key, PlanFault};
+use crate::{PlanFault, PlanKey};
 use df1_base::{MAX_PAYLOAD, NoMemory, REPLY};
 use script_statement::{Bytes, Items};
 use std::alloc::Global;
@@ -21,11 +21,11 @@ pub(crate) fn issue_at(alloc: Global, table: &Table) -> Result<Payloads, PlanFau
     ensures ok { IfOk result (λ payloads. issue (table_view table.now) ≡ Ok payloads) }
     ensures refused { IfErr result (λ e. e ≢ PlanFault.NoMemory → issue (table_view table.now) ≡ Err e) }
 {
-    match value_at(table, Key::Issue.name()) {
+    match value_at(table, PlanKey::Issue.name()) {
         None => Ok(Items::new(alloc)),
         Some(value) => match value.as_array() {
             Some(entries) => payloads_of(alloc, entries.as_slice()),
-            None => Err(PlanFault::Key(Key::Issue)),
+            None => Err(PlanFault::Key(PlanKey::Issue)),
         },
     }
 }

@@ -4,17 +4,12 @@
 //! | Key | Value | Left out |
 //! |---|---|---|
 //! | `check` | `"bcc"` or `"crc"` | `"bcc"` |
-//! | `embed` | boolean | `false` |
-//! | `node`, `peer` | 0 to 255 | 1, 0 |
-//! | `tns` | 0 to 65,535 | 1 |
-//! | `ack_ticks` | 1 to 1,000,000 | 10 |
-//! | `max_naks`, `max_enqs` | 0 to 255 | 3 |
-//! | `reply_ticks` | 33 to 1,000,000 | 100 |
-//! | `room` | 2 to 64 | 2 |
+//! | `peer` | 0 to 255 | 0 |
 //! | `block` | text of hexadecimal pairs, at most 244 bytes | empty |
 //! | `compat` | the number of a bit or integer file of the plan | none |
 //! | `file` | an array of tables with `number`, `type`, `count` and perhaps `words` | none |
 //! | `issue` | an array of texts of hexadecimal pairs, each a payload with its CMD | none |
+//! | a setting | of the keys that a full-duplex end has: a boolean for a switch, an integer for a number | its value at first, at the address 1 |
 //!
 //! A document that TOML refuses is told first, then a key that is none of these, then the first key in the order of
 //! their bytes whose value is refused, and last a compatibility file that isn't there or has another type.
@@ -23,14 +18,15 @@
 mod fault;
 mod files;
 mod issue;
-mod key;
 mod plan;
+mod plan_key;
 mod reading;
+mod settings;
 #[cfg(test)]
 mod tests;
 mod values;
 
 pub use fault::PlanFault;
-pub use key::Key;
 pub use plan::Plan;
+pub use plan_key::PlanKey;
 pub use reading::read_plan;

@@ -5,51 +5,43 @@ ghost use Rattle.script_statement.specs.declared.who.Who.TheVariants.{A};
 ghost use Rattle.script_statement.specs.Statements.{is_payload};
 ghost use Rattle.script_parts.specs.Playable.{IsPlanOf};
 ghost use Rattle.toml.specs.View.{table_view};
-ghost use Rattle.df1_plan.specs.Keys.{has_other, is_known as the_known, told};
-ghost use Rattle.df1_plan.specs.Values.{integer_in as the_integer};
+ghost use Rattle.df1_plan.specs.Keys.{has_other, is_known as the_known};
+ghost use Rattle.df1_plan.specs.Settings.{refused_in};
 ghost use Rattle.df1_plan.specs.Files.{HoldsItsWords, specs_of as the_specs};
-ghost use Rattle.df1_plan.specs.Plans.{IsPlanOfText, IsRefusedFor, Says, back_causes, block as the_block, check as the_check, compat as the_compat, embed as the_embed, first_cause, first_there, front_causes};
-ghost use Rattle.df1_plan.specs.Parts.{BackSays, FrontSays, plan_with};
+ghost use Rattle.df1_plan.specs.Plans.{IsPlanOfText, IsRefusedFor, Says, back_causes, block as the_block, check as the_check, compat as the_compat, entry_causes, first_cause, first_there, front_causes, peer as the_peer};
+ghost use Rattle.df1_plan.specs.Parts.{BackSays, EntriesSay, FrontSays, joined as the_plan};
 
 use crate::files::{PlannedFile, files_at, specs_of, words_of_all};
 use crate::issue::issue_at;
-use crate::key::KEYS;
 use crate::plan::Payloads;
+use crate::plan_key::{is_other, is_setting};
+use crate::settings::{before, refused_in, settings_of};
 use crate::values::{check_in, hex_in, integer_in, value_at};
-use crate::{Key, Plan, PlanFault};
+use crate::{Plan, PlanFault, PlanKey};
 use df1_base::MAX_DATA;
 use df1_check::Check;
+use end_settings::{Key, Settings};
 use script_parts::EndPlan;
 use script_statement::{Bytes, Items, Who};
 use std::alloc::Global;
 use toml::{Table, Value};
 
-/// Sendings again of a master's message, and sendings of a slave's: no plan tells them.
-const TRIES: u32 = 3;
+/// The address of a plan's end where none is told.
+const ADDRESS: u8 = 1;
 
-/// Ticks until a poll counts as not answered: no plan tells them.
-const POLL_TICKS: u32 = 10;
-
-/// The values of the keys before `file`.
+/// The values of the keys before `file` that are no settings.
 #[derive(Drop)]
 struct Front {
-    ack_ticks: u32,
     block: Bytes,
     check: Check,
     compat: Option<u16>,
-    embed: bool,
 }
 
-/// The values of the keys after `issue`.
-#[derive(Clone, Copy)]
-struct Back {
-    max_enqs: u32,
-    max_naks: u32,
-    node: u8,
-    peer: u8,
-    reply_ticks: u32,
-    room: usize,
-    tns: u16,
+/// The files and the commands.
+#[derive(Drop)]
+struct Entries {
+    files: Items<PlannedFile>,
+    issue: Payloads,
 }
 
 /// Reads a plan, or tells the first cause why the document is none.
@@ -73,14 +65,14 @@ fn plan_in(alloc: Global, table: &Table) -> Result<Plan, PlanFault>
     if has_other_key(table) {
         return Err(PlanFault::UnknownKey);
     }
-    let front = front_of(alloc, table)?;
-    let files = files_at(alloc, table)?;
-    let issue = issue_at(alloc, table)?;
-    let back = back_of(table)?;
-    if !fits_compat(files.as_slice(), front.compat) {
-        return Err(PlanFault::Key(Key::Compat));
+    let refused = refused_in(table);
+    let front = front_of(alloc, table, refused)?;
+    let entries = entries_of(alloc, table, refused)?;
+    let peer = back_of(table, refused)?;
+    if !fits_compat(entries.files.as_slice(), front.compat) {
+        return Err(PlanFault::Key(PlanKey::Compat));
     }
-    joined(alloc, front, files.as_slice(), issue, back)
+    joined(alloc, &settings_of(table), front, entries, peer)
 }
 
 /// Whether a key has a name that is none of a plan's.
@@ -99,64 +91,65 @@ fn has_other_key(table: &Table) -> bool
 fn is_known(name: &str) -> bool
     ensures { result ≡ the_known name.now }
 {
-    KEYS.iter().any(|key| name == key.name())
+    is_setting(name) || is_other(name)
 }
 
-/// The values of the keys before `file`.
-fn front_of(alloc: Global, table: &Table) -> Result<Front, PlanFault>
+/// The values of the keys before `file`, where neither they nor settings before it are refused.
+fn front_of(alloc: Global, table: &Table, refused: Option<Key>) -> Result<Front, PlanFault>
+    requires { refused ≡ refused_in (table_view table.now) }
     ensures ok { IfOk result (FrontSays (table_view table.now)) }
     ensures refused { IfErr result (λ e. e ≢ PlanFault.NoMemory → first_there (front_causes (table_view table.now)) ≡ Some e) }
 {
-    let ack_ticks = integer_at(table, Key::AckTicks, 1, 1_000_000, 10)?;
+    before(PlanKey::Block, refused)?;
     let block = block_at(alloc, table)?;
+    before(PlanKey::Check, refused)?;
     let check = check_at(table)?;
+    before(PlanKey::Compat, refused)?;
     let compat = compat_at(table)?;
-    let embed = embed_at(table)?;
     Ok(Front {
-        ack_ticks,
         block,
         check,
         compat,
-        embed,
     })
 }
 
-/// The values of the keys after `issue`.
-fn back_of(table: &Table) -> Result<Back, PlanFault>
+/// The files and the commands, where neither they nor settings before them are refused.
+fn entries_of(alloc: Global, table: &Table, refused: Option<Key>) -> Result<Entries, PlanFault>
+    requires { refused ≡ refused_in (table_view table.now) }
+    ensures ok { IfOk result (EntriesSay (table_view table.now)) }
+    ensures refused { IfErr result (λ e. e ≢ PlanFault.NoMemory → first_there (entry_causes (table_view table.now)) ≡ Some e) }
+{
+    before(PlanKey::File, refused)?;
+    let files = files_at(alloc, table)?;
+    before(PlanKey::Issue, refused)?;
+    let issue = issue_at(alloc, table)?;
+    Ok(Entries { files, issue })
+}
+
+/// The address at the key `peer`, where neither it nor a setting is refused.
+fn back_of(table: &Table, refused: Option<Key>) -> Result<u8, PlanFault>
+    requires { refused ≡ refused_in (table_view table.now) }
     ensures ok { IfOk result (BackSays (table_view table.now)) }
     ensures refused { IfErr result (λ e. first_there (back_causes (table_view table.now)) ≡ Some e) }
 {
-    let max_enqs = integer_at(table, Key::MaxEnqs, 0, 255, 3)?;
-    let max_naks = integer_at(table, Key::MaxNaks, 0, 255, 3)?;
-    let node = integer_at(table, Key::Node, 0, 255, 1)?;
-    let peer = integer_at(table, Key::Peer, 0, 255, 0)?;
-    let reply_ticks = integer_at(table, Key::ReplyTicks, 33, 1_000_000, 100)?;
-    let room = integer_at(table, Key::Room, 2, 64, 2)?;
-    let tns = integer_at(table, Key::Tns, 0, 65_535, 1)?;
-    Ok(Back {
-        max_enqs,
-        max_naks,
-        node: node as u8,
-        peer: peer as u8,
-        reply_ticks,
-        room: room as usize,
-        tns: tns as u16,
-    })
+    before(PlanKey::Peer, refused)?;
+    let peer = peer_at(table)?;
+    match refused {
+        Some(key) => Err(PlanFault::Key(PlanKey::Setting(key))),
+        None => Ok(peer),
+    }
 }
 
-/// The integer at a key, from `least` to `most`, or `standard` where it is left out.
-fn integer_at(
-    table: &Table,
-    key: Key,
-    least: u32,
-    most: u32,
-    standard: u32,
-) -> Result<u32, PlanFault>
-    ensures { result ≡ told key (the_integer least most) standard (table_view table.now) }
+/// The address to which the commands go, 0 where it is left out.
+fn peer_at(table: &Table) -> Result<u8, PlanFault>
+    ensures { result ≡ the_peer (table_view table.now) }
 {
-    match value_at(table, key.name()) {
-        None => Ok(standard),
-        Some(value) => integer_in(value, least, most).ok_or(PlanFault::Key(key)),
+    match value_at(table, PlanKey::Peer.name()) {
+        None => Ok(0),
+        Some(value) => match integer_in(value, 0, 255) {
+            Some(address) => Ok(address as u8),
+            None => Err(PlanFault::Key(PlanKey::Peer)),
+        },
     }
 }
 
@@ -165,11 +158,11 @@ fn block_at(alloc: Global, table: &Table) -> Result<Bytes, PlanFault>
     ensures ok { IfOk result (λ bytes. the_block (table_view table.now) ≡ Ok bytes) }
     ensures refused { IfErr result (λ e. e ≢ PlanFault.NoMemory → the_block (table_view table.now) ≡ Err e) }
 {
-    match value_at(table, Key::Block.name()) {
+    match value_at(table, PlanKey::Block.name()) {
         None => Ok(Items::new(alloc)),
         Some(value) => match hex_in(alloc, value)? {
             Some(bytes) if bytes.as_slice().len() <= MAX_DATA => Ok(bytes),
-            _ => Err(PlanFault::Key(Key::Block)),
+            _ => Err(PlanFault::Key(PlanKey::Block)),
         },
     }
 }
@@ -178,9 +171,9 @@ fn block_at(alloc: Global, table: &Table) -> Result<Bytes, PlanFault>
 fn check_at(table: &Table) -> Result<Check, PlanFault>
     ensures { result ≡ the_check (table_view table.now) }
 {
-    match value_at(table, Key::Check.name()) {
+    match value_at(table, PlanKey::Check.name()) {
         None => Ok(Check::Bcc),
-        Some(value) => check_in(value).ok_or(PlanFault::Key(Key::Check)),
+        Some(value) => check_in(value).ok_or(PlanFault::Key(PlanKey::Check)),
     }
 }
 
@@ -188,22 +181,12 @@ fn check_at(table: &Table) -> Result<Check, PlanFault>
 fn compat_at(table: &Table) -> Result<Option<u16>, PlanFault>
     ensures { result ≡ the_compat (table_view table.now) }
 {
-    match value_at(table, Key::Compat.name()) {
+    match value_at(table, PlanKey::Compat.name()) {
         None => Ok(None),
         Some(value) => match integer_in(value, 0, 999) {
             Some(number) => Ok(Some(number as u16)),
-            None => Err(PlanFault::Key(Key::Compat)),
+            None => Err(PlanFault::Key(PlanKey::Compat)),
         },
-    }
-}
-
-/// Whether responses may stand inside frames, which they may not where it is left out.
-fn embed_at(table: &Table) -> Result<bool, PlanFault>
-    ensures { result ≡ the_embed (table_view table.now) }
-{
-    match value_at(table, Key::Embed.name()) {
-        None => Ok(false),
-        Some(value) => value.as_bool().ok_or(PlanFault::Key(Key::Embed)),
     }
 }
 
@@ -222,40 +205,33 @@ fn fits_compat(files: &[PlannedFile], compat: Option<u16>) -> bool
     false
 }
 
-/// The plan of these values.
+/// The plan of these settings and values.
 fn joined(
     alloc: Global,
+    settings: &Settings,
     front: Front,
-    files: &[PlannedFile],
-    issue: Payloads,
-    back: Back,
+    entries: Entries,
+    peer: u8,
 ) -> Result<Plan, PlanFault>
-    requires { All HoldsItsWords files.now }
-    ensures ok { IfOk result (λ plan. plan ≡ plan_with front files.now issue back) }
+    requires { All HoldsItsWords entries.files }
+    ensures ok { IfOk result (λ plan. plan ≡ the_plan settings.now front entries.files entries.issue peer) }
     ensures memory { IfErr result (λ e. e ≡ PlanFault.NoMemory) }
 {
-    let end = EndPlan {
-        who: Who::A,
-        embed: front.embed,
-        node: back.node,
-        tns: back.tns,
-        ack_ticks: front.ack_ticks,
-        max_naks: back.max_naks,
-        max_enqs: back.max_enqs,
-        reply_ticks: back.reply_ticks,
-        max_resends: TRIES,
-        poll_ticks: POLL_TICKS,
-        max_sends: TRIES,
-        room: back.room,
-        compat: front.compat,
-        block: front.block,
-        files: specs_of(alloc, files)?,
-        words: words_of_all(alloc, files)?,
-    };
+    let files = specs_of(alloc, entries.files.as_slice())?;
+    let words = words_of_all(alloc, entries.files.as_slice())?;
+    let end = EndPlan::new(
+        Who::A,
+        ADDRESS,
+        settings,
+        front.compat,
+        front.block,
+        files,
+        words,
+    );
     Ok(Plan {
         check: front.check,
-        peer: back.peer,
+        peer,
         end,
-        issue,
+        issue: entries.issue,
     })
 }

@@ -2,10 +2,11 @@
 ghost use Rattle.std.specs.Prelude.{◌≡◌, IfOk, option_map};
 ghost use Rattle.toml.specs.Data.{get_member};
 ghost use Rattle.toml.specs.View.{table_view, view};
-ghost use Rattle.df1_plan.specs.Values.{check_in as the_check, hex_in as the_bytes, integer_in as the_integer, kind_in as the_kind};
+ghost use Rattle.df1_plan.specs.Values.{check_in as the_check, hex_in as the_bytes, integer_in as the_integer, kind_in as the_kind, value_in as the_value};
 
 use df1_base::{FileType, NoMemory};
 use df1_check::Check;
+use end_settings::Values;
 use hex::FromHexError;
 use script_statement::{Bytes, Items};
 use std::alloc::Global;
@@ -27,6 +28,16 @@ pub(crate) fn integer_in(value: &Value, least: u32, most: u32) -> Option<u32>
         Some(number as u32)
     } else {
         None
+    }
+}
+
+/// The value of a setting: a boolean tells a switch, an integer a number.
+pub(crate) fn value_in(value: &Value, values: Values) -> Option<u32>
+    ensures { result ≡ the_value values (view value.now) }
+{
+    match values {
+        Values::Switch => value.as_bool().map(u32::from),
+        Values::Number { least, most } => integer_in(value, least, most),
     }
 }
 

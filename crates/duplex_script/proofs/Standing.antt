@@ -19,7 +19,7 @@ use Rattle.script_statement.specs.declared.statement.Statement.TheVariants as st
 use Rattle.script_statement.specs.declared.statement.Statement.TheVariants.{Mode, Check, Setup, Issue, Times, Alter, Foreign, Half, End}
 use Rattle.end_drafts.specs.declared.flaw.Flaw.{Flaw}
 use Rattle.end_drafts.specs.declared.flaw.Flaw.TheVariants as flaw
-use Rattle.end_drafts.specs.declared.role.Role.TheVariants.{Duplex}
+use Rattle.end_settings.specs.declared.row.Role.TheVariants.{Duplex}
 use Rattle.end_drafts.specs.declared.stage.Stage.TheVariants.{Events}
 use Rattle.end_drafts.specs.Flaws.{first_of, unless_wrong}
 use Rattle.end_drafts.specs.Stages.{is_fresh}
@@ -199,7 +199,7 @@ next_of d events s h sound = unless d events s (flaw_of d s) refl h sound
 pub closes : (d : DuplexReader) (events : List Event) → Stands d events → IsPlayable (script_with d events)
 closes d events h = record {
   mode = refl;
-  ends = (plan_is_right who.A 0 d.a h.a, plan_is_right who.B 1 d.b h.b);
+  ends = (plan_is_right who.A 0 d.a (omega arith) h.a, plan_is_right who.B 1 d.b (omega arith) h.b);
   events = h.possible;
   commands_of_a = let sum = h.commands_of_a in omega arith;
   commands_of_b = let sum = h.commands_of_b in omega arith;

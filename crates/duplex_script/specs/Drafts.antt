@@ -3,7 +3,7 @@ use Rattle.std.specs.Prelude.{ℕ, ◌-◌, Bool, true, false, List, [], ◌∷�
 use Rattle.end_drafts.specs.declared.end_draft.EndDraft.{EndDraft}
 use Rattle.end_drafts.specs.declared.flaw.Flaw.{Flaw}
 use Rattle.end_drafts.specs.declared.flaw.Flaw.TheVariants as flaw
-use Rattle.end_drafts.specs.declared.role.Role.TheVariants.{Duplex}
+use Rattle.end_settings.specs.declared.row.Role.TheVariants.{Duplex}
 use Rattle.end_drafts.specs.declared.stage.Stage.{Stage}
 use Rattle.end_drafts.specs.declared.stage.Stage.TheVariants.{Fresh}
 use Rattle.end_drafts.specs.Drafts.{fresh_end, node_of, plan_of, lacks, exceeds, repeats, with_line}

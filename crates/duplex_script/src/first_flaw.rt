@@ -3,7 +3,8 @@ ghost use Rattle.std.specs.Prelude.{◌≡◌};
 ghost use Rattle.duplex_script.specs.Drafts.{flaw_of as the_flaw, is_misplaced as the_misplaced, is_missing as the_missing, is_out_of_range as the_range_test, is_twice as the_twice, is_spent as the_spent, steps_of as the_steps};
 
 use crate::DuplexReader;
-use end_drafts::{Flaw, Role, Stage};
+use end_drafts::{Flaw, Stage};
+use end_settings::Role;
 use script_statement::{EndName, Statement};
 
 impl DuplexReader {

@@ -1,14 +1,13 @@
 -- A statement has its values within their ranges.
-use Rattle.std.proofs.Common.{◌≡◌, ℕ, ◌<◌, Bool, true, false, List, [], ◌∷◌, length, position, take, drop, Option, Some, None, option_map, arith, nat_le, nat_lt, eqb}
+use Rattle.std.proofs.Common.{◌≡◌, ℕ, ◌+◌, ◌<◌, Bool, true, false, List, [], ◌∷◌, length, position, take, drop, Option, Some, None, option_map, arith, nat_le, nat_lt, eqb}
 use Rattle.std.specs.Prelude.{IsTrue, ◌&&◌, ◌||◌, codes, if◌then◌else◌}
 use Rattle.std.specs.Str.{bytes_eq}
 use Rattle.std.proofs.lemmas.Bool.{cond_both}
 use Rattle.std.proofs.lemmas.Bool.Decides.{nat_tests}
 use Rattle.df1_base.specs.declared.file_type.FileType.{FileType}
-use Rattle.script_statement.specs.declared.setup_statement.Setting.{Setting}
-use Rattle.script_statement.specs.declared.setup_statement.Setting.TheVariants.{Embed, Node, Tns, AckTicks, MaxNaks, MaxEnqs, ReplyTicks, MaxResends, PollTicks, MaxSends, Room}
+use Rattle.end_settings.specs.declared.settings.Setting.{Setting}
 use Rattle.script_statement.specs.declared.setup_statement.SetupStatement.{SetupStatement}
-use Rattle.script_statement.specs.declared.setup_statement.SetupStatement.TheVariants.{Set, Block, File}
+use Rattle.script_statement.specs.declared.setup_statement.SetupStatement.TheVariants.{Block, File}
 use Rattle.script_statement.specs.declared.half_event.Way.{Way}
 use Rattle.script_statement.specs.declared.half_event.Way.TheVariants.{ToStation, ToMaster}
 use Rattle.script_statement.specs.declared.half_event.HalfEvent.{HalfEvent}
@@ -22,28 +21,14 @@ use Rattle.script_statement.specs.declared.statement.Statement.TheVariants as st
 use Rattle.script_parts.specs.Playable.{IsBetween}
 use Rattle.script_parts.specs.HalfPlayable.{IsStationNumber}
 use Rattle.script_statement.specs.Words.{number_of, within, hex_of, byte_of, register_of}
-use Rattle.script_statement.specs.Statements.{statement_of, end_of, switch_of, check_of, setting_of, set_statement, file_number, compat_line, is_block, block_of, block_line, setting_at, end_setting, set_line, file_type, file_spec, file_line, word_line, station_number, station_line, times_of, is_payload, payload_of, mask_of, foreign_of, verb_of, times_line, issue_line, alter_line, foreign_line, half_issue, master_take, master_tick, station_take, half_deliver, half_lose, half_alter, half_foreign, way_event, way_once, master_times, once_to_station, master_event, to_station, station_once, station_event, half_line, end_in, letter_in, event_alone, event_with, event_to, bare_event, operand_event, station_operand_event, one_word, two_words, three_words, five_words}
+use Rattle.script_statement.specs.Statements.{statement_of, end_of, check_of, setting_of, set_statement, file_number, compat_line, is_block, block_of, block_line, setting_at, end_setting, set_line, file_type, file_spec, file_line, word_line, station_number, station_line, times_of, is_payload, payload_of, mask_of, foreign_of, verb_of, times_line, issue_line, alter_line, foreign_line, half_issue, master_take, master_tick, station_take, half_deliver, half_lose, half_alter, half_foreign, way_event, way_once, master_times, once_to_station, master_event, to_station, station_once, station_event, half_line, end_in, letter_in, event_alone, event_with, event_to, bare_event, operand_event, station_operand_event, one_word, two_words, three_words, five_words}
 
 -- a number within bounds, if there is one
 abbrev pub IfBetween : ℕ → ℕ → Option ℕ → Type 0
 IfBetween least most None = Unit {0}
 IfBetween least most (Some n) = IsBetween least most n
 
-abbrev pub IsAllowed : Setting → Type 0
-IsAllowed (Embed b) = Unit {0}
-IsAllowed (Node n) = Unit {0}
-IsAllowed (Tns n) = Unit {0}
-IsAllowed (AckTicks n) = IfBetween 1 1000000 n
-IsAllowed (MaxNaks n) = IfBetween 0 255 n
-IsAllowed (MaxEnqs n) = IfBetween 0 255 n
-IsAllowed (ReplyTicks n) = IfBetween 33 1000000 n
-IsAllowed (MaxResends n) = IfBetween 0 255 n
-IsAllowed (PollTicks n) = IfBetween 1 1000000 n
-IsAllowed (MaxSends n) = IfBetween 1 255 n
-IsAllowed (Room n) = IfBetween 2 64 n
-
 abbrev pub IsSoundLine : SetupStatement → Type 0
-IsSoundLine (Set setting) = IsAllowed setting
 IsSoundLine (Block (Some bytes)) = IsBetween 1 244 (length bytes)
 IsSoundLine (File (Some spec)) = IsBetween 1 1000 spec.count
 IsSoundLine other = Unit {0}
@@ -83,10 +68,6 @@ abbrev IfSoundEvent : Option HalfEvent → Type 0
 IfSoundEvent None = Unit {0}
 IfSoundEvent (Some event) = IsSoundEvent event
 
-abbrev IfAllowed : Option Setting → Type 0
-IfAllowed None = Unit {0}
-IfAllowed (Some s) = IsAllowed s
-
 bounds : (least most n : ℕ) → (nat_le least n && nat_le n most) ≡ true → IsBetween least most n
 bounds least most n e = (grind (arith, nat_tests), grind (arith, nat_tests))
 
@@ -94,42 +75,10 @@ pub IfBetween-within : (least most : ℕ) (o : Option ℕ) → IfBetween least m
 IfBetween-within least most None = tt
 IfBetween-within least most (Some n) = cond_both (nat_le least n && nat_le n most) (Some n) None (IfBetween least most) (bounds least most n) (λ _. tt)
 
--- the table of settings, with what each test answers
-settings : (embed node tns ack_ticks max_naks max_enqs reply_ticks max_resends poll_ticks max_sends room : Bool) (value : List ℕ) → IfAllowed (
-    if embed then Some (Embed (switch_of value))
-    else if node then Some (Node (within 0 255 (number_of value)))
-    else if tns then Some (Tns (within 0 65535 (number_of value)))
-    else if ack_ticks then Some (AckTicks (within 1 1000000 (number_of value)))
-    else if max_naks then Some (MaxNaks (within 0 255 (number_of value)))
-    else if max_enqs then Some (MaxEnqs (within 0 255 (number_of value)))
-    else if reply_ticks then Some (ReplyTicks (within 33 1000000 (number_of value)))
-    else if max_resends then Some (MaxResends (within 0 255 (number_of value)))
-    else if poll_ticks then Some (PollTicks (within 1 1000000 (number_of value)))
-    else if max_sends then Some (MaxSends (within 1 255 (number_of value)))
-    else if room then Some (Room (within 2 64 (number_of value)))
-    else None)
-settings true b c d e f g h i j k value = tt
-settings false true c d e f g h i j k value = tt
-settings false false true d e f g h i j k value = tt
-settings false false false true e f g h i j k value = IfBetween-within 1 1000000 (number_of value)
-settings false false false false true f g h i j k value = IfBetween-within 0 255 (number_of value)
-settings false false false false false true g h i j k value = IfBetween-within 0 255 (number_of value)
-settings false false false false false false true h i j k value = IfBetween-within 33 1000000 (number_of value)
-settings false false false false false false false true i j k value = IfBetween-within 0 255 (number_of value)
-settings false false false false false false false false true j k value = IfBetween-within 1 1000000 (number_of value)
-settings false false false false false false false false false true k value = IfBetween-within 1 255 (number_of value)
-settings false false false false false false false false false false true value = IfBetween-within 2 64 (number_of value)
-settings false false false false false false false false false false false value = tt
-
-IfAllowed-setting_of : (name value : List ℕ) → IfAllowed (setting_of name value)
-IfAllowed-setting_of name value =
-    let is : List ℕ → Bool = bytes_eq name in
-    settings (is (codes ".embed")) (is (codes ".node")) (is (codes ".tns")) (is (codes ".ack_ticks")) (is (codes ".max_naks")) (is (codes ".max_enqs")) (is (codes ".reply_ticks")) (is (codes ".max_resends")) (is (codes ".poll_ticks")) (is (codes ".max_sends")) (is (codes ".room")) value
-
-sound_setting : (end : Option EndName) (s : Option Setting) → IfAllowed s → IfSound (set_statement end s)
-sound_setting None s h = tt
-sound_setting (Some end) None h = tt
-sound_setting (Some end) (Some s) h = h
+sound_setting : (end : Option EndName) (s : Option Setting) → IfSound (set_statement end s)
+sound_setting None s = tt
+sound_setting (Some end) None = tt
+sound_setting (Some end) (Some s) = tt
 
 sound_compat_line : (end : Option EndName) (file : Option (Option ℕ)) → IfSound (compat_line end file)
 sound_compat_line None file = tt
@@ -149,12 +98,12 @@ named : (compat block : Bool) (end : Option EndName) (name value : List ℕ) →
     else set_statement end (setting_of name value))
 named true block end name value = sound_compat_line end (file_number value)
 named false true end name value = sound_block_line end (hex_of value)
-named false false end name value = sound_setting end (setting_of name value) (IfAllowed-setting_of name value)
+named false false end name value = sound_setting end (setting_of name value)
 
 sound_setting_at : (key value : List ℕ) (o : Option ℕ) → IfSound (setting_at key value o)
 sound_setting_at key value None = tt
 sound_setting_at key value (Some stop) =
-    named (bytes_eq (drop stop key) (codes ".compat")) (bytes_eq (drop stop key) (codes ".block")) (end_of (take stop key)) (drop stop key) value
+    named (bytes_eq (drop (stop + 1) key) (codes "compat")) (bytes_eq (drop (stop + 1) key) (codes "block")) (end_of (take stop key)) (drop (stop + 1) key) value
 
 set_lines : (mode full half check : Bool) (key value : List ℕ) → IfSound (
     if mode then (if full then Some (statement.Mode false) else if half then Some (statement.Mode true) else None)

@@ -7,31 +7,15 @@ ghost use Rattle.end_drafts.specs.Flaws.{IsFlawed};
 use crate::flaw::{Flaw, StatementFault};
 use crate::given_files::GivenFiles;
 use crate::given_words::GivenWords;
-use crate::role::Role;
-use crate::settings::{Settings, is_outside};
 use data_files::{FileSpec, MAX_FILES};
 use df1_base::NoMemory;
+use end_settings::{Key, Role, Settings};
 use script_parts::{EndPlan, WordOf};
 use script_statement::{Bytes, Items, SetupStatement, Who};
 use std::alloc::Global;
 
 /// The most commands of an end.
 const COMMANDS: u32 = 65_535;
-
-/// Ticks until a missing response is asked for or counts as missing, where no line sets them.
-const ACK_TICKS: u32 = 10;
-
-/// Ticks until a command counts as unanswered, where no line sets them.
-const REPLY_TICKS: u32 = 100;
-
-/// Ticks until a poll counts as not answered, where no line sets them.
-const POLL_TICKS: u32 = 10;
-
-/// NAKs, ENQs and sendings after which a message is given up, where no line sets them.
-const TRIES: u32 = 3;
-
-/// Replies that may wait, where no line sets them.
-const ROOM: usize = 2;
 
 /// What is known of an end.
 #[derive(Drop)]
@@ -65,7 +49,7 @@ impl EndDraft {
         ensures { result ≡ the_lacks role self.now line.now }
     {
         match line {
-            SetupStatement::Set(setting) => !role.has_key(*setting),
+            SetupStatement::Set(setting) => !setting.key.roles().has(role),
             SetupStatement::Compat(Some(file)) | SetupStatement::Word { file, .. } => {
                 self.declared(*file).is_none()
             }
@@ -80,7 +64,7 @@ impl EndDraft {
         ensures { result ≡ the_exceeds self.now line.now }
     {
         match line {
-            SetupStatement::Set(setting) => is_outside(*setting),
+            SetupStatement::Set(setting) => setting.value.is_none(),
             SetupStatement::Compat(None) => true,
             SetupStatement::Compat(Some(file)) => match self.declared(*file) {
                 Some(spec) => !spec.holds_words(),
@@ -100,7 +84,7 @@ impl EndDraft {
         ensures { result ≡ the_repeats self.now line.now }
     {
         match line {
-            SetupStatement::Set(setting) => self.settings.is_given(*setting),
+            SetupStatement::Set(setting) => self.settings.value(setting.key).is_some(),
             SetupStatement::Compat(_) => self.compat.is_some(),
             SetupStatement::Block(_) => self.block.is_some(),
             SetupStatement::File(Some(spec)) => self.files.has(spec.number),
@@ -167,7 +151,7 @@ impl EndDraft {
     pub fn node(&self, standard: u8) -> u8
         ensures { result ≡ the_node self.now standard }
     {
-        self.settings.node.unwrap_or(standard)
+        self.settings.chosen(Key::Node, standard) as u8
     }
 
     /// The declared file that a line names.
@@ -181,28 +165,18 @@ impl EndDraft {
     pub fn plan(&self, alloc: Global, who: Who, standard: u8) -> Result<EndPlan, NoMemory>
         ensures { IfOk result (λ plan. plan ≡ the_plan who standard self.now) }
     {
-        let settings = self.settings;
         let block = block_of(alloc, &self.block)?;
         let files = self.files.copied(alloc)?;
         let words = self.words.copied(alloc)?;
-        Ok(EndPlan {
+        Ok(EndPlan::new(
             who,
-            embed: settings.embed.unwrap_or(false),
-            node: settings.node.unwrap_or(standard),
-            tns: settings.tns.unwrap_or(1),
-            ack_ticks: settings.ack_ticks.unwrap_or(ACK_TICKS),
-            max_naks: settings.max_naks.unwrap_or(TRIES),
-            max_enqs: settings.max_enqs.unwrap_or(TRIES),
-            reply_ticks: settings.reply_ticks.unwrap_or(REPLY_TICKS),
-            max_resends: settings.max_resends.unwrap_or(TRIES),
-            poll_ticks: settings.poll_ticks.unwrap_or(POLL_TICKS),
-            max_sends: settings.max_sends.unwrap_or(TRIES),
-            room: settings.room.unwrap_or(ROOM),
-            compat: self.compat,
+            standard,
+            &self.settings,
+            self.compat,
             block,
             files,
             words,
-        })
+        ))
     }
 }
 

@@ -7,14 +7,10 @@ mod flaw;
 mod given_files;
 mod given_places;
 mod given_words;
-mod role;
-mod settings;
 mod stage;
 
 pub use end_draft::EndDraft;
 pub use flaw::{Flaw, StatementFault};
 pub use given_files::GivenFiles;
 pub use given_words::GivenWords;
-pub use role::Role;
-pub use settings::Settings;
 pub use stage::Stage;

@@ -9,7 +9,9 @@ use Rattle.std.proofs.lemmas.List.Elements.{All-get_or, All-head, All-map, All-n
 use Rattle.std.proofs.lemmas.List.Sums.{sum_by-append}
 use Rattle.end_drafts.specs.declared.flaw.Flaw.{Flaw}
 use Rattle.end_drafts.specs.declared.flaw.Flaw.TheVariants as flaw
-use Rattle.end_drafts.specs.declared.role.Role.TheVariants as role
+use Rattle.end_settings.specs.declared.key.Key.TheVariants.{Node}
+use Rattle.end_settings.specs.declared.row.Role.TheVariants as role
+use Rattle.end_settings.specs.Given.{chosen, value_of}
 use Rattle.end_drafts.specs.declared.stage.Stage.{Stage}
 use Rattle.end_drafts.specs.declared.stage.Stage.TheVariants.{Fresh, Settings, Events, Ended}
 use Rattle.end_drafts.specs.Drafts.{lacks, exceeds, repeats}
@@ -42,7 +44,7 @@ use Rattle.half_script.proofs.Places.{found_in, same_numbers}
 
 pub record IsRightStation (s : StationDraft) : Type 0 where
   pub end : IsRight s.end
-  pub node : s.end.settings.node ≡ None
+  pub node : value_of s.end.settings Node ≡ None
   pub number : IsStationNumber s.number
 
 -- the stations and their numbers after a line of one
@@ -323,13 +325,13 @@ if_ok (Ok read) P Q weaker h = weaker read h
 
 plan_of_station : (s : StationDraft) → IsRightStation s → IsStationPlan (station_plan s)
 plan_of_station s h =
-    let node : unwrap_or s.end.settings.node s.number ≡ s.number = ap (λ o. unwrap_or o s.number) h.node in
-    subst (λ n. IsPlanOf (S n) (station_plan s)) (sym node) (plan_is_right (S s.number) s.number s.end h.end)
+    let node : chosen s.end.settings s.number Node ≡ s.number = ap (λ o. unwrap_or o s.number) h.node in
+    subst (λ n. IsPlanOf (S n) (station_plan s)) (sym node) (plan_is_right (S s.number) s.number s.end (let few = h.number.1 in omega (arith, few)) h.end)
 
 same_nodes : (stations : List StationDraft) → All IsRightStation stations → map (λ (plan : EndPlan). plan.node) (plans_of stations) ≡ numbers_in stations
 same_nodes [] h = refl
 same_nodes (s ∷ stations) h =
-    let node : unwrap_or s.end.settings.node s.number ≡ s.number = ap (λ o. unwrap_or o s.number) (All-head IsRightStation s stations h).node in
+    let node : chosen s.end.settings s.number Node ≡ s.number = ap (λ o. unwrap_or o s.number) (All-head IsRightStation s stations h).node in
     ap (λ n. n ∷ map (λ (plan : EndPlan). plan.node) (plans_of stations)) node ∙ ap (λ ns. s.number ∷ ns) (same_nodes stations (All-tail IsRightStation s stations h))
 
 pub closes : (d : HalfReader) (events : List Event) → Stands d events → IsHalfPlayable (script_with d events)
@@ -339,7 +341,7 @@ closes d events h =
     record {
       mode = refl;
       ends = (
-        plan_is_right M 0 d.master h.master,
+        plan_is_right M 0 d.master (omega arith) h.master,
         All-map IsStationPlan station_plan d.stations (All-weaker IsRightStation (λ s. IsStationPlan (station_plan s)) plan_of_station d.stations h.stations),
         subst AreStationNumbers (sym same) (record {
           at_most = let few = h.at_most in omega (arith, size, few);

@@ -5,8 +5,8 @@ use Rattle.df1_check.specs.declared.Check.TheVariants.{Bcc}
 use Rattle.end_drafts.specs.declared.end_draft.EndDraft.{EndDraft}
 use Rattle.end_drafts.specs.declared.flaw.Flaw.{Flaw}
 use Rattle.end_drafts.specs.declared.flaw.Flaw.TheVariants as flaw
-use Rattle.end_drafts.specs.declared.role.Role.{Role}
-use Rattle.end_drafts.specs.declared.role.Role.TheVariants as role
+use Rattle.end_settings.specs.declared.row.Role.{Role}
+use Rattle.end_settings.specs.declared.row.Role.TheVariants as role
 use Rattle.end_drafts.specs.declared.stage.Stage.{Stage}
 use Rattle.end_drafts.specs.declared.stage.Stage.TheVariants.{Settings}
 use Rattle.end_drafts.specs.Drafts.{fresh_end, plan_of, lacks, exceeds, repeats, with_line}

@@ -5,7 +5,8 @@ ghost use Rattle.half_script.specs.Drafts.{event_steps as the_event_steps, flaw_
 
 use crate::HalfReader;
 use crate::stations::STATIONS;
-use end_drafts::{Flaw, Role, Stage};
+use end_drafts::{Flaw, Stage};
+use end_settings::Role;
 use script_statement::{EndName, HalfEvent, Statement, Way};
 
 impl HalfReader {

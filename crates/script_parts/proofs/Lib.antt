@@ -1,1 +1,2 @@
 pub mod MoreFiles
+pub mod PlanSettings

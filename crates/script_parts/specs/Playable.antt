@@ -1,6 +1,9 @@
 -- Scripts whose events can happen: what a script meets that was read.
 use Rattle.std.specs.Prelude.{◌≡◌, ℕ, ◌<◌, ◌≤◌, Bool, true, false, List, [], ◌∷◌, length, count_by, sum_by, All, None, IsTrue}
 use Rattle.data_files.specs.Tables.{faults, fits_compat, has_word}
+use Rattle.end_settings.specs.declared.key.Key.{Key}
+use Rattle.end_settings.specs.Rows.{Fits}
+use Rattle.end_settings.specs.Table.{row_of}
 use Rattle.script_statement.specs.declared.who.Who.{Who}
 use Rattle.script_statement.specs.declared.who.Who.TheVariants.{A, B}
 use Rattle.script_parts.specs.declared.script.Lane.{Lane}
@@ -9,25 +12,19 @@ use Rattle.script_parts.specs.declared.script.Event.TheVariants.{Issue, Take, De
 use Rattle.script_parts.specs.declared.script.EndPlan.{EndPlan}
 use Rattle.script_parts.specs.declared.script.Script.{Script}
 use Rattle.script_statement.specs.Statements.{is_payload}
+use Rattle.script_parts.specs.Plans.{setting_in}
 
 -- a number within bounds
 abbrev pub IsBetween : ℕ → ℕ → ℕ → Type 0
 IsBetween least most n = (least ≤ n) × (n ≤ most)
 
--- the plan of an end of a full-duplex link: files such as data tables may have, words within them, one of them as the
--- compatibility file, if there is one, and settings in their ranges
+-- the plan of an end of a line: files such as data tables may have, words within them, one of them as the compatibility
+-- file, if there is one, and of each key a value that it may have
 pub record IsPlanOf (who : Who) (plan : EndPlan) : Type 0 where
   pub end : plan.who ≡ who
   pub files : faults plan.files ≡ None
   pub words : All (λ w. IsTrue (has_word plan.files w.file w.index)) plan.words
-  pub ack_ticks : IsBetween 1 1000000 plan.ack_ticks
-  pub max_naks : plan.max_naks ≤ 255
-  pub max_enqs : plan.max_enqs ≤ 255
-  pub reply_ticks : IsBetween 33 1000000 plan.reply_ticks
-  pub max_resends : plan.max_resends ≤ 255
-  pub poll_ticks : IsBetween 1 1000000 plan.poll_ticks
-  pub max_sends : IsBetween 1 255 plan.max_sends
-  pub room : IsBetween 2 64 plan.room
+  pub settings : (key : Key) → Fits (row_of key).values (setting_in plan key)
   pub compat : IsTrue (fits_compat plan.files plan.compat)
   pub block : length plan.block ≤ 244
 

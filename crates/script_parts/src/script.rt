@@ -1,7 +1,10 @@
 //! What a script says: the plan of each end, and the events of the line between them.
+ghost use Rattle.std.specs.Prelude.{◌≡◌};
+ghost use Rattle.end_settings.specs.Given.{chosen};
 
 use data_files::FileSpec;
 use df1_check::Check;
+use end_settings::{Key, Settings};
 use script_statement::{Bytes, Items, Who};
 
 /// The data files of an end, in the order in which they were declared.
@@ -51,7 +54,7 @@ pub struct WordOf {
     pub value: u16,
 }
 
-/// How an end is set up.
+/// How an end is set up. What a key of the table of settings tells has a value of its row.
 #[derive(Drop)]
 pub struct EndPlan {
     pub who: Who,
@@ -61,21 +64,21 @@ pub struct EndPlan {
     pub node: u8,
     /// TNS of its first command.
     pub tns: u16,
-    /// Ticks until an ENQ asks for a missing response: 1 to 1,000,000.
+    /// Ticks until an ENQ asks for a missing response.
     pub ack_ticks: u32,
-    /// NAKs at which a message is sent again, and the next gives it up: 0 to 255.
+    /// NAKs at which a message is sent again, and the next gives it up.
     pub max_naks: u32,
-    /// ENQs after which a message is given up: 0 to 255.
+    /// ENQs after which a message is given up.
     pub max_enqs: u32,
-    /// Ticks until a command counts as unanswered: 33 to 1,000,000.
+    /// Ticks until a command counts as unanswered.
     pub reply_ticks: u32,
-    /// Sendings again of a master's message: 0 to 255.
+    /// Sendings again of a master's message.
     pub max_resends: u32,
-    /// Ticks until a poll counts as not answered: 1 to 1,000,000.
+    /// Ticks until a poll counts as not answered.
     pub poll_ticks: u32,
-    /// Sendings of a slave's message: 1 to 255.
+    /// Sendings of a slave's message.
     pub max_sends: u32,
-    /// How many replies may wait: 2 to 64.
+    /// How many replies may wait.
     pub room: usize,
     /// The number of the compatibility file, a bit or integer file of the end.
     pub compat: Option<u16>,
@@ -83,6 +86,43 @@ pub struct EndPlan {
     pub block: Bytes,
     pub files: Specs,
     pub words: Words,
+}
+
+impl EndPlan {
+    ghost use Rattle.script_parts.specs.Plans.{plan_with};
+
+    /// The plan of an end with these settings, whose address is `address` where they don't tell it. What they don't tell else
+    /// is as the table of keys has it at first.
+    pub fn new(
+        who: Who,
+        address: u8,
+        settings: &Settings,
+        compat: Option<u16>,
+        block: Bytes,
+        files: Specs,
+        words: Words,
+    ) -> Self
+        ensures { result ≡ plan_with who (chosen settings.now address) compat block files words }
+    {
+        EndPlan {
+            who,
+            embed: settings.chosen(Key::Embed, address) == 1,
+            node: settings.chosen(Key::Node, address) as u8,
+            tns: settings.chosen(Key::Tns, address) as u16,
+            ack_ticks: settings.chosen(Key::AckTicks, address),
+            max_naks: settings.chosen(Key::MaxNaks, address),
+            max_enqs: settings.chosen(Key::MaxEnqs, address),
+            reply_ticks: settings.chosen(Key::ReplyTicks, address),
+            max_resends: settings.chosen(Key::MaxResends, address),
+            poll_ticks: settings.chosen(Key::PollTicks, address),
+            max_sends: settings.chosen(Key::MaxSends, address),
+            room: settings.chosen(Key::Room, address) as usize,
+            compat,
+            block,
+            files,
+            words,
+        }
+    }
 }
 
 /// A script, read.

@@ -1,5 +1,5 @@
 -- What one line of a script says, by the table of the forms.
-use Rattle.std.specs.Prelude.{ℕ, ◌-◌, Bool, false, true, List, [], ◌∷◌, length, take, drop, slice_index, position, Option, Some, None, option_map, bit_and, nat_le, nat_lt, not, ◌==◌, ◌&&◌, ◌||◌, if◌then◌else◌, codes}
+use Rattle.std.specs.Prelude.{ℕ, ◌+◌, ◌-◌, Bool, false, true, List, [], ◌∷◌, length, take, drop, slice_index, position, Option, Some, None, option_map, bit_and, nat_le, nat_lt, not, ◌==◌, ◌&&◌, ◌||◌, if◌then◌else◌, codes}
 use Rattle.std.specs.Option.{option_map_or}
 use Rattle.std.specs.Str.{bytes_eq}
 use Rattle.df1_base.specs.declared.file_type.FileType.{FileType}
@@ -7,10 +7,14 @@ use Rattle.df1_base.specs.declared.file_type.FileType.TheVariants.{Status, Bit, 
 use Rattle.df1_check.specs.declared.Check.{Check}
 use Rattle.df1_check.specs.declared.Check.TheVariants.{Bcc, Crc}
 use Rattle.data_files.specs.declared.file_spec.FileSpec.{FileSpec}
+use Rattle.end_settings.specs.declared.key.Key.{Key}
+use Rattle.end_settings.specs.declared.row.Values.{Values}
+use Rattle.end_settings.specs.declared.row.Values.TheVariants.{Switch, Number}
+use Rattle.end_settings.specs.declared.settings.Setting.{Setting}
+use Rattle.end_settings.specs.Rows.{fitting}
+use Rattle.end_settings.specs.Table.{key_named, row_of}
 use Rattle.script_statement.specs.declared.who.Who.{Who}
 use Rattle.script_statement.specs.declared.who.Who.TheVariants as who
-use Rattle.script_statement.specs.declared.setup_statement.Setting.{Setting}
-use Rattle.script_statement.specs.declared.setup_statement.Setting.TheVariants.{Embed, Node, Tns, AckTicks, MaxNaks, MaxEnqs, ReplyTicks, MaxResends, PollTicks, MaxSends, Room}
 use Rattle.script_statement.specs.declared.statement.EndLetter.{EndLetter}
 use Rattle.script_statement.specs.declared.statement.EndLetter.TheVariants.{A, B}
 use Rattle.script_statement.specs.declared.statement.EndName.{EndName}
@@ -48,27 +52,25 @@ end_of word =
 
 -- ---- lines that begin with `set`
 
-abbrev pub switch_of : List ℕ → Option Bool
-switch_of value = if bytes_eq value (codes "on") then Some true else if bytes_eq value (codes "off") then Some false else None
-
 abbrev pub check_of : List ℕ → Option Check
 check_of value = if bytes_eq value (codes "bcc") then Some Bcc else if bytes_eq value (codes "crc") then Some Crc else None
 
--- the names of settings and the values that each may have: None for another name, and None inside for another value
+-- `off` or `on`, as 0 or 1
+abbrev pub switch_of : List ℕ → Option ℕ
+switch_of word = if bytes_eq word (codes "off") then Some 0 else if bytes_eq word (codes "on") then Some 1 else None
+
+-- the number that a word is as one of these values
+abbrev pub number_as : Values → List ℕ → Option ℕ
+number_as Switch word = switch_of word
+number_as (Number least most) word = number_of word
+
+-- a key, with the value that the word is
+abbrev pub setting_with : List ℕ → Key → Setting
+setting_with word key = record { key = key; value = fitting (row_of key).values (number_as (row_of key).values word) }
+
+-- the key of a name and its value: None for another name, and None inside for another value
 abbrev pub setting_of : List ℕ → List ℕ → Option Setting
-setting_of name value =
-    if bytes_eq name (codes ".embed") then Some (Embed (switch_of value))
-    else if bytes_eq name (codes ".node") then Some (Node (within 0 255 (number_of value)))
-    else if bytes_eq name (codes ".tns") then Some (Tns (within 0 65535 (number_of value)))
-    else if bytes_eq name (codes ".ack_ticks") then Some (AckTicks (within 1 1000000 (number_of value)))
-    else if bytes_eq name (codes ".max_naks") then Some (MaxNaks (within 0 255 (number_of value)))
-    else if bytes_eq name (codes ".max_enqs") then Some (MaxEnqs (within 0 255 (number_of value)))
-    else if bytes_eq name (codes ".reply_ticks") then Some (ReplyTicks (within 33 1000000 (number_of value)))
-    else if bytes_eq name (codes ".max_resends") then Some (MaxResends (within 0 255 (number_of value)))
-    else if bytes_eq name (codes ".poll_ticks") then Some (PollTicks (within 1 1000000 (number_of value)))
-    else if bytes_eq name (codes ".max_sends") then Some (MaxSends (within 1 255 (number_of value)))
-    else if bytes_eq name (codes ".room") then Some (Room (within 2 64 (number_of value)))
-    else None
+setting_of name word = option_map (setting_with word) (key_named name)
 
 abbrev pub set_statement : Option EndName → Option Setting → Option Statement
 set_statement (Some end) (Some setting) = Some (statement.Setup end (Set setting))
@@ -94,17 +96,17 @@ abbrev pub block_line : Option EndName → Option (List ℕ) → Option Statemen
 block_line None bytes = None
 block_line (Some end) bytes = Some (statement.Setup end (Block (block_of bytes)))
 
--- a name with its full stop: the compatibility file, the block, or a setting
+-- a name: the compatibility file, the block, or a setting
 abbrev pub named_line : Option EndName → List ℕ → List ℕ → Option Statement
 named_line end name value =
-    if bytes_eq name (codes ".compat") then compat_line end (file_number value)
-    else if bytes_eq name (codes ".block") then block_line end (hex_of value)
+    if bytes_eq name (codes "compat") then compat_line end (file_number value)
+    else if bytes_eq name (codes "block") then block_line end (hex_of value)
     else set_statement end (setting_of name value)
 
--- the end stands before the first full stop of a key, and the name of the setting from there on
+-- the end stands before the first full stop of a key, and the name of the setting behind it
 abbrev pub setting_at : List ℕ → List ℕ → Option ℕ → Option Statement
 setting_at key value None = None
-setting_at key value (Some stop) = named_line (end_of (take stop key)) (drop stop key) value
+setting_at key value (Some stop) = named_line (end_of (take stop key)) (drop (stop + 1) key) value
 
 abbrev pub end_setting : List ℕ → List ℕ → Option Statement
 end_setting key value = setting_at key value (position (λ byte. byte == 46) key)
@@ -369,7 +371,7 @@ statement_of other = None
 
 -- a key names the block of an end
 abbrev pub is_block_key : List ℕ → Bool
-is_block_key key = option_map_or (λ stop. bytes_eq (drop stop key) (codes ".block")) (position (λ byte. byte == 46) key) false
+is_block_key key = option_map_or (λ stop. bytes_eq (drop (stop + 1) key) (codes "block")) (position (λ byte. byte == 46) key) false
 
 -- reading these words may take memory: an event with an operand, or the block of an end
 abbrev pub takes_memory : List (List ℕ) → Bool

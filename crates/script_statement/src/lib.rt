@@ -25,7 +25,7 @@ mod words;
 pub use event_line::{payload_of, verb_of};
 pub use half_event::{HalfEvent, Way};
 pub use items::{Bytes, Items};
-pub use setup_statement::{Setting, SetupStatement};
+pub use setup_statement::SetupStatement;
 pub use statement::{EVENTS, EndLetter, EndName, Statement, Verb, file_number, statement_of};
 pub use who::Who;
 pub use words::{FirstWords, first_words, hex_of, number_of, register_of};

@@ -1,20 +1,17 @@
-//! The lines that begin with `set`: the mode, the check, and of an end the settings, the compatibility file and the block,
-//! each with the values that it may have.
+//! The lines that begin with `set`: the mode, the check, and of an end the settings of the table of keys, the compatibility
+//! file and the block, each with the values that it may have.
 ghost use Rattle.std.specs.Prelude.{◌≡◌, ◌==◌, IfOk, IsTrue, OnErr, codes, position};
 ghost use Rattle.std.specs.Str.{bytes_eq};
-ghost use Rattle.script_statement.specs.Statements.{set_line as the_set, end_setting as the_end_setting, named_line as the_named, compat_line as the_compat, block_line as the_block_line, block_of as the_block, file_number as the_file, is_block_key, set_statement as the_set_statement, setting_of as the_setting, check_of as the_check, switch_of as the_switch, mode_of as the_mode};
-ghost use Rattle.script_statement.specs.Words.{number_of as the_number, within as the_bounded};
+ghost use Rattle.script_statement.specs.Statements.{set_line as the_set, end_setting as the_end_setting, named_line as the_named, compat_line as the_compat, block_line as the_block_line, block_of as the_block, file_number as the_file, is_block_key, set_statement as the_set_statement, setting_of as the_setting, number_as as the_number_as, check_of as the_check, switch_of as the_switch, mode_of as the_mode};
 
 use crate::Bytes;
-use crate::setup_statement::{Setting, SetupStatement};
+use crate::setup_statement::SetupStatement;
 use crate::statement::{EndName, Statement, end_of, file_number};
-use crate::words::{hex_of, is, is_within, number_of, within};
+use crate::words::{hex_of, is, is_within, number_of};
 use df1_base::{MAX_DATA, NoMemory};
 use df1_check::Check;
+use end_settings::{Key, Setting, Values};
 use std::alloc::Global;
-
-/// The highest count of ticks.
-const TICKS: u32 = 1_000_000;
 
 /// What `set` with a key and a value says, if the key is one.
 #[inline(never)]
@@ -67,15 +64,12 @@ fn end_setting(alloc: Global, key: &[u8], value: &[u8]) -> Result<Option<Stateme
     ensures memory { OnErr result (IsTrue (is_block_key key.now)) }
 {
     match stop_of(key) {
-        Some(stop) => {
-            let (end, name) = key.split_at(stop);
-            named_line(alloc, end_of(end), name, value)
-        }
+        Some(stop) => { named_line(alloc, end_of(&key[..stop]), &key[stop + 1..], value) }
         None => Ok(None),
     }
 }
 
-/// What a name with its full stop and a value say of an end. A block alone takes memory.
+/// What a name and a value say of an end. A block alone takes memory.
 fn named_line(
     alloc: Global,
     end: Option<EndName>,
@@ -83,11 +77,11 @@ fn named_line(
     value: &[u8],
 ) -> Result<Option<Statement>, NoMemory>
     ensures value { IfOk result (λ s. s ≡ the_named end name.now value.now) }
-    ensures memory { OnErr result (IsTrue (bytes_eq name.now (codes ".block"))) }
+    ensures memory { OnErr result (IsTrue (bytes_eq name.now (codes "block"))) }
 {
-    if is(name, ".compat") {
+    if is(name, "compat") {
         Ok(compat_line(end, file_of(value)))
-    } else if is(name, ".block") {
+    } else if is(name, "block") {
         Ok(block_line(end, hex_of(alloc, value)?))
     } else {
         Ok(set_statement(end, setting_of(name, value)))
@@ -150,78 +144,37 @@ fn set_statement(end: Option<EndName>, setting: Option<Setting>) -> Option<State
     })
 }
 
-/// The setting that a name with its full stop and a value are: None for a name that is none of the table, and None
-/// inside for a value that the table hasn't.
+/// The setting that a name and a value are: None for a name that no key has.
 fn setting_of(name: &[u8], value: &[u8]) -> Option<Setting>
     ensures { result ≡ the_setting name.now value.now }
 {
-    if is(name, ".embed") {
-        Some(Setting::Embed(switch_of(value)))
-    } else if is(name, ".node") {
-        Some(Setting::Node(node_of(value)))
-    } else if is(name, ".tns") {
-        Some(Setting::Tns(tns_of(value)))
-    } else if is(name, ".ack_ticks") {
-        Some(Setting::AckTicks(number_in(1, TICKS, value)))
-    } else if is(name, ".max_naks") {
-        Some(Setting::MaxNaks(number_in(0, 255, value)))
-    } else if is(name, ".max_enqs") {
-        Some(Setting::MaxEnqs(number_in(0, 255, value)))
-    } else if is(name, ".reply_ticks") {
-        Some(Setting::ReplyTicks(number_in(33, TICKS, value)))
-    } else if is(name, ".max_resends") {
-        Some(Setting::MaxResends(number_in(0, 255, value)))
-    } else if is(name, ".poll_ticks") {
-        Some(Setting::PollTicks(number_in(1, TICKS, value)))
-    } else if is(name, ".max_sends") {
-        Some(Setting::MaxSends(number_in(1, 255, value)))
-    } else if is(name, ".room") {
-        Some(Setting::Room(room_of(value)))
-    } else {
-        None
+    let key = Key::named(name)?;
+    let values = key.values();
+    Some(Setting {
+        key,
+        value: values.fitting(number_as(values, value)),
+    })
+}
+
+/// The number that a word is as one of these values.
+fn number_as(values: Values, word: &[u8]) -> Option<u32>
+    ensures { result ≡ the_number_as values word.now }
+{
+    match values {
+        Values::Switch => switch_of(word),
+        Values::Number { .. } => number_of(word),
     }
 }
 
-/// A word that is a number within bounds.
-fn number_in(least: u32, most: u32, value: &[u8]) -> Option<u32>
-    ensures { result ≡ the_bounded least most (the_number value.now) }
+/// `off` or `on`, as 0 or 1.
+fn switch_of(word: &[u8]) -> Option<u32>
+    ensures { result ≡ the_switch word.now }
 {
-    within(least, most, number_of(value))
-}
-
-/// `on` or `off`.
-fn switch_of(value: &[u8]) -> Option<bool>
-    ensures { result ≡ the_switch value.now }
-{
-    if is(value, "on") {
-        Some(true)
-    } else if is(value, "off") {
-        Some(false)
+    if is(word, "off") {
+        Some(0)
+    } else if is(word, "on") {
+        Some(1)
     } else {
         None
     }
-}
-
-/// An address of one byte.
-fn node_of(value: &[u8]) -> Option<u8>
-    ensures { result ≡ the_bounded 0 255 (the_number value.now) }
-{
-    let node = number_in(0, 255, value)?;
-    Some(node as u8)
-}
-
-/// A TNS.
-fn tns_of(value: &[u8]) -> Option<u16>
-    ensures { result ≡ the_bounded 0 65535 (the_number value.now) }
-{
-    let tns = number_in(0, 65535, value)?;
-    Some(tns as u16)
-}
-
-/// How many replies may wait.
-fn room_of(value: &[u8]) -> Option<usize>
-    ensures { result ≡ the_bounded 2 64 (the_number value.now) }
-{
-    let room = number_in(2, 64, value)?;
-    Some(room as usize)
 }

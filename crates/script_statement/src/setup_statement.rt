@@ -2,33 +2,7 @@
 
 use crate::Bytes;
 use data_files::FileSpec;
-
-/// A setting of an end, with its value.
-#[derive(Clone, Copy, Debug, PartialEq, Eq)]
-pub enum Setting {
-    /// Whether responses may stand inside messages.
-    Embed(Option<bool>),
-    /// Its address, DST of what is sent to it.
-    Node(Option<u8>),
-    /// TNS of its first command.
-    Tns(Option<u16>),
-    /// Ticks until a missing response is asked for, or counts as missing: 1 to 1,000,000.
-    AckTicks(Option<u32>),
-    /// NAKs at which a message is sent again, and the next gives it up: 0 to 255.
-    MaxNaks(Option<u32>),
-    /// ENQs after which a message is given up: 0 to 255.
-    MaxEnqs(Option<u32>),
-    /// Ticks until a command counts as unanswered: 33 to 1,000,000.
-    ReplyTicks(Option<u32>),
-    /// Sendings again of a master's message: 0 to 255.
-    MaxResends(Option<u32>),
-    /// Ticks until a poll counts as not answered: 1 to 1,000,000.
-    PollTicks(Option<u32>),
-    /// Sendings of a slave's message: 1 to 255.
-    MaxSends(Option<u32>),
-    /// How many replies may wait: 2 to 64.
-    Room(Option<usize>),
-}
+use end_settings::Setting;
 
 /// What a line says of one end.
 #[derive(Drop)]

@@ -1,9 +1,9 @@
 //! The words of a line, and the statement that they make.
 
 use df1_base::FileType;
+use end_settings::{Key, Setting};
 use script_statement::{
-    EndLetter, EndName, HalfEvent, Setting, SetupStatement, Statement, Verb, Way, first_words,
-    statement_of,
+    EndLetter, EndName, HalfEvent, SetupStatement, Statement, Verb, Way, first_words, statement_of,
 };
 use std::alloc::Global;
 use std::test::Fail;
@@ -229,83 +229,91 @@ fn a_station_has_a_number_to_254_and_not_16(rt: HostRuntime) {
     }
 }
 
-/// Lines that set something, with the end and the setting.
-const SETTINGS: [(&str, EndName, Setting); 16] = [
+/// Lines that set something, with the end, the key and the value.
+const SETTINGS: [(&str, EndName, Key, Option<u32>); 16] = [
     (
         "set a.embed off",
         EndName::Known(EndLetter::A),
-        Setting::Embed(Some(false)),
+        Key::Embed,
+        Some(0),
     ),
-    ("set m.node 255", EndName::Master, Setting::Node(Some(255))),
-    ("set m.node 256", EndName::Master, Setting::Node(None)),
+    ("set m.node 255", EndName::Master, Key::Node, Some(255)),
+    ("set m.node 256", EndName::Master, Key::Node, None),
     (
         "set b.tns 65535",
         EndName::Known(EndLetter::B),
-        Setting::Tns(Some(65_535)),
+        Key::Tns,
+        Some(65_535),
     ),
     (
         "set m.ack_ticks 1000000",
         EndName::Master,
-        Setting::AckTicks(Some(1_000_000)),
+        Key::AckTicks,
+        Some(1_000_000),
     ),
     (
         "set a.max_naks 0",
         EndName::Known(EndLetter::A),
-        Setting::MaxNaks(Some(0)),
+        Key::MaxNaks,
+        Some(0),
     ),
     (
         "set a.max_enqs 255",
         EndName::Known(EndLetter::A),
-        Setting::MaxEnqs(Some(255)),
+        Key::MaxEnqs,
+        Some(255),
     ),
     (
         "set m.reply_ticks 33",
         EndName::Master,
-        Setting::ReplyTicks(Some(33)),
+        Key::ReplyTicks,
+        Some(33),
     ),
     (
         "set m.max_resends 255",
         EndName::Master,
-        Setting::MaxResends(Some(255)),
+        Key::MaxResends,
+        Some(255),
     ),
     (
         "set 3.max_resends 256",
         EndName::Station(3),
-        Setting::MaxResends(None),
+        Key::MaxResends,
+        None,
     ),
     (
         "set m.poll_ticks 1",
         EndName::Master,
-        Setting::PollTicks(Some(1)),
+        Key::PollTicks,
+        Some(1),
     ),
-    (
-        "set m.poll_ticks 0",
-        EndName::Master,
-        Setting::PollTicks(None),
-    ),
+    ("set m.poll_ticks 0", EndName::Master, Key::PollTicks, None),
     (
         "set 012.max_sends 255",
         EndName::Station(12),
-        Setting::MaxSends(Some(255)),
+        Key::MaxSends,
+        Some(255),
     ),
     (
         "set 12.max_sends 0",
         EndName::Station(12),
-        Setting::MaxSends(None),
+        Key::MaxSends,
+        None,
     ),
     (
         "set 999999999.room 2",
         EndName::Station(999_999_999),
-        Setting::Room(Some(2)),
+        Key::Room,
+        Some(2),
     ),
-    ("set m.room 65", EndName::Master, Setting::Room(None)),
+    ("set m.room 65", EndName::Master, Key::Room, None),
 ];
 
 #[test]
 fn a_line_sets_what_an_end_has(rt: HostRuntime) {
-    for (line, end, setting) in SETTINGS {
+    for (line, end, key, value) in SETTINGS {
         assert!(rt;
-            matches!(said(rt.alloc(), line), Some(Statement::Setup { end: got, line: SetupStatement::Set(value) }) if got == end && value == setting),
+            matches!(said(rt.alloc(), line), Some(Statement::Setup { end: got, line: SetupStatement::Set(set) }) if got == end && set == (Setting { key, value })),
             "in {line:?}"
         );
     }

@@ -1,10 +1,11 @@
 //! The program, over the outside in memory.
 use df1_base::{BytesIn, BytesOut, Failed, NoMemory};
 use df1_node::{IssueFault, MakeFault};
-use df1_plan::{Key, PlanFault};
+use df1_plan::{PlanFault, PlanKey};
 use df1_service::ServiceFault;
 use df1_shelf::{FetchFault, ShelfMem};
 use df1_tool::run;
+use end_settings::Key;
 use line_replay::StreamFault;
 use line_script::{Cause, LineFault, ScriptFault};
 use std::alloc::Global;
@@ -417,7 +418,7 @@ fn faults_of_a_service_have_texts(rt: HostRuntime) -> Result<(), Fail> {
     for (cause, text) in [
         (PlanFault::Text, "text"),
         (PlanFault::UnknownKey, "unknown key"),
-        (PlanFault::Key(Key::Room), "key room"),
+        (PlanFault::Key(PlanKey::Setting(Key::Room)), "key room"),
         (PlanFault::File(2), "file 2"),
         (PlanFault::Issue(3), "issue 3"),
         (PlanFault::NoMemory, "no memory"),

@@ -8,6 +8,7 @@ use Rattle.pccc_envelope.specs.Envelope.{is_reply}
 use Rattle.df1_node.specs.Answer.{StationState}
 use Rattle.df1_node.specs.Initiator.{next_command}
 use Rattle.df1_node.specs.Node.{NodeState}
+use Rattle.end_settings.specs.declared.key.Key.TheVariants.{Room}
 use Rattle.script_statement.specs.declared.who.Who.{Who}
 use Rattle.script_statement.specs.declared.who.Who.TheVariants.{A, B, M, S}
 use Rattle.script_parts.specs.declared.script.Event.{Event}
@@ -183,7 +184,7 @@ HasRoom plan = (2 ≤ plan.room) × (length plan.block ≤ 244)
 room-at-first : (ends : List EndPlan) → AreEnds ends → (a b : EndPlan) → HasRoom (slice_index_or ends 0 a) × HasRoom (slice_index_or ends 1 b)
 room-at-first [] ends a b = absurd ends
 room-at-first (x ∷ []) ends a b = absurd ends
-room-at-first (x ∷ y ∷ []) ends a b = ((ends.0.room.0, ends.0.block), (ends.1.room.0, ends.1.block))
+room-at-first (x ∷ y ∷ []) ends a b = (((ends.0.settings Room).0, ends.0.block), ((ends.1.settings Room).0, ends.1.block))
 room-at-first (x ∷ y ∷ z ∷ more) ends a b = absurd ends
 
 start-end : (plan : EndPlan) (script : Script) → HasRoom plan → IsEnd (first_station plan) (first_side script.check plan).end [] [] 0

@@ -9,6 +9,7 @@ use Rattle.logical_address.specs.Reading.{three_front}
 use Rattle.slc_commands.specs.Order.{fields, spelled_order}
 use Rattle.script_statement.specs.declared.who.Who.TheVariants.{A, B}
 use Rattle.script_parts.specs.declared.script.Event.{Event}
+use Rattle.script_parts.proofs.PlanSettings.{Fits-first_plan}
 use Rattle.script_parts.specs.Playable.{IsPossible, IsPlayable}
 use Rattle.duplex_line.specs.Acts.{LineEndState, LineState, Deed, Issue, Take, Deliver, Lose, Alter, Foreign, Tick, after_deed}
 use Rattle.duplex_line.specs.Run.{start, who_of, deeds_of, seen_from, after_event, last_state, lines_after}
@@ -30,8 +31,8 @@ pub one_write-playable : IsPlayable one_write
 one_write-playable = record {
   mode = refl;
   ends = (
-    record { end = refl; files = refl; words = All-nil _; ack_ticks = (omega arith, omega arith); max_naks = omega arith; max_enqs = omega arith; reply_ticks = (omega arith, omega arith); max_resends = omega arith; poll_ticks = (omega arith, omega arith); max_sends = (omega arith, omega arith); room = (omega arith, omega arith); compat = refl; block = omega arith },
-    record { end = refl; files = refl; words = All-nil _; ack_ticks = (omega arith, omega arith); max_naks = omega arith; max_enqs = omega arith; reply_ticks = (omega arith, omega arith); max_resends = omega arith; poll_ticks = (omega arith, omega arith); max_sends = (omega arith, omega arith); room = (omega arith, omega arith); compat = refl; block = omega arith },
+    record { end = refl; files = refl; words = All-nil _; settings = Fits-first_plan A 0 (omega arith); compat = refl; block = omega arith },
+    record { end = refl; files = refl; words = All-nil _; settings = Fits-first_plan B 1 (omega arith); compat = refl; block = omega arith },
   );
   events = all-possible one_write.events ((refl, refl), ((refl, (omega arith, omega arith)), ((refl, (omega arith, omega arith)), ((refl, (omega arith, omega arith)), ((refl, (omega arith, omega arith)), ((refl, (omega arith, omega arith)), ((refl, (omega arith, omega arith)), tt)))))));
   commands_of_a = omega arith;

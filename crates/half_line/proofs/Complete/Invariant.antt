@@ -13,6 +13,7 @@ use Rattle.script_parts.specs.declared.script.EndPlan.{EndPlan}
 use Rattle.script_parts.specs.declared.script.Script.{Script}
 use Rattle.script_parts.specs.HalfPlayable.{AreHalfEnds, IsStationPlan, IsHalfPlayable, station_plans, numbers_of}
 use Rattle.script_parts.specs.Plans.{first_plan}
+use Rattle.end_settings.specs.declared.key.Key.TheVariants.{Room}
 use Rattle.script_statement.specs.declared.who.Who.TheVariants.{M}
 use Rattle.replay_report.specs.declared.record.Line.{Line}
 use Rattle.outset.specs.Outset.{first_station}
@@ -86,7 +87,7 @@ rooms-from : (plans : List EndPlan) → All IsStationPlan plans → (p : ℕ) (p
 rooms-from [] all p plan at = absurd cc
 rooms-from (first ∷ plans) all zero plan at =
     let is = All-head IsStationPlan first plans all in
-    subst HasRoom (same-some first plan at) (record { room = is.room.0; block = is.block })
+    subst HasRoom (same-some first plan at) (record { room = (is.settings Room).0; block = is.block })
 rooms-from (first ∷ plans) all (suc p) plan at = rooms-from plans (All-tail IsStationPlan first plans all) p plan at
 
 rooms-of : (ends : List EndPlan) → AreHalfEnds ends → (p : ℕ) (plan : EndPlan) → slice_get (station_plans ends) p ≡ Some plan → HasRoom plan

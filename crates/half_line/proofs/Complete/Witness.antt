@@ -11,6 +11,7 @@ use Rattle.slc_commands.specs.Order.{fields, spelled_order}
 use Rattle.script_statement.specs.declared.who.Who.TheVariants.{M, S}
 use Rattle.lane_cells.specs.Cells.{LaneCell}
 use Rattle.script_parts.specs.declared.script.Event.{Event}
+use Rattle.script_parts.proofs.PlanSettings.{Fits-first_plan}
 use Rattle.script_parts.specs.HalfPlayable.{IsStationNumber, IsStationPlan, IsHalfPossible, IsHalfPlayable, numbers_of, station_plans}
 use Rattle.each_once.proofs.Sublists.{none-is}
 use Rattle.each_once.specs.Tells.{executed_in, answers_in}
@@ -39,11 +40,11 @@ pub polled_write-playable : IsHalfPlayable polled_write
 polled_write-playable = record {
   mode = refl;
   ends = (
-    record { end = refl; files = refl; words = All-nil _; ack_ticks = (omega arith, omega arith); max_naks = omega arith; max_enqs = omega arith; reply_ticks = (omega arith, omega arith); max_resends = omega arith; poll_ticks = (omega arith, omega arith); max_sends = (omega arith, omega arith); room = (omega arith, omega arith); compat = refl; block = omega arith },
+    record { end = refl; files = refl; words = All-nil _; settings = Fits-first_plan M 0 (omega arith); compat = refl; block = omega arith },
     all IsStationPlan (station_plans polled_write.ends) (
-      record { end = refl; files = refl; words = All-nil _; ack_ticks = (omega arith, omega arith); max_naks = omega arith; max_enqs = omega arith; reply_ticks = (omega arith, omega arith); max_resends = omega arith; poll_ticks = (omega arith, omega arith); max_sends = (omega arith, omega arith); room = (omega arith, omega arith); compat = refl; block = omega arith },
+      record { end = refl; files = refl; words = All-nil _; settings = Fits-first_plan (S 3) 3 (omega arith); compat = refl; block = omega arith },
       (
-        record { end = refl; files = refl; words = All-nil _; ack_ticks = (omega arith, omega arith); max_naks = omega arith; max_enqs = omega arith; reply_ticks = (omega arith, omega arith); max_resends = omega arith; poll_ticks = (omega arith, omega arith); max_sends = (omega arith, omega arith); room = (omega arith, omega arith); compat = refl; block = omega arith },
+        record { end = refl; files = refl; words = All-nil _; settings = Fits-first_plan (S 5) 5 (omega arith); compat = refl; block = omega arith },
         tt,
       ),
     ),

@@ -1,5 +1,5 @@
 -- The first state of a script, by its plans.
-use Rattle.std.proofs.Common.{◌≡◌, ◌∙◌, ℕ, ◌<◌, ◌-◌, List, [], ◌∷◌, map, take, drop, length, get_or, refl, ap, subst, arith}
+use Rattle.std.proofs.Common.{◌≡◌, ◌∙◌, ℕ, ◌<◌, ◌-◌, List, [], ◌∷◌, map, take, drop, length, get_or, refl, sym, ap, subst, arith}
 use Rattle.std.specs.Prelude.{All}
 use Rattle.std.proofs.Math.ListN.{get_or-map}
 use Rattle.std.proofs.Math.Seq.{take-length}
@@ -10,6 +10,7 @@ use Rattle.half_master.specs.Master.{MasterState, new_master}
 use Rattle.script_parts.specs.declared.script.EndPlan.{EndPlan}
 use Rattle.script_parts.specs.declared.script.Script.{Script}
 use Rattle.script_parts.specs.Plans.{first_plan}
+use Rattle.script_parts.specs.Playable.{IsPlanOf}
 use Rattle.script_parts.specs.HalfPlayable.{AreHalfEnds, IsStationPlan, IsStationNumber, station_plans}
 use Rattle.outset.specs.Outset.{first_node}
 use Rattle.script_statement.specs.declared.who.Who.TheVariants.{M}
@@ -33,6 +34,10 @@ unmapped P f xs h k d lt = let within : k < length (map f xs) = rw (length-map x
 pub half-numbers : (ends : List EndPlan) → AreHalfEnds ends → All (λ (plan : EndPlan). IsStationNumber plan.node) (station_plans ends)
 half-numbers [] h = absurd h
 half-numbers (master ∷ stations) h = unmapped IsStationNumber (λ (plan : EndPlan). plan.node) stations h.2.each
+
+pub half-master : (ends : List EndPlan) (plan d : EndPlan) → AreHalfEnds ends → plan ≡ get_or ends 0 d → IsPlanOf M plan
+half-master [] plan d h is = absurd h
+half-master (master ∷ stations) plan d h is = subst (IsPlanOf M) (sym is) h.0
 
 first-is : (ends : List EndPlan) (d other : EndPlan) → AreHalfEnds ends → get_or ends 0 d ≡ get_or ends 0 other
 first-is [] d other h = absurd h

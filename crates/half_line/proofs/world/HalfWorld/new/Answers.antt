@@ -1,7 +1,18 @@
 -- The first state of a script.
 use Rattle.std.proofs.Common.{◌∙◌}
-use Rattle.half_line.proofs.Steps.FirstState.{rest-is, half-stations, half-numbers, begins}
+use Rattle.end_settings.specs.declared.key.Key.TheVariants.{AckTicks, PollTicks}
+use Rattle.half_line.proofs.Steps.FirstState.{rest-is, half-master, half-stations, half-numbers, begins}
 use Rattle.half_line.proofs.world.HalfWorld.new.Goals as goal
+
+pub new-requires-clause-ack_ticks : goal.new-requires-clause-ack_ticks
+new-requires-clause-ack_ticks c =
+    let first = rw c.as_slice.ensures at c.plan-item.is in
+    rw c.master_setup.ensures ((half-master c.args.script.now.ends c.plan-item.result c.plan-item.result c.requires.ends first).settings AckTicks).0
+
+pub new-requires-clause-poll_ticks : goal.new-requires-clause-poll_ticks
+new-requires-clause-poll_ticks c =
+    let first = rw c.as_slice.ensures at c.plan-item.is in
+    rw c.master_setup.ensures ((half-master c.args.script.now.ends c.plan-item.result c.plan-item.result c.requires.ends first).settings PollTicks).0
 
 pub sides_of-requires-clause-plans : goal.sides_of-requires-clause-plans
 sides_of-requires-clause-plans c = rw (c.as_slice.ensures, rest-is c.args.script.now.ends) (half-stations c.args.script.now.ends c.requires.ends)

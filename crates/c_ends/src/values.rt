@@ -1,0 +1,38 @@
+//! The values that the keys of an end may have in C.
+
+ghost use Rattle.std.specs.Prelude.{◌≡◌};
+ghost use Rattle.c_ends.specs.Values.{from_one, value_fault, values_of as the_values};
+
+use crate::code::Code;
+use end_settings::{Key, Values};
+
+/// The values of a key: those of its row, but that a reply may take as few ticks as one, since a tick of the caller's may be as
+/// long as he likes.
+fn values_of(key: Key) -> Values
+    ensures { result ≡ the_values key }
+{
+    match key {
+        Key::ReplyTicks => from_one(key.values()),
+        _ => key.values(),
+    }
+}
+
+/// These numbers, and those from 1 on below them.
+fn from_one(values: Values) -> Values
+    ensures { result ≡ from_one values }
+{
+    match values {
+        Values::Switch => Values::Switch,
+        Values::Number { most, .. } => Values::Number { least: 1, most },
+    }
+}
+
+/// What a number that a key may not have is told by.
+pub(crate) fn value_fault(key: Key, fault: Code, number: u32) -> Option<Code>
+    ensures { result ≡ value_fault key fault number }
+{
+    match values_of(key).fitting(Some(number)) {
+        Some(_) => None,
+        None => Some(fault),
+    }
+}

@@ -1,0 +1,69 @@
+//! The keys of a plan.
+ghost use Rattle.std.specs.Prelude.{◌≡◌};
+ghost use Rattle.df1_plan.specs.Keys.{is_other as the_other, is_setting as the_setting, name_of};
+
+use end_settings::Key;
+use std::fmt::{Display, Error, Formatter, Write};
+
+/// A key of a plan: a setting that a full-duplex end has, or one of the others, which stand here in the order of their names'
+/// bytes.
+#[derive(Clone, Copy, Debug, PartialEq, Eq)]
+pub enum PlanKey {
+    Setting(Key),
+    Block,
+    Check,
+    Compat,
+    File,
+    Issue,
+    Peer,
+}
+
+/// The keys that are no settings.
+const OTHERS: [PlanKey; 6] = [
+    PlanKey::Block,
+    PlanKey::Check,
+    PlanKey::Compat,
+    PlanKey::File,
+    PlanKey::Issue,
+    PlanKey::Peer,
+];
+
+impl PlanKey {
+    /// The name of the key in a document.
+    pub fn name(self) -> &'static str
+        ensures { result.now ≡ name_of self }
+    {
+        match self {
+            PlanKey::Setting(key) => key.name(),
+            PlanKey::Block => "block",
+            PlanKey::Check => "check",
+            PlanKey::Compat => "compat",
+            PlanKey::File => "file",
+            PlanKey::Issue => "issue",
+            PlanKey::Peer => "peer",
+        }
+    }
+}
+
+impl Display for PlanKey {
+    fn fmt<W: Write>(&self, f: &mut Formatter<W>) -> Result<(), Error> {
+        f.write_str(self.name())
+    }
+}
+
+/// Whether a name is that of a setting that a full-duplex end has.
+pub(crate) fn is_setting(name: &str) -> bool
+    ensures { result ≡ the_setting name.now }
+{
+    match Key::named(name.as_bytes()) {
+        Some(key) => key.roles().duplex,
+        None => false,
+    }
+}
+
+/// Whether a name is that of another key.
+pub(crate) fn is_other(name: &str) -> bool
+    ensures { result ≡ the_other name.now }
+{
+    OTHERS.iter().any(|key| name == key.name())
+}

@@ -1,0 +1,76 @@
+//! The settings of a plan, by the rows of the table of keys.
+ghost use Rattle.std.specs.Prelude.{◌≡◌, None, Some, MatchResult, option_map};
+ghost use Rattle.end_settings.specs.declared.key.Key.{Key as OneKey};
+ghost use Rattle.end_settings.specs.Given.{value_of};
+ghost use Rattle.toml.specs.View.{table_view, view};
+ghost use Rattle.df1_plan.specs.Settings.{given_at as the_given, is_refused as the_test, refused_before, refused_in as the_first, setting_at as the_value, stands_before as the_order};
+
+use crate::values::{value_at, value_in};
+use crate::{PlanFault, PlanKey};
+use end_settings::{KEYS, Key, Role, Setting, Settings};
+use toml::{Table, Value};
+
+/// The settings that a table gives.
+pub(crate) fn settings_of(table: &Table) -> Settings
+    ensures { (key : OneKey) → value_of result key ≡ the_given (table_view table.now) key }
+{
+    let mut settings = Settings::new();
+    for key in KEYS {
+        let value = given_at(table, key);
+        settings.set(Setting { key, value });
+    }
+    settings
+}
+
+/// The first setting that is refused, in the order of the names' bytes.
+#[tactic(auto, unfolding(crate::specs::Settings::refused_in))]
+pub(crate) fn refused_in(table: &Table) -> Option<Key>
+    ensures { result ≡ the_first (table_view table.now) }
+{
+    KEYS.iter().copied().find(|key| is_refused(table, *key))
+}
+
+/// Tells a setting that is refused, where its name stands before that of another key.
+pub(crate) fn before(other: PlanKey, refused: Option<Key>) -> Result<(), PlanFault>
+    ensures { MatchResult result (λ _. refused_before other refused ≡ None) (λ e. refused_before other refused ≡ Some e) }
+{
+    match refused {
+        Some(key) if stands_before(key, other) => Err(PlanFault::Key(PlanKey::Setting(key))),
+        _ => Ok(()),
+    }
+}
+
+/// Whether the name of a setting stands before that of another key.
+fn stands_before(key: Key, other: PlanKey) -> bool
+    ensures { result ≡ the_order key other }
+{
+    key.name().as_bytes().cmp(&other.name().as_bytes()).is_lt()
+}
+
+/// What stands at a setting.
+fn setting_at(table: &Table, key: Key) -> Option<&Value>
+    ensures { option_map (λ v. view v.now) result ≡ the_value (table_view table.now) key }
+{
+    if key.roles().has(Role::Duplex) {
+        value_at(table, key.name())
+    } else {
+        None
+    }
+}
+
+/// The value that a setting is given.
+fn given_at(table: &Table, key: Key) -> Option<u32>
+    ensures { result ≡ the_given (table_view table.now) key }
+{
+    value_in(setting_at(table, key)?, key.values())
+}
+
+/// Whether what stands at a setting is none of its values.
+fn is_refused(table: &Table, key: Key) -> bool
+    ensures { result ≡ the_test (table_view table.now) key }
+{
+    match setting_at(table, key) {
+        Some(value) => value_in(value, key.values()).is_none(),
+        None => false,
+    }
+}

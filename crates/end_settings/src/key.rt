@@ -1,0 +1,186 @@
+//! The keys of an end, and the table with a row for each. Another key is a variant, a place in `KEYS`, and a row.
+ghost use Rattle.std.specs.Prelude.{◌≡◌};
+ghost use Rattle.end_settings.specs.Table.{key_named, row_of};
+
+use crate::row::{First, Roles, Values};
+
+/// A key of an end, in the order of the names' bytes.
+#[derive(Clone, Copy, Debug, PartialEq, Eq)]
+pub enum Key {
+    /// Ticks until a missing response is asked for, or counts as missing.
+    AckTicks,
+    /// Whether responses may stand inside messages.
+    Embed,
+    /// ENQs after which a message is given up.
+    MaxEnqs,
+    /// NAKs at which a message is sent again, and the next gives it up.
+    MaxNaks,
+    /// Sendings again of a master's message.
+    MaxResends,
+    /// Sendings of a slave's message.
+    MaxSends,
+    /// Its address, DST of what is sent to it.
+    Node,
+    /// Ticks until a poll counts as not answered.
+    PollTicks,
+    /// Ticks until a command counts as unanswered.
+    ReplyTicks,
+    /// How many replies may wait.
+    Room,
+    /// TNS of its first command.
+    Tns,
+}
+
+/// How many keys there are.
+pub(crate) const COUNT: usize = 11;
+
+/// All keys, in the order of the names' bytes.
+pub const KEYS: [Key; COUNT] = [
+    Key::AckTicks,
+    Key::Embed,
+    Key::MaxEnqs,
+    Key::MaxNaks,
+    Key::MaxResends,
+    Key::MaxSends,
+    Key::Node,
+    Key::PollTicks,
+    Key::ReplyTicks,
+    Key::Room,
+    Key::Tns,
+];
+
+/// The highest count of ticks.
+const TICKS: u32 = 1_000_000;
+
+/// An end of a full-duplex link alone.
+const DUPLEX: Roles = Roles {
+    duplex: true,
+    master: false,
+    station: false,
+};
+
+/// The ends that issue commands.
+const ISSUERS: Roles = Roles {
+    duplex: true,
+    master: true,
+    station: false,
+};
+
+/// A master alone.
+const MASTER: Roles = Roles {
+    duplex: false,
+    master: true,
+    station: false,
+};
+
+/// A station alone.
+const STATION: Roles = Roles {
+    duplex: false,
+    master: false,
+    station: true,
+};
+
+/// Every end.
+const ALL: Roles = Roles {
+    duplex: true,
+    master: true,
+    station: true,
+};
+
+/// What the table says of a key.
+#[derive(Clone, Copy)]
+struct Row {
+    name: &'static str,
+    roles: Roles,
+    values: Values,
+    first: First,
+}
+
+impl Row {
+    fn new(name: &'static str, roles: Roles, values: Values, first: First) -> Self
+        ensures name { result.name.now ≡ name.now }
+        ensures roles { result.roles ≡ roles }
+        ensures values { result.values ≡ values }
+        ensures first { result.first ≡ first }
+    {
+        Row {
+            name,
+            roles,
+            values,
+            first,
+        }
+    }
+}
+
+impl Key {
+    /// The table.
+    fn row(self) -> Row
+        ensures name { result.name.now ≡ (row_of self).name }
+        ensures roles { result.roles ≡ (row_of self).roles }
+        ensures values { result.values ≡ (row_of self).values }
+        ensures first { result.first ≡ (row_of self).first }
+    {
+        match self {
+            Key::AckTicks => Row::new("ack_ticks", ISSUERS, number(1, TICKS), First::Value(10)),
+            Key::Embed => Row::new("embed", DUPLEX, Values::Switch, First::Value(0)),
+            Key::MaxEnqs => Row::new("max_enqs", DUPLEX, number(0, 255), First::Value(3)),
+            Key::MaxNaks => Row::new("max_naks", DUPLEX, number(0, 255), First::Value(3)),
+            Key::MaxResends => Row::new("max_resends", MASTER, number(0, 255), First::Value(3)),
+            Key::MaxSends => Row::new("max_sends", STATION, number(1, 255), First::Value(3)),
+            Key::Node => Row::new("node", ISSUERS, number(0, 255), First::Address),
+            Key::PollTicks => Row::new("poll_ticks", MASTER, number(1, TICKS), First::Value(10)),
+            Key::ReplyTicks => Row::new(
+                "reply_ticks",
+                ISSUERS,
+                number(33, TICKS),
+                First::Value(100),
+            ),
+            Key::Room => Row::new("room", ALL, number(2, 64), First::Value(2)),
+            Key::Tns => Row::new("tns", ISSUERS, number(0, 65_535), First::Value(1)),
+        }
+    }
+
+    /// Its name in a script, behind the end, and in a plan.
+    pub fn name(self) -> &'static str
+        ensures { result.now ≡ (row_of self).name }
+    {
+        self.row().name
+    }
+
+    /// Which kinds of end have it.
+    pub fn roles(self) -> Roles
+        ensures { result ≡ (row_of self).roles }
+    {
+        self.row().roles
+    }
+
+    /// The values that it may have.
+    pub fn values(self) -> Values
+        ensures { result ≡ (row_of self).values }
+    {
+        self.row().values
+    }
+
+    /// Its value where nothing sets it.
+    pub fn first(self) -> First
+        ensures { result ≡ (row_of self).first }
+    {
+        self.row().first
+    }
+
+    /// The key of a name.
+    pub fn named(name: &[u8]) -> Option<Key>
+        ensures { result ≡ key_named name.now }
+    {
+        KEYS.iter()
+            .copied()
+            .find(|key| name == key.name().as_bytes())
+    }
+}
+
+/// The numbers from the least to the most.
+fn number(least: u32, most: u32) -> Values
+    ensures { result ≡ Values.Number least most }
+{
+    Values::Number { least, most }
+}

@@ -1,0 +1,70 @@
+//! The settings of an end that were given.
+ghost use Rattle.std.specs.Prelude.{◌≡◌};
+ghost use Rattle.end_settings.specs.Rows.{Fits, IfFits};
+ghost use Rattle.end_settings.specs.Table.{row_of};
+ghost use Rattle.end_settings.specs.Given.{chosen as the_chosen, no_settings, value_of, with_setting};
+
+use crate::key::{COUNT, Key};
+use std::marker::Model;
+
+/// A key, with the value that it is to have: None where what was told is none of its values.
+#[derive(Clone, Copy, Debug, PartialEq, Eq)]
+pub struct Setting {
+    pub key: Key,
+    pub value: Option<u32>,
+}
+
+/// The settings of an end: of each key a value that it may have, or None where none was given. Contracts see the values in the
+/// order of the keys.
+#[derive(Drop)]
+pub struct Settings {
+    values: [Option<u32>; COUNT],
+}
+
+impl Model for Settings {
+    ghost use Rattle.std.specs.Prelude.{ℕ, List, Option};
+    ghost use Rattle.end_settings.specs.Given.{AreFitting};
+
+    ghost Value = { List (Option ℕ) };
+
+    ghost view = { λ s. s.values };
+
+    ghost invariant = { λ s. AreFitting s.values };
+}
+
+impl Settings {
+    /// No settings.
+    pub fn new() -> Self
+        ensures { result ≡ no_settings }
+    {
+        Settings {
+            values: [None; COUNT],
+        }
+    }
+
+    /// The value that was given to a key.
+    pub fn value(&self, key: Key) -> Option<u32>
+        ensures value { result ≡ value_of self.now key }
+        ensures fits { IfFits (row_of key).values result }
+    {
+        self.values[key as usize]
+    }
+
+    /// Takes a setting. A number that is none of the key's values counts as None.
+    pub fn set(&mut self, setting: Setting)
+        ensures { self.new ≡ with_setting self.old setting }
+    {
+        self.values[setting.key as usize] = setting.key.values().fitting(setting.value);
+    }
+
+    /// The value of a key: the one that was given, else that at first, of an end that has this address at first.
+    pub fn chosen(&self, key: Key, address: u8) -> u32
+        ensures value { result ≡ the_chosen self.now address key }
+        ensures fits { Fits (row_of key).values result }
+    {
+        match self.value(key) {
+            Some(value) => value,
+            None => key.first().value(address),
+        }
+    }
+}

@@ -1,0 +1,77 @@
+//! The table of keys, and settings that are given.
+use end_settings::{First, KEYS, Key, Role, Setting, Settings, Values};
+
+/// Which kinds of end have each key: a full-duplex end, a master, a station.
+const ROLES: [(&str, bool, bool, bool); 11] = [
+    ("ack_ticks", true, true, false),
+    ("embed", true, false, false),
+    ("max_enqs", true, false, false),
+    ("max_naks", true, false, false),
+    ("max_resends", false, true, false),
+    ("max_sends", false, false, true),
+    ("node", true, true, false),
+    ("poll_ticks", false, true, false),
+    ("reply_ticks", true, true, false),
+    ("room", true, true, true),
+    ("tns", true, true, false),
+];
+
+#[test]
+fn each_kind_of_end_has_its_keys(rt: HostRuntime) {
+    for (name, duplex, master, station) in ROLES {
+        let Some(key) = Key::named(name.as_bytes()) else {
+            panic!(&rt; "{name} is no key");
+        };
+        assert!(rt;
+            key.name() == name && key.roles().has(Role::Duplex) == duplex,
+            "{name}"
+        );
+        assert!(rt; key.roles().has(Role::Master) == master, "{name}");
+        assert!(rt; key.roles().has(Role::Station) == station, "{name}");
+    }
+    assert!(rt; KEYS.len() == ROLES.len() && Key::named(b"ack-ticks") == None);
+}
+
+/// The least and the most of each key's values, and its value at first, of an end whose address is 7.
+const VALUES: [(Key, u32, u32, u32); 11] = [
+    (Key::AckTicks, 1, 1_000_000, 10),
+    (Key::Embed, 0, 1, 0),
+    (Key::MaxEnqs, 0, 255, 3),
+    (Key::MaxNaks, 0, 255, 3),
+    (Key::MaxResends, 0, 255, 3),
+    (Key::MaxSends, 1, 255, 3),
+    (Key::Node, 0, 255, 7),
+    (Key::PollTicks, 1, 1_000_000, 10),
+    (Key::ReplyTicks, 33, 1_000_000, 100),
+    (Key::Room, 2, 64, 2),
+    (Key::Tns, 0, 65_535, 1),
+];
+
+#[test]
+fn each_key_keeps_its_values_alone(rt: HostRuntime) {
+    for (key, least, most, first) in VALUES {
+        let mut settings = Settings::new();
+        assert!(rt;
+            settings.value(key) == None && settings.chosen(key, 7) == first,
+            "{key:?}"
+        );
+        for value in [least, most] {
+            settings.set(Setting {
+                key,
+                value: Some(value),
+            });
+            assert!(rt;
+                settings.value(key) == Some(value) && settings.chosen(key, 7) == value,
+                "{key:?}"
+            );
+        }
+        for value in [least.checked_sub(1), Some(most + 1), None] {
+            settings.set(Setting { key, value });
+            assert!(rt;
+                settings.value(key) == None && settings.chosen(key, 7) == first,
+                "{key:?}"
+            );
+        }
+    }
+    assert!(rt; Key::Embed.values() == Values::Switch && Key::Node.first() == First::Address);
+}
