@@ -26,8 +26,6 @@ mod issue;
 mod key;
 mod plan;
 mod reading;
-#[cfg(test)]
-mod tests;
 mod values;
 
 pub use fault::PlanFault;
