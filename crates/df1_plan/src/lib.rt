@@ -22,8 +22,6 @@ mod plan;
 mod plan_key;
 mod reading;
 mod settings;
-#[cfg(test)]
-mod tests;
 mod values;
 
 pub use fault::PlanFault;

@@ -8,8 +8,6 @@ mod fault;
 mod outcomes;
 mod plan_file;
 mod service;
-#[cfg(test)]
-mod tests;
 
 pub use fault::ServiceFault;
 pub use outcomes::write_outcomes;

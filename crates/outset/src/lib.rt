@@ -4,8 +4,6 @@
 
 mod node;
 mod setup;
-#[cfg(test)]
-mod tests;
 
 pub use node::node_of;
 pub use setup::setup_of;

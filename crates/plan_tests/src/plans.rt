@@ -1,7 +1,7 @@
 //! Plans: what they say, and the cause of each document that is none.
-use super::*;
 use df1_base::FileType;
 use df1_check::Check;
+use df1_plan::{Plan, read_plan};
 use std::process::Abort;
 
 // The plan of a document.

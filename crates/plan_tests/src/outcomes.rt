@@ -1,11 +1,10 @@
 //! Commands of a plan that ended in each way, and the text of their outcomes.
 
-use crate::commands::issue_all;
-use crate::outcomes::write_outcomes;
 use arrayvec::ArrayVec;
 use df1_base::{BytesOut, Fate, Host};
 use df1_node::Node;
 use df1_plan::read_plan;
+use df1_service::write_outcomes;
 use outset::node_of;
 use std::test::Fail;
 
@@ -82,7 +81,9 @@ fn each_outcome_has_its_line(rt: HostRuntime) -> Result<(), Fail> {
     for (ends, text) in table {
         let plan = read_plan(alloc, PLAN.as_bytes())?;
         let mut node = node_of(alloc, &plan.end)?;
-        issue_all(&mut node, plan.peer, plan.issue.as_slice())?;
+        for payload in plan.issue.as_slice() {
+            node.issue(plan.peer, payload.as_slice())?;
+        }
         for end in ends {
             settle(&mut node, end);
         }

@@ -1,8 +1,8 @@
 //! A node by the plan of an end.
 
-use crate::node_of;
 use df1_base::FileType;
 use df1_node::FileSpec;
+use outset::node_of;
 use script_parts::{EndPlan, WordOf};
 use script_statement::{Items, Who};
 use std::test::Fail;
