@@ -1,4 +1,4 @@
-//! What an end is made of, as C gives it.
+//! What an end is made of, as C gives it. A member that is a key of an end may have the values that `values.rt` says.
 
 /// A full-duplex link.
 #[repr(C)]

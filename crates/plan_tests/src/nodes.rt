@@ -2,6 +2,7 @@
 
 use df1_base::FileType;
 use df1_node::FileSpec;
+use end_settings::{Key, Setting, Settings};
 use outset::node_of;
 use script_parts::{EndPlan, WordOf};
 use script_statement::{Items, Who};
@@ -22,24 +23,13 @@ fn a_node_has_the_first_words_of_its_plan(rt: HostRuntime) -> Result<(), Fail> {
         index: 1,
         value: 0x12AB,
     })?;
-    let plan = EndPlan {
-        who: Who::B,
-        embed: false,
-        node: 1,
-        tns: 9,
-        ack_ticks: 10,
-        max_naks: 3,
-        max_enqs: 3,
-        reply_ticks: 100,
-        max_resends: 3,
-        poll_ticks: 10,
-        max_sends: 3,
-        room: 2,
-        compat: None,
-        block: Items::new(rt.alloc()),
-        files,
-        words,
-    };
+    let mut settings = Settings::new();
+    settings.set(Setting {
+        key: Key::Tns,
+        value: Some(9),
+    });
+    let block = Items::new(rt.alloc());
+    let plan = EndPlan::new(Who::B, 1, &settings, None, block, files, words);
     let node = node_of(rt.alloc(), &plan)?;
     let tables = node.tables();
     let words = [tables.word(7, 0), tables.word(7, 1), tables.word(7, 2)];
