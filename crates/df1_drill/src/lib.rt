@@ -9,6 +9,3 @@ mod tally;
 
 pub use drilled::{Drilled, LINE, drill};
 pub use script::{MOST_ROUNDS, drill_script, each_drill_can_be_played};
-
-#[cfg(test)]
-mod tests;

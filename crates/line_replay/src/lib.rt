@@ -13,6 +13,3 @@ pub use play::replay;
 pub use replay_report::{Line, Lines, Record, print};
 pub use replayer::{Replayer, StreamFault};
 pub use world::World;
-
-#[cfg(test)]
-mod tests;
