@@ -11,6 +11,3 @@ mod telling;
 pub use drilled::{Drilled, LINE, drill};
 pub use script::{MOST_ROUNDS, drill_script, each_drill_can_be_played};
 pub use telling::{DrillFault, write_drill};
-
-#[cfg(test)]
-mod tests;

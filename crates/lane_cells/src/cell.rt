@@ -175,14 +175,3 @@ impl Cell {
         }
     }
 }
-
-#[cfg(test)]
-mod tests {
-    use super::*;
-    use std::mem::size_of;
-
-    #[test]
-    fn a_cell_takes_24_bytes(rt: HostRuntime) {
-        assert_eq!(rt; size_of::<Cell>(), 24);
-    }
-}

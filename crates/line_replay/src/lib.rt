@@ -11,6 +11,3 @@ pub use line_script::{
 pub use line_world::{World, replay};
 pub use replay_report::{Line, Lines, Record, print};
 pub use replayer::{Replayer, StreamFault};
-
-#[cfg(test)]
-mod tests;

@@ -1,7 +1,7 @@
 //! Scripts with the reports of their runs.
 
-use crate::replay;
 use df1_base::BytesOut;
+use line_replay::replay;
 use line_script::read_script;
 use replay_report::{Record, print};
 use std::alloc::Global;

@@ -2,11 +2,11 @@
 
 ghost use Rattle.script_parts.specs.HalfPlayable.{CanBePlayed};
 
-use crate::{MOST_ROUNDS, drill, drill_script, report_text};
 use df1_base::Collected;
 use df1_check::crc;
+use df1_drill::{MOST_ROUNDS, drill, drill_script};
 use line_replay::{read_script, replay};
-use replay_report::pair;
+use replay_report::{pair, print};
 use script_parts::Script;
 use std::alloc::{AllocError, Global};
 use std::test::Fail;
@@ -49,8 +49,9 @@ fn report_of(alloc: Global, text: &[u8]) -> Result<Collected, Fail> {
 fn printed(alloc: Global, script: &Script) -> Result<Collected, Fail>
     requires { CanBePlayed script.now }
 {
-    let record = replay(alloc, script)?;
-    Ok(report_text::text_of(alloc, &record)?)
+    let mut text = Collected::new(alloc);
+    print(&replay(alloc, script)?, &mut text)?;
+    Ok(text)
 }
 
 /// Drills, each with its line up to the CRC of the report.
