@@ -1,7 +1,6 @@
 -- The counts of what is heard in a capture, and how counting one ends.
-use Rattle.std.specs.Prelude.{◌≡◌, ◌≢◌, ◌⊎◌, ◌<◌, ◌≤◌, ℕ, Bool, List, ◌++◌, length, codes, decimal, Option, Some, Result, Ok, Err, nat_lt, ◌||◌, if◌then◌else◌}
+use Rattle.std.specs.Prelude.{◌≡◌, ℕ, Bool, List, ◌++◌, length, codes, decimal, Option, Result, Ok, Err, nat_lt, ◌||◌}
 use Rattle.df1_base.specs.Outside.{Rose, Put, WroteLess}
-use Rattle.df1_base.specs.Signals.{input_limit}
 use Rattle.df1_check.specs.declared.Check.{Check}
 use Rattle.df1_frame.specs.Line.{ReadOff}
 use Rattle.df1_dissect.specs.declared.ear.Side.{Side}

@@ -1,5 +1,5 @@
 -- What a replay that ended well shows.
-use Rattle.std.proofs.Common.{◌≡◌, ◌∙◌, ℕ, List, Option, Some, Result, Ok, Err, OnOk, refl, sym, subst, arith}
+use Rattle.std.proofs.Common.{◌≡◌, ℕ, List, Option, Some, Result, Ok, Err, OnOk, refl, sym, subst}
 use Rattle.df1_base.specs.Outside.{Put}
 use Rattle.line_script.specs.declared.fault.Cause.{Cause}
 use Rattle.script_parts.specs.declared.script.Script.{Script}
