@@ -1,5 +1,5 @@
 -- What stands behind an end, as C gives it: which part is out of range, and the node that the parts make.
-use Rattle.std.specs.Prelude.{ℕ, ◌==◌, ◌||◌, not, List, [], ◌∷◌, length, map, find, nat_lt, Option, None, Some, is_none, if◌then◌else◌}
+use Rattle.std.specs.Prelude.{ℕ, ◌==◌, not, List, [], ◌∷◌, length, map, find, nat_lt, Option, None, Some, is_none, if◌then◌else◌}
 use Rattle.std.specs.Option.{option_map, option_or, unwrap_or}
 use Rattle.std.specs.List.{list_any}
 use Rattle.df1_base.specs.declared.file_type.FileType.{FileType}

@@ -1,5 +1,5 @@
 -- Which cause is the first, by what is told so far.
-use Rattle.std.proofs.Common.{◌≡◌, ◌∙◌, ℕ, false, List, [], ◌∷◌, ◌++◌, Option, Some, None, Ok, refl}
+use Rattle.std.proofs.Common.{◌≡◌, ◌∙◌, false, List, [], ◌∷◌, ◌++◌, Option, Some, None, refl}
 use Rattle.toml.specs.Data.{Members}
 use Rattle.df1_plan.specs.declared.fault.PlanFault.{PlanFault}
 use Rattle.df1_plan.specs.Keys.{has_other, is_known}

@@ -1,5 +1,5 @@
 -- The settings of a plan: the keys that a full-duplex end has, by the table of keys.
-use Rattle.std.specs.Prelude.{ℕ, Bool, false, List, Option, None, Some, find, is_none, ◌&&◌, if◌then◌else◌}
+use Rattle.std.specs.Prelude.{ℕ, Bool, false, Option, None, Some, find, is_none, if◌then◌else◌}
 use Rattle.std.specs.Option.{option_and_then, option_map, option_map_or}
 use Rattle.std.specs.Cmp.Lexicographic.{slice_cmp}
 use Rattle.std.specs.Ordering.{is_lt, nat_cmp}

@@ -1,5 +1,5 @@
 -- The names of the keys.
-use Rattle.std.proofs.Common.{◌≡◌, Option, Some, refl}
+use Rattle.std.proofs.Common.{◌≡◌, Some, refl}
 use Rattle.end_settings.specs.declared.key.Key.{Key}
 use Rattle.end_settings.specs.declared.key.Key.TheVariants.{Node}
 use Rattle.end_settings.specs.Table.{key_named, row_of}

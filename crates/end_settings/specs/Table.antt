@@ -6,7 +6,6 @@ use Rattle.end_settings.specs.declared.key.Key.TheVariants.{AckTicks, Embed, Max
 use Rattle.end_settings.specs.declared.row.Role.{Role}
 use Rattle.end_settings.specs.declared.row.Roles.{Roles}
 use Rattle.end_settings.specs.declared.row.Values.TheVariants.{Switch, Number}
-use Rattle.end_settings.specs.declared.row.First.{First}
 use Rattle.end_settings.specs.declared.row.First.TheVariants.{Address, Value}
 use Rattle.end_settings.specs.Rows.{Row, first_in, is_of}
 

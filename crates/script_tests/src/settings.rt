@@ -20,7 +20,7 @@ const ROLES: [(&str, bool, bool, bool); 11] = [
 fn each_kind_of_end_has_its_keys(rt: HostRuntime) {
     for (name, duplex, master, station) in ROLES {
         let Some(key) = Key::named(name.as_bytes()) else {
-            panic!(&rt; "{name} is no key");
+            panic!(&rt; "no key");
         };
         assert!(rt;
             key.name() == name && key.roles().has(Role::Duplex) == duplex,
@@ -65,7 +65,7 @@ fn each_key_keeps_its_values_alone(rt: HostRuntime) {
                 "{key:?}"
             );
         }
-        for value in [least.checked_sub(1), Some(most + 1), None] {
+        for value in [least.checked_sub(1), most.checked_add(1), None] {
             settings.set(Setting { key, value });
             assert!(rt;
                 settings.value(key) == None && settings.chosen(key, 7) == first,

@@ -8,7 +8,7 @@ use Rattle.df1_plan.specs.Files.{specs_of}
 use Rattle.df1_plan.specs.Keys.{has_other, is_known}
 use Rattle.df1_plan.specs.Plans.{Says}
 use Rattle.df1_plan.proofs.Joined.{joined-says, none-refused}
-use Rattle.df1_plan.proofs.Causes.{back-first, compat-first, entry-first, front-first}
+use Rattle.df1_plan.proofs.Causes.{back-first, entry-first, front-first}
 use Rattle.df1_plan.proofs.Planned.{planned_right}
 use Rattle.df1_plan.proofs.reading.plan_in.Goals as goal
 

@@ -1,6 +1,6 @@
 use Rattle.std.proofs.Common.{◌∙◌, sym}
 use Rattle.toml.specs.View.{table_view}
-use Rattle.df1_plan.proofs.GivenSettings.{value_of-with_given, with_given-next}
+use Rattle.df1_plan.proofs.GivenSettings.{with_given-next}
 use Rattle.df1_plan.proofs.settings.settings_of.Goals as goal
 
 pub loop-key-preserved : goal.loop-key-preserved
