@@ -4,7 +4,7 @@ use Rattle.std.specs.Prelude.{IfSome, if◌then◌else◌, codes, option_map}
 use Rattle.std.specs.Str.{bytes_eq}
 use Rattle.script_statement.specs.Words.{within}
 use Rattle.df1_tool.specs.declared.form.Form.{Form}
-use Rattle.df1_tool.specs.declared.form.Form.TheVariants.{Replay, Serve, Issue, Dissect, Check as Count, Drill}
+use Rattle.df1_tool.specs.declared.form.Form.TheVariants.{Replay, Serve, Issue, Dissect, Check as Count, Drill, Vectors}
 use Rattle.df1_capture.specs.declared.capture.Capture.{Capture}
 use Rattle.df1_drill.specs.Telling.{DrillEnd}
 use Rattle.df1_drill.specs.declared.telling.DrillFault.{DrillFault}
@@ -54,6 +54,7 @@ Few Issue = Unit {0}
 Few (Dissect capture) = Unit {0}
 Few (Count capture) = Unit {0}
 Few (Drill seed count) = count ≤ 20000
+Few Vectors = Unit {0}
 
 few-if : (test : Bool) (a b : Option Form) → IfSome a Few → IfSome b Few → IfSome (if test then a else b) Few
 few-if true a b few few' = few
@@ -83,7 +84,7 @@ few-three word second third =
 few-form : (words : List (List ℕ)) → IfSome (form_of words) Few
 unfolding form_of
 few-form [] = tt
-few-form (word ∷ []) = few-if (bytes_eq word (codes "replay")) _ _ tt tt
+few-form (word ∷ []) = few-if (bytes_eq word (codes "replay")) _ _ tt (few-if (bytes_eq word (codes "vectors")) _ _ tt tt)
 few-form (word ∷ plan ∷ []) = few-if (bytes_eq word (codes "issue")) _ _ tt tt
 few-form (word ∷ second ∷ third ∷ []) = few-three word second third
 few-form (a ∷ b ∷ c ∷ d ∷ more) = tt

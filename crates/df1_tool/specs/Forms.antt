@@ -6,7 +6,7 @@ use Rattle.std.specs.Char.{is_ascii_digit}
 use Rattle.std.specs.List.{list_all}
 use Rattle.script_statement.specs.Words.{within}
 use Rattle.df1_tool.specs.declared.form.Form.{Form}
-use Rattle.df1_tool.specs.declared.form.Form.TheVariants.{Replay, Serve, Issue, Dissect, Check as Count, Drill}
+use Rattle.df1_tool.specs.declared.form.Form.TheVariants.{Replay, Serve, Issue, Dissect, Check as Count, Drill, Vectors}
 use Rattle.df1_capture.specs.declared.capture.Capture.{Capture}
 use Rattle.df1_check.specs.declared.Check.{Check}
 use Rattle.df1_check.specs.declared.Check.TheVariants.{Bcc, Crc}
@@ -47,6 +47,10 @@ drill_by (Some seed) (Some count) = Some (Drill seed count)
 abbrev pub drill_of : List ℕ → List ℕ → Option Form
 drill_of seed count = drill_by (within 0 4294967295 (number_of seed)) (within 1 20000 (number_of count))
 
+-- what one word asks for
+abbrev pub form_of_one : List ℕ → Option Form
+form_of_one word = if bytes_eq word (codes "replay") then Some Replay else if bytes_eq word (codes "vectors") then Some Vectors else None
+
 -- what two words ask for
 abbrev pub form_of_two : List ℕ → Option Form
 form_of_two word = if bytes_eq word (codes "issue") then Some Issue else None
@@ -62,7 +66,7 @@ form_of_three word second third =
 
 -- what the words ask for
 unfoldable pub form_of : List (List ℕ) → Option Form
-form_of (word ∷ []) = if bytes_eq word (codes "replay") then Some Replay else None
+form_of (word ∷ []) = form_of_one word
 form_of (word ∷ plan ∷ []) = form_of_two word
 form_of (word ∷ second ∷ third ∷ []) = form_of_three word second third
 form_of words = None
@@ -75,6 +79,7 @@ service_of Issue = Some (record { timed = true; issues = true })
 service_of (Dissect capture) = None
 service_of (Count capture) = None
 service_of (Drill seed count) = None
+service_of Vectors = None
 
 -- the same of the words
 abbrev pub service_for : List (List ℕ) → Option Service

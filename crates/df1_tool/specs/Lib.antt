@@ -4,3 +4,4 @@ pub mod Forms
 pub mod Notes
 pub mod Replays
 pub mod Served
+pub mod Vectors

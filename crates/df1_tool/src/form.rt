@@ -1,6 +1,6 @@
 //! What the words of a call ask for.
 ghost use Rattle.std.specs.Prelude.{◌≡◌, ◌≤◌, IfSome, IsSome, length, map, string_bytes};
-ghost use Rattle.df1_tool.specs.Forms.{capture_of as the_capture, captured, check_of as the_check, drill_by as the_drill, drill_of as drill_asked, form_of as the_form, form_of_three as of_three, form_of_two as of_two, mode_of as the_mode, service_of, side_of as the_side};
+ghost use Rattle.df1_tool.specs.Forms.{capture_of as the_capture, captured, check_of as the_check, drill_by as the_drill, drill_of as drill_asked, form_of as the_form, form_of_one as of_one, form_of_three as of_three, form_of_two as of_two, mode_of as the_mode, service_of, side_of as the_side};
 
 use crate::note::{Note, noted};
 use crate::number::number_within;
@@ -33,6 +33,8 @@ pub(crate) enum Form {
         /// Its rounds, 1 to 20,000.
         count: u32,
     },
+    /// `vectors`: runs the forty conformance cases, and tells whether one differs.
+    Vectors,
 }
 
 /// The words are none of the forms.
@@ -53,7 +55,7 @@ impl Refusal for NoForm {
 
     fn note(&self) -> Note {
         noted(
-            b"df1: usage: df1 replay | serve PLAN raw|timed | issue PLAN | dissect SIDE CHECK | check SIDE CHECK | drill SEED COUNT\n",
+            b"df1: usage: df1 replay | serve PLAN raw|timed | issue PLAN | dissect SIDE CHECK | check SIDE CHECK | drill SEED COUNT | vectors\n",
         )
     }
 }
@@ -65,9 +67,20 @@ pub(crate) fn form_of(words: &[String]) -> Option<Form>
     ensures named { IfSome result (λ form. IsSome (service_of form) → 2 ≤ length words.now) }
 {
     match words {
-        [word] if word.as_str() == "replay" => Some(Form::Replay),
+        [word] => form_of_one(word),
         [word, _] => form_of_two(word),
         [word, second, third] => form_of_three(word, second, third),
+        _ => None,
+    }
+}
+
+/// What one word asks for.
+fn form_of_one(word: &str) -> Option<Form>
+    ensures { result ≡ of_one word.now }
+{
+    match word {
+        "replay" => Some(Form::Replay),
+        "vectors" => Some(Form::Vectors),
         _ => None,
     }
 }

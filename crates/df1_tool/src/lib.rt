@@ -11,5 +11,6 @@ mod refusal;
 mod replaying;
 mod serving;
 mod top;
+mod vectors;
 
 pub use top::{Ran, run};

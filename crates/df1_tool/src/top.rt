@@ -2,8 +2,8 @@
 //!
 //! | Status | Comes |
 //! |---|---|
-//! | 0 | the input was read to its end, which `drill` doesn't touch, and all text was written |
-//! | 1 | `check`: the same, and something that is heard is a fault of the line, or an item is unfinished |
+//! | 0 | the input was read to its end, which `drill` and `vectors` don't touch, and all text was written |
+//! | 1 | `check`: the same, and something that is heard is a fault of the line, or an item is unfinished; `vectors`: a case differs |
 //! | 2 | exactly where the words are none of the forms |
 //! | 3 | the script, the plan or a timed record is refused: the note tells which and why |
 //! | 4 | only where the input's count of faults rose |
@@ -22,8 +22,9 @@ ghost use Rattle.df1_tool.specs.Notes.{IsNoted, usage};
 ghost use Rattle.df1_tool.specs.Served.{ServiceRun};
 ghost use Rattle.df1_tool.specs.Captures.{CheckRun, DissectRun};
 ghost use Rattle.df1_tool.specs.Drilling.{DrillRun};
+ghost use Rattle.df1_tool.specs.Vectors.{VectorsRun};
 ghost use Rattle.df1_capture.specs.declared.capture.Capture.{Capture as OneCapture};
-ghost use Rattle.df1_tool.specs.declared.form.Form.TheVariants.{Replay, Dissect, Check as Count, Drill};
+ghost use Rattle.df1_tool.specs.declared.form.Form.TheVariants.{Replay, Dissect, Check as Count, Drill, Vectors};
 ghost use Rattle.df1_tool.specs.Forms.{form_of as the_form, plan_name, service_for};
 ghost use Rattle.df1_tool.specs.Replays.{line_note, note_at, status_for, IsReplayStatus};
 ghost use Rattle.df1_service.specs.declared.service.Service.{Service as OneService};
@@ -32,7 +33,7 @@ ghost use Rattle.line_script.specs.declared.fault.Cause.{Cause as Fault};
 
 use crate::form::{Form, NoForm, form_of};
 use crate::refusal::refuse;
-use crate::{checking, dissecting, drilling, replaying, serving};
+use crate::{checking, dissecting, drilling, replaying, serving, vectors};
 use df1_base::{Sink, Source};
 use df1_service::Service;
 use df1_shelf::Shelf;
@@ -106,6 +107,13 @@ pub fn run<H: Shelf, S: Source, K: Sink, N: Sink>(
         (record { held = K.held result.out; out_faults = K.faults result.out; noted = N.held result.note; note_faults = N.faults result.note })
         result.status }
     ensures same_input { (seed count : ℕ) → the_form (map string_bytes words.now) ≡ Some (Drill seed count) → result.input ≡ input }
+
+    // `vectors`. It leaves the input too.
+    ensures conforms { the_form (map string_bytes words.now) ≡ Some Vectors → VectorsRun
+        (record { held = K.held out; out_faults = K.faults out; noted = N.held note; note_faults = N.faults note })
+        (record { held = K.held result.out; out_faults = K.faults result.out; noted = N.held result.note; note_faults = N.faults result.note })
+        result.status }
+    ensures input_kept { the_form (map string_bytes words.now) ≡ Some Vectors → result.input ≡ input }
 
     // What doesn't serve a plan leaves the shelf.
     ensures same_shelf { service_for (map string_bytes words.now) ≡ None → result.shelf ≡ shelf }
@@ -185,6 +193,10 @@ pub fn run<H: Shelf, S: Source, K: Sink, N: Sink>(
         }
         Form::Drill { seed, count } => {
             let status = drilling::run(alloc, seed, count, &mut out, &mut note);
+            Ran::new(status, shelf, input, out, note)
+        }
+        Form::Vectors => {
+            let status = vectors::run(alloc, &mut out, &mut note);
             Ran::new(status, shelf, input, out, note)
         }
     }

@@ -9,3 +9,5 @@ mod drills;
 mod program;
 #[cfg(test)]
 mod services;
+#[cfg(test)]
+mod vectors;

@@ -1,0 +1,30 @@
+//! Each read of a run in turn fails.
+use crate::runs::{CHECK, DISSECT, Failing, ISSUE, POLLED, REPLAY, Run};
+use std::process::Abort;
+use std::test::Fail;
+
+/// Where read number k fails, k - 1 bytes were taken, and what they have written is written.
+fn each_read_fails<R: Abort + AllocGlobal>(rt: &R, of: &Run) -> Result<(), Fail> {
+    let input = of.input(rt.alloc())?;
+    for taken in 0..input.len() + 1 {
+        let failing = Failing {
+            read: taken as u64 + 1,
+            write: 0,
+            note: 0,
+        };
+        let ran = of.ran(rt.alloc(), failing)?;
+        assert_eq!(rt; ran.status, 4);
+        assert_eq!(rt; ran.out.held(), of.written(rt.alloc(), taken)?.as_slice());
+        assert_eq!(rt; ran.note.held(), b"df1: input cannot be read\n".as_slice());
+        assert_eq!(rt; ran.input.left(), input.get(taken..).unwrap_or(&[]));
+    }
+    Ok(())
+}
+
+#[test]
+fn where_a_read_fails_what_was_told_before_is_written(rt: HostRuntime) -> Result<(), Fail> {
+    for of in &[REPLAY, POLLED, DISSECT, CHECK, ISSUE] {
+        each_read_fails(&rt, of)?;
+    }
+    Ok(())
+}

@@ -1,0 +1,15 @@
+//! Tests of devices that fail: each read and each write of a run in turn, inputs that are cut, and shelves and notes that fail.
+#![tactic(auto)]
+
+#[cfg(test)]
+mod cut;
+#[cfg(test)]
+mod inputs;
+#[cfg(test)]
+mod outputs;
+#[cfg(test)]
+mod plans;
+#[cfg(test)]
+mod ports;
+#[cfg(test)]
+mod runs;

@@ -1,0 +1,3 @@
+pub mod Forty
+pub mod Telling
+pub mod Vectors

@@ -1,0 +1,5 @@
+//! Tests of tables of conformance cases.
+#![tactic(auto)]
+
+#[cfg(test)]
+mod tables;
