@@ -2,3 +2,4 @@ pub mod CaptureRuns
 pub mod Drills
 pub mod Services
 pub mod Statuses
+pub mod VectorRuns

@@ -13,5 +13,5 @@ two-words bytes (a ∷ b ∷ c ∷ more) word some few is = absurd (omega (arith
 
 pub returns-in-len2-clause-value : goal.returns-in-len2-clause-value
 returns-in-len2-clause-value c =
-    c.form_of_two.ensures ∙ ap form_of_two c.deref.ensures
+    c.form_of_two.ensures ∙ ap form_of_two c.deref-in-len2.ensures
     ∙ two-words string_bytes c.args.words.now c.word-item-then-words-lt3.result c.in-len2.len_at_least c.in-len2.len_below c.word-item-then-words-lt3.is
