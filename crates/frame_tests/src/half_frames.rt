@@ -68,6 +68,8 @@ fn a_slave_hears_polls_of_any_station(rt: HostRuntime) {
     let mut ear = SlaveEar::<250>::new(Check::Crc);
     let bad = [(4, SlaveHeard::BadPoll)];
     slave_hears(&rt, &mut ear, &[0x10, 0x05, 0x03, 0xFC], &bad);
+    let mut block = SlaveEar::<250>::new(Check::Bcc);
+    slave_hears(&rt, &mut block, &[0x10, 0x05, 0x03, 0xFC], &bad);
     let sixteen = [(4, SlaveHeard::Poll(16))];
     slave_hears(&rt, &mut ear, &[0x10, 0x05, 0x10, 0xF0], &sixteen);
     let bytes = [0x10, 0x05, 0xF0, 0x10, 0x06, 0x10, 0x06];

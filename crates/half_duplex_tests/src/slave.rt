@@ -1,6 +1,6 @@
 //! A slave of station 3, over a host that has one reply to hand out and may have room.
 use arrayvec::ArrayVec;
-use df1_base::{Act, Did, Fate, Host, News, Step};
+use df1_base::{Act, Did, Fate, Host, News, Out, Step};
 use df1_check::Check;
 use half_slave::{Slave, SlaveSetup};
 use std::process::Abort;
@@ -216,6 +216,33 @@ fn a_reply_is_given_up_after_two_polls_without_an_ack(rt: HostRuntime) {
         plain(Act::Nothing, News::Dropped)
     );
     gives_all(&rt, &mut slave, &EOT);
+}
+
+#[test]
+fn each_sending_of_a_reply_is_a_transmission(rt: HostRuntime) {
+    let mut slave = slave_with_reply(true);
+    for number in 1..3 {
+        hears(&mut slave, &POLL_3);
+        for (place, b) in REPLY_MESSAGE.iter().enumerate() {
+            // The body is six bytes behind DLE STX, none of which is doubled.
+            let wanted = Out {
+                byte: *b,
+                last_of: (place + 1 == REPLY_MESSAGE.len()).then_some(number),
+                body_of: (2..8).contains(&place).then_some(number),
+            };
+            assert_eq!(rt; slave.take(), Some(wanted));
+        }
+    }
+    // A response and EOT are none.
+    hears(&mut slave, &COMMAND_MESSAGE);
+    for b in ACK {
+        let wanted = Out {
+            byte: b,
+            last_of: None,
+            body_of: None,
+        };
+        assert_eq!(rt; slave.take(), Some(wanted));
+    }
 }
 
 #[test]
