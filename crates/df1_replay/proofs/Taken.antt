@@ -166,11 +166,12 @@ still-open text r h few =
     let says = ap script_of (sym (append-nil h.reads.whole)) ∙ goes-on text h.events r.text [] h.reads in
     subst (λ t. IsAccepted (script_of t)) (sym whole) (subst IsAccepted (sym says) (accepted-or-open (is_ended (stage_of r.text.reader)) r.text.number (script_with r.text.reader h.events)))
 
-pub broken-off : (left left' left'' held held' : Option (List ℕ)) (faults faults' : ℕ) (r : Replaying) (s : SoFar left left' held held' r) → Keeps left' left'' → length r.text.line ≤ 1024 → Rose faults faults' → BrokenOff left left'' held held' faults faults'
-broken-off left left' left'' held held' faults faults' r s kept few rose = record {
+pub broken-off : (left left' left'' held held' : Option (List ℕ)) (faults faults' : ℕ) (r : Replaying) (s : SoFar left left' held held' r) → Keeps left' left'' → length r.text.line ≤ 1024 → length s.text ≤ 16777216 → Rose faults faults' → BrokenOff left left'' held held' faults faults'
+broken-off left left' left'' held held' faults faults' r s kept short few rose = record {
   bytes = s.text;
   took = Consumes-kept left left' left'' s.text s.took kept;
-  still = still-open s.text r s.replay few;
+  still = still-open s.text r s.replay short;
+  few = few;
   rose = rose;
   shows = s.shows;
 }

@@ -46,12 +46,13 @@ pub record Refused (left left' held held' : Option (List ℕ)) (faults faults' l
   pub shows : Put held held' (events_text (accepted_script bytes))
   pub calm : faults' ≡ faults
 
--- A read has failed, and no line of the bytes that were taken is refused yet. The report's lines of those event lines are written
--- that a line feed among these bytes ends.
+-- A read has failed, and no line of the bytes that were taken is refused yet, nor are they more than a script may have. The report's
+-- lines of those event lines are written that a line feed among these bytes ends.
 pub record BrokenOff (left left' held held' : Option (List ℕ)) (faults faults' : ℕ) : Type 0 where
   pub bytes : List ℕ
   pub took : Took left left' bytes
   pub still : IsOpen bytes
+  pub few : length bytes ≤ 16777216
   pub rose : Rose faults faults'
   pub shows : Put held held' (shown bytes)
 

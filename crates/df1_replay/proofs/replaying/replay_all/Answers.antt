@@ -201,7 +201,11 @@ returns-in-Err-clause-input g c is =
     let held' = g.K.Sink.held (buffer_out l.report) in
     let value = c.held-begun.ensures.value in
     let limit = c.held-begun.ensures.most in
-    broken-off left left' left'' held held' (g.S.Source.faults c.args.input.now) (g.S.Source.faults c.read.new.self) l.replayer s c.in-Err.ensures.failed (omega (arith, value, limit))
+    let fed = fed-is s.text l.replayer s.replay in
+    let count = c.fed.ensures.value in
+    let most = c.fed.ensures.most in
+    let few : length s.text ≤ 16777216 = omega (arith, fed, count, most) in
+    broken-off left left' left'' held held' (g.S.Source.faults c.args.input.now) (g.S.Source.faults c.read.new.self) l.replayer s c.in-Err.ensures.failed (omega (arith, value, limit)) few
     (rose-from (g.S.Source.faults c.args.input.now) (g.S.Source.faults l.input) (g.S.Source.faults c.read.new.self) l.invariant.input_calm c.in-Err.ensures.cause)
 
 pub returns-in-Err-clause-written : goal.returns-in-Err-clause-written
