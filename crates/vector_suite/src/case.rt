@@ -31,8 +31,13 @@ pub struct Case<const L: usize> {
 }
 
 impl<const L: usize> Default for Case<L> {
+    ghost use Rattle.std.specs.Prelude.{◌≡◌, []};
+    ghost use Rattle.vector_suite.specs.Vectors.{shown};
+
     /// The BCC of no bytes, of which nothing is wanted.
-    fn default() -> Self {
+    fn default() -> Self
+        ensures { shown result ≡ record { kind = Kind.Bcc; input = []; want = [] } }
+    {
         Case {
             kind: Kind::Bcc,
             len: 0,
