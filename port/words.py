@@ -1,0 +1,138 @@
+"""Addresses as people write them, `N7:0`, `B3:1/5`, `F8:0`, `T4:1.ACC`, the commands that read and write them, and the values in replies."""
+import re
+import struct
+
+# The type byte of a file, the words of an element, and what its sub-elements are called.
+TYPES = {
+    "S": (0x84, 1, {}),
+    "B": (0x85, 1, {}),
+    "T": (0x86, 3, {"CTL": 0, "PRE": 1, "ACC": 2}),
+    "C": (0x87, 3, {"CTL": 0, "PRE": 1, "ACC": 2}),
+    "R": (0x88, 3, {"CTL": 0, "LEN": 1, "POS": 2}),
+    "N": (0x89, 1, {}),
+    "F": (0x8A, 2, {}),
+}
+ADDRESS = re.compile(r"([A-Z])(\d{1,3}):(\d{1,4})(?:\.([A-Z]+))?(?:/(\d{1,2}))?(?:,(\d{1,4}))?")
+# The most words that one command carries.
+MOST = 122
+
+STS = {
+    0x10: "the command or its format is unknown there",
+    0x20: "the host has a problem and can't communicate",
+    0x30: "the remote host isn't there or is shut down",
+    0x40: "the host couldn't complete the function because of a hardware fault",
+    0x50: "the address is wrong, or the memory is protected",
+    0x60: "the function isn't allowed because of its protection",
+    0x70: "the controller is in program mode",
+    0x80: "there is no compatibility file, or the communication zone has a problem",
+}
+EXT = {
+    0x01: "a field has a value that isn't allowed",
+    0x02: "the address has too few levels",
+    0x03: "the address has too many levels",
+    0x06: "there is no such file, element or sub-element",
+    0x07: "the file or its size is wrong",
+    0x08: "it can't be done now",
+    0x09: "data or file is too long",
+    0x0A: "the address or the range is past the end of the file",
+    0x0B: "the access is denied",
+    0x11: "the file is of another type",
+}
+
+
+class Wrong(Exception):
+    """What was written is no address or no value, and why."""
+
+
+class Address:
+    """A place in a data file, and how many elements from there."""
+
+    def __init__(self, text):
+        found = ADDRESS.fullmatch(text.upper())
+        if not found or found[1] not in TYPES:
+            raise Wrong(f"{text} is no address such as N7:0, N7:0,10, B3:1/5, F8:0 or T4:1.ACC")
+        letter, file, element, sub, bit, count = found.groups()
+        self.text = text
+        self.letter, self.file, self.element = letter, int(file), int(element)
+        self.kind, self.width, names = TYPES[letter]
+        if sub is not None and sub not in names:
+            raise Wrong(f"{text}: a {letter} file has no {sub}" + (f", but {', '.join(names)}" if names else ""))
+        self.sub = names.get(sub)
+        if names and self.sub is None:
+            raise Wrong(f"{text}: say which word, as {letter}{file}:{element}.{list(names)[-1]}")
+        self.bit = None if bit is None else int(bit)
+        if self.bit is not None and (self.bit > 15 or letter == "F"):
+            raise Wrong(f"{text}: a word has the bits 0 to 15, and a float none")
+        self.count = 1 if count is None else int(count)
+        if self.count == 0 or (self.count > 1 and (self.bit is not None or names)):
+            raise Wrong(f"{text}: a count is for whole elements, at least one")
+
+    def words(self):
+        """How many words an element has that is read or written."""
+        return 2 if self.letter == "F" else 1
+
+    def spelled(self, first):
+        """The address of an element, with its sub-element, as a command has it."""
+        return _value(self.file) + bytes([self.kind]) + _value(self.element + first) + _value(self.sub or 0)
+
+    def pieces(self):
+        """The first element, counted from the address, and the number of elements of each command that it takes."""
+        each = MOST // self.words()
+        return [(first, min(each, self.count - first)) for first in range(0, self.count, each)]
+
+    def reads(self):
+        """The payloads that read it, CMD first."""
+        return [b"\x0f\xa2" + bytes([2 * self.words() * count]) + self.spelled(first) for first, count in self.pieces()]
+
+    def values(self, data):
+        """The values in the data of the replies, one after another."""
+        if self.letter == "F":
+            return [_float(data[at:at + 4]) for at in range(0, len(data), 4)]
+        words = struct.unpack(f"<{len(data) // 2}H", data)
+        if self.bit is not None:
+            return [str(words[0] >> self.bit & 1)]
+        if self.letter in "SB":
+            return [f"{word:016b}" if self.letter == "B" else f"{word:04X}" for word in words]
+        return [str(word - (word >> 15 << 16)) for word in words]
+
+    def writes(self, texts):
+        """The payloads that write these values to it, CMD first."""
+        if self.bit is not None:
+            if len(texts) != 1 or texts[0] not in ("0", "1"):
+                raise Wrong(f"{self.text}: a bit is 0 or 1")
+            mask = 1 << self.bit
+            return [b"\x0f\xab\x02" + self.spelled(0) + struct.pack("<HH", mask, mask * int(texts[0]))]
+        self.count = len(texts)
+        data = b"".join(map(self._word, texts))
+        width = 2 * self.words()
+        return [
+            b"\x0f\xaa" + bytes([width * count]) + self.spelled(first) + data[width * first:width * (first + count)] for first, count in self.pieces()
+        ]
+
+    def _word(self, text):
+        try:
+            if self.letter == "F":
+                return struct.pack("<f", float(text))
+            number = int(text, 0)
+            return struct.pack("<h" if number < 0 else "<H", number)
+        except (ValueError, OverflowError, struct.error):
+            raise Wrong(f"{text} is no value of {self.text}") from None
+
+
+def _value(number):
+    return bytes([number]) if number < 255 else b"\xff" + number.to_bytes(2, "little")
+
+
+def _float(data):
+    return f"{struct.unpack('<f', data)[0]:.7g}"
+
+
+def fault_of(reply):
+    """What a reply refuses, in words, and None where it refuses nothing."""
+    status = reply[3]
+    if status == 0:
+        return None
+    if status == 0xF0:
+        extended = reply[6] if len(reply) > 6 else 0
+        return f"refused, STS F0, EXT STS {extended:02X}: {EXT.get(extended, 'see the manual of the controller')}"
+    return f"refused, STS {status:02X}: {STS.get(status & 0xF0 or status, 'see the manual of the controller')}"
