@@ -2,42 +2,11 @@
 import re
 import struct
 
-# The type byte of a file, the words of an element, and what its sub-elements are called.
-TYPES = {
-    "S": (0x84, 1, {}),
-    "B": (0x85, 1, {}),
-    "T": (0x86, 3, {"CTL": 0, "PRE": 1, "ACC": 2}),
-    "C": (0x87, 3, {"CTL": 0, "PRE": 1, "ACC": 2}),
-    "R": (0x88, 3, {"CTL": 0, "LEN": 1, "POS": 2}),
-    "N": (0x89, 1, {}),
-    "F": (0x8A, 2, {}),
-}
+from pccc.codes import TYPES, float_text, refusal
+
 ADDRESS = re.compile(r"([A-Z])(\d{1,3}):(\d{1,4})(?:\.([A-Z]+))?(?:/(\d{1,2}))?(?:,(\d{1,4}))?")
 # The most words that one command carries.
 MOST = 122
-
-STS = {
-    0x10: "the command or its format is unknown there",
-    0x20: "the host has a problem and can't communicate",
-    0x30: "the remote host isn't there or is shut down",
-    0x40: "the host couldn't complete the function because of a hardware fault",
-    0x50: "the address is wrong, or the memory is protected",
-    0x60: "the function isn't allowed because of its protection",
-    0x70: "the controller is in program mode",
-    0x80: "there is no compatibility file, or the communication zone has a problem",
-}
-EXT = {
-    0x01: "a field has a value that isn't allowed",
-    0x02: "the address has too few levels",
-    0x03: "the address has too many levels",
-    0x06: "there is no such file, element or sub-element",
-    0x07: "the file or its size is wrong",
-    0x08: "it can't be done now",
-    0x09: "data or file is too long",
-    0x0A: "the address or the range is past the end of the file",
-    0x0B: "the access is denied",
-    0x11: "the file is of another type",
-}
 
 
 class Wrong(Exception):
@@ -87,7 +56,7 @@ class Address:
     def values(self, data):
         """The values in the data of the replies, one after another."""
         if self.letter == "F":
-            return [_float(data[at:at + 4]) for at in range(0, len(data), 4)]
+            return [float_text(data[at:at + 4]) for at in range(0, len(data), 4)]
         words = struct.unpack(f"<{len(data) // 2}H", data)
         if self.bit is not None:
             return [str(words[0] >> self.bit & 1)]
@@ -123,16 +92,11 @@ def _value(number):
     return bytes([number]) if number < 255 else b"\xff" + number.to_bytes(2, "little")
 
 
-def _float(data):
-    return f"{struct.unpack('<f', data)[0]:.7g}"
-
-
 def fault_of(reply):
     """What a reply refuses, in words, and None where it refuses nothing."""
     status = reply[3]
     if status == 0:
         return None
-    if status == 0xF0:
-        extended = reply[6] if len(reply) > 6 else 0
-        return f"refused, STS F0, EXT STS {extended:02X}: {EXT.get(extended, 'see the manual of the controller')}"
-    return f"refused, STS {status:02X}: {STS.get(status & 0xF0 or status, 'see the manual of the controller')}"
+    extended = reply[6] if len(reply) > 6 else 0
+    codes = f"STS F0, EXT STS {extended:02X}" if status == 0xF0 else f"STS {status:02X}"
+    return f"refused, {codes}: {(refusal(status, extended) or ('', 'see the manual of the controller'))[1]}"

@@ -36,9 +36,10 @@ class Arrow:
 
 @dataclass(frozen=True)
 class Text:
-    """A text: all that it says, though a part be shown, its classes, and the corners of the room that it takes."""
+    """A text: all that it says, what is shown of it, its classes, and the corners of the room that it takes."""
 
     words: str
+    shown: str
     classes: frozenset
     place: tuple
     corners: tuple
@@ -99,7 +100,7 @@ def _text(element):
     turn = math.radians(float(element.get("transform", "rotate(0 ").split("(")[1].split(" ")[0]))
     corners = [(left, -8), (left + width, -8), (left + width, 2), (left, 2)]
     turned = tuple((x + u * math.cos(turn) - v * math.sin(turn), y + u * math.sin(turn) + v * math.cos(turn)) for u, v in corners)
-    return Text(title.text if title is not None else shown, classes, (x, y), turned)
+    return Text(title.text if title is not None else shown, shown, classes, (x, y), turned)
 
 
 def overlap(one, other):

@@ -4,97 +4,108 @@ import unittest
 from seen import EXAMPLES, TOP, Seen, picture
 
 
-def command(fields, tns, way="a>b"):
-    return f"{way} command CMD {fields} TNS {tns:04X}"
+def named(name, tns=1, way="a>b"):
+    """An arrow of a message."""
+    return f"{way} {name}, TNS {tns:04X}"
 
 
-def exchange(fields, reply, tns):
+def exchange(name, reply, tns):
     """The four arrows of an ordinary exchange."""
-    return [command(fields, tns), "b>a ACK", f"b>a reply CMD {reply} TNS {tns:04X}", "a>b ACK"]
+    return [named(name, tns), "b>a ACK", named(f"reply, {reply}", tns, "b>a"), "a>b ACK"]
 
 
-WRITE = command("0F FNC AA", 1)
-ACKS = ["b>a ACK", "b>a reply CMD 4F TNS 0001", "a>b ACK"]
-ECHO = "command CMD 06 FNC 00 TNS 0001"
+WRITE = named("write N7:0 = 1234")
+ACKS = ["b>a ACK", named("reply, done", 1, "b>a"), "a>b ACK"]
+ECHO = "echo 55, TNS 0001"
+ECHOED = "reply, 55, TNS 0001"
 
 ARROWS = {
     "ack-turned-into-nak": [WRITE, "b>a ACK; byte 2: 06 → 15", WRITE, *ACKS],
     "both-ends-at-once": [
-        WRITE, f"b>a {ECHO}", "b>a ACK, embedded", "a>b ACK", "a>b reply CMD 46 TNS 0001", "b>a reply CMD 4F TNS 0001",
-        "a>b ACK, embedded", "b>a ACK",
+        WRITE, f"b>a {ECHO}", "b>a ACK, embedded", "a>b ACK", f"a>b {ECHOED}", "b>a reply, done, TNS 0001", "a>b ACK, embedded", "b>a ACK",
     ],
     "compatibility-file": [
-        *exchange("06 FNC 03", "46", 1), *exchange("01", "41", 2), *exchange("08", "48", 3), *exchange("01", "41 STS 50", 4)
+        *exchange("status", "01 02", 1), *exchange("unprotected read byte 2, 2 bytes", "78 56", 2),
+        *exchange("unprotected write byte 2 = CD AB", "done", 3),
+        *exchange("unprotected read byte 32, 2 bytes", "refused: no such address", 4),
     ],
-    "crc": exchange("06 FNC 00", "46", 1),
+    "crc": exchange("echo 55", "55", 1),
     "damage-that-bcc-misses": [f"{WRITE}; byte 15: 34 → 35, byte 16: 12 → 11", *ACKS],
     "damage-that-crc-catches": [f"{WRITE}; byte 15: 34 → 35, byte 16: 12 → 11", "b>a NAK", WRITE, *ACKS],
     "damaged-frame-and-lost-nak": [
         f"{WRITE}; byte 3: 01 → 00", "b>a NAK; 2 of 2 bytes lost", "a>b ENQ", "b>a NAK", WRITE, *ACKS
     ],
     "damaged-message": [f"m>3 {ECHO}; byte 6: 03 → 02"],
-    "deception-on-purpose": ["foreign>b command CMD 0F FNC AA TNS 0001"],
-    "embedding": [WRITE, command("06 FNC 00", 1, "b>a"), "a>b ACK, embedded"],
+    "deception-on-purpose": ["foreign>b write N7:0 = 1234"],
+    "embedding": [WRITE, f"b>a {ECHO}", "a>b ACK, embedded"],
     "enqs-run-out": [
-        WRITE, "b>a ACK; 2 of 2 bytes lost", "a>b ENQ", "b>a ACK; 2 of 2 bytes lost", "b>a reply CMD 4F TNS 0001", "a>b ACK"
+        WRITE, "b>a ACK; 2 of 2 bytes lost", "a>b ENQ", "b>a ACK; 2 of 2 bytes lost", "b>a reply, done, TNS 0001", "a>b ACK"
     ],
-    "foreign-frame": ["foreign>b command CMD 0F FNC AA TNS 0001", *ACKS],
+    "foreign-frame": ["foreign>b write N7:0 = 1234", *ACKS],
     "foreign-reset": [f"m>3 {ECHO}", "3>m ACK", "foreign>3 NAK, a reset", "m>3 poll 3", "3>m EOT"],
-    "late-reply": exchange("06 FNC 00", "46", 1),
+    "late-reply": exchange("echo 55", "55", 1),
     "limits-passed": [f"{WRITE}; 19 of 19 bytes lost", "foreign>a NAK"],
     "lost-ack": [WRITE, "b>a ACK; 2 of 2 bytes lost", "a>b ENQ", *ACKS],
     "lost-frame": [f"{WRITE}; 19 of 19 bytes lost"],
-    "masked-write": exchange("0F FNC AB", "4F", 1) + exchange("0F FNC A2", "4F", 2),
-    "nak-turned-into-ack": [f"{WRITE}; byte 3: 01 → 00", "b>a NAK; byte 2: 15 → 06"],
-    "no-room": [
-        command("06 FNC 00", 1), "b>a ACK", command("06 FNC 00", 2), "b>a ACK", command("06 FNC 00", 3), "b>a NAK; under way"
+    "masked-write": [
+        *exchange("masked write N7:0, mask 00FF = ABCD", "done", 1), *exchange("read N7:0, 2 words", "N7:0 = 12CD 5678", 2)
     ],
+    "nak-turned-into-ack": [f"{WRITE}; byte 3: 01 → 00", "b>a NAK; byte 2: 15 → 06"],
+    "no-room": [named("echo 55", 1), "b>a ACK", named("echo 55", 2), "b>a ACK", named("echo 55", 3), "b>a NAK; under way"],
     "one-write": [WRITE],
     "ordinary-exchange": [WRITE, *ACKS],
     "polled-write": [
-        "m>3 command CMD 0F FNC AA TNS 0001", "m>5 command CMD 0F FNC AA TNS 0001", "3>m ACK",
-        "m>3 poll 3", "m>5 poll 3", "3>m reply CMD 4F TNS 0001; 11 of 11 bytes lost",
+        "m>3 write N7:0 = 1234, TNS 0001", "m>5 write N7:0 = 1234, TNS 0001", "3>m ACK",
+        "m>3 poll 3", "m>5 poll 3", "3>m reply, done, TNS 0001; 11 of 11 bytes lost",
         "m>3 poll 5", "m>5 poll 5", "5>m EOT",
-        "m>3 poll 3", "m>5 poll 3", "3>m reply CMD 4F TNS 0001", "m>3 ACK", "m>5 ACK",
+        "m>3 poll 3", "m>5 poll 3", "3>m reply, done, TNS 0001", "m>3 ACK to 3", "m>5 ACK to 3",
     ],
     "refused-second-set": [
-        *exchange("0F FNC 26", "4F STS F0/0A", 1), *exchange("0F FNC A2", "4F", 2), *exchange("0F FNC 26", "4F", 3)
+        *exchange("read-modify-write N7:0, N7:16", "refused: past the end", 1), *exchange("read N7:0", "N7:0 = 3456", 2),
+        *exchange("read-modify-write N7:0", "done", 3),
     ],
     "refused-writes": [
-        *exchange("0F FNC AA", "4F STS F0/06", 1), *exchange("0F FNC AA", "4F STS F0/0A", 2),
-        *exchange("0F FNC AA", "4F STS F0/11", 3), *exchange("0F FNC 99", "4F STS 10", 4),
+        *exchange("write N9:0 = 1234", "refused: no such element", 1), *exchange("write N7:16 = 1234", "refused: past the end", 2),
+        *exchange("write F7:0 = 1234", "refused: another type", 3),
+        *exchange("unknown command 0F 99", "refused: not understood", 4),
     ],
     "repeat-after-lost-ack": [
-        f"m>3 {ECHO}", "3>m ACK", "m>3 poll 3", "3>m reply CMD 46 TNS 0001", "m>3 ACK; 2 of 2 bytes lost",
-        "m>3 poll 3", "3>m reply CMD 46 TNS 0001", "m>3 ACK", "m>3 poll 3", "3>m EOT",
+        f"m>3 {ECHO}", "3>m ACK", "m>3 poll 3", f"3>m {ECHOED}", "m>3 ACK to 3; 2 of 2 bytes lost",
+        "m>3 poll 3", f"3>m {ECHOED}", "m>3 ACK to 3", "m>3 poll 3", "3>m EOT",
     ],
     "replies-of-one-tns": [
         f"m>3 {ECHO}", f"m>5 {ECHO}; 16 of 16 bytes lost", "3>m ACK",
-        "m>3 poll 3", "m>5 poll 3; 4 of 4 bytes lost", "3>m reply CMD 46 TNS 0001",
-        "m>3 ACK; 2 of 2 bytes lost", "m>5 ACK; 2 of 2 bytes lost", f"foreign>5 {ECHO}",
-        "m>3 poll 5; 4 of 4 bytes lost", "m>5 poll 5", "5>m ACK; 2 of 2 bytes lost", "5>m reply CMD 46 TNS 0001",
-        "m>3 ACK; 2 of 2 bytes lost", "m>5 ACK", "m>3 poll 3", "m>5 poll 3; 4 of 4 bytes lost", "3>m reply CMD 46 TNS 0001",
+        "m>3 poll 3", "m>5 poll 3; 4 of 4 bytes lost", f"3>m {ECHOED}",
+        "m>3 ACK to 3; 2 of 2 bytes lost", "m>5 ACK to 3; 2 of 2 bytes lost", "foreign>5 echo 77",
+        "m>3 poll 5; 4 of 4 bytes lost", "m>5 poll 5", "5>m ACK; 2 of 2 bytes lost", "5>m reply, 77, TNS 0001",
+        "m>3 ACK to 5; 2 of 2 bytes lost", "m>5 ACK to 5", "m>3 poll 3", "m>5 poll 3; 4 of 4 bytes lost", f"3>m {ECHOED}",
     ],
     "reset": [
-        f"m>3 {ECHO}", "3>m ACK", "m>3 poll 3", "3>m reply CMD 46 TNS 0001; 12 of 12 bytes lost", "foreign>3 NAK, a reset",
-        "m>3 poll 3", "3>m EOT",
+        f"m>3 {ECHO}", "3>m ACK", "m>3 poll 3", f"3>m {ECHOED}; 12 of 12 bytes lost", "foreign>3 NAK, a reset", "m>3 poll 3", "3>m EOT",
     ],
     "silent-station": [f"m>9 {ECHO}; 16 of 16 bytes lost"] * 4 + ["m>9 poll 9; 4 of 4 bytes lost"],
     "slow-line": [WRITE, *ACKS],
-    "slow-poll": [f"m>3 {ECHO}", "3>m ACK", "m>3 poll 3", "3>m reply CMD 46 TNS 0001", "m>3 poll 3", "3>m EOT"],
+    "slow-poll": [f"m>3 {ECHO}", "3>m ACK", "m>3 poll 3", f"3>m {ECHOED}", "m>3 poll 3", "3>m EOT"],
     "stale-ack": [
-        WRITE, "b>a ACK", "b>a reply CMD 4F TNS 0001", "a>b ENQ", "b>a ACK", "a>b ACK", f"{command('0F FNC AA', 2)}; 19 of 19 bytes lost"
+        WRITE, "b>a ACK", "b>a reply, done, TNS 0001", "a>b ENQ", "b>a ACK", "a>b ACK", f"{named('write N7:1 = 5678', 2)}; 19 of 19 bytes lost"
     ],
     "timer-and-float": [
-        *exchange("0F FNC AA", "4F", 1), *exchange("0F FNC A2", "4F", 2), *exchange("0F FNC AA", "4F", 3), *exchange("0F FNC A2", "4F", 4)
+        *exchange("write T4:1.ACC = 012C", "done", 1), *exchange("read T4:1.ACC", "T4:1.ACC = 012C", 2),
+        *exchange("write F8:0 = 1", "done", 3), *exchange("read F8:0", "F8:0 = 1", 4),
     ],
     "stations-in-their-order": [],
-    "tns-wraps": [*exchange("06 FNC 00", "46", 0xFFFF), *exchange("06 FNC 00", "46", 0)],
-    "trace": [f"{WRITE}; byte 15: 34 → 74", "b>a NAK", WRITE, *ACKS, *exchange("0F FNC A2", "4F", 2)],
-    "typed-read-of-floats": exchange("0F FNC 68", "4F", 1) + exchange("0F FNC 68", "4F STS F0/0A", 2),
+    "tns-wraps": [*exchange("echo 55", "55", 0xFFFF), *exchange("echo 55", "55", 0)],
+    "trace": [f"{WRITE}; byte 15: 34 → 74", "b>a NAK", WRITE, *ACKS, *exchange("read N7:0", "N7:0 = 1234", 2)],
+    "typed-read-of-floats": [
+        *exchange("typed read F8:0, 2 elements", "F8:0 = 1 -3", 1),
+        *exchange("typed read F8:1, 2 elements", "refused: past the end", 2),
+    ],
     "unpolled-reply": [f"m>3 {ECHO}", "3>m ACK"],
     "untaken-command": [],
-    "word-range": exchange("0F FNC 01", "4F", 1) + exchange("0F FNC 01", "4F", 2) + exchange("0F FNC 01", "4F STS F0/0A", 3),
+    "word-range": [
+        *exchange("range read N7:0, 2 words", "N7:0 = 1234 5678", 1), *exchange("range read N7:2, 2 words", "N7:2 = 9ABC DEF0", 2),
+        *exchange("range read N7:3, 2 words", "refused: past the end", 3),
+    ],
 }
 
 LABELS = {
@@ -104,13 +115,24 @@ LABELS = {
         "b exec 0100060002000055", "a 33 ticks", "a unanswered 2", "b full",
     ],
     "reset": [
-        "m issue 1", "3 exec 0300060001000055", "m 1 tick", "3 foreign NAK, a reset", "3 dropped", "m 10 ticks", "m 1 tick",
+        "m issue 1 to 3", "3 exec 0300060001000055", "m 1 tick", "3 foreign NAK, a reset", "3 dropped", "m 10 ticks", "m 1 tick",
     ],
-    "silent-station": ["m issue 1", "m 2 ticks", "m 2 ticks", "m 2 ticks", "m 2 ticks", "m undelivered 1", "m 1 tick", "m 10 ticks"],
+    "silent-station": ["m issue 1 to 9", "m 2 ticks", "m 2 ticks", "m 2 ticks", "m 2 ticks", "m undelivered 1", "m 1 tick", "m 10 ticks"],
     "stale-ack": [
         "a issue 1", "a issue 2", "b exec 01000F000100AA02078900003412", "a 10 ticks", "a enquiry", "a answered 1 00014F000100",
         "a 100 ticks", "a unanswered 2",
     ],
+}
+
+# What is shown of some labels, whose whole text is a line of the report.
+SHOWN = {
+    "lost-ack": ["exec write N7:0 = 1234", "answered 1, done"],
+    "refused-writes": ["exec write N9:0 = 1234", "answered 1, refused: no such element", "answered 4, refused: not understood"],
+    "late-reply": ["unanswered 1", "stray reply, 55"],
+    "polled-write": ["issue 1 to 3", "exec write N7:0 = 1234", "answered 1 by 3, done"],
+    "silent-station": ["undelivered 1 to 9"],
+    "replies-of-one-tns": ["exec echo 77", "stray reply, 77 from 5"],
+    "timer-and-float": ["answered 2, T4:1.ACC = 012C", "answered 4, F8:0 = 1"],
 }
 
 FEET = {
@@ -137,6 +159,12 @@ class Examples(unittest.TestCase):
                 words = {line[1] for line in told}
                 labels = [label.split(" ", 2) for label in Seen(picture(script)).labels]
                 self.assertEqual([label for label in labels if label[1] in words], told)
+
+    def test_what_the_report_tells_is_shown_as_people_name_it(self):
+        for name, words in SHOWN.items():
+            with self.subTest(name):
+                shown = [text.shown for text in Seen(picture(TOP / "examples" / f"{name}.df1")).texts]
+                self.assertEqual([one for one in words if one not in shown], [])
 
     def test_some_have_these_labels_beside_their_ends(self):
         for name, labels in LABELS.items():

@@ -134,7 +134,7 @@ class Fates(unittest.TestCase):
     def test_lost_and_altered_bytes_are_told_and_drawn(self):
         seen = Seen(picture(PIECES))
         self.assertEqual(seen.arrows, [
-            "a>b command CMD 0F FNC AA TNS 0001; 3 of 19 bytes lost, byte 6: 00 → 40, byte 6: 40 → 42, byte 10: 02 → 03",
+            "a>b write N7:0 = 1234, TNS 0001; 3 of 19 bytes lost, byte 6: 00 → 40, byte 6: 40 → 42, byte 10: 02 → 03",
             "b>a NAK; 1 of 2 bytes lost",
         ])
         self.assertEqual([sorted(arrow.classes) for arrow in seen.flights], [["altered", "flight", "lost"], ["flight", "lost"]])
@@ -154,20 +154,20 @@ class Fates(unittest.TestCase):
 
     def test_an_embedded_response_is_an_arrow_of_its_own_and_none_of_its_frame(self):
         self.assertEqual(Seen(picture(PARTED)).arrows, [
-            "a>b unfinished; under way", "b>a command CMD 06 FNC 00 TNS 0001", "a>b ACK, embedded"
+            "a>b unfinished; under way", "b>a echo 55, TNS 0001", "a>b ACK, embedded"
         ])
 
     def test_foreign_bytes_come_from_beyond_the_labels(self):
         seen = Seen(picture(FOREIGN_HALF))
-        self.assertEqual(seen.arrows, ["foreign>3 poll 3", "foreign>3 NAK, a reset", "foreign>m 100210"])
+        self.assertEqual(seen.arrows, ["foreign>3 poll 3", "foreign>3 NAK, a reset", "foreign>m 10 02 10"])
         self.assertEqual([arrow.begin[0] > seen.ends["3"] for arrow in seen.flights], [True, True, False])
         self.assertEqual([arrow.end[0] for arrow in seen.flights], [seen.ends["3"], seen.ends["3"], seen.ends["m"]])
-        self.assertEqual(Seen(picture(FOREIGN_FULL)).arrows, ["foreign>b command CMD 06 FNC 00 TNS 0001"])
+        self.assertEqual(Seen(picture(FOREIGN_FULL)).arrows, ["foreign>b echo 55"])
 
     def test_a_message_to_a_station_is_faint_where_another_hears_it(self):
         seen = Seen(picture(TOP / "examples" / "polled-write.df1"))
         faint = [arrow.text for arrow in seen.flights if "overheard" in arrow.classes]
-        self.assertEqual(faint, ["m>5 command CMD 0F FNC AA TNS 0001", "m>5 poll 3", "m>3 poll 5", "m>5 poll 3"])
+        self.assertEqual(faint, ["m>5 write N7:0 = 1234, TNS 0001", "m>5 poll 3", "m>3 poll 5", "m>5 poll 3", "m>5 ACK to 3"])
 
     def test_events_that_give_and_deliver_byte_by_byte_make_one_row(self):
         script = "ai 0603\n" + "ak\n" * 13 + "ad\n" * 13 + "end\n"
@@ -191,7 +191,7 @@ class Windows(unittest.TestCase):
 
     def test_lines_from_and_to(self):
         seen = Seen(picture(self.SCRIPT, Window(9, 12)))
-        self.assertEqual(seen.arrows, ["b>a ACK", "b>a reply CMD 4F TNS 0001", "a>b ENQ", "b>a ACK; under way"])
+        self.assertEqual(seen.arrows, ["b>a ACK", "b>a reply, done, TNS 0001", "a>b ENQ", "b>a ACK; under way"])
         self.assertEqual(seen.labels, ["a answered 1 00014F000100"])
         self.assertEqual(seen.words("gutter"), ["earlier", "earlier", "9 ak 2", "10 ad 2", "11 bk 2", "12 bd 13"])
         self.assertEqual(seen.words("note"), ["Lines from 9 to 12 of the script; what stands below is of the whole run."])
@@ -200,6 +200,7 @@ class Windows(unittest.TestCase):
     def test_lines_behind_the_last_event(self):
         seen = Seen(picture(self.SCRIPT, Window(100)))
         self.assertEqual((seen.arrows, seen.labels), ([], []))
+        self.assertEqual(seen.words("note"), ["Nothing from line 100 on: the script's last line is 18."])
 
     def test_a_long_run_is_cut_and_says_where(self):
         script = "".join("ai 0600\nak 99\nad 99\nbk 99\nbd 99\nak 2\nad 2\n" for _ in range(150)) + "end\n"

@@ -5,28 +5,28 @@ from ladder.items import NoItem, Splitter, split_foreign
 from ladder.report import Foot, NoReport, read_line, read_report
 from ladder.script import Comment, Event, read_script
 
-# What it is, the side, the bytes of a check, the bytes, and each item with the places of its first and last byte.
+# What it is, the side, the bytes of a check, the bytes, and each item with the places of its first and last byte; of a message its body.
 ITEMS = [
-    ("a frame with a BCC", "full", 1, "1002080906000204031003E0", [("command CMD 06 FNC 03 TNS 0402", 0, 11)]),
-    ("a frame with a CRC", "full", 2, "10020809060002040310039848", [("command CMD 06 FNC 03 TNS 0402", 0, 12)]),
-    ("a body with the byte 10", "full", 1, "100207000600101000001010" + "1003D3", [("command CMD 06 FNC 00 TNS 0010", 0, 14)]),
-    ("a BCC of 10", "full", 1, "100207000600010000E2" + "100310", [("command CMD 06 FNC 00 TNS 0001", 0, 12)]),
+    ("a frame with a BCC", "full", 1, "1002080906000204031003E0", [("08090600020403", 0, 11)]),
+    ("a frame with a CRC", "full", 2, "10020809060002040310039848", [("08090600020403", 0, 12)]),
+    ("a body with the byte 10", "full", 1, "100207000600101000001010" + "1003D3", [("0700060010000010", 0, 14)]),
+    ("a BCC of 10", "full", 1, "100207000600010000E2" + "100310", [("07000600010000E2", 0, 12)]),
     (
         "responses, an enquiry and a reply", "full", 1, "100610051015" + "100200014FF001000A1003B5",
-        [("ACK", 0, 1), ("ENQ", 2, 3), ("NAK", 4, 5), ("reply CMD 4F STS F0/0A TNS 0001", 6, 17)],
+        [("ACK", 0, 1), ("ENQ", 2, 3), ("NAK", 4, 5), ("00014FF001000A", 6, 17)],
     ),
     (
         "a response inside a frame", "full", 1, "100201000F000100" + "1006" + "AA100345",
-        [("ACK, embedded", 8, 9), ("command CMD 0F FNC AA TNS 0001", 0, 13)],
+        [("ACK, embedded", 8, 9), ("01000F000100AA", 0, 13)],
     ),
     (
         "a master's message, poll and ACK", "master", 1, "10010310020300060001000055" + "10039E" + "100503FD" + "1006",
-        [("command CMD 06 FNC 00 TNS 0001", 0, 15), ("poll 3", 16, 19), ("ACK", 20, 21)],
+        [("03000600010000" + "55", 0, 15), ("poll 3", 16, 19), ("ACK to 3", 20, 21)],
     ),
-    ("a poll where the check is a CRC", "master", 2, "100503FD1006", [("poll 3", 0, 3), ("ACK", 4, 5)]),
+    ("a poll where the check is a CRC", "master", 2, "100503FD1006", [("poll 3", 0, 3), ("ACK to 3", 4, 5)]),
     (
         "a slave's message and EOT", "slave", 1, "1002000346101001001003A6" + "1004",
-        [("reply CMD 46 STS 10 TNS 0001", 0, 11), ("EOT", 12, 13)],
+        [("000346100100", 0, 11), ("EOT", 12, 13)],
     ),
 ]
 
@@ -39,9 +39,9 @@ NO_ITEMS = [
 FOREIGN = [
     ("full", "1015", [("NAK", "1015")]),
     ("full", "10061002" + "01000F000100" + "1006" + "AA100345", [
-        ("ACK", "1006"), ("command CMD 0F FNC AA TNS 0001", "100201000F0001001006AA100345")]),
-    ("full", "101555", [("101555", "101555")]),
-    ("full", "1015" + "1002", [("10151002", "10151002")]),
+        ("ACK", "1006"), ("01000F000100AA", "100201000F0001001006AA100345")]),
+    ("full", "101555", [(None, "101555")]),
+    ("full", "1015" + "1002", [(None, "10151002")]),
     ("master", "1015", [("NAK, a reset", "1015")]),
 ]
 
@@ -66,6 +66,11 @@ end
 """
 
 
+def told(item):
+    """The body of a message, or the name of another item."""
+    return item.name if item.body is None else item.body.hex().upper()
+
+
 class Items(unittest.TestCase):
     def test_bytes_split_into_items_however_they_come(self):
         for what, side, check_size, text, items in ITEMS:
@@ -73,7 +78,7 @@ class Items(unittest.TestCase):
                 with self.subTest(what, size=size):
                     data, splitter = bytes.fromhex(text), Splitter(side, check_size)
                     found = [item for at in range(0, len(data), size) for item in splitter.feed(data[at:at + size])]
-                    self.assertEqual([(item.name, item.first, item.last) for item in found], items)
+                    self.assertEqual([(told(item), item.first, item.last) for item in found], items)
                     self.assertIsNone(splitter.unfinished())
 
     def test_bytes_that_are_no_items(self):
@@ -86,6 +91,12 @@ class Items(unittest.TestCase):
         frame = splitter.feed(bytes.fromhex("100201000F0001001006AA100345"))[-1]
         self.assertEqual(frame.places(), (0, 1, 2, 3, 4, 5, 6, 7, 10, 11, 12, 13))
 
+    def test_an_ack_of_a_master_is_to_the_station_that_it_polled_last(self):
+        items = Splitter("master", 1).feed(bytes.fromhex("1006" + "100503FD" + "1006" + "100505FB" + "1006"))
+        self.assertEqual([(item.name, item.station) for item in items], [
+            ("ACK", None), ("poll 3", "3"), ("ACK to 3", "3"), ("poll 5", "5"), ("ACK to 5", "5")
+        ])
+
     def test_what_is_begun_is_unfinished(self):
         splitter = Splitter("full", 1)
         self.assertEqual([item.name for item in splitter.feed(bytes.fromhex("1006100201"))], ["ACK"])
@@ -95,7 +106,7 @@ class Items(unittest.TestCase):
         for side, text, items in FOREIGN:
             with self.subTest(side=side, text=text):
                 found = split_foreign(side, 1, bytes.fromhex(text))
-                self.assertEqual([(name, data.hex().upper()) for name, data in found], items)
+                self.assertEqual([(told(item) if item else None, data.hex().upper()) for item, data in found], items)
 
 
 class Scripts(unittest.TestCase):
@@ -103,6 +114,7 @@ class Scripts(unittest.TestCase):
         script = read_script(SCRIPT)
         self.assertEqual((script.caption, script.mode, script.check_size), ("A title in two lines.", "half", 2))
         self.assertEqual((script.ends, script.words), (["m", "3", "5"], {("3", 7, 1): 0x00FF}))
+        self.assertEqual((script.letters, script.settings, script.lines), ({"3": {7: "N"}}, {"check": "crc"}, 17))
         self.assertEqual(list(script.happenings()), [
             Comment(10, "Then"),
             Event(11, "m", "i", "3", "060055"),

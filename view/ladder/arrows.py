@@ -4,8 +4,12 @@ from __future__ import annotations
 import math
 
 from .layout import CUT_OFF, LETTER
+from .placing import Box
 
 UNDER_WAY_DROP = 16
+
+# How far a name stands from the begin of its arrow, by how much it moves along it, and how far above and below the arrow it stands.
+NEAR, MOVE, ABOVE, BELOW = 12, 24, 6, 14
 
 
 class Arrows:
@@ -17,41 +21,77 @@ class Arrows:
         self._heights = heights
         self._one = transmission
         self._start = (columns.place[transmission.sender], heights.begins[transmission.sender, transmission.first])
+        self._ends = []
 
-    def paint_flight(self, flight):
-        """The arrow to an end that it reached, or the line to where it was lost; answers where it ends."""
+    def paint(self):
+        """The arrow to each end that it came to, or was lost on its way to, and the begin of one that is under way."""
+        for flight in sorted(self._one.ended, key=self._one.is_overheard, reverse=True):
+            self._paint_flight(flight)
+        if self._one.waiting:
+            self._paint_waiting()
+        for end in self._ends:
+            self._svg.taken.add_arrow(self._start, end)
+
+    def _paint_flight(self, flight):
+        """The arrow to an end that it reached, or the line to where it was lost."""
         neighbour, place = self._columns.gap_before(flight.receiver, self._one.sender)
         x = neighbour + CUT_OFF * (place - neighbour) if flight.is_cut_off else place
         end = (x, self._heights.steps[flight.ended])
-        group = self._svg.group(self._classes(flight), self._title(flight))
+        group = self._group(flight)
         if flight.is_cut_off:
             self._svg.line(self._start, end, group=group)
         else:
             self._svg.arrow(self._start, end, group)
         for mark in self._one.marks(flight):
             self._paint_mark(mark, group, end, abs(place - x))
-        return end
+        self._ends.append(end)
 
-    def paint_waiting(self):
-        """The begin of the arrow to where it is still under way; answers where the line ends."""
+    def _paint_waiting(self):
+        """The begin of the arrow to where it is still under way."""
         flight = self._one.waiting[0]
         neighbour, place = self._columns.gap_before(self._one.sender, flight.receiver)
         end = (place + CUT_OFF * (neighbour - place), self._start[1] + UNDER_WAY_DROP)
-        group = self._svg.group(f"{self._classes(flight)} under-way", self._title(flight))
+        group = self._group(flight, " under-way")
         self._svg.line(self._start, end, group=group)
         self._svg.dot(end, group, "ring")
         self._svg.text((end[0], end[1] + 16), [("under way", "rest")], "middle")
-        return end
+        self._ends.append(end)
 
-    def paint_name(self, ends):
-        """The name above the begin of the flattest of the lines to these ends."""
-        start = self._start
-        goes_right = ends[0][0] > start[0]
-        slope = min(math.atan2(y - start[1], abs(x - start[0])) for x, y in ends)
-        x = start[0] + (12 if goes_right else -12) * math.cos(slope)
-        y = start[1] + 12 * math.sin(slope) - 6 / math.cos(slope)
-        angle = math.degrees(slope if goes_right else -slope)
-        self._svg.text((x, y), [(self._one.name, None)], "start" if goes_right else "end", angle)
+    def paint_name(self):
+        """The name along the flattest of its lines: above its begin, or where something would cross it there further on, or below."""
+        end = min(self._ends, key=lambda end: self._slope(end))
+        places = list(self._places(end))
+        best = min(places, key=lambda place: self._svg.taken.cost(self._box(*place), (self._start, end)))
+        parts = [(self._one.name, None), (self._one.number, "rest")]
+        is_faint = bool(self._one.ended or self._one.waiting) and all(map(self._one.is_overheard, self._one.ended + self._one.waiting))
+        if is_faint:
+            parts = [(text, "rest") for text, _ in parts]
+        key = self._one.key((self._one.ended + self._one.waiting)[0])
+        self._svg.text(best[0], parts, "start" if end[0] > self._start[0] else "end", math.degrees(best[1]), key=key)
+
+    def _slope(self, end):
+        """How steeply a line to an end goes down."""
+        return math.atan2(end[1] - self._start[1], abs(end[0] - self._start[0]))
+
+    def _places(self, end):
+        """Where the name may stand, each with its angle, the best first."""
+        slope, towards = self._slope(end), math.copysign(1, end[0] - self._start[0])
+        length = math.dist(self._start, end) - self._width() - NEAR
+        angle = slope * towards
+        for across in (-ABOVE, BELOW):
+            for move in range(0, max(1, int(length)), MOVE):
+                along = NEAR + move
+                x = self._start[0] + towards * along * math.cos(slope)
+                yield (x, self._start[1] + along * math.sin(slope) + across / math.cos(slope)), angle
+
+    def _width(self):
+        """The room that the name takes."""
+        return len(self._one.name + self._one.number) * LETTER
+
+    def _box(self, place, angle):
+        """The room of the name at a place."""
+        goes_right = self._ends[0][0] > self._start[0]
+        return Box(*place, *((0, self._width()) if goes_right else (-self._width(), 0)), angle)
 
     def _paint_mark(self, mark, group, end, room):
         """A cross or a dot at the height of a mark on the line to an end, behind which there is so much room, and what it means.
@@ -78,12 +118,8 @@ class Arrows:
         """A text at one side of a place, so far away."""
         self._svg.text((place[0] + away, place[1]), [(text, "rest")], "start" if away > 0 else "end")
 
-    def _classes(self, flight):
-        """The classes of its arrow to an end."""
+    def _group(self, flight, more=""):
+        """The group of shapes of its arrow to an end."""
         marks = [("overheard", self._one.is_overheard(flight)), ("lost", flight.losses), ("altered", flight.changes)]
-        return " ".join(["flight"] + [name for name, holds in marks if holds])
-
-    def _title(self, flight):
-        """What it is, where it went and what became of it, and its bytes."""
-        one = self._one
-        return f"{one.sender} to {flight.receiver}: {one.name}; {one.fate(flight)}; {one.data.hex(' ').upper()}"
+        classes = " ".join(["flight"] + [name for name, holds in marks if holds]) + more
+        return self._svg.group(classes, self._one.title(flight), self._one.key(flight))

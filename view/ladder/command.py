@@ -6,7 +6,7 @@ import os
 import sys
 
 from .painting import paint
-from .program import Stopped, replay
+from .program import Stepwise, Stopped, replay
 from .report import NoReport, read_report
 from .run import Misfit, Window, play
 from .script import read_script
@@ -54,7 +54,8 @@ def draw(source, name, program, window=Window()):
         if answer.status != 0:
             raise Failed(answer.status)
         lines, foot = read_report(answer.report)
-        return paint(play(program, read_script(source), window, lines, foot), name)
+        with Stepwise(program) as feed:
+            return paint(play(feed, read_script(source), window, lines, foot), name)
     except (Misfit, NoReport) as misfit:
         raise Failed(FITS_NOT, str(misfit)) from None
     except Stopped:

@@ -1,4 +1,4 @@
-"""What an end gave, split into messages, polls and pairs, and their names.
+"""What an end gave, split into messages, polls and pairs.
 
 An end gives whole items, one behind another; responses may stand inside a full-duplex frame.
 """
@@ -7,14 +7,13 @@ from __future__ import annotations
 from dataclasses import dataclass
 
 DLE, STX, ETX = 0x10, 0x02, 0x03
-SOH, ENQ = 0x01, 0x05
+SOH, ENQ, ACK = 0x01, 0x05, 0x06
 
 PAIRS = {
     "full": {0x05: "ENQ", 0x06: "ACK", 0x0F: "NAK", 0x15: "NAK"},
     "master": {0x06: "ACK", 0x0F: "NAK, a reset", 0x15: "NAK, a reset"},
     "slave": {0x04: "EOT", 0x06: "ACK", 0x0F: "NAK", 0x15: "NAK"},
 }
-WITH_FUNCTION = (0x06, 0x0F)
 
 
 class NoItem(Exception):
@@ -23,7 +22,7 @@ class NoItem(Exception):
 
 @dataclass(frozen=True)
 class Item:
-    """A message, a poll or a pair: its name, the station that it names, and its bytes' places among all that were given."""
+    """A message with its body, or a poll or a pair with its name; the station that it is for, and its bytes' places among all that were given."""
 
     name: str
     station: str | None
@@ -31,6 +30,7 @@ class Item:
     last: int
     inside: tuple[Item, ...] = ()
     is_whole: bool = True
+    body: bytes | None = None
 
     def places(self):
         """The places of its own bytes: those of the responses inside it are theirs."""
@@ -45,6 +45,7 @@ class Splitter:
         self._side = side
         self._check_size = check_size
         self._place = 0
+        self._polled = None
         self._expects = self._outside
         self._begin()
 
@@ -82,6 +83,9 @@ class Splitter:
         """Behind an item's first byte: what it is."""
         name = PAIRS[self._side].get(byte)
         if name:
+            if self._side == "master" and byte == ACK and self._polled:
+                self._station = self._polled
+                name = f"ACK to {self._polled}"
             return self._end(name)
         if self._side == "master":
             self._want(byte, SOH, ENQ)
@@ -97,6 +101,7 @@ class Splitter:
             self._station = str(byte)
         self._left -= 1
         if self._left == 0:
+            self._polled = self._station
             return self._end(f"poll {self._station}")
 
     def _address(self, byte):
@@ -136,12 +141,12 @@ class Splitter:
         """In a check."""
         self._left -= 1
         if self._left == 0:
-            return self._end(message_name(bytes(self._body)))
+            return self._end("message", bytes(self._body))
 
-    def _end(self, name):
+    def _end(self, name, body=None):
         """The item ends with this byte."""
         self._expects = self._outside
-        return Item(name, self._station, self._first, self._place, tuple(self._inside))
+        return Item(name, self._station, self._first, self._place, tuple(self._inside), body=body)
 
     @staticmethod
     def _want(byte, *wanted):
@@ -150,31 +155,14 @@ class Splitter:
             raise NoItem
 
 
-def message_name(body):
-    """Whether a body is a command or a reply, and the fields that tell which."""
-    if len(body) < 6:
-        return "message"
-    command, status = body[2], body[3]
-    fields = [f"CMD {command:02X}"]
-    if command & 0x40:
-        if status == 0xF0 and len(body) > 6:
-            fields.append(f"STS F0/{body[6]:02X}")
-        elif status:
-            fields.append(f"STS {status:02X}")
-    elif command in WITH_FUNCTION and len(body) > 6:
-        fields.append(f"FNC {body[6]:02X}")
-    fields.append(f"TNS {body[5]:02X}{body[4]:02X}")
-    return " ".join(["reply" if command & 0x40 else "command"] + fields)
-
-
 def split_foreign(side, check_size, data):
-    """Foreign bytes as pairs of a name and bytes: their items, or all of them where they are no whole items."""
+    """Foreign bytes as pairs of an item and its bytes, or one pair without an item where they are no whole items."""
     splitter = Splitter(side, check_size)
     try:
         items = splitter.feed(data)
     except NoItem:
         items = []
     if not items or splitter.unfinished():
-        return [(data.hex().upper(), data)]
+        return [(None, data)]
     inner = {response for item in items for response in item.inside}
-    return [(item.name, data[item.first:item.last + 1]) for item in items if item not in inner]
+    return [(item, data[item.first:item.last + 1]) for item in items if item not in inner]

@@ -7,29 +7,29 @@ HEIGHT = 16
 MOST_LETTERS = 40
 FINE = ("exec", "answered")
 
+# With more ends than these the picture is crowded: a station's labels are short, and what it hears of a message to another one stands at
+# one height.
+FEW_ENDS = 5
+
 # How far the first line of the report stands below the height of its step.
 DROPS = {"k": HEIGHT, "n": HEIGHT, "t": 24}
 
 
 @dataclass(frozen=True)
 class Label:
-    """A label beside the line of an end: a word in the colour of its class, what follows, and how far below its step it stands."""
+    """A label beside the line of an end: a word in the colour of its class, what follows, all of it, and how far below its step it stands."""
 
     end: str
     word: str
     class_: str
     rest: str
+    text: str
     drop: float
 
     @property
-    def text(self):
-        """All of it."""
-        return f"{self.word} {self.rest}" if self.rest else self.word
-
-    @property
     def shown(self):
-        """It, cut where it is long."""
-        return shortened(self.text, MOST_LETTERS)
+        """What is shown of it, cut where it is long."""
+        return shortened(f"{self.word}{self.rest}", MOST_LETTERS)
 
 
 def shortened(text, letters):
@@ -37,18 +37,44 @@ def shortened(text, letters):
     return text if len(text) <= letters else text[:letters - 1] + "…"
 
 
-def labels_of(step):
-    """The labels of a step, from the top down."""
+def label_steps(run, names):
+    """Gives each step that is drawn its labels, from the top down."""
+    for step in run.steps:
+        step.labels = [_own(run, names, step)] if step.event.kind in "itn" else []
+        for index, told in enumerate(step.told):
+            class_ = "word" if told.kind in FINE else "word late"
+            drop = DROPS.get(step.event.kind, 0) + index * HEIGHT
+            step.labels.append(Label(told.who, told.kind, class_, _rest(run, names, step, told), told.text, drop))
+
+
+def _own(run, names, step):
+    """The label of an event that no arrow shows, or of foreign bytes."""
     event = step.event
-    found = []
     if event.kind == "i":
-        found.append(Label(event.end, f"issue {step.command}", "rest", "", 0))
-    elif event.kind == "t":
-        found.append(Label(event.end, f"{event.count} tick{'s' if event.count > 1 else ''}", "late", "", 0))
-    elif event.kind == "n":
-        found.append(Label(step.foreign.receiver, "foreign", "word of-nobody", step.foreign.name, -11))
-    for index, told in enumerate(step.told):
-        class_ = "word" if told.kind in FINE else "word late"
-        rest = told.text[len(told.kind) + 1:]
-        found.append(Label(told.who, told.kind, class_, rest, DROPS.get(event.kind, 0) + index * HEIGHT))
-    return found
+        text = f"issue {step.command}" + (f" to {event.station}" if event.station else "")
+        return Label(event.end, text, "rest", "", text, 0)
+    if event.kind == "t":
+        text = f"{event.count} tick{'s' if event.count > 1 else ''}"
+        return Label(event.end, text, "late", "", text, 0)
+    name = names.foreign(step.foreign, step.number)[0]
+    return Label(step.foreign.receiver, "foreign", "word of-nobody", f" {name}", f"foreign {name}", -11)
+
+
+def _rest(run, names, step, told):
+    """What follows the word of a line of the report."""
+    if told.kind in ("exec", "stray"):
+        is_short = told.kind == "exec" and len(run.script.ends) > FEW_ENDS
+        return "" if is_short else f" {names.body(told.body, told.who, step.number)}{_sender(run, told)}"
+    if told.number is None:
+        return ""
+    event = run.commands.get((told.who, told.number))
+    station = event.station if event else None
+    if told.kind != "answered":
+        return f" {told.number}" + (f" to {station}" if station else "")
+    reply = names.body(told.body, told.who, step.number).removeprefix("reply, ")
+    return f" {told.number}" + (f" by {station}" if station else "") + f", {reply}"
+
+
+def _sender(run, told):
+    """The station that a stray reply is from."""
+    return f" from {told.body[1]}" if told.kind == "stray" and run.script.mode == "half" else ""

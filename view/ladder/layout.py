@@ -4,16 +4,17 @@ from __future__ import annotations
 import textwrap
 from dataclasses import dataclass, field
 
-from .labels import labels_of
-from .rows import FEW_ENDS, Row
+from .labels import FEW_ENDS
+from .rows import Row
+from .svg import LETTER
 
-LETTER = 7.3
 SMALL_LETTER = 6.7
 CAPTION_LETTER = 7.0
 COMMENT_LETTER = 6.6
 COMMENT_LETTERS = 44
 MARGIN = 12
 LANE = 300
+NARROW = 90
 TALL = 800
 
 # The part of its way that an arrow goes which doesn't arrive.
@@ -57,7 +58,7 @@ def columns(ends, rows, sent):
     beside = {end: 60.0 for end in ends}
     along = {end: 0.0 for end in ends}
     for step in steps:
-        for label in labels_of(step):
+        for label in step.labels:
             beside[label.end] = max(beside[label.end], len(label.shown) * LETTER + 18)
     for one in sent:
         along[one.sender] = max(along[one.sender], _room(one))
@@ -71,7 +72,9 @@ def columns(ends, rows, sent):
         if not following:
             x += beside[end]
         elif index == 0:
-            x += max(LANE, along[end], along[following[0]], _meeting(sent, end, following[0]))
+            x += max(LANE, along[end], *(along.values() if len(ends) > FEW_ENDS else [along[following[0]]]), _meeting(sent, end, following[0]))
+        elif len(ends) > FEW_ENDS:
+            x += max(beside[end], NARROW)
         else:
             x += max(beside[end], along[following[0]])
     found.width = x + MARGIN
@@ -80,7 +83,7 @@ def columns(ends, rows, sent):
 
 def _room(one):
     """The room that the name of a transmission takes along its arrow."""
-    room = len(one.name) * LETTER + 24
+    room = len(one.name + one.number) * LETTER + 24
     arrives = not one.waiting and not any(flight.is_cut_off for flight in one.ended)
     return room if arrives else room / CUT_OFF
 
@@ -176,5 +179,5 @@ def _steps_row(found, places, row, begun):
     height = levels[-1]
     for step in row.steps:
         found.steps[step.number] = height
-        for label in labels_of(step):
+        for label in step.labels:
             found.bottom = max(found.bottom, height + places.drop(step, label) + 10)

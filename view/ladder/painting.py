@@ -2,8 +2,9 @@
 from __future__ import annotations
 
 from .arrows import Arrows
-from .labels import labels_of
+from .labels import label_steps
 from .layout import CAPTION_LETTER, LETTER, MARGIN, columns, heights, wrapped
+from .names import Names
 from .rows import rows_of
 from .svg import Svg
 from .transmissions import transmissions
@@ -16,20 +17,30 @@ MOST_WORDS = 40
 
 def paint(run, name):
     """The picture of a run as the text of an SVG document; `name` is that of the script."""
-    sent = transmissions(run)
+    return painted(run, name, all_sent(run), has_keys=False)
+
+
+def all_sent(run):
+    """What was under way in a run, by its names; each step has its labels then."""
+    names = Names(run)
+    label_steps(run, names)
+    return transmissions(run, names)
+
+
+def painted(run, name, sent, has_keys):
+    """The picture of a run in which this was under way, with or without the keys of what it shows."""
     rows = rows_of(run, sent)
     places = columns(run.script.ends, rows, sent)
     width = max(places.width, LEAST_WIDTH)
     caption = wrapped(run.script.caption, int((width - 2 * MARGIN) / CAPTION_LETTER))
     levels = heights(places, rows, sent, CAPTION_TOP + len(caption) * LINE_HEIGHT + 14)
-    painter = Painter(run, Svg(f"{name} as a ladder"), places, levels)
+    painter = Painter(run, Svg(f"{name} as a ladder", has_keys), places, levels)
     painter.paint_head(name, caption)
     painter.paint_ends()
     painter.paint_gutter()
     for step in run.steps:
         painter.paint_step(step)
-    for one in sent:
-        painter.paint_transmission(one)
+    painter.paint_transmissions(sent)
     return painter.document(width)
 
 
@@ -61,6 +72,7 @@ class Painter:
     def paint_ends(self):
         """The name and the line of each end, with a gap where its clock ticks."""
         for end, x in self._columns.place.items():
+            self._svg.taken.add_end(x)
             top = self._heights.top
             for step in self._run.steps:
                 if step.event.kind == "t" and step.event.end == end:
@@ -79,7 +91,7 @@ class Painter:
             self._svg.text((MARGIN, height + 4), [("earlier", "gutter")])
         for height, row in self._heights.gutter:
             if row.lines:
-                self._svg.text((MARGIN, height + 4), [(f"{row.lines} {row.shown}", "gutter")], whole=_whole(row))
+                self._svg.text((MARGIN, height + 4), [(f"{row.lines} {row.shown}", "gutter")], whole=_whole(row), lines=row.key)
         for height, comment in self._heights.comments:
             self._svg.text((MARGIN, height), [(comment, "comment")])
 
@@ -87,29 +99,30 @@ class Painter:
         """The arrow of foreign bytes, and the labels."""
         height = self._heights.steps[step.number]
         if step.foreign:
-            self._paint_foreign(step.foreign, height)
-        for label in labels_of(step):
+            self._paint_foreign(step, height)
+        lines = f"{step.event.line}-{step.event.line}"
+        for label in step.labels:
             side = self._columns.label_side(label.end)
             place = (self._columns.place[label.end] + 10 * side, height + self._columns.drop(step, label) + 4)
             parts = [(label.word, label.class_), (label.shown[len(label.word):], "rest")]
-            self._svg.text(place, parts, "start" if side > 0 else "end", whole=_whole(label))
+            self._svg.text(place, parts, "start" if side > 0 else "end", whole=_whole(label), lines=lines)
 
-    def _paint_foreign(self, foreign, height):
+    def _paint_foreign(self, step, height):
         """An arrow from beyond an end's labels to its line."""
+        foreign = step.foreign
         x, reach = self._columns.place[foreign.receiver], self._columns.reach[foreign.receiver]
         start = (x + self._columns.label_side(foreign.receiver) * (reach - 8), height)
-        title = f"foreign to {foreign.receiver}: {foreign.name}; arrived; {foreign.data.hex(' ').upper()}"
-        group = self._svg.group("flight foreign", title)
+        group = self._svg.group("flight foreign", foreign_title(step), f"foreign.{step.number}")
         self._svg.arrow(start, (x, height), group)
         self._svg.dot(start, group, "ring")
 
-    def paint_transmission(self, one):
-        """The arrows of what an end gave, one to each end that it came to, or was lost on its way to, and its name along one."""
-        arrows = Arrows(self._svg, self._columns, self._heights, one)
-        ends = [arrows.paint_flight(flight) for flight in sorted(one.ended, key=one.is_overheard, reverse=True)]
-        if one.waiting:
-            ends.append(arrows.paint_waiting())
-        arrows.paint_name(ends)
+    def paint_transmissions(self, sent):
+        """The arrows of what the ends gave, and then the name of each along one of its arrows."""
+        all_arrows = [Arrows(self._svg, self._columns, self._heights, one) for one in sent]
+        for arrows in all_arrows:
+            arrows.paint()
+        for arrows in all_arrows:
+            arrows.paint_name()
 
     def _paint_foot(self):
         """What is cut off, the words that changed and the deceptions; answers the height below them."""
@@ -126,6 +139,12 @@ class Painter:
         return self._paint_lines(lines, self._heights.bottom + 24)
 
 
+def foreign_title(step):
+    """What the foreign bytes of a step are, where they went, and the bytes."""
+    foreign = step.foreign
+    return f"foreign to {foreign.receiver}: {step.labels[0].text.removeprefix('foreign ')}; arrived; {foreign.data.hex(' ').upper()}"
+
+
 def _whole(one):
     """The whole text of a label or a row of which a part is shown, else None."""
     return None if one.shown == one.text else one.text
@@ -134,7 +153,10 @@ def _whole(one):
 def _cut_note(run):
     """What of the run isn't drawn."""
     if run.cut_before:
-        return f"Cut before line {run.cut_before}, at {run.window.arrows} arrows: --from {run.cut_before} draws what follows."
+        count = f"{run.window.arrows} arrows" if len(run.happenings) < run.window.steps else f"{run.window.steps} steps"
+        return f"Cut before line {run.cut_before}, at {count}: --from {run.cut_before} draws what follows."
+    if run.window.first > run.script.lines:
+        return f"Nothing from line {run.window.first} on: the script's last line is {run.script.lines}."
     if run.window.first > 1 or run.window.last:
         last = f" to {run.window.last}" if run.window.last else ""
         return f"Lines from {run.window.first}{last} of the script; what stands below is of the whole run."

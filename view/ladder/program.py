@@ -7,6 +7,7 @@ import select
 import struct
 import subprocess
 import termios
+import time
 from dataclasses import dataclass
 
 
@@ -31,10 +32,12 @@ def replay(program, source):
 class Stepwise:
     """A run of the program that is given its script piece by piece, to see which lines of the report each piece makes.
 
-    The program replays a script while it reads it: what the lines that it took make is written before it takes more.
+    The program replays a script while it reads it: what the lines that it took make is written before it takes more. It is Stopped where
+    so many seconds have passed.
     """
 
-    def __init__(self, program):
+    def __init__(self, program, seconds=None):
+        self._until = None if seconds is None else time.monotonic() + seconds
         self._process = subprocess.Popen(
             [*program, "replay"], stdin=subprocess.PIPE, stdout=subprocess.PIPE, stderr=subprocess.DEVNULL, bufsize=0
         )
@@ -44,6 +47,8 @@ class Stepwise:
         return self
 
     def __exit__(self, *_):
+        if self._until is not None:
+            self._process.kill()
         self._process.stdin.close()
         self._process.stdout.close()
         self._process.wait()
@@ -65,7 +70,7 @@ class Stepwise:
             raise Stopped from None
         while _waiting(self._process.stdin) > 0:
             self._read(0.0001)
-            if self._process.poll() is not None:
+            if self._process.poll() is not None or (self._until is not None and time.monotonic() > self._until):
                 raise Stopped
 
     def _read(self, seconds=0.0):

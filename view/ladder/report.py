@@ -35,6 +35,16 @@ class Told:
         """The bytes of a `sent` line, or None."""
         return bytes.fromhex(self.text[5:]) if self.kind == "sent" else None
 
+    @property
+    def body(self):
+        """The body that it tells of, or None."""
+        return bytes.fromhex(self.text.split(" ")[-1]) if self.kind in ("exec", "answered", "stray") else None
+
+    @property
+    def number(self):
+        """The number of the command that it tells of, or None."""
+        return int(self.text.split(" ")[1]) if self.kind in ("answered", "undelivered", "unanswered") else None
+
 
 @dataclass(frozen=True)
 class Foot:

@@ -4,13 +4,10 @@ from __future__ import annotations
 from dataclasses import dataclass, field
 from itertools import groupby
 
-from .labels import shortened
+from .labels import FEW_ENDS, shortened
 from .run import Step
 
 EVENT_LETTERS = 22
-
-# With more ends than these, what stations hear of a message to another one stands at one height.
-FEW_ENDS = 5
 
 
 @dataclass
@@ -20,6 +17,11 @@ class Row:
     steps: list[Step] = field(default_factory=list)
     is_loud: bool = False
     closed: set[str | None] = field(default_factory=set)
+
+    @property
+    def key(self):
+        """The script's lines of all its steps, the first and the last."""
+        return f"{self.steps[0].event.line}-{self.steps[-1].event.line}"
 
     @property
     def lines(self):

@@ -7,9 +7,8 @@ from __future__ import annotations
 
 from dataclasses import dataclass, field
 
-from .items import NoItem, split_foreign
+from .items import Item, NoItem, split_foreign
 from .line import Queue, Stream
-from .program import Stepwise
 from .report import Foot, NoReport, Told, read_line
 from .script import Comment, Event, Script
 
@@ -20,25 +19,26 @@ class Misfit(Exception):
 
 @dataclass(frozen=True)
 class Window:
-    """The lines of a script whose events are drawn; where no last one is named, the picture is cut after so many arrows."""
+    """The lines of a script whose events are drawn; where no last one is named, the picture is cut after so many arrows, or so many steps."""
 
     first: int = 1
     last: int | None = None
     arrows: int = 400
+    steps: int = 10000
 
 
 @dataclass(frozen=True)
 class Foreign:
-    """Bytes that nobody gave: what they are, and the end at which they arrive."""
+    """Bytes that nobody gave: the item that they are, if they are one, and the end at which they arrive."""
 
-    name: str
+    item: Item | None
     data: bytes
     receiver: str
 
 
 @dataclass
 class Step:
-    """A part of an event, played at once: its number in the run, and what the report tells of it beside the bytes given."""
+    """A part of an event, played at once: its number in the run, what the report tells of it beside the bytes given, and the places of its lines in the report."""
 
     number: int
     event: Event
@@ -46,11 +46,16 @@ class Step:
     told: list[Told] = field(default_factory=list)
     foreign: Foreign | None = None
     command: int | None = None
+    reported: range = range(0)
+    labels: list = field(default_factory=list)
 
 
 @dataclass
 class Run:
-    """A script that was played up to the last line that is drawn: the steps and comments that are drawn, and all bytes."""
+    """A script that was played up to the last line that is drawn: the steps and comments that are drawn, and all bytes.
+
+    `commands` are the events that issued them; `events` has the event of each step, `reported_at` the script's line of each line of the report.
+    """
 
     script: Script
     window: Window
@@ -58,7 +63,9 @@ class Run:
     happenings: list[Step | Comment] = field(default_factory=list)
     streams: dict[str, Stream] = field(default_factory=dict)
     queues: dict[tuple[str, str], Queue] = field(default_factory=dict)
-    length: int = 0
+    commands: dict[tuple[str, int], Event] = field(default_factory=dict)
+    events: list[Event] = field(default_factory=list)
+    reported_at: list[int] = field(default_factory=list)
     cut_before: int | None = None
 
     def __post_init__(self):
@@ -100,7 +107,7 @@ class Player:
         for one in run.script.happenings():
             if window.last is not None and one.line > window.last:
                 return
-            if window.last is None and self._arrows >= window.arrows:
+            if window.last is None and (self._arrows >= window.arrows or len(run.happenings) >= window.steps):
                 run.cut_before = one.line
                 return
             if isinstance(one, Event):
@@ -112,8 +119,10 @@ class Player:
         """Plays an event, part by part."""
         for index, (operand, foreign) in enumerate(self._parts(event)):
             lines = self._lines_of(f"{event.text(operand)}\n".encode())
-            step = Step(self._run.length, event, index == 0, _told(event, lines), foreign)
-            self._run.length += 1
+            reported = range(len(self.lines) - len(lines), len(self.lines))
+            step = Step(len(self._run.events), event, index == 0, _told(event, lines), foreign, reported=reported)
+            self._run.events.append(event)
+            self._run.reported_at += [event.line] * len(lines)
             self._move(step, operand)
             if event.line >= self._run.window.first:
                 self._run.happenings.append(step)
@@ -125,7 +134,7 @@ class Player:
         if event.kind == "n":
             script, receiver = self._run.script, self._run.script.other(event)
             items = split_foreign(script.side(event.end), script.check_size, event.data)
-            return [(data.hex(), Foreign(name, data, receiver)) for name, data in items]
+            return [(data.hex(), Foreign(item, data, receiver)) for item, data in items]
         return [(event.operand, None)]
 
     def _lines_of(self, piece):
@@ -149,6 +158,7 @@ class Player:
             self._run.queue(event).alter(event.data[0], step.number)
         elif event.kind == "i":
             self._commands[event.end] = step.command = self._commands.get(event.end, 0) + 1
+            self._run.commands[event.end, step.command] = event
         elif event.kind == "n":
             self._count_arrows(event, 1)
 
@@ -186,12 +196,11 @@ def _misfit(event, told, why=""):
     return Misfit(f"line {event.line}: `{event.text()}` doesn't fit the report's line `{told.who} {told.text}`{why}")
 
 
-def play(program, script, window, lines, foot):
-    """The run of a script that the program reported whole as these lines of its events, and this foot."""
+def play(feed, script, window, lines, foot):
+    """The run of a script that the program reported whole as these lines of its events, and this foot; `feed` is one run of it."""
     run = Run(script, window, foot)
-    with Stepwise(program) as feed:
-        player = Player(run, feed)
-        player.play()
+    player = Player(run, feed)
+    player.play()
     if player.lines != (lines if run.is_whole else lines[:len(player.lines)]):
         raise Misfit("the report of the script isn't that of its events, one by one")
     return run

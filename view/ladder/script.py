@@ -8,6 +8,8 @@ import io
 import re
 from dataclasses import dataclass, field
 
+from pccc.codes import LETTERS
+
 EVENT = re.compile(r"([abm]|[0-9]{1,9})([ikdxcnt])")
 NAMES_A_STATION = "idxcn"
 
@@ -48,13 +50,15 @@ class Comment:
 
 @dataclass
 class Script:
-    """How the line is set up: its ends from left to right, the first values of words, and the lines that say so."""
+    """How the line is set up: its ends from left to right, the first values of words, the letters of each end's files, and the lines that say so."""
 
     source: bytes
     mode: str = "full"
     check_size: int = 1
     ends: list[str] = field(default_factory=lambda: ["a", "b"])
     words: dict[tuple[str, int, int], int] = field(default_factory=dict)
+    letters: dict[str, dict[int, str]] = field(default_factory=dict)
+    settings: dict[str, str] = field(default_factory=dict)
     caption: str = ""
     setup: bytes = b""
 
@@ -65,6 +69,11 @@ class Script:
             begun = begun or not isinstance(one, Comment)
             if begun and not isinstance(one, list):
                 yield one
+
+    @property
+    def lines(self):
+        """How many lines it has."""
+        return len(self.source.splitlines())
 
     def other(self, event):
         """The end at the other side of the queue that an event is about."""
@@ -136,10 +145,13 @@ def _take_statement(script, words):
         script.ends.append(_name(words[1]))
     elif words[0] == "word":
         script.words[_name(words[1]), int(words[2]), int(words[3])] = int(words[4], 16)
+    elif words[0] == "file":
+        script.letters.setdefault(_name(words[1]), {})[int(words[2])] = LETTERS[int(words[3], 16)]
     elif words == ["set", "mode", "half"]:
         script.mode, script.ends = "half", ["m"]
-    elif words == ["set", "check", "crc"]:
-        script.check_size = 2
+    elif words[0] == "set":
+        script.settings[words[1]] = words[2]
+        script.check_size = 2 if words[1:] == ["check", "crc"] else script.check_size
 
 
 def _name(end):

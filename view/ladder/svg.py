@@ -5,7 +5,11 @@ import math
 import re
 import xml.etree.ElementTree as ElementTree
 
+from .placing import Box, Taken
+
 NO_XML = re.compile("[^\t\n\r\x20-\ud7ff\ue000-\ufffd\U00010000-\U0010ffff]")
+
+LETTER = 7.3
 
 NAMES = ("paper", "ink", "faint", "rule", "late", "red", "foreign")
 LIGHT = dict(zip(NAMES, ("#ffffff", "#1f2328", "#6e7781", "#afb8c1", "#9a6700", "#cf222e", "#8250df")))
@@ -45,14 +49,23 @@ text {{ fill: {ink}; stroke: {paper}; }}
 """
 
 
-class Svg:
-    """An SVG document under construction. Texts are drawn above all shapes, whenever they come."""
+def style():
+    """The style of all pictures."""
+    return f"{FORMS}{COLOURS.format(**LIGHT)}@media (prefers-color-scheme: dark) {{{COLOURS.format(**DARK)}}}\n"
 
-    def __init__(self, title):
+
+class Svg:
+    """An SVG document under construction. Texts are drawn above all shapes, whenever they come.
+
+    With keys, what shows an arrow or lines of the script says so, for whoever touches it there.
+    """
+
+    def __init__(self, title, has_keys=False):
+        self.taken = Taken()
+        self._has_keys = has_keys
         self._root = ElementTree.Element("svg", xmlns="http://www.w3.org/2000/svg", role="img")
         self._add(self._root, "title").text = clean(title)
-        style = self._add(self._root, "style")
-        style.text = f"{FORMS}{COLOURS.format(**LIGHT)}@media (prefers-color-scheme: dark) {{{COLOURS.format(**DARK)}}}\n"
+        self._add(self._root, "style").text = style()
         self._paper = self._add(self._root, "rect", class_="paper")
         self._shapes = self._add(self._root, "g")
         self._texts = self._add(self._root, "g")
@@ -69,9 +82,11 @@ class Svg:
             element.tail = parent.text = "\n"
         return element
 
-    def group(self, class_, title):
-        """A group of shapes that belong together, with a title that a viewer shows on pointing there."""
+    def group(self, class_, title, key):
+        """A group of shapes that belong together, with a title that a viewer shows on pointing there, and the key of their arrow."""
         group = self._add(self._shapes, "g", class_)
+        if self._has_keys:
+            group.set("data-arrow", key)
         self._add(group, "title").text = clean(title)
         return group
 
@@ -101,10 +116,16 @@ class Svg:
         corners = [end] + [(end[0] - 10 * math.cos(angle + turn), end[1] - 10 * math.sin(angle + turn)) for turn in (0.4, -0.4)]
         self._add(group, "polygon", "head", points=" ".join(f"{_number(x)},{_number(y)}" for x, y in corners))
 
-    def text(self, place, parts, anchor="start", angle=0.0, whole=None):
-        """A line of text from pairs of words and their class; `whole` is shown on pointing at a text that was cut."""
+    def text(self, place, parts, anchor="start", angle=0.0, whole=None, key=None, lines=None):
+        """A line of text from pairs of words and their class; `whole` is shown on pointing there. `key` is of an arrow, `lines` are of the script."""
         x, y = place
+        width = sum(len(words) for words, _ in parts) * LETTER
+        first = {"start": 0, "middle": -width / 2, "end": -width}[anchor]
+        self.taken.add_text(Box(x, y, first, first + width, math.radians(angle)))
         element = self._add(self._texts, "text", x=x, y=y)
+        for name, value in (("data-name-of", key), ("data-lines", lines)):
+            if value and self._has_keys:
+                element.set(name, value)
         if anchor != "start":
             element.set("text-anchor", anchor)
         if angle:

@@ -3,6 +3,8 @@ from __future__ import annotations
 
 from dataclasses import dataclass
 
+from pccc.fields import Message
+
 from .line import Change
 
 
@@ -37,13 +39,14 @@ class Mark:
 
 @dataclass(frozen=True)
 class Transmission:
-    """An item that an end gave, its own bytes and their places, and the step of the first of them.
+    """An item that an end gave, what it is called, its own bytes and their places, and the step of the first of them.
 
     `ended` are its flights that ended in a step that is drawn. `waiting` are those that are still under way, the flight to the station
     that it names first; there are none where another ended there, or where this flight has ended.
     """
 
     name: str
+    message: Message | None
     sender: str
     station: str | None
     places: tuple[int, ...]
@@ -51,6 +54,11 @@ class Transmission:
     begun: int
     ended: tuple[Flight, ...]
     waiting: tuple[Flight, ...]
+
+    @property
+    def number(self):
+        """The TNS of a message as it is written behind its name, or nothing."""
+        return f" TNS {self.message.tns:04X}" if self.message and len(self.message.body) >= 6 else ""
 
     @property
     def first(self):
@@ -81,14 +89,23 @@ class Transmission:
         number = sum(place <= change.place for place in self.places)
         return f"byte {number}: {change.before:02X} → {change.after:02X}"
 
+    def title(self, flight):
+        """What it is, where it went and what became of it, and its bytes."""
+        name = f"{self.name},{self.number}" if self.number else self.name
+        return f"{self.sender} to {flight.receiver}: {name}; {self.fate(flight)}; {self.data.hex(' ').upper()}"
+
+    def key(self, flight):
+        """What tells an arrow from all others of a picture."""
+        return f"{self.sender}.{self.first}.{flight.receiver}"
+
     @property
     def last_step(self):
         """The last step in which one of its flights ended, or in which it was begun."""
         return max([self.begun] + [flight.ended for flight in self.ended])
 
 
-def transmissions(run):
-    """All that was under way in the steps that are drawn, in the order in which it was begun."""
+def transmissions(run, names):
+    """All that was under way in the steps that are drawn, in the order in which it was begun, by its names."""
     if not run.steps:
         return []
     first_step = run.steps[0].number
@@ -97,13 +114,14 @@ def transmissions(run):
         queues = [queue for queue in run.queues.values() if queue.sender == sender]
         for item in stream.all_items():
             if not item.is_whole or not all(queue.has_left(item.last, first_step) for queue in queues):
-                found.append(_transmission(item, stream, queues, first_step))
+                named = names.item(item, sender, stream.step_of(item.first))
+                found.append(_transmission(item, named, stream, queues, first_step))
     drawn = [one for one in found if one.ended or one.waiting]
     return sorted(drawn, key=lambda one: (one.begun, one.first))
 
 
-def _transmission(item, stream, queues, first_step):
-    """The transmission of an item, as far as it is drawn from a step on."""
+def _transmission(item, named, stream, queues, first_step):
+    """The transmission of an item with its name and message, as far as it is drawn from a step on."""
     places = item.places()
     data = bytes(stream.data[place] for place in places)
     flights = [_flight(queue, item, places) for queue in queues]
@@ -112,7 +130,7 @@ def _transmission(item, stream, queues, first_step):
     if len(waiting) < len(flights) and not any(flight.receiver == item.station for flight in waiting):
         waiting = ()
     waiting = tuple(sorted(waiting, key=lambda flight: flight.receiver != item.station))
-    return Transmission(item.name, queues[0].sender, item.station, places, data, stream.step_of(item.first), ended, waiting)
+    return Transmission(*named, queues[0].sender, item.station, places, data, stream.step_of(item.first), ended, waiting)
 
 
 def _flight(queue, item, places):
