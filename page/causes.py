@@ -1,0 +1,84 @@
+"""Why a script is refused, in the words of docs/FORMATS.md: where each cause comes, and what usually leads to it."""
+from __future__ import annotations
+
+import difflib
+import re
+from dataclasses import dataclass
+from pathlib import Path
+
+FORMATS = Path(__file__).resolve().parent.parent / "docs" / "FORMATS.md"
+NOTE = re.compile(r"df1: line ([0-9]+): ([a-z]+)")
+ROW = re.compile(r"\| `([a-z]+)` \| (.+?) \|$")
+HINT = re.compile(r"\| `([a-z]+)` \| `([^`]*)` \| `([^`]*)` \| (.+?) \|$")
+CAUSES = "| Cause | Where |"
+REFUSED = "<!-- refused after: "
+
+# So much of a script is read for the line that chooses its mode.
+HEAD = 65536
+
+# The most lines of what usually leads to a cause that are told.
+MOST_HINTS = 2
+
+
+@dataclass(frozen=True)
+class Hint:
+    """What usually leads to a cause: a line as it is written, as it has to be, and why."""
+
+    cause: str
+    written: str
+    right: str
+    why: str
+
+
+class Causes:
+    """The two tables of causes of FORMATS: the sentence of each cause, and the hints by the mode of their scripts."""
+
+    def __init__(self, text=None):
+        self.sentences = {}
+        self.hints = {"full": [], "half": []}
+        table = None
+        for line in (FORMATS.read_text() if text is None else text).splitlines():
+            hint, row = HINT.fullmatch(line), ROW.fullmatch(line)
+            if line.startswith(REFUSED):
+                table = self.hints["half" if "set mode half" in line else "full"]
+            elif line == CAUSES:
+                table = self.sentences
+            elif line == "" and table is self.sentences:
+                table = None
+            elif row and table is self.sentences:
+                table[row[1]] = row[2]
+            elif hint and table is not None:
+                table.append(Hint(*hint.groups()))
+
+    def fault(self, note, source):
+        """The fault that a note of the program tells, with its words, or None where it tells none."""
+        match = NOTE.fullmatch(note)
+        if not match:
+            return None
+        number, cause = int(match[1]), match[2]
+        lines = source.split(b"\n", number)
+        line = lines[number - 1][:200].decode("utf-8", "replace").strip() if number <= len(lines) else ""
+        hints = [] if cause == "open" else self._likely(cause, line, _mode(source))
+        told = [{"written": hint.written, "right": hint.right, "why": hint.why} for hint in hints]
+        return {"line": number, "cause": cause, "sentence": self.sentences.get(cause, ""), "hints": told}
+
+    def _likely(self, cause, line, mode):
+        """The hints of a cause whose lines look most like this one, the likeliest first."""
+        wanted = _shape(line)
+        near = [(difflib.SequenceMatcher(None, wanted, _shape(hint.written)).ratio(), hint) for hint in self.hints[mode] if hint.cause == cause]
+        near = sorted((pair for pair in near if pair[0] > 0.6), key=lambda pair: -pair[0])
+        return [hint for _, hint in near[:MOST_HINTS]]
+
+
+def _shape(line):
+    """A line without the values of its numbers, which don't tell what is wrong with it."""
+    return re.sub("[0-9]+", lambda match: "0" * len(match[0]), line)
+
+
+def _mode(source):
+    """The mode that the first line of a script chooses."""
+    for line in source[:HEAD].splitlines():
+        words = line.split()
+        if words and not words[0].startswith(b"#"):
+            return "half" if words == [b"set", b"mode", b"half"] else "full"
+    return "full"
