@@ -11,6 +11,8 @@ NOTE = re.compile(r"df1: line ([0-9]+): ([a-z]+)")
 ROW = re.compile(r"\| `([a-z]+)` \| (.+?) \|$")
 HINT = re.compile(r"\| `([a-z]+)` \| `([^`]*)` \| `([^`]*)` \| (.+?) \|$")
 CAUSES = "| Cause | Where |"
+FORMS = "| Line | Meaning |"
+FORM = re.compile(r"\| (`[^|]+`) \| (.+?) \|$")
 REFUSED = "<!-- refused after: "
 
 # So much of a script is read for the line that chooses its mode.
@@ -31,24 +33,30 @@ class Hint:
 
 
 class Causes:
-    """The two tables of causes of FORMATS: the sentence of each cause, and the hints by the mode of their scripts."""
+    """The tables of FORMATS: the sentence of each cause, the forms of lines by their first words, and the hints by the mode of their scripts."""
 
     def __init__(self, text=None):
-        self.sentences = {}
-        self.hints = {"full": [], "half": []}
+        self.sentences, self.forms, self.hints = {}, {}, {"full": [], "half": []}
         table = None
         for line in (FORMATS.read_text() if text is None else text).splitlines():
-            hint, row = HINT.fullmatch(line), ROW.fullmatch(line)
             if line.startswith(REFUSED):
                 table = self.hints["half" if "set mode half" in line else "full"]
-            elif line == CAUSES:
-                table = self.sentences
-            elif line == "" and table is self.sentences:
+            elif line in (CAUSES, FORMS):
+                table = self.sentences if line == CAUSES else self.forms
+            elif line == "" and isinstance(table, dict):
                 table = None
-            elif row and table is self.sentences:
-                table[row[1]] = row[2]
-            elif hint and table is not None:
-                table.append(Hint(*hint.groups()))
+            else:
+                self._take(table, line)
+
+    def _take(self, table, line):
+        """Takes a row of a table, if the line is one."""
+        hint, row, form = HINT.fullmatch(line), ROW.fullmatch(line), FORM.fullmatch(line)
+        if table is self.sentences and row:
+            table[row[1]] = row[2]
+        elif table is self.forms and form:
+            table.update({_word(spelled): {"form": spelled, "meaning": form[2]} for spelled in re.findall("`([^`]+)`", form[1])})
+        elif isinstance(table, list) and hint:
+            table.append(Hint(*hint.groups()))
 
     def fault(self, note, source):
         """The fault that a note of the program tells, with its words, or None where it tells none."""
@@ -60,7 +68,8 @@ class Causes:
         line = lines[number - 1][:200].decode("utf-8", "replace").strip() if number <= len(lines) else ""
         hints = [] if cause == "open" else self._likely(cause, line, _mode(source))
         told = [{"written": hint.written, "right": hint.right, "why": hint.why} for hint in hints]
-        return {"line": number, "cause": cause, "sentence": self.sentences.get(cause, ""), "hints": told}
+        form = self.forms.get(_word(line)) if cause in ("form", "value", "missing") else None
+        return {"line": number, "cause": cause, "sentence": self.sentences.get(cause, ""), "hints": told, "form": form}
 
     def _likely(self, cause, line, mode):
         """The hints of a cause whose lines look most like this one, the likeliest first."""
@@ -68,6 +77,11 @@ class Causes:
         near = [(difflib.SequenceMatcher(None, wanted, _shape(hint.written)).ratio(), hint) for hint in self.hints[mode] if hint.cause == cause]
         near = sorted((pair for pair in near if pair[0] > 0.6), key=lambda pair: -pair[0])
         return [hint for _, hint in near[:MOST_HINTS]]
+
+
+def _word(line):
+    """The first word of a line or of a form; S stands for the number of a station."""
+    return re.sub("^([0-9]+|s)(?=[a-z]$)", "S", line.split(" ")[0].lower()) if line else ""
 
 
 def _shape(line):

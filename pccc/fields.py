@@ -266,8 +266,11 @@ class _Reader:
         return numbers
 
     def data(self):
-        """All that follows, as words where it is whole ones."""
-        self._message.values["data"] = self._body[self.at:]
+        """All that follows; behind a place it is words, each with its low byte first."""
+        data = self._message.values["data"] = self._body[self.at:]
+        if data and len(data) % 2 == 0 and "places" in self._message.values:
+            words = [f"{data[at + 1]:02X}{data[at]:02X}" for at in range(0, len(data), 2)]
+            self._field("data", len(data), lambda _: " ".join(words))
         self.rest("data")
 
 

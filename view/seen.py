@@ -103,6 +103,20 @@ def _text(element):
     return Text(title.text if title is not None else shown, shown, classes, (x, y), turned)
 
 
+def crosses(arrow, text):
+    """Whether the line of an arrow crosses the box of a text."""
+    ends = (arrow.begin, arrow.end)
+    corners = text.corners + text.corners[:1]
+    return any(_part(ends, edge) and _part(edge, ends) for edge in zip(corners, corners[1:]))
+
+
+def _part(line, points):
+    """Whether a straight line parts two points."""
+    (x, y), (u, v) = line
+    first, second = ((u - x) * (b - y) - (v - y) * (a - x) for a, b in points)
+    return (first > 0) != (second > 0)
+
+
 def overlap(one, other):
     """Whether the boxes of two texts overlap: no side of either parts them."""
     if abs(one.place[1] - other.place[1]) > 400:

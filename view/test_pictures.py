@@ -4,7 +4,7 @@ import re
 import unittest
 
 from ladder.run import Window
-from seen import EXAMPLES, TOP, Seen, overlap, picture
+from seen import EXAMPLES, TOP, Seen, crosses, overlap, picture
 
 # Bytes lost in the middle of a frame, one altered twice, one altered and lost; then a NAK whose first byte is lost.
 PIECES = """\
@@ -56,6 +56,20 @@ an 1002010006000100101500551003A3
 end
 """
 
+# Both ends send at once, and their arrows cross.
+CROSSING = """\
+file a 7 89 16
+file b 7 89 16
+ai 0FAA02078900003412
+bi 0FAA04078902003412CDAB
+ak 21
+bk 25
+at 2
+ad 21
+bd 25
+end
+"""
+
 LONG = f"""\
 # {"A long comment. " * 60}
 set b.block {"AB" * 244}
@@ -87,17 +101,21 @@ end
 """
 
 
-def many_stations():
-    """A command to one of 32 stations and polls of three, each heard by all."""
-    numbers = [number for number in range(1, 34) if number != 16]
-    lines = ["set mode half"] + [f"station {number}" for number in numbers] + ["mi 7 060055", "mk 16"]
-    lines += [f"md {number} 16" for number in numbers] + ["7k 2", "7d 2"]
+def many_stations(count=32):
+    """A command to one of so many stations and polls of three, each heard by all."""
+    numbers = [number for number in range(1, 34) if number != 16][:count]
+    last = min(count, 7)
+    lines = ["set mode half"] + [f"station {number}" for number in numbers] + [f"mi {last} 060055", "mk 16"]
+    lines += [f"md {number} 16" for number in numbers] + [f"{last}k 2", f"{last}d 2"]
     for polled in (1, 2, 3):
         lines += ["mt", "mk 4"] + [f"md {number} 4" for number in numbers] + [f"{polled}k 2", f"{polled}d 2"]
     return "\n".join(lines + ["end"]) + "\n"
 
 
-SCRIPTS = [*EXAMPLES, PIECES, PARTED, FOREIGN_HALF, FOREIGN_FULL, LONG, COMMENTED, many_stations(), "end\n", "set mode half\nmt 5\nend\n"]
+SCRIPTS = [
+    *EXAMPLES, PIECES, PARTED, FOREIGN_HALF, FOREIGN_FULL, LONG, COMMENTED, CROSSING, many_stations(), many_stations(6),
+    "end\n", "set mode half\nmt 5\nend\n",
+]
 SEEN = [(script, Seen(picture(script))) for script in SCRIPTS]
 
 
@@ -111,6 +129,23 @@ class Looks(unittest.TestCase):
         for script, seen in SEEN:
             for text, other in itertools.combinations(seen.texts, 2):
                 self.assertFalse(overlap(text, other), (script, text.words, other.words))
+
+    def test_no_text_is_crossed_by_an_arrow(self):
+        for script, seen in SEEN:
+            for text, arrow in itertools.product(seen.texts, seen.flights):
+                self.assertFalse(crosses(arrow, text), (script, text.shown, arrow.text))
+
+    def test_a_name_that_would_be_crossed_stands_elsewhere(self):
+        seen = Seen(picture(CROSSING))
+        first, second = [text for text in seen.texts if text.shown.startswith("write ")]
+        self.assertEqual((first.shown, second.shown), ("write N7:0 = 1234 TNS 0001", "write N7:2 = 1234 ABCD TNS 0001"))
+        self.assertLess(first.place[0] - seen.ends["a"], 20)
+        self.assertGreater(seen.ends["b"] - second.place[0], 100)
+
+    def test_six_stations_stand_in_the_width_of_a_screen(self):
+        seen = Seen(picture(many_stations(6)))
+        self.assertLess(seen.size[0], 1200)
+        self.assertIn("exec", [text.shown for text in seen.texts])
 
     def test_time_goes_downwards(self):
         for script, seen in SEEN:

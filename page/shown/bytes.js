@@ -1,4 +1,4 @@
-// Bytes in hexadecimal, each in the colour of the part that it is of, and the parts as a table.
+// Bytes in hexadecimal, each in the colour of the part that it is of, and the parts one by one.
 import { element } from "./editor.js";
 
 const COLOURS = { DST: 1, SRC: 1, CMD: 2, FNC: 2, STS: 3, "EXT STS": 3, TNS: 4, address: 5, ADDRESS: 5, data: 6, check: 7 };
@@ -24,15 +24,14 @@ export function coloured(digits, parts, chosen) {
   return found;
 }
 
-// The parts, each with its bytes and what it says.
-export function fieldsTable(digits, parts) {
-  const table = element("table", "");
-  table.className = "fields";
+// The parts: the name of each, its bytes, and what it says.
+export function fieldsOf(parts) {
+  const found = element("div", "");
+  found.className = "fields";
   for (const part of parts) {
-    const name = element("span", part.name);
+    const name = element("b", part.name);
     name.className = colourOf(part.name);
-    const bytes = digits.slice(2 * part.first, 2 * part.after).replace(/..(?=.)/g, "$& ");
-    table.append(element("tr", "", element("th", "", name), element("td", bytes), element("td", part.text)));
+    found.append(element("div", "", name, " ", element("code", part.bytes), element("span", part.text)));
   }
-  return table;
+  return found;
 }

@@ -1,6 +1,6 @@
 // A capture in hexadecimal, and what is heard in it: a table of items, each of whose bytes are coloured.
 import { element } from "./editor.js";
-import { colourOf } from "./bytes.js";
+import { fieldsOf } from "./bytes.js";
 
 const byId = (id) => document.getElementById(id);
 const COLOURS = 7;
@@ -75,20 +75,29 @@ export class Captures {
     const found = element("div", "");
     found.className = "hex";
     this.#spans = [];
-    let next = 0;
+    const owners = this.#owners(items);
     for (let place = 0; place < digits.length / 2; place++) {
-      while (next + 1 < items.length && items[next].last < place) next++;
-      const item = items[next];
+      const owner = owners.get(place);
       const byte = element("span", digits.slice(2 * place, 2 * place + 2));
-      if (item && place >= item.first && place <= item.last) {
-        byte.className = shade(item, next);
-        byte.dataset.item = String(next);
+      if (owner !== undefined) {
+        byte.className = shade(items[owner], owner);
+        byte.dataset.item = String(owner);
       }
+      byte.classList.toggle("eighth", place % 8 === 7);
       this.#spans.push(byte);
       found.append(byte);
-      if (place % 8 === 7) found.append(" ");
     }
     byId("bytes").replaceChildren(found);
+  }
+
+  // The item that each byte is of: of two that overlap the shorter one, as of a response inside a frame.
+  #owners(items) {
+    const owners = new Map();
+    const longest = items.map((_, index) => index).sort((one, other) => size(items[other]) - size(items[one]));
+    for (const index of longest) {
+      for (let place = items[index].first; place <= items[index].last; place++) owners.set(place, index);
+    }
+    return owners;
   }
 
   #row(item, index) {
@@ -110,16 +119,13 @@ export class Captures {
     const fields = byId("item-fields");
     fields.hidden = !item.parts;
     if (!item.parts) return;
-    const table = element("table", "");
-    table.className = "fields";
-    for (const part of item.parts) {
-      const label = element("span", part.name);
-      label.className = colourOf(part.name);
-      const bytes = part.places.map((place) => this.#spans[place].textContent).join(" ");
-      table.append(element("tr", "", element("th", "", label), element("td", bytes), element("td", part.text)));
-    }
-    fields.replaceChildren(element("h2", `${item.first}–${item.last}: ${item.says}`), table);
+    const parts = item.parts.map((part) => ({ ...part, bytes: part.places.map((place) => this.#spans[place].textContent).join(" ") }));
+    fields.replaceChildren(element("h2", `${item.first}–${item.last}: ${item.says}`), fieldsOf(parts));
   }
+}
+
+function size(item) {
+  return item.last - item.first;
 }
 
 // The class of an item's colour: faults have one of their own.

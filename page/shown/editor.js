@@ -121,6 +121,7 @@ export class Editor {
     jump.type = "button";
     jump.addEventListener("click", () => this.#goTo(fault.line));
     const found = [head, jump, element("p", "", ...coded(fault.sentence))];
+    if (fault.form) found.push(element("p", "", "The form is ", element("code", fault.form.form), ": ", ...coded(fault.form.meaning)));
     if (fault.hints.length) {
       found.push(element("p", "What usually leads to it:"));
       const list = element("ul", "");

@@ -1,7 +1,9 @@
 // The picture of a run and its report: what belongs together lights up together, and an arrow that is touched shows its bytes and fields.
 import { damage, deliver, hold, lose } from "./edits.js";
 import { element } from "./editor.js";
-import { coloured, fieldsTable } from "./bytes.js";
+import { coloured, fieldsOf } from "./bytes.js";
+
+const HINT = "Point at an arrow, and its bytes and fields stand here. Click it, and it can be lost, damaged or held back.";
 
 export class Ladder {
   #picture; #touch; #report; #editor;
@@ -70,17 +72,14 @@ export class Ladder {
     [...this.#report.children].forEach((one, index) => one.classList.toggle("lit", places.has(index)));
   }
 
-  // The picture as a part of the page: its style is that of the page, and its arrows can be reached by keys.
+  // The picture as a part of the page: its arrows can be reached by keys.
   #drawing(text) {
-    const drawn = new DOMParser().parseFromString(text, "image/svg+xml").documentElement;
-    drawn.querySelector("style")?.remove();
-    drawn.querySelector("title")?.remove();
-    const svg = document.adoptNode(drawn);
+    const svg = document.adoptNode(new DOMParser().parseFromString(text, "image/svg+xml").documentElement);
     svg.setAttribute("role", "group");
     svg.setAttribute("aria-label", "The run as a ladder");
-    for (const group of svg.querySelectorAll("[data-arrow]")) {
+    for (const [index, group] of svg.querySelectorAll("[data-arrow]").entries()) {
       const title = group.querySelector("title");
-      group.setAttribute("tabindex", "0");
+      group.setAttribute("tabindex", index ? "-1" : "0");
       group.setAttribute("role", "button");
       group.setAttribute("aria-label", title.textContent);
       const hit = group.querySelector("line").cloneNode();
@@ -118,7 +117,22 @@ export class Ladder {
       event.preventDefault();
       this.#choose(key);
       this.#touch.querySelector("button")?.focus();
+    } else if (key && /^Arrow(Down|Up)$/.test(event.key)) {
+      event.preventDefault();
+      this.#step(key, event.key === "ArrowDown" ? 1 : -1);
     } else if (event.key === "Escape") this.#hide();
+  }
+
+  // Goes from an arrow to the next one, or to the one before.
+  #step(key, way) {
+    const arrows = [...this.#picture.querySelectorAll("[data-arrow]")];
+    const at = arrows.findIndex((one) => one.dataset.arrow === key);
+    const next = arrows[at + way];
+    if (!next) return;
+    arrows[at].setAttribute("tabindex", "-1");
+    next.setAttribute("tabindex", "0");
+    this.#chosen = null;
+    next.focus();
   }
 
   #reportPointed(event) {
@@ -142,16 +156,20 @@ export class Ladder {
 
   #hide() {
     this.#chosen = null;
-    this.#touch.hidden = true;
+    const hint = element("p", HINT);
+    hint.className = "hint";
+    this.#touch.replaceChildren(hint);
+    this.#touch.classList.remove("open");
   }
 
   // Shows the bytes and the fields of an arrow, and what can be done to it.
   #open(key) {
     const arrow = this.#told.arrows[key];
     const byte = { index: null };
+    const parts = arrow.parts.map((part) => ({ ...part, bytes: arrow.bytes.slice(2 * part.first, 2 * part.after).replace(/..(?=.)/g, "$& ") }));
     const hex = coloured(arrow.bytes, arrow.parts, (index) => this.#chooseByte(byte, index));
-    this.#touch.replaceChildren(element("h2", `${arrow.what} (${arrow.fate})`), ...(arrow.moves ? [this.#offers(arrow, byte)] : []), hex, fieldsTable(arrow.bytes, arrow.parts));
-    this.#touch.hidden = false;
+    this.#touch.replaceChildren(element("h2", `${arrow.what} (${arrow.fate})`), ...(arrow.moves ? [this.#offers(arrow, byte)] : []), hex, fieldsOf(parts));
+    this.#touch.classList.toggle("open", key === this.#chosen);
   }
 
   #chooseByte(byte, index) {

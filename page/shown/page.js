@@ -7,10 +7,16 @@ import { linkOf, stateOf } from "./link.js";
 const byId = (id) => document.getElementById(id);
 const MOST_SCRIPT = 17 * 2 ** 20;
 
+// How many lines before the one that is written a long script is drawn from.
+const LEAD = 30;
+
 let examples = { groups: [], captures: [] };
 let tab = "script";
 let asked = null;
 let waiting = 0;
+
+// The line of the script that the picture begins with, and the one before which it is cut.
+let first = 1, cut = null;
 
 const editor = new Editor(document.querySelector(".editor"), byId("fault"), { changed, moved: (line) => ladder.light({ line }) });
 const ladder = new Ladder(byId("picture"), byId("touch"), byId("report"), editor);
@@ -22,8 +28,19 @@ function delay(size) {
 }
 
 function changed() {
+  follow(editor.line);
   clearTimeout(waiting);
   waiting = setTimeout(draw, delay(editor.text.length));
+}
+
+// Moves the part that is drawn to where the script is written, where that isn't to be seen.
+function follow(line) {
+  if (line < first || (cut !== null && line >= cut)) first = Math.max(1, line - LEAD);
+}
+
+function drawFrom(line) {
+  first = line;
+  draw();
 }
 
 async function draw() {
@@ -37,7 +54,7 @@ async function draw() {
   }
   byId("picture").setAttribute("aria-busy", "true");
   try {
-    const answer = await fetch("replay", { method: "POST", body, signal: asked.signal });
+    const answer = await fetch(`replay?from=${first}`, { method: "POST", body, signal: asked.signal });
     const told = answer.ok ? await answer.json() : { why: await answer.text(), report: "", reportBytes: 0 };
     if (text === editor.text) show(told);
   } catch (fault) {
@@ -51,6 +68,11 @@ function show(told) {
   why.textContent = told.why ?? (told.fault ? `Drawn: the lines before line ${told.fault.line}.` : "");
   why.hidden = !why.textContent;
   ladder.show(told);
+  cut = told.cutBefore ?? null;
+  byId("part").hidden = first === 1 && cut === null;
+  byId("part").firstElementChild.textContent = `Lines ${first} to ${cut === null ? "the end" : cut - 1} are drawn.`;
+  byId("next").hidden = cut === null;
+  byId("start").hidden = first === 1;
   const shown = told.report?.length ?? 0;
   byId("report-size").textContent = told.reportBytes > shown ? `the first ${shown.toLocaleString("en")} of ${told.reportBytes.toLocaleString("en")} bytes` : "";
   byId("picture").removeAttribute("aria-busy");
@@ -111,7 +133,7 @@ function takeExample(name) {
     captures.take(examples.captures.find((one) => one.name === name));
   } else {
     editor.text = examples.groups.flatMap((group) => group.scripts).find((one) => one.name === name).text;
-    draw();
+    drawFrom(1);
   }
 }
 
@@ -124,7 +146,7 @@ async function load() {
   }
   choose("script");
   editor.text = state.script ?? (await (await fetch("script")).text());
-  draw();
+  drawFrom(1);
 }
 
 for (const name of ["script", "capture"]) {
@@ -137,6 +159,8 @@ for (const name of ["script", "capture"]) {
   });
 }
 byId("examples").addEventListener("change", (event) => event.target.value && takeExample(event.target.value));
+byId("start").addEventListener("click", () => drawFrom(1));
+byId("next").addEventListener("click", () => drawFrom(cut));
 byId("copy").addEventListener("click", copy);
 addEventListener("hashchange", load);
 load();

@@ -4,12 +4,12 @@ from __future__ import annotations
 import math
 
 from .layout import CUT_OFF, LETTER
-from .placing import Box
+from .placing import BY_ARROW, Box
 
 UNDER_WAY_DROP = 16
 
 # How far a name stands from the begin of its arrow, by how much it moves along it, and how far above and below the arrow it stands.
-NEAR, MOVE, ABOVE, BELOW = 12, 24, 6, 14
+NEAR, MOVE, ABOVE, BELOW = 12, 16, 6, 14
 
 
 class Arrows:
@@ -58,40 +58,49 @@ class Arrows:
         self._ends.append(end)
 
     def paint_name(self):
-        """The name along the flattest of its lines: above its begin, or where something would cross it there further on, or below."""
-        end = min(self._ends, key=lambda end: self._slope(end))
-        places = list(self._places(end))
-        best = min(places, key=lambda place: self._svg.taken.cost(self._box(*place), (self._start, end)))
-        parts = [(self._one.name, None), (self._one.number, "rest")]
-        is_faint = bool(self._one.ended or self._one.waiting) and all(map(self._one.is_overheard, self._one.ended + self._one.waiting))
-        if is_faint:
+        """The name along the flattest of its lines: above its begin, or where something would cross it there further on, or below.
+
+        Where an arrow would cross it everywhere it goes without its TNS.
+        """
+        end = min(self._ends, key=self._slope)
+        cost, place, parts = self._best([(self._one.name, None), (self._one.number, "rest")], end)
+        if cost >= BY_ARROW and self._one.number:
+            cost, place, parts = min((cost, place, parts), self._best([(self._one.name, None)], end), key=lambda found: found[0])
+        flights = self._one.ended + self._one.waiting[:1]
+        if all(map(self._one.is_overheard, flights)):
             parts = [(text, "rest") for text, _ in parts]
-        key = self._one.key((self._one.ended + self._one.waiting)[0])
-        self._svg.text(best[0], parts, "start" if end[0] > self._start[0] else "end", math.degrees(best[1]), key=key)
+        anchor = "start" if self._goes_right else "end"
+        self._svg.text(place[0], parts, anchor, math.degrees(place[1]), key=self._one.key(flights[0]))
+
+    def _best(self, parts, end):
+        """How well these parts of the name stand best along the line to an end, where, and they themselves."""
+        width = sum(len(text) for text, _ in parts) * LETTER
+        found = [(self._svg.taken.cost(self._box(place, width), (self._start, end)), place) for place in self._places(end, width)]
+        return *min(found, key=lambda pair: pair[0]), parts
+
+    @property
+    def _goes_right(self):
+        """Whether its arrows go to the right."""
+        return self._ends[0][0] > self._start[0]
 
     def _slope(self, end):
         """How steeply a line to an end goes down."""
         return math.atan2(end[1] - self._start[1], abs(end[0] - self._start[0]))
 
-    def _places(self, end):
-        """Where the name may stand, each with its angle, the best first."""
-        slope, towards = self._slope(end), math.copysign(1, end[0] - self._start[0])
-        length = math.dist(self._start, end) - self._width() - NEAR
-        angle = slope * towards
+    def _places(self, end, width):
+        """Where a name of this width may stand, each with its angle, the best first."""
+        slope, towards = self._slope(end), 1 if self._goes_right else -1
+        room = math.dist(self._start, end) - width - NEAR
         for across in (-ABOVE, BELOW):
-            for move in range(0, max(1, int(length)), MOVE):
+            for move in range(0, max(1, int(room)), MOVE):
                 along = NEAR + move
                 x = self._start[0] + towards * along * math.cos(slope)
-                yield (x, self._start[1] + along * math.sin(slope) + across / math.cos(slope)), angle
+                yield (x, self._start[1] + along * math.sin(slope) + across / math.cos(slope)), slope * towards
 
-    def _width(self):
-        """The room that the name takes."""
-        return len(self._one.name + self._one.number) * LETTER
-
-    def _box(self, place, angle):
-        """The room of the name at a place."""
-        goes_right = self._ends[0][0] > self._start[0]
-        return Box(*place, *((0, self._width()) if goes_right else (-self._width(), 0)), angle)
+    def _box(self, place, width):
+        """The room of a name of this width at a place with its angle."""
+        reach = (0, width) if self._goes_right else (-width, 0)
+        return Box(*place[0], *reach, place[1])
 
     def _paint_mark(self, mark, group, end, room):
         """A cross or a dot at the height of a mark on the line to an end, behind which there is so much room, and what it means.

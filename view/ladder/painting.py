@@ -11,7 +11,7 @@ from .transmissions import transmissions
 
 LEAST_WIDTH = 640
 LINE_HEIGHT = 18
-CAPTION_TOP = 50
+NAME_TOP, CAPTION_TOP = 26, 50
 MOST_WORDS = 40
 
 
@@ -33,9 +33,10 @@ def painted(run, name, sent, has_keys):
     places = columns(run.script.ends, rows, sent)
     width = max(places.width, LEAST_WIDTH)
     caption = wrapped(run.script.caption, int((width - 2 * MARGIN) / CAPTION_LETTER))
-    levels = heights(places, rows, sent, CAPTION_TOP + len(caption) * LINE_HEIGHT + 14)
+    top = CAPTION_TOP if name else NAME_TOP
+    levels = heights(places, rows, sent, top + len(caption) * LINE_HEIGHT + 14)
     painter = Painter(run, Svg(f"{name} as a ladder", has_keys), places, levels)
-    painter.paint_head(name, caption)
+    painter.paint_head(name, caption, top)
     painter.paint_ends()
     painter.paint_gutter()
     for step in run.steps:
@@ -57,10 +58,11 @@ class Painter:
         """The document of this width, closed by the foot."""
         return self._svg.document(width, self._paint_foot())
 
-    def paint_head(self, name, caption):
-        """The name of the script, and its caption."""
-        self._svg.text((MARGIN, 26), [(name, "title")])
-        self._paint_lines([(line, "caption") for line in caption], CAPTION_TOP)
+    def paint_head(self, name, caption, top):
+        """The name of the script, if it has one, and its caption from a height down."""
+        if name:
+            self._svg.text((MARGIN, NAME_TOP), [(name, "title")])
+        self._paint_lines([(line, "caption") for line in caption], top)
 
     def _paint_lines(self, lines, height):
         """Lines of text with their classes, from a height down; answers the height below them."""
@@ -127,7 +129,8 @@ class Painter:
     def _paint_foot(self):
         """What is cut off, the words that changed and the deceptions; answers the height below them."""
         run = self._run
-        lines = [(_cut_note(run), "note")] if _cut_note(run) else []
+        note = "" if self._svg.has_keys else _cut_note(run)
+        lines = [(note, "note")] if note else []
         changed = [
             (f"{end} word {file} {index}: {before:04X} → {after:04X}", None)
             for (end, file, index), before, after in run.foot.changed(run.script.words)

@@ -57,15 +57,16 @@ def style():
 class Svg:
     """An SVG document under construction. Texts are drawn above all shapes, whenever they come.
 
-    With keys, what shows an arrow or lines of the script says so, for whoever touches it there.
+    With keys it is for a page that has the style already: what shows an arrow, or lines of the script, says which, for whoever touches it.
     """
 
     def __init__(self, title, has_keys=False):
         self.taken = Taken()
-        self._has_keys = has_keys
+        self.has_keys = has_keys
         self._root = ElementTree.Element("svg", xmlns="http://www.w3.org/2000/svg", role="img")
-        self._add(self._root, "title").text = clean(title)
-        self._add(self._root, "style").text = style()
+        if not has_keys:
+            self._add(self._root, "title").text = clean(title)
+            self._add(self._root, "style").text = style()
         self._paper = self._add(self._root, "rect", class_="paper")
         self._shapes = self._add(self._root, "g")
         self._texts = self._add(self._root, "g")
@@ -85,7 +86,7 @@ class Svg:
     def group(self, class_, title, key):
         """A group of shapes that belong together, with a title that a viewer shows on pointing there, and the key of their arrow."""
         group = self._add(self._shapes, "g", class_)
-        if self._has_keys:
+        if self.has_keys:
             group.set("data-arrow", key)
         self._add(group, "title").text = clean(title)
         return group
@@ -124,7 +125,7 @@ class Svg:
         self.taken.add_text(Box(x, y, first, first + width, math.radians(angle)))
         element = self._add(self._texts, "text", x=x, y=y)
         for name, value in (("data-name-of", key), ("data-lines", lines)):
-            if value and self._has_keys:
+            if value and self.has_keys:
                 element.set(name, value)
         if anchor != "start":
             element.set("text-anchor", anchor)
