@@ -99,6 +99,7 @@ def _own_places(item, items):
 
 def _body(fields):
     """The body of the fields that a dissection tells."""
-    dst, src, command, status, tns = (bytes.fromhex(word.split("=")[1]) for word in fields.split(" ")[:5])
-    rest = fields.split(" ")[6]
+    words = fields[fields.index("dst="):].split(" ")
+    dst, src, command, status, tns = (bytes.fromhex(word.split("=")[1]) for word in words[:5])
+    rest = words[6]
     return dst + src + command + status + tns[::-1] + (b"" if rest == "-" else bytes.fromhex(rest))

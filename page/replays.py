@@ -52,7 +52,7 @@ class Replays:
         """The picture of a script, of one that is refused that of the lines before the fault."""
         drawn = source
         if fault:
-            drawn = b"".join(source.splitlines(keepends=True)[:fault["line"] - 1]).rstrip(b"\n") + b"\nend\n"
+            drawn = _before(source, fault)
             run = self._program.run(["replay"], drawn, DRAWN_REPORT)
             if run.status != 0:
                 return {"why": "There is no run before the faulty line to draw."}
@@ -68,6 +68,12 @@ class Replays:
         picture = painted(played, "", sent, has_keys=True)
         upto = fault["line"] - 1 if fault else None
         return {"picture": picture, "upTo": upto, "arrows": Touch(played, sent).arrows(), "reportedAt": played.reported_at, "cutBefore": played.cut_before}
+
+
+def _before(source, fault):
+    """The script of the lines before a fault."""
+    lines = source.split(b"\n")[:fault["line"] - 1]
+    return b"\n".join(lines if fault["cause"] == "after" else [*lines, b"end"]) + b"\n"
 
 
 def _head(run):

@@ -100,6 +100,7 @@ def read_message(body, letters=None):
         reader.envelope()
         reader.reply() if message.is_reply else reader.command()
     except CutOff:
+        reader.at = message.fields[-1].after if message.fields else 0
         reader.rest("not readable")
     return message
 

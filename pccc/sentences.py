@@ -40,7 +40,10 @@ def _object(message):
         text += f", mask {values['mask']:04X}"
     if "data" in values:
         return text + _equals(places[0], values["data"])
-    return text + _several(values["count"] if "count" in values else values["size"] // (4 if unit == "float" else 2), unit)
+    if "count" in values:
+        return text + _several(values["count"], unit)
+    count, rest = divmod(values["size"], 4 if unit == "float" else 2)
+    return text + (_several(values["size"], "byte") if rest else _several(count, unit))
 
 
 def _begin(message):
