@@ -1,5 +1,6 @@
 """df1-page [SCRIPT]: a page to write scripts of `df1 replay` on, and to look through captures, in the browser of this machine."""
 import argparse
+import os
 import sys
 import threading
 import webbrowser
@@ -20,7 +21,7 @@ def arguments(given):
     parser = argparse.ArgumentParser(prog="df1-page", description=__doc__, epilog=EPILOG, formatter_class=argparse.RawDescriptionHelpFormatter)
     parser.add_argument("script", nargs="?", metavar="SCRIPT", help="the file that stands on the page at first; it is never written")
     parser.add_argument("--port", type=int, default=0, help="the port (a free one)")
-    parser.add_argument("--no-browser", action="store_true", help="open no browser")
+    parser.add_argument("--no-browser", action="store_true", help="open no browser; none is opened either where there is no display")
     return parser.parse_args(given)
 
 
@@ -38,7 +39,7 @@ def main(program, given):
         print(f"df1-page: port {options.port} can't be used: {fault}", file=sys.stderr)
         return UNSERVED
     print(f"df1-page: {server.address}/ (Ctrl-C ends it)", flush=True)
-    if not options.no_browser:
+    if not options.no_browser and (sys.platform == "darwin" or os.environ.get("DISPLAY") or os.environ.get("WAYLAND_DISPLAY")):
         threading.Thread(target=webbrowser.open, args=(f"{server.address}/",), daemon=True).start()
     try:
         server.serve_forever()

@@ -9,7 +9,7 @@ export class Editor {
   #lit = new Set();
   #count = 1;
 
-  // `heard` has what is called when the text has changed, and when the line of the caret has.
+  // `heard` has what is called when the text has changed, and when a line is pointed at, or has the caret.
   constructor(box, fault, heard) {
     this.#area = box.querySelector("textarea");
     this.#numbers = box.querySelector(".numbers");
@@ -19,7 +19,7 @@ export class Editor {
     this.#area.addEventListener("input", () => { this.#counted(); heard.changed(); });
     this.#area.addEventListener("scroll", () => this.#paint());
     this.#area.addEventListener("mousemove", (event) => this.#pointed(event));
-    for (const kind of ["keyup", "click", "focus"]) this.#area.addEventListener(kind, () => heard.moved(this.line));
+    for (const kind of ["keyup", "click", "focus"]) this.#area.addEventListener(kind, () => heard.moved(this.line, true));
     new ResizeObserver(() => this.#paint()).observe(box);
   }
 
@@ -79,7 +79,7 @@ export class Editor {
 
   #pointed(event) {
     const line = Math.floor((event.offsetY + this.#area.scrollTop - TOP) / LINE_HEIGHT) + 1;
-    if (line >= 1 && line <= this.#count) this.#heard.moved(line);
+    if (line >= 1 && line <= this.#count) this.#heard.moved(line, false);
   }
 
   #counted() {

@@ -31,17 +31,21 @@ export class Ladder {
     if (!told.picture) {
       if (!told.fault) this.#picture.replaceChildren();
       this.#hide();
+      this.light({ line: this.#editor.line });
       return;
     }
     const { scrollLeft, scrollTop } = this.#picture;
     this.#picture.replaceChildren(this.#drawing(told.picture));
     this.#picture.scrollTo(scrollLeft, scrollTop);
-    if (this.#chosen && this.#told.arrows[this.#chosen]) this.#open(this.#chosen);
-    else this.#hide();
+    if (this.#chosen && this.#told.arrows[this.#chosen]) this.#choose(this.#chosen);
+    else {
+      this.#hide();
+      this.light({ line: this.#editor.line });
+    }
   }
 
-  // Lights up what belongs to a line of the script, to an arrow, or to a line of the report.
-  light({ line, key, place }) {
+  // Lights up what belongs to a line of the script, to an arrow, or to a line of the report; `isShown` brings it into view.
+  light({ line, key, place }, isShown = false) {
     const { arrows, reportedAt } = this.#told;
     const lines = new Set(), keys = new Set(), places = new Set();
     if (key) {
@@ -58,6 +62,9 @@ export class Ladder {
       else places.add(place);
     }
     this.#paint(lines, keys, places);
+    if (isShown) {
+      for (const box of [this.#picture, this.#report]) scrollTo(box, box.querySelector(".lit"));
+    }
   }
 
   #paint(lines, keys, places) {
@@ -213,6 +220,13 @@ export class Ladder {
     const end = lines.findIndex((line) => /^[ \t]*end[ \t\r]*$/.test(line));
     return end >= 0 ? end + 1 : this.#told.fault?.line ?? lines.length + 1;
   }
+}
+
+// Scrolls a part of the page, and not the page, so that one of its elements is to be seen.
+function scrollTo(box, one) {
+  if (!one || box.scrollHeight <= box.clientHeight) return;
+  const inner = one.getBoundingClientRect(), outer = box.getBoundingClientRect();
+  if (inner.top < outer.top || inner.bottom > outer.bottom) box.scrollTop += inner.top - outer.top - box.clientHeight / 3;
 }
 
 function input(value, label, pattern) {

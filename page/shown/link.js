@@ -5,6 +5,7 @@ const MOST = 500_000;
 
 // The link of a state, or null where it is too long for one.
 export function linkOf(state) {
+  if (Object.values(state).some((value) => value && value.length > MOST)) return null;
   const words = new URLSearchParams(Object.entries(state).filter(([, value]) => value)).toString();
   return words.length > MOST ? null : `#${words}`;
 }

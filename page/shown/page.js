@@ -18,7 +18,7 @@ let waiting = 0;
 // The line of the script that the picture begins with, and the one before which it is cut.
 let first = 1, cut = null;
 
-const editor = new Editor(document.querySelector(".editor"), byId("fault"), { changed, moved: (line) => ladder.light({ line }) });
+const editor = new Editor(document.querySelector(".editor"), byId("fault"), { changed, moved: (line, isCaret) => ladder.light({ line }, isCaret) });
 const ladder = new Ladder(byId("picture"), byId("touch"), byId("report"), editor);
 const captures = new Captures(keep);
 
