@@ -85,7 +85,10 @@ def _word(line):
 
 
 def _shape(line):
-    """A line without the values of its numbers, which don't tell what is wrong with it."""
+    """A line without what doesn't tell what is wrong with it: which end and which kind of event with a count it is, and the values of numbers."""
+    line = re.sub("^[ab][ktdx](?= |$)", "Ek", line)
+    line = re.sub("^[ab](?=[icn](?: |$))", "E", line)
+    line = re.sub("^[0-9]+[kdx](?= |$)", "Sk", line)
     return re.sub("[0-9]+", lambda match: "0" * len(match[0]), line)
 
 

@@ -45,6 +45,10 @@ class Faults(unittest.TestCase):
                 self.assertEqual((fault["line"], fault["cause"]), (len(before) + 1, cause))
                 self.assertEqual(fault["hints"][0], {"written": written, "right": right, "why": why})
 
+    def test_a_line_of_another_end_or_kind_has_the_same_hint(self):
+        for written, right in (("bx 0", "ak 1"), ("bc 00", "ac 01"), ("bi 4F00", "ai 0F00"), ("bt 1 # late", "ak 13")):
+            self.assertEqual(told(f"ai 0603\n{written}\nend\n")["fault"]["hints"][0]["right"], right)
+
     def test_each_cause_has_its_sentence(self):
         for cause in ("size", "long", "after", "form", "place", "missing", "value", "twice", "spent", "events", "open"):
             self.assertTrue(Causes().sentences[cause], cause)

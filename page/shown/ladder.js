@@ -3,6 +3,9 @@ import { damage, deliver, hold, lose } from "./edits.js";
 import { element } from "./editor.js";
 import { coloured, fieldsOf } from "./bytes.js";
 
+// How much smaller a picture is shown that has no room; beyond that it is scrolled.
+const MOST_SHRUNK = 1.25;
+
 const HINT = "Point at an arrow, and its bytes and fields stand here. Click it, and it can be lost, damaged or held back.";
 
 export class Ladder {
@@ -82,6 +85,9 @@ export class Ladder {
   // The picture as a part of the page: its arrows can be reached by keys.
   #drawing(text) {
     const svg = document.adoptNode(new DOMParser().parseFromString(text, "image/svg+xml").documentElement);
+    const width = Number(svg.getAttribute("width"));
+    svg.style.maxWidth = `${width}px`;
+    svg.style.minWidth = `${width / MOST_SHRUNK}px`;
     svg.setAttribute("role", "group");
     svg.setAttribute("aria-label", "The run as a ladder");
     for (const [index, group] of svg.querySelectorAll("[data-arrow]").entries()) {

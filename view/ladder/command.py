@@ -69,7 +69,7 @@ def _options(words):
     parser = argparse.ArgumentParser(
         "df1-ladder", description=DESCRIPTION, epilog=EPILOGUE, formatter_class=argparse.RawDescriptionHelpFormatter, allow_abbrev=False
     )
-    to_help = "the last line that is drawn; without it, a long run is cut after 400 arrows"
+    to_help = "the last line that is drawn; without it, a long run is cut after 400 arrows or 10,000 steps"
     parser.add_argument("script", metavar="SCRIPT", help="the file of the script, or - for standard input")
     parser.add_argument("-o", dest="picture", metavar="FILE", help="the file of the picture; without it, standard output")
     parser.add_argument("--from", dest="first", metavar="LINE", type=int, default=1, help="the first line of the script that is drawn")

@@ -71,7 +71,7 @@ def _rest(run, names, step, told):
     station = event.station if event else None
     if told.kind != "answered":
         return f" {told.number}" + (f" to {station}" if station else "")
-    reply = names.body(told.body, told.who, step.number).removeprefix("reply, ")
+    reply = names.body(told.body, told.who, step.number)[len("reply, "):]
     return f" {told.number}" + (f" by {station}" if station else "") + f", {reply}"
 
 

@@ -145,7 +145,7 @@ class Painter:
 def foreign_title(step):
     """What the foreign bytes of a step are, where they went, and the bytes."""
     foreign = step.foreign
-    return f"foreign to {foreign.receiver}: {step.labels[0].text.removeprefix('foreign ')}; arrived; {foreign.data.hex(' ').upper()}"
+    return f"foreign to {foreign.receiver}: {step.labels[0].rest.strip()}; arrived; {foreign.data.hex(' ').upper()}"
 
 
 def _whole(one):
