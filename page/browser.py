@@ -76,6 +76,11 @@ class Browser:
         """What a function's body in JavaScript answers."""
         return self._do("/execute/sync", {"script": script, "args": list(words)})
 
+    def wait(self, script, *words):
+        """What a function's body in JavaScript, which may wait, answers."""
+        body = f"const done = arguments[arguments.length - 1]; (async () => {{ {script} }})().then(done, (fault) => done(`${{fault.stack}}`))"
+        return self._do("/execute/async", {"script": body, "args": list(words)})
+
     def until(self, script, *words, seconds=30):
         """What the body answers, once that isn't false or nothing."""
         end = time.monotonic() + seconds

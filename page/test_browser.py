@@ -234,6 +234,43 @@ class Touching(Page):
         self.assertEqual(self.browser.run(TEXT), EXCHANGE.replace("bd 13", "bd 2\nbx 11"))
 
 
+# Each offer made for each arrow of a script; answers what didn't come of it as it says.
+OFFERS = """
+const { change, inOrder, lose, deliver, damage, hold } = await import("/edits.js");
+const ask = async (text) => (await fetch("/replay", { method: "POST", body: text })).json();
+const text = arguments[0], end = text.split("\\n").indexOf("end") + 1, told = await ask(text), wrong = [];
+const edited = (edits) => inOrder(edits).reduce((so_far, edit) => {
+  const { first, last, text } = change(so_far, edit);
+  return so_far.slice(0, first) + text + so_far.slice(last);
+}, text);
+for (const [key, arrow] of Object.entries(told.arrows)) {
+  if (!arrow.moves) continue;
+  const size = arrow.bytes.length / 2, isLost = arrow.moves.length > 0 && arrow.moves.every((move) => move.kind === "x");
+  const look = async (name, edits, right) => {
+    const answer = await ask(edited(edits));
+    if (answer.status !== 0 || !right(answer)) wrong.push(`${name} ${key}: ${answer.note} ${answer.arrows?.[key]?.fate}`);
+  };
+  await look("lose", lose(arrow, end), (answer) => answer.arrows[key].fate.startsWith(`${size} of ${size} bytes lost`));
+  await look("deliver", deliver(arrow, end), (answer) => !/lost|under way/.test(answer.arrows[key].fate));
+  if (isLost) continue;
+  const [clock, ticks] = arrow.clock;
+  await look("hold", hold(arrow, clock, ticks, end), (answer) => new RegExp(`>${ticks} tick`).test(answer.picture));
+  for (const place of [0, size - 1]) {
+    await look("damage", damage(arrow, place, "40", end), (answer) => answer.arrows[key].fate.includes(`byte ${place + 1}: `));
+  }
+}
+return wrong;
+"""
+VARIOUS = ["ordinary-exchange", "both-ends-at-once", "embedding", "damaged-frame-and-lost-nak", "no-room", "polled-write", "reset"]
+
+
+class Offers(Page):
+    def test_what_an_offer_says_comes_of_it_for_each_arrow(self):
+        for name in VARIOUS:
+            with self.subTest(name):
+                self.assertEqual(self.browser.wait(OFFERS, (EXAMPLES / f"{name}.df1").read_text()), [])
+
+
 class Captured(Page):
     def test_a_capture_is_a_table_and_its_bytes_are_coloured(self):
         self.browser.run("document.getElementById('tab-script').focus()")

@@ -131,7 +131,7 @@ SHOWN = {
     "late-reply": ["unanswered 1", "stray reply, 55"],
     "polled-write": ["issue 1 to 3", "exec write N7:0 = 1234", "answered 1 by 3, done"],
     "silent-station": ["undelivered 1 to 9"],
-    "replies-of-one-tns": ["exec echo 77", "stray reply, 77 from 5"],
+    "replies-of-one-tns": ["exec echo 77", "stray from 5: reply, 77"],
     "timer-and-float": ["answered 2, T4:1.ACC = 012C", "answered 4, F8:0 = 1"],
 }
 

@@ -1,5 +1,7 @@
 // The script as it is written: its lines with their numbers, the faulty one marked, and those that are lit.
 
+import { change, inOrder } from "./edits.js";
+
 const LINE_HEIGHT = 20;
 const TOP = 8;
 
@@ -61,17 +63,11 @@ export class Editor {
 
   // Puts lines in the place of others: each edit has a line, how many lines go, and those that come. The browser can undo it.
   edit(edits) {
-    for (const { line, gone, lines } of [...edits].sort((one, other) => other.line - one.line)) {
-      const all = this.text.split("\n");
-      const first = all.slice(0, line - 1).reduce((sum, text) => sum + text.length + 1, 0);
-      const after = first + all.slice(line - 1, line - 1 + gone).reduce((sum, text) => sum + text.length + 1, 0);
-      const last = Math.min(after, this.text.length);
+    for (const edit of inOrder(edits)) {
+      const { first, last, text } = change(this.text, edit);
       this.#area.focus();
       this.#area.setSelectionRange(first, last);
-      const text = lines.map((one) => `${one}\n`).join("");
-      if (!document.execCommand("insertText", false, text)) {
-        this.#area.setRangeText(text, first, last, "end");
-      }
+      if (!document.execCommand("insertText", false, text)) this.#area.setRangeText(text, first, last, "end");
     }
     this.#counted();
     this.#heard.changed();

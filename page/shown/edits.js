@@ -3,6 +3,21 @@
 // An arrow's moves say which bytes of which event lines take it from its queue: the line, the kind and the count of the event, the first
 // of its bytes that is the arrow's, and how many. `waits` tells of what is still under way: the bytes ahead of it, and its own.
 
+// What an edit puts where into a text: the place of its first letter, that behind its last one, and what comes there.
+export function change(text, { line, gone, lines }) {
+  const all = text.split("\n");
+  const size = (some) => some.reduce((sum, one) => sum + one.length + 1, 0);
+  const first = Math.min(size(all.slice(0, line - 1)), text.length);
+  const last = Math.min(first + size(all.slice(line - 1, line - 1 + gone)), text.length);
+  const isOpen = first === text.length && text !== "" && !text.endsWith("\n");
+  return { first, last, text: (isOpen ? "\n" : "") + lines.map((one) => `${one}\n`).join("") };
+}
+
+// The edits in the order in which they can be made one after another: the last line first.
+export function inOrder(edits) {
+  return [...edits].sort((one, other) => other.line - one.line);
+}
+
 // An event line of a kind and a count, on the arrow's queue.
 function eventLine(arrow, kind, operand) {
   return [`${arrow.end}${kind}`, arrow.station, operand].filter((word) => word !== null && word !== "").join(" ");

@@ -64,7 +64,7 @@ def _rest(run, names, step, told):
     """What follows the word of a line of the report."""
     if told.kind in ("exec", "stray"):
         is_short = told.kind == "exec" and len(run.script.ends) > FEW_ENDS
-        return "" if is_short else f" {names.body(told.body, told.who, step.number)}{_sender(run, told)}"
+        return "" if is_short else f"{_sender(run, told)} {names.body(told.body, told.who, step.number)}"
     if told.number is None:
         return ""
     event = run.commands.get((told.who, told.number))
@@ -77,4 +77,4 @@ def _rest(run, names, step, told):
 
 def _sender(run, told):
     """The station that a stray reply is from."""
-    return f" from {told.body[1]}" if told.kind == "stray" and run.script.mode == "half" else ""
+    return f" from {told.body[1]}:" if told.kind == "stray" and run.script.mode == "half" else ""
