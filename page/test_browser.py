@@ -251,7 +251,8 @@ for (const [key, arrow] of Object.entries(told.arrows)) {
     if (answer.status !== 0 || !right(answer)) wrong.push(`${name} ${key}: ${answer.note} ${answer.arrows?.[key]?.fate}`);
   };
   await look("lose", lose(arrow, end), (answer) => answer.arrows[key].fate.startsWith(`${size} of ${size} bytes lost`));
-  await look("deliver", deliver(arrow, end), (answer) => !/lost|under way/.test(answer.arrows[key].fate));
+  const isSame = arrow.moves.every((move) => move.kind === "d") && !arrow.waits;  // its lines are cut, and nothing else
+  await look("deliver", deliver(arrow, end), (answer) => !/lost|under way/.test(answer.arrows[key].fate) && (!isSame || answer.report === told.report));
   if (isLost) continue;
   const [clock, ticks] = arrow.clock;
   await look("hold", hold(arrow, clock, ticks, end), (answer) => new RegExp(`>${ticks} tick`).test(answer.picture));
@@ -261,7 +262,7 @@ for (const [key, arrow] of Object.entries(told.arrows)) {
 }
 return wrong;
 """
-VARIOUS = ["ordinary-exchange", "both-ends-at-once", "embedding", "damaged-frame-and-lost-nak", "no-room", "polled-write", "reset"]
+VARIOUS = ["trace", "both-ends-at-once", "embedding", "damaged-frame-and-lost-nak", "no-room", "polled-write", "reset"]
 
 
 class Offers(Page):

@@ -75,8 +75,14 @@ class Arrows:
     def _best(self, parts, end):
         """How well these parts of the name stand best along the line to an end, where, and they themselves."""
         width = sum(len(text) for text, _ in parts) * LETTER
-        found = [(self._svg.taken.cost(self._box(place, width), (self._start, end)), place) for place in self._places(end, width)]
-        return *min(found, key=lambda pair: pair[0]), parts
+        least = None
+        for place in self._places(end, width):
+            cost = self._svg.taken.cost(self._box(place, width), (self._start, end))
+            if least is None or cost < least[0]:
+                least = (cost, place)
+            if cost == 0:
+                break
+        return least[0], least[1], parts
 
     @property
     def _goes_right(self):
