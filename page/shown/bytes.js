@@ -21,7 +21,22 @@ export function coloured(digits, parts, chosen) {
     byte.addEventListener("click", () => chosen(place));
     found.append(byte, " ");
   }
+  reachByKeys(found, "button", "ArrowRight", "ArrowLeft");
   return found;
+}
+
+// Makes one of many elements a stop of the Tab key; two keys go from it to the next one and to the one before.
+export function reachByKeys(box, selector, onward, back) {
+  const all = [...box.querySelectorAll(selector)];
+  all.forEach((one, index) => { one.tabIndex = index ? -1 : 0; });
+  box.onkeydown = (event) => {
+    const at = all.indexOf(event.target), next = all[at + (event.key === onward ? 1 : event.key === back ? -1 : 0)];
+    if (at < 0 || !next || next === event.target) return;
+    event.preventDefault();
+    event.target.tabIndex = -1;
+    next.tabIndex = 0;
+    next.focus();
+  };
 }
 
 // The parts: the name of each, its bytes, and what it says.

@@ -1,6 +1,6 @@
 // A capture in hexadecimal, and what is heard in it: a table of items, each of whose bytes are coloured.
 import { element } from "./editor.js";
-import { fieldsOf } from "./bytes.js";
+import { fieldsOf, reachByKeys } from "./bytes.js";
 
 const byId = (id) => document.getElementById(id);
 const COLOURS = 7;
@@ -61,6 +61,7 @@ export class Captures {
     this.#showBytes(told.bytes ?? "", told.items ?? []);
     this.#rows = told.items ?? [];
     byId("items").tBodies[0].replaceChildren(...this.#rows.map((item, index) => this.#row(item, index)));
+    reachByKeys(byId("items").tBodies[0], "tr", "ArrowDown", "ArrowUp");
     document.documentElement.dataset.heard = String(Number(document.documentElement.dataset.heard ?? 0) + 1);
   }
 
@@ -106,7 +107,6 @@ export class Captures {
     const says = item.says ? [item.says, element("br", "")] : [];
     const row = element("tr", "", element("td", `${item.first}–${item.last}`), element("td", "", sample, item.kind), element("td", "", ...says, element("code", item.rest)));
     row.dataset.item = String(index);
-    row.tabIndex = 0;
     return row;
   }
 

@@ -10,6 +10,7 @@ export class Editor {
   #wrong = null;
   #lit = new Set();
   #count = 1;
+  #pointedAt = 0;
 
   // `heard` has what is called when the text has changed, and when a line is pointed at, or has the caret.
   constructor(box, fault, heard) {
@@ -75,7 +76,9 @@ export class Editor {
 
   #pointed(event) {
     const line = Math.floor((event.offsetY + this.#area.scrollTop - TOP) / LINE_HEIGHT) + 1;
-    if (line >= 1 && line <= this.#count) this.#heard.moved(line, false);
+    if (line === this.#pointedAt || line < 1 || line > this.#count) return;
+    this.#pointedAt = line;
+    this.#heard.moved(line, false);
   }
 
   #counted() {

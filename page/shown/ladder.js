@@ -1,7 +1,7 @@
 // The picture of a run and its report: what belongs together lights up together, and an arrow that is touched shows its bytes and fields.
 import { damage, deliver, hold, lose } from "./edits.js";
 import { element } from "./editor.js";
-import { coloured, fieldsOf } from "./bytes.js";
+import { coloured, fieldsOf, reachByKeys } from "./bytes.js";
 
 // How much smaller a picture is shown that has no room; beyond that it is scrolled.
 const MOST_SHRUNK = 1.25;
@@ -90,15 +90,15 @@ export class Ladder {
     svg.style.minWidth = `${width / MOST_SHRUNK}px`;
     svg.setAttribute("role", "group");
     svg.setAttribute("aria-label", "The run as a ladder");
-    for (const [index, group] of svg.querySelectorAll("[data-arrow]").entries()) {
+    for (const group of svg.querySelectorAll("[data-arrow]")) {
       const title = group.querySelector("title");
-      group.setAttribute("tabindex", index ? "-1" : "0");
       group.setAttribute("role", "button");
       group.setAttribute("aria-label", title.textContent);
       const hit = group.querySelector("line").cloneNode();
       hit.classList.add("hit");
       group.append(hit);
     }
+    reachByKeys(svg, "[data-arrow]", "ArrowDown", "ArrowUp");
     return svg;
   }
 
@@ -111,7 +111,7 @@ export class Ladder {
     const key = this.#keyAt(event);
     if (key && this.#told.arrows[key]) {
       this.light({ key });
-      if (!this.#chosen) this.#open(key);
+      if (!this.#chosen || event.type === "focusin") this.#open(key);
       return;
     }
     const lines = event.target.closest?.("[data-lines]")?.dataset.lines;
@@ -130,22 +130,7 @@ export class Ladder {
       event.preventDefault();
       this.#choose(key);
       this.#touch.querySelector("button")?.focus();
-    } else if (key && /^Arrow(Down|Up)$/.test(event.key)) {
-      event.preventDefault();
-      this.#step(key, event.key === "ArrowDown" ? 1 : -1);
     } else if (event.key === "Escape") this.#hide();
-  }
-
-  // Goes from an arrow to the next one, or to the one before.
-  #step(key, way) {
-    const arrows = [...this.#picture.querySelectorAll("[data-arrow]")];
-    const at = arrows.findIndex((one) => one.dataset.arrow === key);
-    const next = arrows[at + way];
-    if (!next) return;
-    arrows[at].setAttribute("tabindex", "-1");
-    next.setAttribute("tabindex", "0");
-    this.#chosen = null;
-    next.focus();
   }
 
   #reportPointed(event) {
