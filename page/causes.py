@@ -18,8 +18,9 @@ REFUSED = "<!-- refused after: "
 # So much of a script is read for the line that chooses its mode.
 HEAD = 65536
 
-# The most lines of what usually leads to a cause that are told.
+# The most lines of what usually leads to a cause that are told, how like the faulty line they have to be, and how much less like than the first.
 MOST_HINTS = 2
+LEAST_LIKE, MUCH_LESS_LIKE = 0.6, 0.2
 
 
 @dataclass(frozen=True)
@@ -75,8 +76,8 @@ class Causes:
         """The hints of a cause whose lines look most like this one, the likeliest first."""
         wanted = _shape(line)
         near = [(difflib.SequenceMatcher(None, wanted, _shape(hint.written)).ratio(), hint) for hint in self.hints[mode] if hint.cause == cause]
-        near = sorted((pair for pair in near if pair[0] > 0.6), key=lambda pair: -pair[0])
-        return [hint for _, hint in near[:MOST_HINTS]]
+        near = sorted((pair for pair in near if pair[0] > LEAST_LIKE), key=lambda pair: -pair[0])
+        return [hint for like, hint in near[:MOST_HINTS] if like > near[0][0] - MUCH_LESS_LIKE]
 
 
 def _word(line):

@@ -119,16 +119,16 @@ export class Editor {
     const jump = element("button", "Go there");
     jump.type = "button";
     jump.addEventListener("click", () => this.#goTo(fault.line));
-    const found = [head, jump, element("p", "", ...coded(fault.sentence))];
-    if (fault.form) found.push(element("p", "", "The form is ", element("code", fault.form.form), ": ", ...coded(fault.form.meaning)));
+    const found = [head, jump];
     if (fault.hints.length) {
-      found.push(element("p", "What usually leads to it:"));
       const list = element("ul", "");
       for (const hint of fault.hints) {
         list.append(element("li", "", element("code", hint.written), " has to be ", element("code", hint.right), ": ", ...coded(hint.why)));
       }
-      found.push(list);
+      found.push(element("p", "What usually leads to it:"), list);
     }
+    if (fault.form) found.push(element("p", "", "The form is ", element("code", fault.form.form), ": ", ...coded(fault.form.meaning)));
+    found.push(element("p", "", `The cause ${fault.cause}: `, ...coded(fault.sentence)));
     return found;
   }
 
