@@ -61,9 +61,11 @@ class Replays:
             known = self._remembered
         window = Window(first, arrows=WINDOW.arrows, steps=WINDOW.steps)
         with self._program.place(), Remembered(self._program, known) as feed:
-            played = play(feed, read_script(drawn), window, lines, foot)
-            with self._lock:
-                self._remembered = feed.told
+            try:
+                played = play(feed, read_script(drawn), window, lines, foot)
+            finally:
+                with self._lock:
+                    self._remembered = feed.told
         sent = all_sent(played)
         picture = painted(played, "", sent, has_keys=True)
         upto = fault["line"] - 1 if fault else None

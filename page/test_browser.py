@@ -208,6 +208,20 @@ class Touching(Page):
         self.offer("b.2.a", "Lose it")
         self.assertEqual(self.browser.run(TEXT), "ai 0603\nak 99\nad 99\nbk 99\nbd 2\nbx 11\nend\n")
 
+    def test_what_is_under_way_at_a_faulty_line_is_lost_before_it(self):
+        self.write("ai 0603\nak 99\nzz\nend\n")
+        self.offer("a.0.b", "Lose it")
+        self.assertEqual(self.browser.run(TEXT), "ai 0603\nak 99\nax 12\nzz\nend\n")
+        self.write("ai 0603\nak 99")
+        self.offer("a.0.b", "Deliver it")
+        self.assertEqual(self.browser.run(TEXT), "ai 0603\nak 99\nad 12\n")
+
+    def test_a_script_that_has_changed_since_is_not_edited(self):
+        self.write(EXCHANGE)
+        self.browser.run("document.querySelector('[data-arrow=\"a.0.b\"]').dispatchEvent(new MouseEvent('click', { bubbles: true }))")
+        self.browser.run(WRITE + "document.querySelector('#touch button').click()", f"# another line\n{EXCHANGE}")
+        self.assertEqual(self.browser.run(TEXT), f"# another line\n{EXCHANGE}")
+
     def test_an_edit_can_be_undone(self):
         self.write(EXCHANGE)
         self.offer("a.0.b", "Lose it")

@@ -2,9 +2,13 @@
 import os
 import re
 import unittest
+import unittest.mock
 from pathlib import Path
 
+from ladder.program import Stopped
+
 import menu
+import replays
 from causes import FORMATS, Causes
 from programs import Program
 from remembering import Remembered
@@ -143,6 +147,25 @@ class Bounds(unittest.TestCase):
         self.assertEqual((answer["cutBefore"], len(answer["arrows"])), (351, 200))
         later = told(script, **{"from": "2900"})
         self.assertEqual((later["cutBefore"], min(arrow["lines"][0] for arrow in later["arrows"].values())), (None, 2901))
+
+    def test_what_was_told_before_a_run_took_too_long_is_kept(self):
+        known = []
+
+        class Counted(Remembered):
+            def __init__(self, program, pieces):
+                known.append(len(pieces))
+                super().__init__(program, pieces)
+
+        def stops(feed, *_):
+            feed.lines_of(b"ai 0603\n")
+            raise Stopped
+
+        slow = Replays(PROGRAM, Causes())
+        with unittest.mock.patch.object(replays, "Remembered", Counted):
+            with unittest.mock.patch.object(replays, "play", stops):
+                self.assertIn("took too long", slow.told(b"ai 0603\nak 99\nend\n", {})["why"])
+            self.assertIn("picture", slow.told(b"ai 0603\nak 99\nend\n", {}))
+        self.assertEqual(known, [0, 1])
 
     def test_what_is_known_of_an_earlier_run_is_not_run_again(self):
         with Remembered(PROGRAM, []) as first:

@@ -156,7 +156,7 @@ class Gone(Served):
 
 
 class Failing(Served):
-    program = programs.Program(["false"])
+    program = programs.Program([sys.executable, "-c", "raise SystemExit(1)"])
 
     def test_a_program_that_fails(self):
         self.assertEqual(json.loads(self.ask("POST", "/replay", b"end\n")[1])["why"], "The program ended with status 1.")

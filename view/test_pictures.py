@@ -244,6 +244,11 @@ class Windows(unittest.TestCase):
         self.assertEqual(seen.words("note"), ["Cut before line 700, at 400 arrows: --from 700 draws what follows."])
         self.assertEqual(len(Seen(picture(script, Window(1, 1050))).arrows), 600)
 
+    def test_a_run_of_many_steps_is_cut_and_says_where(self):
+        seen = Seen(picture("at 1\n" * 9 + "end\n", Window(steps=5)))
+        self.assertEqual(seen.words("note"), ["Cut before line 6, at 5 steps: --from 6 draws what follows."])
+        self.assertEqual(len(seen.labels), 5)
+
     def test_a_run_without_events(self):
         seen = Seen(picture("word b 7 0 0001\nend\n".replace("word", "file b 7 89 1\nword", 1)))
         self.assertEqual((seen.arrows, seen.labels, sorted(seen.ends)), ([], [], ["a", "b"]))

@@ -25,7 +25,7 @@ export class Ladder {
     for (const kind of ["mouseover", "focusin"]) report.addEventListener(kind, (event) => this.#reportPointed(event));
   }
 
-  // Shows what a script gives.
+  // Shows what a script, whose text is told too, gives.
   show(told) {
     this.#told = { ...told, arrows: told.arrows ?? {}, reportedAt: told.reportedAt ?? [] };
     const lines = (told.report ?? "").split("\n").slice(0, -1);
@@ -201,15 +201,19 @@ export class Ladder {
     return found;
   }
 
+  // Edits the script, if it still is the one that is drawn.
   #edit(edits) {
-    if (edits.length) this.#editor.edit(edits);
+    if (edits.length && this.#editor.text === this.#told.text) this.#editor.edit(edits);
   }
 
-  // The line of the script's `end`, or the one behind its last line.
+  // The line before which what is drawn ends: the one at which it is cut or refused, or the script's `end`.
   #endLine() {
+    const { cutBefore, fault } = this.#told;
+    if (cutBefore) return cutBefore;
+    if (fault && fault.cause !== "after") return fault.line;
     const lines = this.#editor.text.split("\n");
     const end = lines.findIndex((line) => /^[ \t]*end[ \t\r]*$/.test(line));
-    return end >= 0 ? end + 1 : this.#told.fault?.line ?? lines.length + 1;
+    return end + 1;
   }
 }
 

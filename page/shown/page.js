@@ -56,7 +56,7 @@ async function draw() {
   try {
     const answer = await fetch(`replay?from=${first}`, { method: "POST", body, signal: asked.signal });
     const told = answer.ok ? await answer.json() : { why: await answer.text(), report: "", reportBytes: 0 };
-    if (text === editor.text) show(told);
+    if (text === editor.text) show({ ...told, text });
   } catch (fault) {
     if (fault.name !== "AbortError") show({ why: "The server doesn't answer: was df1-page ended?", report: "", reportBytes: 0 });
   }
