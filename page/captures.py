@@ -3,7 +3,8 @@ from __future__ import annotations
 
 import re
 
-from pccc.sentences import sentence_of
+from pccc.exchanges import Exchanges
+from pccc.fields import read_message
 
 from ladder.parts import parts_of
 
@@ -22,6 +23,7 @@ CHECK_SIZES = {"bcc": 1, "crc": 2}
 ITEM = re.compile(r"([0-9]+) ([0-9]+) ([a-z-]+)(?: (.*))?")
 LOGGED = re.compile(r"^(?:.* )?(TX|RX)((?: +[0-9A-Fa-f]{2})+)\s*$", re.M)
 RESPONSES = ("ack", "nak")
+MESSAGES = ("good", "message")
 
 
 class Captures:
@@ -35,15 +37,27 @@ class Captures:
         side, check, way = words.get("side"), words.get("check"), words.get("way", "")
         if side not in SOUND or check not in CHECK_SIZES or way not in ("", "TX", "RX"):
             raise ValueError("a side is full, master or slave, a check bcc or crc, a way TX or RX")
-        data, ways = capture(body.decode("utf-8", "replace"), way)
+        text = body.decode("utf-8", "replace")
+        data, ways = capture(text, way)
         if len(data) > MOST_BYTES:
             return {"ways": ways, "why": f"A capture of {len(data):,} bytes isn't shown: the most is {MOST_BYTES:,}."}
         run = self._program.run(["dissect", side, check], data, MOST_OUTPUT)
         if run.status != 0 or not run.is_whole:
             return {"ways": ways, "why": run.note or f"The program ended with status {run.status}."}
         items = [_item(line) for line in run.output.decode("ascii", "replace").splitlines()]
-        rows = [_row(item, items, data, side, CHECK_SIZES[check]) for item in items[:MOST_ITEMS]]
+        exchanges = Exchanges()
+        for other in [one for one in ways if capture(text, one)[0] != data]:
+            self._keep(exchanges, [side, check], capture(text, other)[0])
+        rows = [_row(item, items, data, side, CHECK_SIZES[check], exchanges) for item in items[:MOST_ITEMS]]
         return {"ways": ways, "bytes": data.hex().upper(), "items": rows, "count": len(items), **_counts(items, side)}
+
+
+    def _keep(self, exchanges, words, data):
+        """Keeps the commands that are heard in the other direction of a log, for the replies to them."""
+        run = self._program.run(["dissect", *words], data[:MOST_BYTES], MOST_OUTPUT)
+        for _, _, kind, rest in map(_item, run.output.decode("ascii", "replace").splitlines()):
+            if kind in MESSAGES:
+                exchanges.keep(read_message(_body(rest)))
 
 
 def capture(text, way):
@@ -78,16 +92,16 @@ def _counts(items, side):
     return {"heard": len(heard), "bad": sum(kind not in SOUND[side] for kind in heard), "open": left}
 
 
-def _row(item, items, data, side, check_size):
-    """What is shown of an item."""
+def _row(item, items, data, side, check_size, exchanges):
+    """What is shown of an item; a reply is named by its command among those that are known."""
     first, last, kind, rest = item
     row = {"first": first, "last": last, "kind": kind, "rest": rest, "isSound": kind in SOUND[side] or kind == "open"}
-    if kind not in ("good", "message"):
+    if kind not in MESSAGES:
         return row
     own = _own_places(item, items)
     parts = parts_of(side, check_size, bytes(data[place] for place in own))
     told = [{"name": part.name, "text": part.text, "places": own[part.first:part.after]} for part in parts]
-    return {**row, "says": sentence_of(_body(rest)), "parts": told}
+    return {**row, "says": exchanges.name(read_message(_body(rest))), "parts": told}
 
 
 def _own_places(item, items):

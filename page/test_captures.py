@@ -43,6 +43,10 @@ class Dissections(unittest.TestCase):
             self.assertEqual(lines, (EXAMPLES / f"{name}.text").read_text().splitlines())
             self.assertEqual(answer["ways"], ["TX", "RX"])
         self.assertEqual([item["says"] for item in answer["items"] if "says" in item], ["write N7:0 = 1234", "read N7:0"])
+        said = [item["says"] for item in told(log, way="RX")["items"] if "says" in item]
+        self.assertEqual(said, ["reply, done", "reply, N7:0 = 1234"])
+        named = log.replace("09:14:02.131", "09:14:02.130 -- write N7:0 = 1234, TNS 0001\n09:14:02.131")
+        self.assertEqual(told(named, way="TX")["items"], told(log, way="TX")["items"])
 
     def test_what_is_no_capture_is_refused(self):
         for text, why in (("10 0G", "`G` is no hexadecimal digit"), ("10 0", "there is an odd number of digits"), ("<b>", "`<` is no hexadecimal digit")):

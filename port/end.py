@@ -7,21 +7,29 @@ import tempfile
 import time
 
 import frames
+from pccc.exchanges import Exchanges
+from pccc.fields import read_message
 
 BYTE, TICK, DRAIN = b"\x00", b"\x01\x00", b"\x03\x00"
 
 
 class Trace:
-    """A file that keeps what went each way and when, as lines that docs/TRACES.md reads; or none."""
+    """A file that keeps what went each way and when, as lines that docs/TRACES.md reads, and what the whole messages say; or none."""
 
     def __init__(self, name):
         self.file = open(name, "a", encoding="ascii") if name else None
+        self.exchanges = Exchanges()
 
-    def keep(self, way, data):
-        if self.file:
-            now = datetime.datetime.now().strftime("%H:%M:%S.%f")[:-3]
-            self.file.write(f"{now} {way} {data.hex(' ').upper()}\n")
-            self.file.flush()
+    def keep(self, way, data, bodies):
+        """Keeps bytes that went one way, and the bodies of the frames that ended in them."""
+        if not self.file:
+            return
+        now = datetime.datetime.now().strftime("%H:%M:%S.%f")[:-3]
+        self.file.write(f"{now} {way} {data.hex(' ').upper()}\n")
+        for message in map(read_message, bodies):
+            self.exchanges.keep(message)
+            self.file.write(f"{now} -- {self.exchanges.name(message)}, TNS {message.tns:04X}\n")
+        self.file.flush()
 
     def close(self):
         if self.file:
@@ -71,13 +79,15 @@ class End:
     def _take_in(self):
         data = self.device.read()
         if data:
-            self.trace.keep("RX", data)
-            self.received += self.came.bodies(data)
+            bodies = list(self.came.bodies(data))
+            self.trace.keep("RX", data, bodies)
+            self.received += bodies
             self._tell(b"".join(BYTE + bytes([byte]) + DRAIN for byte in data))
 
     def _give_out(self, data):
-        self.trace.keep("TX", data)
-        self.sent += self.went.bodies(data)
+        bodies = list(self.went.bodies(data))
+        self.trace.keep("TX", data, bodies)
+        self.sent += bodies
         self.device.write(data)
 
     def close(self):

@@ -184,7 +184,10 @@ class Ports(unittest.TestCase):
         self.assertEqual(self.asked(relay, "read", "N7:0,3", "F8:1", "B3:0/3", "B3:0")[1], "N7:0,3 4660 -5 6\nF8:1 2.5\nB3:0/3 1\nB3:0 0000000000001000\n")
         status, out, _ = self.asked(relay, "read", "N9:0")
         self.assertEqual((status, out), (1, "N9:0 refused, STS F0, EXT STS 06: there is no such file, element or sub-element\n"))
-        # What was recorded of either way is whole.
+        # What was recorded says what went over the line, and of either way is whole.
+        said = [line.split(" -- ")[1].split(", TNS ")[0] for line in (self.folder / "trace.log").read_text().splitlines() if " -- " in line]
+        names = ["read N7:0", "reply, N7:0 = 1234", "write N7:1 = FFFB 0006", "masked write B3:0, mask 0008 = 0008", "reply, done", "reply, F8:1 = 2.5"]
+        self.assertEqual([one for one in names if one not in said], [])
         for way in ("RX", "TX"):
             data = b"".join(bytes.fromhex(line.split(" ", 2)[2]) for line in (self.folder / "trace.log").read_text().splitlines() if f" {way} " in line)
             told = subprocess.run([DF1, "check", "full", "crc"], input=data, capture_output=True).stdout.decode()
