@@ -127,7 +127,7 @@ class Writing(Page):
         self.assertIn("isn't drawn", self.browser.run("return document.getElementById('why').textContent"))
         self.assertIn("deceived 0", self.browser.run("return document.getElementById('report').textContent"))
         self.assertEqual(self.arrows(), [])
-        self.assertEqual(self.browser.run("return [location.hash, document.getElementById('said').textContent]"), ["", "Too long for a link."])
+        self.browser.until("return document.getElementById('said').textContent === 'Too long for a link.' && location.hash === ''")
 
     def test_examples_are_chosen_by_what_they_show(self):
         self.browser.until("return document.querySelectorAll('#examples option').length > 40")
@@ -145,6 +145,7 @@ class Links(Page):
     def test_a_script_is_a_link(self):
         script = EXCHANGE.replace("file", "# ä & 100% + # \"x\"\nfile")
         self.write(script)
+        self.browser.until("return location.hash.includes('100')")
         link = self.browser.address
         self.browser.open("about:blank")
         self.browser.open(link)
@@ -156,6 +157,9 @@ class Links(Page):
         self.browser.open(f"{self.server.address}/#capture=100503FD&side=master&check=crc")
         self.browser.until("return document.documentElement.dataset.heard")
         self.assertEqual(self.browser.run("return document.getElementById('items').tBodies[0].innerText.trim().split(/\\s+/)"), ["0–3", "poll", "03"])
+        self.browser.click("#tab-script")
+        self.browser.until(DRAWN)
+        self.assertEqual(self.browser.run(TEXT), (EXAMPLES / "lost-ack.df1").read_text())
 
 
 class Touching(Page):

@@ -13,14 +13,14 @@ const LEAD = 30;
 let examples = { groups: [], captures: [] };
 let tab = "script";
 let asked = null;
-let waiting = 0;
+let waiting = 0, keeping = 0;
 
 // The line of the script that the picture begins with, and the one before which it is cut.
 let first = 1, cut = null;
 
 const editor = new Editor(document.querySelector(".editor"), byId("fault"), { changed, moved: (line, isCaret) => ladder.light({ line }, isCaret) });
 const ladder = new Ladder(byId("picture"), byId("touch"), byId("report"), editor);
-const captures = new Captures(keep);
+const captures = new Captures(keepSoon);
 
 // How long to wait after a change until it is drawn, in milliseconds.
 function delay(size) {
@@ -44,7 +44,7 @@ function drawFrom(line) {
 }
 
 async function draw() {
-  keep();
+  keepSoon();
   asked?.abort();
   asked = new AbortController();
   const text = editor.text;
@@ -79,8 +79,14 @@ function show(told) {
   document.documentElement.dataset.drawn = String(Number(document.documentElement.dataset.drawn ?? 0) + 1);
 }
 
-// What the page shows stands in the address, behind the #.
+// What the page shows stands in the address, behind the #. Browsers take a new one now and then, and not at each letter.
+function keepSoon() {
+  clearTimeout(keeping);
+  keeping = setTimeout(keep, 300);
+}
+
 function keep() {
+  clearTimeout(keeping);
   const link = tab === "script" ? linkOf({ script: editor.text }) : linkOf({ capture: captures.text, side: captures.side, check: captures.check, way: captures.way });
   history.replaceState(null, "", link ?? location.pathname);
   say(link ? "" : "Too long for a link.");
@@ -145,17 +151,26 @@ async function load() {
     return;
   }
   choose("script");
-  editor.text = state.script ?? (await (await fetch("script")).text());
+  begin(state.script);
+}
+
+// Begins with a script, or with the one that the server has.
+async function begin(script) {
+  editor.text = script ?? (await (await fetch("script")).text());
   drawFrom(1);
 }
 
+// Shows a tab that was chosen.
+function turnTo(name, takesFocus) {
+  choose(name, takesFocus);
+  if (name === "script" && asked === null) begin();
+  else keep();
+}
+
 for (const name of ["script", "capture"]) {
-  byId(`tab-${name}`).addEventListener("click", () => { choose(name); keep(); });
+  byId(`tab-${name}`).addEventListener("click", () => turnTo(name, false));
   byId(`tab-${name}`).addEventListener("keydown", (event) => {
-    if (event.key === "ArrowLeft" || event.key === "ArrowRight") {
-      choose(name === "script" ? "capture" : "script", true);
-      keep();
-    }
+    if (event.key === "ArrowLeft" || event.key === "ArrowRight") turnTo(name === "script" ? "capture" : "script", true);
   });
 }
 byId("examples").addEventListener("change", (event) => event.target.value && takeExample(event.target.value));
