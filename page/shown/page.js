@@ -53,12 +53,18 @@ async function draw() {
     return show({ why: `A script of ${body.length.toLocaleString("en")} bytes isn't sent: no script is so long.`, report: "", reportBytes: 0 });
   }
   byId("picture").setAttribute("aria-busy", "true");
+  const told = await answerTo(body, asked.signal);
+  if (told && text === editor.text) show({ ...told, text });
+}
+
+// What the server tells of a script, or nothing where a later one was asked about meanwhile.
+async function answerTo(body, signal) {
+  const nothing = { report: "", reportBytes: 0 };
   try {
-    const answer = await fetch(`replay?from=${first}`, { method: "POST", body, signal: asked.signal });
-    const told = answer.ok ? await answer.json() : { why: await answer.text(), report: "", reportBytes: 0 };
-    if (text === editor.text) show({ ...told, text });
+    const answer = await fetch(`replay?from=${first}`, { method: "POST", body, signal });
+    return answer.ok ? await answer.json() : { ...nothing, why: await answer.text() };
   } catch (fault) {
-    if (fault.name !== "AbortError") show({ why: "The server doesn't answer: was df1-page ended?", report: "", reportBytes: 0 });
+    return fault.name === "AbortError" ? null : { ...nothing, why: "The server doesn't answer: was df1-page ended?" };
   }
 }
 
