@@ -6,6 +6,7 @@ import unittest
 from pathlib import Path
 
 import browser
+import menu
 import serving
 from programs import Program
 
@@ -23,7 +24,8 @@ LIT = """return {
   report: [...document.querySelectorAll('#report .lit')].map((one) => one.textContent) }"""
 WRITTEN = "a to b: write N7:0 = 1234, TNS 0001"
 ACK, REPLY, LAST = "b to a: ACK", "b to a: reply, done, TNS 0001", "a to b: ACK"
-EXCHANGE = "file b 7 89 16\nai 0FAA02078900003412\nak 19\nad 19\nbk 13\nbd 13\nak 2\nad 2\nend\n"
+EVENTS = "file b 7 89 16\nai 0FAA02078900003412\nak 19\nad 19\nbk 13\nbd 13\nak 2\nad 2\n"
+EXCHANGE = f"{EVENTS}end\n"
 
 
 @unittest.skipUnless(browser.found(), "there is no Chromium with its chromedriver")
@@ -55,7 +57,7 @@ class Page(unittest.TestCase):
 
     def arrows(self):
         """The arrows, each with what became of it."""
-        return [text.removesuffix("; arrived") for text in self.browser.run(ARROWS)]
+        return [text.replace("; arrived", "") for text in self.browser.run(ARROWS)]
 
     def offer(self, arrow, begin):
         """Clicks on an arrow, and then on the offer that begins so; waits until it is drawn."""
@@ -123,16 +125,17 @@ class Writing(Page):
         self.assertEqual(self.browser.run("return [document.title, document.querySelectorAll('img').length]"), ["df1", 0])
 
     def test_a_long_script_is_not_drawn_and_says_so(self):
-        self.write(EXCHANGE.removesuffix("end\n") + f"# {'x' * 1000}\n" * 1100 + "end\n")
+        self.write(EVENTS + f"# {'x' * 1000}\n" * 1100 + "end\n")
         self.assertIn("isn't drawn", self.browser.run("return document.getElementById('why').textContent"))
         self.assertIn("deceived 0", self.browser.run("return document.getElementById('report').textContent"))
         self.assertEqual(self.arrows(), [])
         self.browser.until("return document.getElementById('said').textContent === 'Too long for a link.' && location.hash === ''")
 
     def test_examples_are_chosen_by_what_they_show(self):
-        self.browser.until("return document.querySelectorAll('#examples option').length > 40")
+        self.browser.until("return document.querySelectorAll('#examples option').length > 30")
         shows = self.browser.run("return [...document.querySelectorAll('#examples optgroup')].map((one) => [one.label, one.children.length])")
-        self.assertEqual(shows, [["Full duplex: the link", 22], ["Full duplex: commands and data tables", 7], ["Half duplex", 11]])
+        self.assertEqual(shows, [[group["name"], len(group["scripts"])] for group in menu.examples()["groups"]])
+        self.assertEqual(sum(count for _, count in shows), len(list(EXAMPLES.glob("*.df1"))))
         before = self.browser.run(DRAWN)
         self.browser.run("""const menu = document.getElementById('examples');
             menu.value = [...menu.options].find((one) => one.text.startsWith('A master writes a word of a station.')).value; menu.dispatchEvent(new Event('change'))""")

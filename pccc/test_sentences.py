@@ -74,7 +74,7 @@ class Sentences(unittest.TestCase):
         found = []
         for command, reply in EXCHANGE.findall(COMMANDS.read_text()):
             asked = read_message(bytes.fromhex(command), LETTERS)
-            answer = sentence(read_message(bytes.fromhex(reply)), asked).removeprefix("reply, ")
+            answer = sentence(read_message(bytes.fromhex(reply)), asked).replace("reply, ", "", 1)
             found.append(f"{sentence(asked)} | {answer}")
         self.assertEqual(found, NAMES)
 

@@ -73,7 +73,7 @@ class Script:
     @property
     def lines(self):
         """How many lines it has."""
-        return len(self.source.splitlines())
+        return self.source.count(b"\n") + (not self.source.endswith(b"\n"))
 
     def other(self, event):
         """The end at the other side of the queue that an event is about."""
