@@ -7,6 +7,7 @@ from .layout import CUT_OFF, LETTER
 from .placing import BY_ARROW, Box
 
 UNDER_WAY_DROP = 16
+UNDER_WAY_TEXT = "under way"
 
 # How far a name stands from the begin of its arrow, by how much it moves along it, and how far above and below the arrow it stands.
 NEAR, MOVE, ABOVE, BELOW = 12, 16, 6, 14
@@ -54,10 +55,23 @@ class Arrows:
         group = self._group(flight, " under-way")
         self._svg.line(self._start, end, group=group)
         self._svg.dot(end, group, "ring")
-        self._svg.text((end[0], end[1] + 16), [("under way", "rest")], "middle")
         self._ends.append(end)
 
-    def paint_name(self):
+    def paint_texts(self):
+        """What the arrows say: that one is under way, and their name."""
+        if self._one.waiting:
+            self._paint_under_way(self._ends[-1])
+        self._paint_name()
+
+    def _paint_under_way(self, end):
+        """That it is under way, below the end of its line, or beside it where something would cross it there."""
+        width = len(UNDER_WAY_TEXT) * LETTER
+        middle, beside = -width / 2, 9 if self._goes_right else -9 - width
+        places = [(end[0] + middle, end[1] + 16), (end[0] + beside, end[1] + 4), (end[0] + beside, end[1] + 16)]
+        best = min(places, key=lambda place: self._svg.taken.cost(Box(*place, 0, width), (self._start, end)))
+        self._svg.text(best, [(UNDER_WAY_TEXT, "rest")])
+
+    def _paint_name(self):
         """The name along the flattest of its lines: above its begin, or where something would cross it there further on, or below.
 
         Where an arrow would cross it everywhere it goes without its TNS.

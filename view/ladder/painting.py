@@ -119,12 +119,12 @@ class Painter:
         self._svg.dot(start, group, "ring")
 
     def paint_transmissions(self, sent):
-        """The arrows of what the ends gave, and then the name of each along one of its arrows."""
+        """The arrows of what the ends gave, and then what each says along it."""
         all_arrows = [Arrows(self._svg, self._columns, self._heights, one) for one in sent]
         for arrows in all_arrows:
             arrows.paint()
         for arrows in all_arrows:
-            arrows.paint_name()
+            arrows.paint_texts()
 
     def _paint_foot(self):
         """What is cut off, the words that changed and the deceptions; answers the height below them."""
