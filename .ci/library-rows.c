@@ -332,10 +332,10 @@ struct parts {
 /* Parts in range: at address 1, three files and two words. */
 static void set_parts(struct parts *parts)
 {
-    static const df1_duplex duplex = {false, false, 10, 3, 3};
-    static const df1_master master = {false, 10, 3, 10};
-    static const df1_slave slave = {false, 3};
-    static const df1_node node = {1, 1, 100, 2, true, 7};
+    static const df1_duplex duplex = {false, false, 10, 3, 3, {0}};
+    static const df1_master master = {false, 10, 3, 10, {0}};
+    static const df1_slave slave = {false, 3, {0}};
+    static const df1_node node = {1, 1, 100, 2, true, 7, 0, 0, {0}};
     static const df1_file files[] = {{7, DF1_INTEGER, 16}, {3, DF1_BIT, 4}, {4, DF1_TIMER, 2}};
     static const df1_word words[] = {{7, 0, 0x1234}, {4, 5, 0x00FF}};
     size_t at;
@@ -409,6 +409,15 @@ static void spoil(struct parts *parts, uint32_t code)
     case DF1_BAD_ROOM:
         parts->node.room = 65;
         break;
+    case DF1_BAD_WINDOW:
+        parts->node.window = 17;
+        break;
+    case DF1_BAD_PER_SOURCE:
+        parts->node.per_source = 17;
+        break;
+    case DF1_NOT_RESERVED:
+        parts->node.reserved[3] = 1;
+        break;
     case DF1_TOO_MANY_FILES:
         parts->file_count = 257;
         break;
@@ -439,13 +448,14 @@ static void spoil(struct parts *parts, uint32_t code)
 }
 
 /* The refusals of each kind, in the order of the header; those of one part, of which only one can be told, are one after another. */
-static const uint32_t refusals[3][16] = {
-    {DF1_BAD_ACK_TICKS, DF1_BAD_MAX_NAKS, DF1_BAD_MAX_ENQS, DF1_BAD_REPLY_TICKS, DF1_BAD_ROOM, DF1_TOO_MANY_FILES, DF1_BAD_TYPE,
-     DF1_EMPTY_FILE, DF1_BAD_COMPAT, DF1_NO_WORD, DF1_LONG_BLOCK, DF1_DONE},
+static const uint32_t refusals[3][17] = {
+    {DF1_BAD_ACK_TICKS, DF1_BAD_MAX_NAKS, DF1_BAD_MAX_ENQS, DF1_BAD_REPLY_TICKS, DF1_BAD_ROOM, DF1_BAD_WINDOW, DF1_BAD_PER_SOURCE,
+     DF1_NOT_RESERVED, DF1_TOO_MANY_FILES, DF1_BAD_TYPE, DF1_EMPTY_FILE, DF1_BAD_COMPAT, DF1_NO_WORD, DF1_LONG_BLOCK, DF1_DONE},
     {DF1_BAD_ACK_TICKS, DF1_BAD_MAX_RESENDS, DF1_BAD_POLL_TICKS, DF1_TOO_MANY_STATIONS, DF1_BAD_STATION, DF1_BAD_REPLY_TICKS,
-     DF1_BAD_ROOM, DF1_TOO_MANY_FILES, DF1_BAD_TYPE, DF1_LARGE_FILE, DF1_BAD_COMPAT, DF1_NO_WORD, DF1_LONG_BLOCK, DF1_DONE},
-    {DF1_BAD_MAX_SENDS, DF1_BAD_STATION, DF1_BAD_REPLY_TICKS, DF1_BAD_ROOM, DF1_TOO_MANY_FILES, DF1_BAD_TYPE, DF1_FILE_TWICE,
-     DF1_BAD_COMPAT, DF1_NO_WORD, DF1_LONG_BLOCK, DF1_DONE},
+     DF1_BAD_ROOM, DF1_BAD_WINDOW, DF1_NOT_RESERVED, DF1_TOO_MANY_FILES, DF1_BAD_TYPE, DF1_LARGE_FILE, DF1_BAD_COMPAT, DF1_NO_WORD,
+     DF1_LONG_BLOCK, DF1_DONE},
+    {DF1_BAD_MAX_SENDS, DF1_BAD_STATION, DF1_BAD_REPLY_TICKS, DF1_BAD_ROOM, DF1_BAD_PER_SOURCE, DF1_NOT_RESERVED,
+     DF1_TOO_MANY_FILES, DF1_BAD_TYPE, DF1_FILE_TWICE, DF1_BAD_COMPAT, DF1_NO_WORD, DF1_LONG_BLOCK, DF1_DONE},
 };
 
 /* Each refusal by itself and with each one after it, the full handle before all; the handle stays as it was. */
@@ -534,6 +544,38 @@ static int edges_of_links(void)
     ROW(tried(MASTER, &parts) == DF1_STATION_TWICE);
     parts.node.room = 1;
     ROW(tried(DUPLEX, &parts) == DF1_BAD_ROOM);
+    return 0;
+}
+
+/* Members that came later: 0 is the value at first; what is kept for later is 0. */
+static int edges_of_later_members(void)
+{
+    static struct parts parts;
+    static const uint32_t right[] = {0, 1, 16};
+    size_t at;
+
+    set_parts(&parts);
+    for (at = 0; at < COUNT(right); at++) {
+        parts.node.window = parts.node.per_source = right[at];
+        ROW(tried(DUPLEX, &parts) == DF1_DONE && tried(MASTER, &parts) == DF1_DONE && tried(SLAVE, &parts) == DF1_DONE);
+    }
+    parts.node.window = 17;
+    ROW(tried(DUPLEX, &parts) == DF1_BAD_WINDOW);
+    parts.node.window = 0xFFFFFFFF;
+    ROW(tried(MASTER, &parts) == DF1_BAD_WINDOW);
+    parts.node.window = 1;
+    parts.node.per_source = 17;
+    ROW(tried(SLAVE, &parts) == DF1_BAD_PER_SOURCE);
+    for (at = 0; at < 4; at++) {
+        set_parts(&parts);
+        parts.duplex.reserved[at] = parts.master.reserved[at] = parts.slave.reserved[at] = 1;
+        parts.node.room = 1;
+        ROW(tried(DUPLEX, &parts) == DF1_NOT_RESERVED && tried(MASTER, &parts) == DF1_NOT_RESERVED);
+        ROW(tried(SLAVE, &parts) == DF1_NOT_RESERVED);
+        set_parts(&parts);
+        parts.node.reserved[at] = 0x80000000;
+        ROW(tried(DUPLEX, &parts) == DF1_NOT_RESERVED);
+    }
     return 0;
 }
 
@@ -743,7 +785,7 @@ static int of_each_kind(int (*rows)(enum kind))
 int main(void)
 {
     static int (*const all[])(void) = {checks,         spelling,       texts,  hearing, longest_bodies,
-                                       edges_of_links, calls_without_memory, handles, talks};
+                                       edges_of_links, edges_of_later_members, calls_without_memory, handles, talks};
     static int (*const each[])(enum kind) = {refused, edges_of_nodes, words, issuing, makes_without_memory};
     int failed = 0;
     size_t at;

@@ -107,7 +107,7 @@ static const df1_word no_word = {0, 0, 0};
 
 static df1_node node_of(uint8_t address)
 {
-    df1_node node = {0, 1, 100, 2, false, 0};
+    df1_node node = {0, 1, 100, 2, false, 0, 0, 0, {0}};
 
     node.address = address;
     return node;
@@ -122,7 +122,7 @@ static uint32_t duplex(df1_duplex link, uint8_t address, df1_end *end)
 
 static uint32_t slave(uint32_t max_sends, uint8_t address, df1_end *end)
 {
-    df1_slave link = {false, 0};
+    df1_slave link = {false, 0, {0}};
     df1_node node = node_of(address);
 
     link.max_sends = max_sends;
@@ -189,7 +189,7 @@ static const uint8_t echo_55[] = {0x06, 0x00, 0x55};
  * the frame comes again. The ACK to the reply is lost as well. */
 static int lost_frame(void)
 {
-    static const df1_duplex link = {false, false, 10, 3, 3};
+    static const df1_duplex link = {false, false, 10, 3, 3, {0}};
     static const struct row rows[] = {
         {0, STILL, "", NOTHING, WRITE},
         {0, 10, DF1_TURN_ASK, "", NOTHING, "10 05"},
@@ -220,7 +220,7 @@ static int lost_frame(void)
 /* What an end with one NAK, one ENQ and two ticks makes of each thing that it hears. */
 static int acts_of_duplex(void)
 {
-    static const df1_duplex link = {false, false, 2, 1, 1};
+    static const df1_duplex link = {false, false, 2, 1, 1, {0}};
     static const struct row rows[] = {
         {0, STILL, WRITE, EXECUTED, "10 06 " WRITTEN},
         {0, STILL, WRITE, REPEAT, "10 06"},
@@ -257,7 +257,7 @@ static int acts_of_duplex(void)
 /* A command that comes while an end has given eight bytes of its own: where it may embed, the ACK goes into its frame. */
 static int embedding(void)
 {
-    static const df1_duplex links[] = {{false, false, 10, 3, 3}, {false, true, 10, 3, 3}};
+    static const df1_duplex links[] = {{false, false, 10, 3, 3, {0}}, {false, true, 10, 3, 3, {0}}};
     static const struct row rows[] = {
         {0, STILL, "10 02 00 01 06 00 01 00 00 55 10 03 A3", EXECUTED, "AA 02 07 89 00 00 34 12 10 03 6D 10 06"},
         {0, STILL, "10 02 00 01 06 00 01 00 00 55 10 03 A3", EXECUTED, "10 06 AA 02 07 89 00 00 34 12 10 03 6D"},
@@ -280,7 +280,7 @@ static int embedding(void)
 /* The CRC of the echo's body and 03 is 0129, that of its reply's CB60. */
 static int crc_line(void)
 {
-    static const df1_duplex link = {true, false, 10, 3, 3};
+    static const df1_duplex link = {true, false, 10, 3, 3, {0}};
     static const struct row rows[] = {
         {0, STILL, ECHO("01", "29 01"), EXECUTED, "10 06 " ECHOED("01", "60 CB")},
         {0, STILL, ECHO("02", "29 01"), DAMAGED, "10 15"},
@@ -294,7 +294,7 @@ static int crc_line(void)
 /* An echo is told as unanswered at the third tick from its first byte on; a room of 15 takes no tick. */
 static int unanswered(void)
 {
-    static const df1_duplex link = {false, false, 10, 3, 3};
+    static const df1_duplex link = {false, false, 10, 3, 3, {0}};
     static const struct row sent = {0, STILL, "", NOTHING, ECHO("01", "A3")}, heard = {0, STILL, "10 06", ACK, ""};
     df1_node node = node_of(0);
     df1_end end = DF1_NOTHING;
@@ -314,6 +314,47 @@ static int unanswered(void)
     return df1_end_free(&end) == DF1_DONE ? 0 : __LINE__;
 }
 
+#define SECOND_WRITE "10 02 01 00 0F 00 02 00 AA 02 07 89 01 00 78 56 10 03 E3"
+#define FROM_9 "10 02 01 09 06 00 03 00 00 55 10 03 98"
+#define TO_9 "10 02 09 01 46 00 03 00 55 10 03 58"
+
+/* End 0 has two commands out, one of a source: the command of node 9 passes its own second one. */
+static int two_sources(void)
+{
+    static const df1_duplex link = {false, false, 10, 3, 3, {0}};
+    static const uint8_t write_5678[] = {0x0F, 0xAA, 0x02, 0x07, 0x89, 0x01, 0x00, 0x78, 0x56};
+    static const struct row rows[] = {
+        {0, STILL, "", NOTHING, WRITE},
+        {1, STILL, WRITE, EXECUTED, "10 06 " WRITTEN},
+        {0, STILL, "10 06", ACK, FROM_9},
+        {1, STILL, FROM_9, EXECUTED, "10 06"},
+        {0, STILL, WRITTEN, ANSWERED(1), "10 06"},
+        {0, STILL, "10 06", ACK, SECOND_WRITE},
+        {1, STILL, "10 06", ACK, TO_9},
+        {1, STILL, SECOND_WRITE, EXECUTED, "10 06"},
+        {0, STILL, TO_9, ANSWERED(3), "10 06"},
+        {0, STILL, "10 06", ACK, ""},
+        {1, STILL, "10 06", ACK, "10 02 00 01 4F 00 02 00 10 03 AE"},
+        {0, STILL, "10 02 00 01 4F 00 02 00 10 03 AE", ANSWERED(2), "10 06"},
+    };
+    df1_node node = node_of(0);
+    df1_end ends[2] = {DF1_NOTHING, DF1_NOTHING};
+    uint32_t number;
+
+    node.window = 2;
+    node.per_source = 1;
+    ROW(df1_duplex_make(&link, &node, &n7, 1, &no_word, 0, echo_55, 0, &ends[0]) == DF1_DONE);
+    ROW(duplex(link, 1, &ends[1]) == DF1_DONE);
+    ROW(df1_end_issue(&ends[0], 1, write_1234, sizeof write_1234, &number) == DF1_DONE && number == 1);
+    ROW(df1_end_issue(&ends[0], 1, write_5678, sizeof write_5678, &number) == DF1_DONE && number == 2);
+    ROW(df1_end_issue_from(&ends[0], 9, 1, echo_55, sizeof echo_55, &number) == DF1_DONE && number == 3);
+    ROW(df1_end_issue_from(&ends[0], 9, 1, echo_55, 0, &number) == DF1_NO_PAYLOAD && number == 3);
+    ROW(play("two sources", ends, rows, 3) == 0 && has_outcome(&ends[0], 1, DF1_OUT));
+    ROW(has_outcome(&ends[0], 2, DF1_WAITING) && has_outcome(&ends[0], 3, DF1_OUT));
+    ROW(play("two sources", ends, rows + 3, COUNT(rows) - 3) == 0 && has_reply(&ends[0], 3, "09 01 46 00 03 00 55"));
+    return df1_end_free(&ends[0]) == DF1_DONE && df1_end_free(&ends[1]) == DF1_DONE ? 0 : __LINE__;
+}
+
 /* ---- Half duplex ---- */
 
 #define STN3_WRITE "10 01 03 10 02 03 00 0F 00 01 00 AA 02 07 89 00 00 34 12 10 03 68"
@@ -327,7 +368,7 @@ static int unanswered(void)
 static int polled(void)
 {
     static const uint8_t stations[] = {3, 5};
-    static const df1_master link = {false, 10, 3, 10};
+    static const df1_master link = {false, 10, 3, 10, {0}};
     static const struct row rows[] = {
         {0, STILL, "", NOTHING, STN3_WRITE},
         {1, STILL, STN3_WRITE, EXECUTED, "10 06"},
@@ -403,7 +444,7 @@ static int acts_of_slave(void)
 static int acts_of_master(void)
 {
     static const uint8_t stations[] = {3};
-    static const df1_master link = {false, 2, 1, 2};
+    static const df1_master link = {false, 2, 1, 2, {0}};
     static const struct row rows[] = {
         {0, STILL, "", NOTHING, STN3_ECHO("01", "9E")},
         {0, 2, DF1_TURN_STILL, "", NOTHING, STN3_ECHO("01", "9E")},
@@ -440,8 +481,8 @@ static int acts_of_master(void)
 
 int talks(void)
 {
-    static int (*const all[])(void) = {lost_frame, acts_of_duplex, embedding,     crc_line,
-                                       unanswered, polled,         acts_of_slave, acts_of_master};
+    static int (*const all[])(void) = {lost_frame,  acts_of_duplex, embedding,     crc_line,      unanswered,
+                                       two_sources, polled,         acts_of_slave, acts_of_master};
     int failed = 0;
     size_t at;
 

@@ -10,7 +10,7 @@
  * Threads: a call keeps no state besides the handle, so calls on two handles may run at a time. A handle belongs to one thread,
  * the one that filled it.
  * Memory: what a call is handed it reads and writes only while it runs; it keeps no pointer. A handle takes its memory from
- * malloc: the calls whose names end in _make and df1_end_issue take some, and say where there is none.
+ * malloc: the calls whose names end in _make, df1_end_issue and df1_end_issue_from take some, and say where there is none.
  * Time is the caller's: one call of df1_end_tick is one tick, as long as you like.
  * Outside: no call blocks, prints, reads a clock or ends the program.
  * Pointers: none may be null, one of no bytes neither. A caller who breaks this, or tells a length beyond what he owns, has no
@@ -61,7 +61,10 @@ enum df1_code {
     DF1_NO_FILE = 27,          /* there is no file at this place */
     DF1_BAD_MAX_NAKS = 28,     /* max_naks is out of its range */
     DF1_BAD_MAX_ENQS = 29,     /* max_enqs is out of its range */
-    DF1_BAD_MAX_RESENDS = 30   /* max_resends is out of its range */
+    DF1_BAD_MAX_RESENDS = 30,  /* max_resends is out of its range */
+    DF1_BAD_WINDOW = 31,       /* window is out of its range */
+    DF1_BAD_PER_SOURCE = 32,   /* per_source is out of its range */
+    DF1_NOT_RESERVED = 33      /* a reserved member isn't 0 */
 };
 
 /* ---- Checks and frames ---- */
@@ -133,7 +136,11 @@ uint32_t df1_decoder_byte(df1_decoder *decoder, uint8_t byte, df1_hearing *heari
  * `room` bytes at `into`. `*length` is how many bytes it has: 0 after every other byte. DF1_NO_HANDLE, DF1_NO_ROOM. */
 uint32_t df1_decoder_body(df1_decoder *decoder, uint8_t *into, size_t room, size_t *length);
 
-/* ---- How an end is set up ---- */
+/* ---- How an end is set up ----
+ *
+ * Reserved members are 0: a member that comes in a later version takes the place of one, and 0 then stands for its value at
+ * first. So what is built with this header works on with a later library, and what is built with a later header and sets a
+ * member that this library doesn't know is refused by DF1_NOT_RESERVED. An initializer leaves them 0. */
 
 /* A full-duplex link. */
 typedef struct df1_duplex {
@@ -142,6 +149,7 @@ typedef struct df1_duplex {
     uint32_t ack_ticks; /* ticks without a response until it asks with an ENQ: 1 to 1,000,000 */
     uint32_t max_naks;  /* how many NAKs one message may have before it is given up: 0 to 255 */
     uint32_t max_enqs;  /* how many ENQs one message may cost before it is given up: 0 to 255 */
+    uint32_t reserved[4];
 } df1_duplex;
 
 /* The link of a half-duplex master. */
@@ -150,22 +158,27 @@ typedef struct df1_master {
     uint32_t ack_ticks;   /* the ticks of a wait for ACK: 1 to 1,000,000 */
     uint32_t max_resends; /* how often a message is given again before it is given up: 0 to 255 */
     uint32_t poll_ticks;  /* the ticks of a wait after a poll: 1 to 1,000,000 */
+    uint32_t reserved[4];
 } df1_master;
 
 /* The link of a half-duplex slave. Its station number is the address of its node, neither 16 nor 255. */
 typedef struct df1_slave {
     bool crc;           /* CRC, and not BCC, ends its messages */
     uint32_t max_sends; /* how often a message is given before it is given up: 1 to 255 */
+    uint32_t reserved[4];
 } df1_slave;
 
 /* What stands behind an end: it executes the commands that come, and issues some. */
 typedef struct df1_node {
-    uint8_t address;      /* SRC of its commands, DST of theirs */
+    uint8_t address;      /* SRC of its own commands, DST of what is sent to it */
     uint16_t tns;         /* the transaction number of its first command; each further command has the next */
     uint32_t reply_ticks; /* ticks without a reply until a command is unanswered: 1 to 1,000,000 */
     uint32_t room;        /* how many replies may wait to be given: 2 to 64 */
     bool has_compat;      /* whether there is a file for the basic reads and writes */
     uint16_t compat;      /* its number: a Bit or Integer file */
+    uint32_t window;      /* how many of its commands may be out at a time: 1 to 16; 0 is 1 */
+    uint32_t per_source;  /* how many of one source's, by SRC: 1 to 16; 0 is 16 */
+    uint32_t reserved[4];
 } df1_node;
 
 /* The types of data files, by their type bytes. */
@@ -199,8 +212,8 @@ typedef struct df1_word {
  *
  * Each call fills an empty handle with an end to which nothing happened yet. Where several parts are out of range the code
  * names the first of: the handle (DF1_NO_HANDLE where it isn't empty), the link's members in their order, for a master its
- * stations (DF1_TOO_MANY_STATIONS, then the first that is bad or listed twice), for a slave its number, the node's reply_ticks
- * and room, the files (DF1_TOO_MANY_FILES, then the first of the wrong type, then the first that is empty, large, or there
+ * stations (DF1_TOO_MANY_STATIONS, then the first that is bad or listed twice), for a slave its number, the node's reply_ticks,
+ * room, window, per_source and reserved members, the files (DF1_TOO_MANY_FILES, then the first of the wrong type, then the first that is empty, large, or there
  * twice), compat, the words (DF1_NO_WORD), the block. DF1_NO_MEMORY comes with all of them in range. */
 uint32_t df1_duplex_make(const df1_duplex *link, const df1_node *node, const df1_file *files, size_t file_count,
                          const df1_word *words, size_t word_count, const uint8_t *block, size_t block_length, df1_end *end);
@@ -306,6 +319,11 @@ enum df1_outcome {
 /* Issues a command to the node `dst`. The payload, 1 to 245 bytes, is CMD and what follows TNS. `*number` is then the command's
  * number, from 1. DF1_NO_HANDLE, DF1_NO_PAYLOAD, DF1_LONG_PAYLOAD, DF1_NOT_COMMAND, DF1_SPENT, DF1_NO_MEMORY. */
 uint32_t df1_end_issue(df1_end *end, uint8_t dst, const uint8_t *payload, size_t length, uint32_t *number);
+
+/* The same in the name of a source, which is SRC of the command and DST of its reply: a gateway issues for several nodes. All
+ * sources of an end share its transaction numbers. Commands are given lowest number first, but that a source with per_source
+ * commands out doesn't hold up the others. */
+uint32_t df1_end_issue_from(df1_end *end, uint8_t src, uint8_t dst, const uint8_t *payload, size_t length, uint32_t *number);
 
 /* What became of command `number`: a df1_outcome. DF1_NO_HANDLE, DF1_NO_COMMAND. */
 uint32_t df1_end_outcome(df1_end *end, uint32_t number, uint32_t *outcome);

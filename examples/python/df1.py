@@ -16,19 +16,20 @@ class Hearing(ctypes.Structure):
 
 
 class Duplex(ctypes.Structure):
-    _fields_ = [("crc", c_bool), ("embed", c_bool), ("ack_ticks", u32), ("max_naks", u32), ("max_enqs", u32)]
+    _fields_ = [("crc", c_bool), ("embed", c_bool), ("ack_ticks", u32), ("max_naks", u32), ("max_enqs", u32), ("reserved", u32 * 4)]
 
 
 class Master(ctypes.Structure):
-    _fields_ = [("crc", c_bool), ("ack_ticks", u32), ("max_resends", u32), ("poll_ticks", u32)]
+    _fields_ = [("crc", c_bool), ("ack_ticks", u32), ("max_resends", u32), ("poll_ticks", u32), ("reserved", u32 * 4)]
 
 
 class Slave(ctypes.Structure):
-    _fields_ = [("crc", c_bool), ("max_sends", u32)]
+    _fields_ = [("crc", c_bool), ("max_sends", u32), ("reserved", u32 * 4)]
 
 
 class Node(ctypes.Structure):
-    _fields_ = [("address", u8), ("tns", u16), ("reply_ticks", u32), ("room", u32), ("has_compat", c_bool), ("compat", u16)]
+    _fields_ = [("address", u8), ("tns", u16), ("reply_ticks", u32), ("room", u32), ("has_compat", c_bool), ("compat", u16),
+                ("window", u32), ("per_source", u32), ("reserved", u32 * 4)]
 
 
 class File(ctypes.Structure):
@@ -72,6 +73,7 @@ parameters = {
     "df1_end_take": [handle, POINTER(Out)],
     "df1_end_quiet": [handle, POINTER(c_bool)],
     "df1_end_issue": [handle, u8, c_char_p, c_size_t, POINTER(u32)],
+    "df1_end_issue_from": [handle, u8, u8, c_char_p, c_size_t, POINTER(u32)],
     "df1_end_outcome": [handle, u32, POINTER(u32)],
     "df1_end_reply": [handle, u32, c_char_p, c_size_t, length],
     "df1_end_word": [handle, u16, u32, POINTER(u16)],
@@ -185,9 +187,13 @@ class End:
                 given.append(byte)
         return bytes(given)
 
-    def issue(self, dst, payload):
-        number = u32()
-        self.library.do("df1_end_issue", self.handle, dst, payload, len(payload), number)
+    def issue(self, dst, payload, src=None):
+        """Issues a command, in the name of a source or else in that of the end's node, and answers its number."""
+        number, words = u32(), (dst, payload, len(payload))
+        if src is None:
+            self.library.do("df1_end_issue", self.handle, *words, number)
+        else:
+            self.library.do("df1_end_issue_from", self.handle, src, *words, number)
         return number.value
 
     def outcome(self, number):

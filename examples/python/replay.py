@@ -38,7 +38,7 @@ class Plan:
     def __init__(self, node):
         self.settings = {
             "embed": "off", "node": node, "tns": 1, "ack_ticks": 10, "max_naks": 3, "max_enqs": 3, "reply_ticks": 100,
-            "max_resends": 3, "poll_ticks": 10, "max_sends": 3, "room": 2, "compat": None, "block": "",
+            "max_resends": 3, "poll_ticks": 10, "max_sends": 3, "room": 2, "window": 1, "per_source": 16, "compat": None, "block": "",
         }
         self.files, self.words = [], []
 
@@ -48,7 +48,7 @@ class Plan:
     def made(self, library, link, stations=b""):
         compat = self.settings["compat"]
         node = df1.Node(self.number("node"), self.number("tns"), self.number("reply_ticks"), self.number("room"),
-                        compat is not None, int(compat or 0))
+                        compat is not None, int(compat or 0), self.number("window"), self.number("per_source"))
         return df1.End(library, link, node, self.files, self.words, bytes.fromhex(self.settings["block"]), stations)
 
 
@@ -135,8 +135,8 @@ class Line:
         """An event of a party and one other."""
         lane = self.lanes[party.name, other.name]
         if letter == "i":
-            party.end.issue(int(other.name) if other.name.isdigit() else self.plans[other.name].number("node"),
-                            bytes.fromhex(words[0]))
+            dst = int(other.name) if other.name.isdigit() else self.plans[other.name].number("node")
+            party.end.issue(dst, bytes.fromhex(words[-1]), int(words[0]) if len(words) == 2 else None)
         elif letter == "d":
             for _ in range(min(count(words), len(lane))):
                 self.arrive(other, *lane.popleft())

@@ -6,7 +6,7 @@ use Rattle.std.proofs.lemmas.Bool.Decides.{nat_tests}
 use Rattle.data_files.specs.Tables.{faults, fits_compat}
 use Rattle.data_files.specs.declared.make_fault.MakeFault.{MakeFault}
 use Rattle.end_settings.specs.declared.key.Key.{Key}
-use Rattle.end_settings.specs.declared.key.Key.TheVariants.{ReplyTicks, Room}
+use Rattle.end_settings.specs.declared.key.Key.TheVariants.{PerSource, ReplyTicks, Room, Window}
 use Rattle.end_settings.specs.declared.row.Values.{Values}
 use Rattle.end_settings.specs.Rows.{Fits, fitting, least_of, most_of}
 use Rattle.c_ends.specs.declared.code.Code.{Code}
@@ -14,8 +14,8 @@ use Rattle.c_ends.specs.declared.code.Code.TheVariants as code
 use Rattle.c_ends.specs.declared.parts.NodeParts.{NodeParts}
 use Rattle.c_ends.specs.declared.parts.FileParts.{FileParts}
 use Rattle.c_ends.specs.declared.parts.WordParts.{WordParts}
-use Rattle.c_ends.specs.Parts.{first_of, node_fault, count_fault, type_fault, each_fault, compat_fault, word_fault, block_fault, compat_of, make_code, specs_of}
-use Rattle.c_ends.specs.Values.{value_fault, values_of}
+use Rattle.c_ends.specs.Parts.{first_of, node_fault, count_fault, type_fault, each_fault, compat_fault, files_fault, word_fault, block_fault, compat_of, make_code, specs_of}
+use Rattle.c_ends.specs.Values.{given_or_first, reserved_fault, value_fault, values_of}
 
 pub first_of-none : (fault : Option Code) (faults : List (Option Code)) → first_of (fault ∷ faults) ≡ None → (fault ≡ None) × (first_of faults ≡ None)
 first_of-none None faults e = (refl, e)
@@ -49,6 +49,8 @@ at_most n high e = grind arith
 pub record InRange (node : NodeParts) (files : List FileParts) (block : List ℕ) : Type 0 where
   pub reply_ticks : 1 ≤ node.reply_ticks
   pub room : (2 ≤ node.room) × (node.room ≤ 64)
+  pub window : (1 ≤ given_or_first Window node.window) × (given_or_first Window node.window ≤ 16)
+  pub per_source : (1 ≤ given_or_first PerSource node.per_source) × (given_or_first PerSource node.per_source ≤ 16)
   pub sound : faults (specs_of files) ≡ None
   pub compat : fits_compat (specs_of files) (compat_of node) ≡ true
   pub short : length block ≤ 244
@@ -61,11 +63,18 @@ in_range node files words block e =
     let after_each : List (Option Code) = compat_fault node files ∷ after_compat in
     let after_types : List (Option Code) = each_fault files ∷ after_each in
     let after_count : List (Option Code) = type_fault files ∷ after_types in
-    let after_room : List (Option Code) = count_fault files ∷ after_count in
+    let after_reserved : List (Option Code) = files_fault node files words block ∷ [] in
+    let after_source : List (Option Code) = reserved_fault node.reserved ∷ after_reserved in
+    let after_window : List (Option Code) = value_fault PerSource code.BadPerSource (given_or_first PerSource node.per_source) ∷ after_source in
+    let after_room : List (Option Code) = value_fault Window code.BadWindow (given_or_first Window node.window) ∷ after_window in
     let after_ticks : List (Option Code) = value_fault Room code.BadRoom node.room ∷ after_room in
     let ticks = first_of-none (value_fault ReplyTicks code.BadReplyTicks node.reply_ticks) after_ticks e in
     let room = first_of-none (value_fault Room code.BadRoom node.room) after_room ticks.1 in
-    let count = first_of-none (count_fault files) after_count room.1 in
+    let window = first_of-none (value_fault Window code.BadWindow (given_or_first Window node.window)) after_window room.1 in
+    let source = first_of-none (value_fault PerSource code.BadPerSource (given_or_first PerSource node.per_source)) after_source window.1 in
+    let reserved = first_of-none (reserved_fault node.reserved) after_reserved source.1 in
+    let all = first_of-none (files_fault node files words block) [] reserved.1 in
+    let count = first_of-none (count_fault files) after_count all.0 in
     let types = first_of-none (type_fault files) after_types count.1 in
     let each = first_of-none (each_fault files) after_each types.1 in
     let compat = first_of-none (compat_fault node files) after_compat each.1 in
@@ -74,6 +83,8 @@ in_range node files words block e =
     record {
       reply_ticks = (value-fits ReplyTicks code.BadReplyTicks node.reply_ticks ticks.0).0;
       room = value-fits Room code.BadRoom node.room room.0;
+      window = value-fits Window code.BadWindow (given_or_first Window node.window) window.0;
+      per_source = value-fits PerSource code.BadPerSource (given_or_first PerSource node.per_source) source.0;
       sound = map-none (faults (specs_of files)) each.0;
       compat = fits-none (fits_compat (specs_of files) (compat_of node)) code.BadCompat compat.0;
       short = at_most (length block) 244 (test-none (nat_lt 244 (length block)) code.LongBlock short.0);

@@ -35,11 +35,14 @@ code_number code.NoFile = 27
 code_number code.BadMaxNaks = 28
 code_number code.BadMaxEnqs = 29
 code_number code.BadMaxResends = 30
+code_number code.BadWindow = 31
+code_number code.BadPerSource = 32
+code_number code.NotReserved = 33
 
 -- all codes, by their numbers
 abbrev pub all_codes : List Code
 all_codes =
-    code.Done ∷ code.NoHandle ∷ code.NoMemory ∷ code.NoRoom ∷ code.BadAckTicks ∷ code.BadPollTicks ∷ code.BadMaxSends ∷ code.BadStation ∷ code.TooManyStations ∷ code.StationTwice ∷ code.BadReplyTicks ∷ code.BadRoom ∷ code.TooManyFiles ∷ code.BadType ∷ code.EmptyFile ∷ code.LargeFile ∷ code.FileTwice ∷ code.NoWord ∷ code.BadCompat ∷ code.LongBlock ∷ code.LongBody ∷ code.NoPayload ∷ code.LongPayload ∷ code.NotCommand ∷ code.Spent ∷ code.NoCommand ∷ code.NotAnswered ∷ code.NoFile ∷ code.BadMaxNaks ∷ code.BadMaxEnqs ∷ code.BadMaxResends ∷ []
+    code.Done ∷ code.NoHandle ∷ code.NoMemory ∷ code.NoRoom ∷ code.BadAckTicks ∷ code.BadPollTicks ∷ code.BadMaxSends ∷ code.BadStation ∷ code.TooManyStations ∷ code.StationTwice ∷ code.BadReplyTicks ∷ code.BadRoom ∷ code.TooManyFiles ∷ code.BadType ∷ code.EmptyFile ∷ code.LargeFile ∷ code.FileTwice ∷ code.NoWord ∷ code.BadCompat ∷ code.LongBlock ∷ code.LongBody ∷ code.NoPayload ∷ code.LongPayload ∷ code.NotCommand ∷ code.Spent ∷ code.NoCommand ∷ code.NotAnswered ∷ code.NoFile ∷ code.BadMaxNaks ∷ code.BadMaxEnqs ∷ code.BadMaxResends ∷ code.BadWindow ∷ code.BadPerSource ∷ code.NotReserved ∷ []
 
 -- the code of a number, if it is one's
 abbrev pub code_of : ℕ → Option Code
@@ -77,3 +80,6 @@ code_text code.NoFile = codes "there is no file at this place"
 code_text code.BadMaxNaks = codes "max_naks is out of its range"
 code_text code.BadMaxEnqs = codes "max_enqs is out of its range"
 code_text code.BadMaxResends = codes "max_resends is out of its range"
+code_text code.BadWindow = codes "window is out of its range"
+code_text code.BadPerSource = codes "per_source is out of its range"
+code_text code.NotReserved = codes "a reserved member isn't 0"

@@ -22,7 +22,7 @@ use Rattle.c_ends.specs.declared.parts.NodeParts.{NodeParts}
 use Rattle.c_ends.specs.declared.parts.FileParts.{FileParts}
 use Rattle.c_ends.specs.declared.parts.WordParts.{WordParts}
 use Rattle.c_ends.specs.Parts.{first_of, node_fault, first_node}
-use Rattle.c_ends.specs.Values.{value_fault}
+use Rattle.c_ends.specs.Values.{reserved_fault, value_fault}
 
 abbrev pub check_of : Bool → CheckKind
 check_of crc = if crc then check.Crc else check.Bcc
@@ -51,6 +51,7 @@ duplex_fault link node files words block = first_of (
     value_fault AckTicks code.BadAckTicks link.ack_ticks ∷
     value_fault MaxNaks code.BadMaxNaks link.max_naks ∷
     value_fault MaxEnqs code.BadMaxEnqs link.max_enqs ∷
+    reserved_fault link.reserved ∷
     node_fault node files words block ∷ [])
 
 abbrev pub master_fault : MasterLink → List ℕ → NodeParts → List FileParts → List WordParts → List ℕ → Option Code
@@ -58,6 +59,7 @@ master_fault link stations node files words block = first_of (
     value_fault AckTicks code.BadAckTicks link.ack_ticks ∷
     value_fault MaxResends code.BadMaxResends link.max_resends ∷
     value_fault PollTicks code.BadPollTicks link.poll_ticks ∷
+    reserved_fault link.reserved ∷
     many_fault stations ∷
     station_fault [] stations ∷
     node_fault node files words block ∷ [])
@@ -65,6 +67,7 @@ master_fault link stations node files words block = first_of (
 abbrev pub slave_fault : SlaveLink → NodeParts → List FileParts → List WordParts → List ℕ → Option Code
 slave_fault link node files words block = first_of (
     value_fault MaxSends code.BadMaxSends link.max_sends ∷
+    reserved_fault link.reserved ∷
     number_fault node.address ∷
     node_fault node files words block ∷ [])
 

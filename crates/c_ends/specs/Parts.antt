@@ -11,13 +11,13 @@ use Rattle.data_files.specs.declared.make_fault.MakeFault.{MakeFault}
 use Rattle.data_files.specs.declared.make_fault.MakeFault.TheVariants as fault
 use Rattle.df1_node.specs.Node.{NodeState}
 use Rattle.df1_node.specs.declared.handed.Handed.TheVariants as handed
-use Rattle.end_settings.specs.declared.key.Key.TheVariants.{ReplyTicks, Room}
+use Rattle.end_settings.specs.declared.key.Key.TheVariants.{PerSource, ReplyTicks, Room, Window}
 use Rattle.c_ends.specs.declared.code.Code.{Code}
 use Rattle.c_ends.specs.declared.code.Code.TheVariants as code
 use Rattle.c_ends.specs.declared.parts.NodeParts.{NodeParts}
 use Rattle.c_ends.specs.declared.parts.FileParts.{FileParts}
 use Rattle.c_ends.specs.declared.parts.WordParts.{WordParts}
-use Rattle.c_ends.specs.Values.{value_fault}
+use Rattle.c_ends.specs.Values.{given_or_first, reserved_fault, value_fault}
 
 -- the first that there is
 abbrev pub first_of : List (Option Code) → Option Code
@@ -69,17 +69,25 @@ word_fault files words = if list_any (λ word. not (has_word (specs_of files) wo
 abbrev pub block_fault : List ℕ → Option Code
 block_fault block = if nat_lt 244 (length block) then Some code.LongBlock else None
 
--- what is out of range of what stands behind an end: the first of these
-abbrev pub node_fault : NodeParts → List FileParts → List WordParts → List ℕ → Option Code
-node_fault node files words block = first_of (
-    value_fault ReplyTicks code.BadReplyTicks node.reply_ticks ∷
-    value_fault Room code.BadRoom node.room ∷
+-- what is out of range of the files of an end, of the compatibility file, of the first words and of the block: the first of these
+abbrev pub files_fault : NodeParts → List FileParts → List WordParts → List ℕ → Option Code
+files_fault node files words block = first_of (
     count_fault files ∷
     type_fault files ∷
     each_fault files ∷
     compat_fault node files ∷
     word_fault files words ∷
     block_fault block ∷ [])
+
+-- what is out of range of what stands behind an end: the first of these
+abbrev pub node_fault : NodeParts → List FileParts → List WordParts → List ℕ → Option Code
+node_fault node files words block = first_of (
+    value_fault ReplyTicks code.BadReplyTicks node.reply_ticks ∷
+    value_fault Room code.BadRoom node.room ∷
+    value_fault Window code.BadWindow (given_or_first Window node.window) ∷
+    value_fault PerSource code.BadPerSource (given_or_first PerSource node.per_source) ∷
+    reserved_fault node.reserved ∷
+    files_fault node files words block ∷ [])
 
 -- ---- the node
 
@@ -100,6 +108,6 @@ first_node node files words block = record {
   room = node.room;
   station = record { tables = first_tables files words; compat = compat_of node; block = block };
   replies = [];
-  initiator = record { node = node.address; tns = node.tns; reply_ticks = node.reply_ticks; issued = [] };
+  initiator = record { node = node.address; tns = node.tns; reply_ticks = node.reply_ticks; window = given_or_first Window node.window; per_source = given_or_first PerSource node.per_source; issued = [] };
   last = handed.Nothing;
 }

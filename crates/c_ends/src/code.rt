@@ -68,10 +68,16 @@ pub enum Code {
     BadMaxEnqs = 29,
     /// `max_resends` is out of its range.
     BadMaxResends = 30,
+    /// `window` is out of its range.
+    BadWindow = 31,
+    /// `per_source` is out of its range.
+    BadPerSource = 32,
+    /// A reserved member isn't 0.
+    NotReserved = 33,
 }
 
 /// All codes, by their numbers.
-const CODES: [Code; 31] = [
+const CODES: [Code; 34] = [
     Code::Done,
     Code::NoHandle,
     Code::NoMemory,
@@ -103,6 +109,9 @@ const CODES: [Code; 31] = [
     Code::BadMaxNaks,
     Code::BadMaxEnqs,
     Code::BadMaxResends,
+    Code::BadWindow,
+    Code::BadPerSource,
+    Code::NotReserved,
 ];
 
 impl Code {
@@ -157,6 +166,9 @@ impl Code {
             Code::BadMaxNaks => "max_naks is out of its range",
             Code::BadMaxEnqs => "max_enqs is out of its range",
             Code::BadMaxResends => "max_resends is out of its range",
+            Code::BadWindow => "window is out of its range",
+            Code::BadPerSource => "per_source is out of its range",
+            Code::NotReserved => "a reserved member isn't 0",
         }
     }
 }

@@ -11,7 +11,7 @@ use crate::code::Code;
 use crate::held::Held;
 use crate::node::{node_fault, node_of};
 use crate::parts::{DuplexLink, FileParts, MasterLink, NodeParts, SlaveLink, WordParts};
-use crate::values::value_fault;
+use crate::values::{reserved_fault, value_fault};
 use df1_check::Check;
 use duplex_end::{End, Setup};
 use duplex_sender::Limits;
@@ -105,6 +105,7 @@ fn duplex_fault(
     value_fault(Key::AckTicks, Code::BadAckTicks, link.ack_ticks)
         .or_else(|| value_fault(Key::MaxNaks, Code::BadMaxNaks, link.max_naks))
         .or_else(|| value_fault(Key::MaxEnqs, Code::BadMaxEnqs, link.max_enqs))
+        .or_else(|| reserved_fault(&link.reserved))
         .or_else(|| node_fault(node, files, words, block))
 }
 
@@ -122,6 +123,7 @@ fn master_fault(
     value_fault(Key::AckTicks, Code::BadAckTicks, link.ack_ticks)
         .or_else(|| value_fault(Key::MaxResends, Code::BadMaxResends, link.max_resends))
         .or_else(|| value_fault(Key::PollTicks, Code::BadPollTicks, link.poll_ticks))
+        .or_else(|| reserved_fault(&link.reserved))
         .or_else(|| many_fault(stations))
         .or_else(|| station_fault(stations))
         .or_else(|| node_fault(node, files, words, block))
@@ -138,6 +140,7 @@ fn slave_fault(
     ensures { result ≡ slave_fault link.now node.now files.now words.now block.now }
 {
     value_fault(Key::MaxSends, Code::BadMaxSends, link.max_sends)
+        .or_else(|| reserved_fault(&link.reserved))
         .or_else(|| number_fault(node.address))
         .or_else(|| node_fault(node, files, words, block))
 }

@@ -2,12 +2,14 @@
 
 ghost use Rattle.std.specs.Prelude.{◌≡◌, None, Some, IfOk};
 ghost use Rattle.data_files.specs.Tables.{fits_compat};
-ghost use Rattle.c_ends.specs.Parts.{block_fault, compat_fault, compat_of, first_node, node_fault, specs_of};
+ghost use Rattle.end_settings.specs.declared.key.Key.TheVariants.{PerSource, Window};
+ghost use Rattle.c_ends.specs.Values.{given_or_first};
+ghost use Rattle.c_ends.specs.Parts.{block_fault, compat_fault, compat_of, files_fault, first_node, node_fault, specs_of};
 
 use crate::code::Code;
 use crate::files::{count_fault, each_fault, file_in, tables_of, type_fault, word_fault};
 use crate::parts::{FileParts, NodeParts, WordParts};
-use crate::values::value_fault;
+use crate::values::{given_or_first, reserved_fault, value_fault};
 use df1_base::{MAX_DATA, NoMemory};
 use df1_node::{Node, NodeSetup, Station};
 use end_settings::Key;
@@ -24,12 +26,41 @@ pub(crate) fn node_fault(
 {
     value_fault(Key::ReplyTicks, Code::BadReplyTicks, node.reply_ticks)
         .or_else(|| value_fault(Key::Room, Code::BadRoom, node.room))
-        .or_else(|| count_fault(files))
+        .or_else(|| value_fault(Key::Window, Code::BadWindow, window_of(node)))
+        .or_else(|| value_fault(Key::PerSource, Code::BadPerSource, per_source_of(node)))
+        .or_else(|| reserved_fault(&node.reserved))
+        .or_else(|| files_fault(node, files, words, block))
+}
+
+/// What is out of range of the files, of the compatibility file, of the first words and of the block.
+fn files_fault(
+    node: &NodeParts,
+    files: &[FileParts],
+    words: &[WordParts],
+    block: &[u8],
+) -> Option<Code>
+    ensures { result ≡ files_fault node.now files.now words.now block.now }
+{
+    count_fault(files)
         .or_else(|| type_fault(files))
         .or_else(|| each_fault(files))
         .or_else(|| compat_fault(node, files))
         .or_else(|| word_fault(files, words))
         .or_else(|| block_fault(block))
+}
+
+/// How many commands may be out.
+fn window_of(node: &NodeParts) -> u32
+    ensures { result ≡ given_or_first Window node.now.window }
+{
+    given_or_first(Key::Window, node.window)
+}
+
+/// How many commands of one source may be out.
+fn per_source_of(node: &NodeParts) -> u32
+    ensures { result ≡ given_or_first PerSource node.now.per_source }
+{
+    given_or_first(Key::PerSource, node.per_source)
 }
 
 /// A compatibility file that is no Bit or Integer file.
@@ -92,6 +123,8 @@ pub(crate) fn node_of(
         tns: node.tns,
         reply_ticks: node.reply_ticks,
         room: node.room as usize,
+        window: window_of(node) as usize,
+        per_source: per_source_of(node) as usize,
     };
     Node::new(alloc, setup, station)
 }

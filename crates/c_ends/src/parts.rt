@@ -1,4 +1,11 @@
-//! What an end is made of, as C gives it. A member that is a key of an end may have the values that `values.rt` says.
+//! What an end is made of, as C gives it. A member that is a key of an end may have the values that `values.rt` says. Members
+//! that come later take the places of reserved ones, so 0 then stands for the value at first.
+
+/// How many reserved members a part has.
+pub(crate) const RESERVED: usize = 4;
+
+/// Members that are 0.
+pub type Reserved = [u32; RESERVED];
 
 /// A full-duplex link.
 #[repr(C)]
@@ -14,6 +21,7 @@ pub struct DuplexLink {
     pub max_naks: u32,
     /// How many ENQs one message may cost.
     pub max_enqs: u32,
+    pub reserved: Reserved,
 }
 
 /// The link of a half-duplex master.
@@ -28,6 +36,7 @@ pub struct MasterLink {
     pub max_resends: u32,
     /// The ticks of a wait after a poll.
     pub poll_ticks: u32,
+    pub reserved: Reserved,
 }
 
 /// The link of a half-duplex slave. Its station number is the address of its node, neither 16 nor 255.
@@ -38,6 +47,7 @@ pub struct SlaveLink {
     pub crc: bool,
     /// How often a message is given.
     pub max_sends: u32,
+    pub reserved: Reserved,
 }
 
 /// What stands behind an end.
@@ -56,6 +66,11 @@ pub struct NodeParts {
     pub has_compat: bool,
     /// Its number.
     pub compat: u16,
+    /// How many commands may be out, and 0 for the value at first.
+    pub window: u32,
+    /// How many commands of one source may be out, and 0 for the value at first.
+    pub per_source: u32,
+    pub reserved: Reserved,
 }
 
 /// A data file.

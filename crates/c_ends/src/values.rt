@@ -1,9 +1,10 @@
 //! The values that the keys of an end may have in C.
 
 ghost use Rattle.std.specs.Prelude.{◌≡◌};
-ghost use Rattle.c_ends.specs.Values.{from_one, value_fault, values_of as the_values};
+ghost use Rattle.c_ends.specs.Values.{from_one, given_or_first, reserved_fault, value_fault, values_of as the_values};
 
 use crate::code::Code;
+use crate::parts::Reserved;
 use end_settings::{Key, Values};
 
 /// The values of a key: those of its row, but that a reply may take as few ticks as one, since a tick of the caller's may be as
@@ -34,5 +35,27 @@ pub(crate) fn value_fault(key: Key, fault: Code, number: u32) -> Option<Code>
     match values_of(key).fitting(Some(number)) {
         Some(_) => None,
         None => Some(fault),
+    }
+}
+
+/// The value of a key that is told by this number: that at first where it is 0.
+pub(crate) fn given_or_first(key: Key, number: u32) -> u32
+    ensures { result ≡ given_or_first key number }
+{
+    if number == 0 {
+        key.first().value(0)
+    } else {
+        number
+    }
+}
+
+/// A reserved member that isn't 0.
+pub(crate) fn reserved_fault(reserved: &Reserved) -> Option<Code>
+    ensures { result ≡ reserved_fault reserved.now }
+{
+    if reserved.iter().any(|member| *member != 0) {
+        Some(Code::NotReserved)
+    } else {
+        None
     }
 }

@@ -7,7 +7,7 @@ use Rattle.data_files.specs.Tables.{faults, fits_compat, has_word}
 use Rattle.data_files.specs.declared.make_fault.MakeFault.{MakeFault}
 use Rattle.data_files.specs.declared.make_fault.MakeFault.TheVariants as make
 use Rattle.end_settings.specs.declared.key.Key.{Key}
-use Rattle.end_settings.specs.declared.key.Key.TheVariants.{AckTicks, MaxEnqs, MaxNaks, MaxResends, MaxSends, PollTicks, ReplyTicks, Room}
+use Rattle.end_settings.specs.declared.key.Key.TheVariants.{AckTicks, MaxEnqs, MaxNaks, MaxResends, MaxSends, PerSource, PollTicks, ReplyTicks, Room, Window}
 use Rattle.end_settings.specs.Rows.{fitting}
 use Rattle.c_ends.specs.declared.code.Code.{Code}
 use Rattle.c_ends.specs.declared.code.Code.TheVariants as code
@@ -20,8 +20,8 @@ use Rattle.c_ends.specs.declared.parts.FileParts.{FileParts}
 use Rattle.c_ends.specs.declared.parts.WordParts.{WordParts}
 use Rattle.c_ends.specs.Code.{code_number}
 use Rattle.c_ends.specs.Links.{number_fault, station_fault, duplex_fault, master_fault, slave_fault}
-use Rattle.c_ends.specs.Parts.{kind_of, specs_of, make_code, compat_of, node_fault}
-use Rattle.c_ends.specs.Values.{value_fault, values_of}
+use Rattle.c_ends.specs.Parts.{kind_of, specs_of, make_code, compat_of, files_fault, node_fault}
+use Rattle.c_ends.specs.Values.{given_or_first, reserved_fault, value_fault, values_of}
 use Rattle.df1_c.specs.Held.{taken_fault}
 
 abbrev pub NeverDone : Option Code → Type 0
@@ -45,6 +45,9 @@ first-or (Some fault) second never other = never
 value-never : (key : Key) (fault : Code) (number : ℕ) → NeverDone (Some fault) → NeverDone (value_fault key fault number)
 value-never key fault number never = one-unless (is_some (fitting (values_of key) (Some number))) fault never
 
+reserved-never : (reserved : List ℕ) → NeverDone (reserved_fault reserved)
+reserved-never reserved = one-if (list_any (λ member. not (member == 0)) reserved) code.NotReserved refl
+
 -- ---- of what is made
 
 made-never : (fault : Option MakeFault) → NeverDone (option_map make_code fault)
@@ -55,16 +58,23 @@ made-never (Some (make.Large number)) = refl
 made-never (Some (make.Twice number)) = refl
 made-never (Some make.NoMemory) = refl
 
-node-never : (node : NodeParts) (files : List FileParts) (words : List WordParts) (block : List ℕ) → NeverDone (node_fault node files words block)
-node-never node files words block =
-    first-or _ _ (value-never ReplyTicks code.BadReplyTicks node.reply_ticks refl)
-    (first-or _ _ (value-never Room code.BadRoom node.room refl)
-    (first-or _ _ (one-if (nat_lt 256 (length files)) code.TooManyFiles refl)
+files-never : (node : NodeParts) (files : List FileParts) (words : List WordParts) (block : List ℕ) → NeverDone (files_fault node files words block)
+files-never node files words block =
+    first-or _ _ (one-if (nat_lt 256 (length files)) code.TooManyFiles refl)
     (first-or _ _ (one-if (list_any (λ (file : FileParts). is_none (kind_of file.kind)) files) code.BadType refl)
     (first-or _ _ (made-never (faults (specs_of files)))
     (first-or _ _ (one-unless (fits_compat (specs_of files) (compat_of node)) code.BadCompat refl)
     (first-or _ _ (one-if (list_any (λ (word : WordParts). not (has_word (specs_of files) word.file word.index)) words) code.NoWord refl)
-    (first-or _ _ (one-if (nat_lt 244 (length block)) code.LongBlock refl) tt)))))))
+    (first-or _ _ (one-if (nat_lt 244 (length block)) code.LongBlock refl) tt)))))
+
+node-never : (node : NodeParts) (files : List FileParts) (words : List WordParts) (block : List ℕ) → NeverDone (node_fault node files words block)
+node-never node files words block =
+    first-or _ _ (value-never ReplyTicks code.BadReplyTicks node.reply_ticks refl)
+    (first-or _ _ (value-never Room code.BadRoom node.room refl)
+    (first-or _ _ (value-never Window code.BadWindow (given_or_first Window node.window) refl)
+    (first-or _ _ (value-never PerSource code.BadPerSource (given_or_first PerSource node.per_source) refl)
+    (first-or _ _ (reserved-never node.reserved)
+    (first-or _ _ (files-never node files words block) tt)))))
 
 number-never : (number : ℕ) → NeverDone (number_fault number)
 number-never number = one-if (number == 16 || number == 255) code.BadStation refl
@@ -81,7 +91,8 @@ duplex-never link node files words block =
     first-or _ _ (value-never AckTicks code.BadAckTicks link.ack_ticks refl)
     (first-or _ _ (value-never MaxNaks code.BadMaxNaks link.max_naks refl)
     (first-or _ _ (value-never MaxEnqs code.BadMaxEnqs link.max_enqs refl)
-    (first-or _ _ (node-never node files words block) tt)))
+    (first-or _ _ (reserved-never link.reserved)
+    (first-or _ _ (node-never node files words block) tt))))
 
 pub master-never : (link : MasterLink) (stations : List ℕ) (node : NodeParts) (files : List FileParts) (words : List WordParts) (block : List ℕ)
     → NeverDone (master_fault link stations node files words block)
@@ -89,15 +100,17 @@ master-never link stations node files words block =
     first-or _ _ (value-never AckTicks code.BadAckTicks link.ack_ticks refl)
     (first-or _ _ (value-never MaxResends code.BadMaxResends link.max_resends refl)
     (first-or _ _ (value-never PollTicks code.BadPollTicks link.poll_ticks refl)
+    (first-or _ _ (reserved-never link.reserved)
     (first-or _ _ (one-if (nat_lt 32 (length stations)) code.TooManyStations refl)
     (first-or _ _ (stations-never [] stations)
-    (first-or _ _ (node-never node files words block) tt)))))
+    (first-or _ _ (node-never node files words block) tt))))))
 
 pub slave-never : (link : SlaveLink) (node : NodeParts) (files : List FileParts) (words : List WordParts) (block : List ℕ) → NeverDone (slave_fault link node files words block)
 slave-never link node files words block =
     first-or _ _ (value-never MaxSends code.BadMaxSends link.max_sends refl)
+    (first-or _ _ (reserved-never link.reserved)
     (first-or _ _ (number-never node.address)
-    (first-or _ _ (node-never node files words block) tt))
+    (first-or _ _ (node-never node files words block) tt)))
 
 pub taken-never : (old : Option Held) → NeverDone (taken_fault old)
 taken-never None = tt

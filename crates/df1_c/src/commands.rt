@@ -1,6 +1,6 @@
 //! The commands that an end behind a handle issues: issuing one, what became of it, and its reply.
 
-ghost use Rattle.std.specs.Prelude.{◌≡◌, ℕ, List, length, Some};
+ghost use Rattle.std.specs.Prelude.{◌≡◌, ℕ, List, length, unwrap_or, Some};
 ghost use Rattle.std.specs.Option.{option_map};
 ghost use Rattle.df1_check.specs.declared.Check.{Check as CheckKind};
 ghost use Rattle.df1_node.specs.Initiator.{outcome_of};
@@ -19,7 +19,7 @@ use c_ends::{Code, Held};
 use df1_node::{IssueFault, Node, Outcome};
 use std::alloc::Global;
 
-/// Issues a command to a node. The payload is CMD and what follows TNS.
+/// Issues a command to a node, in the name of the end's own. The payload is CMD and what follows TNS.
 #[tactic(auto, unfolding(crate::specs::Held::value_in))]
 #[unsafe(no_mangle)]
 pub extern "C" fn df1_end_issue(
@@ -29,33 +29,59 @@ pub extern "C" fn df1_end_issue(
     payload: &[u8],
     number: &mut u32,
 ) -> u32
-    ensures issued { IsIssue (refusal (holding end.old) payload.now) (option_map (with_change (λ node. after_node_issue node dst payload.now)) (holding end.old)) (told_at (holding end.old) (λ node. Some (next_number node)) number.old) result (holding end.old) (holding end.new) number.old number.new }
+    ensures issued { IsIssue (refusal (holding end.old) payload.now) (option_map (with_change (λ node. after_node_issue node node.initiator.node dst payload.now)) (holding end.old)) (told_at (holding end.old) (λ node. Some (next_number node)) number.old) result (holding end.old) (holding end.new) number.old number.new }
     ensures stands { (check : CheckKind) (bytes : List ℕ) → IsEndFor check bytes (holding end.old) → IsEndFor check bytes (holding end.new) }
 {
     let Some(mut held) = end.take(alloc) else {
         return Code::NoHandle.number();
     };
-    let code = issue(&mut held, dst, payload, number);
+    let code = issue(&mut held, None, dst, payload, number);
     *end = Seat::of(held);
     code
 }
 
-fn issue(held: &mut Held, dst: u8, payload: &[u8], number: &mut u32) -> u32
-    ensures { IsIssue (refusal (Some held.old) payload.now) (with_change (λ node. after_node_issue node dst payload.now) held.old) (told_at (Some held.old) (λ node. Some (next_number node)) number.old) result held.old held.new number.old number.new }
+/// Issues a command to a node, in the name of a source, which is SRC of the command. The payload is CMD and what follows TNS.
+#[tactic(auto, unfolding(crate::specs::Held::value_in))]
+#[unsafe(no_mangle)]
+pub extern "C" fn df1_end_issue_from(
+    alloc: Global,
+    end: &mut Seat,
+    src: u8,
+    dst: u8,
+    payload: &[u8],
+    number: &mut u32,
+) -> u32
+    ensures issued { IsIssue (refusal (holding end.old) payload.now) (option_map (with_change (λ node. after_node_issue node src dst payload.now)) (holding end.old)) (told_at (holding end.old) (λ node. Some (next_number node)) number.old) result (holding end.old) (holding end.new) number.old number.new }
+    ensures stands { (check : CheckKind) (bytes : List ℕ) → IsEndFor check bytes (holding end.old) → IsEndFor check bytes (holding end.new) }
+{
+    let Some(mut held) = end.take(alloc) else {
+        return Code::NoHandle.number();
+    };
+    let code = issue(&mut held, Some(src), dst, payload, number);
+    *end = Seat::of(held);
+    code
+}
+
+/// Issues a command of an end in the name of a source, or else in that of the end's own node.
+fn issue(held: &mut Held, src: Option<u8>, dst: u8, payload: &[u8], number: &mut u32) -> u32
+    ensures { IsIssue (refusal (Some held.old) payload.now) (with_change (λ node. after_node_issue node (unwrap_or src node.initiator.node) dst payload.now) held.old) (told_at (Some held.old) (λ node. Some (next_number node)) number.old) result held.old held.new number.old number.new }
 {
     match held {
         Held::Decoder(_) => Code::NoHandle.number(),
-        Held::Duplex(end) => issue_at(end.host_mut(), dst, payload, number),
-        Held::Master(end) => issue_at(end.host_mut(), dst, payload, number),
-        Held::Slave(end) => issue_at(end.host_mut(), dst, payload, number),
+        Held::Duplex(end) => issue_at(end.host_mut(), src, dst, payload, number),
+        Held::Master(end) => issue_at(end.host_mut(), src, dst, payload, number),
+        Held::Slave(end) => issue_at(end.host_mut(), src, dst, payload, number),
     }
 }
 
-/// Issues a command of a node.
-fn issue_at(node: &mut Node, dst: u8, payload: &[u8], number: &mut u32) -> u32
-    ensures { IsIssue (node_refusal (Some node.old) payload.now) (after_node_issue node.old dst payload.now) (next_number node.old) result node.old node.new number.old number.new }
+fn issue_at(node: &mut Node, src: Option<u8>, dst: u8, payload: &[u8], number: &mut u32) -> u32
+    ensures { IsIssue (node_refusal (Some node.old) payload.now) (after_node_issue node.old (unwrap_or src node.old.initiator.node) dst payload.now) (next_number node.old) result node.old node.new number.old number.new }
 {
-    match node.issue(dst, payload) {
+    let issued = match src {
+        Some(src) => node.issue_from(src, dst, payload),
+        None => node.issue(dst, payload),
+    };
+    match issued {
         Ok(issued) => {
             *number = issued;
             Code::Done.number()

@@ -1,5 +1,5 @@
 -- Every drill can be played.
-use Rattle.std.proofs.Common.{◌≡◌, ℕ, ◌+◌, ◌*◌, ◌≤◌, zero, suc, cond, List, [], ◌∷◌, ◌++◌, refl, subst, arith, lit<, lit≤}
+use Rattle.std.proofs.Common.{◌≡◌, ℕ, ◌+◌, ◌*◌, ◌≤◌, zero, suc, cond, None, List, [], ◌∷◌, ◌++◌, refl, subst, arith, lit<, lit≤}
 use Rattle.std.proofs.Math.Dec.{T, leb}
 use Rattle.std.specs.Prelude.{All, count_by, sum_by, IsTrue}
 use Rattle.std.specs.List.{flat_map, range_with_len}
@@ -47,11 +47,11 @@ record IsFew (events : List Event) (commands : ℕ) : Type 0 where
   sum : sum_by count_of events ≤ commands * 133
 
 -- a command, and what happens behind it
-command-few : (payload : List ℕ) → IsTrue (is_payload payload) → (p : Pattern) → IsFew (Issue A 1 payload ∷ course_of p) 1
-command-few payload right Plain = record { possible = all-possible (Issue A 1 payload ∷ course_of Plain) ((refl, right), course-possible Plain); of_a = refl; of_b = refl; sum = lit≤ tt }
-command-few payload right DamagedFrame = record { possible = all-possible (Issue A 1 payload ∷ course_of DamagedFrame) ((refl, right), course-possible DamagedFrame); of_a = refl; of_b = refl; sum = lit≤ tt }
-command-few payload right LostAck = record { possible = all-possible (Issue A 1 payload ∷ course_of LostAck) ((refl, right), course-possible LostAck); of_a = refl; of_b = refl; sum = lit≤ tt }
-command-few payload right FalseNak = record { possible = all-possible (Issue A 1 payload ∷ course_of FalseNak) ((refl, right), course-possible FalseNak); of_a = refl; of_b = refl; sum = lit≤ tt }
+command-few : (payload : List ℕ) → IsTrue (is_payload payload) → (p : Pattern) → IsFew (Issue A None 1 payload ∷ course_of p) 1
+command-few payload right Plain = record { possible = all-possible (Issue A None 1 payload ∷ course_of Plain) ((refl, right), course-possible Plain); of_a = refl; of_b = refl; sum = lit≤ tt }
+command-few payload right DamagedFrame = record { possible = all-possible (Issue A None 1 payload ∷ course_of DamagedFrame) ((refl, right), course-possible DamagedFrame); of_a = refl; of_b = refl; sum = lit≤ tt }
+command-few payload right LostAck = record { possible = all-possible (Issue A None 1 payload ∷ course_of LostAck) ((refl, right), course-possible LostAck); of_a = refl; of_b = refl; sum = lit≤ tt }
+command-few payload right FalseNak = record { possible = all-possible (Issue A None 1 payload ∷ course_of FalseNak) ((refl, right), course-possible FalseNak); of_a = refl; of_b = refl; sum = lit≤ tt }
 
 round-few : (seed round : ℕ) → IsFew (round_of seed round) 1
 round-few seed round = command-few (payload_of seed round) refl (pattern_of seed round)

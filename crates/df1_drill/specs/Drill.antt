@@ -1,5 +1,5 @@
 -- The drill's script: in each round end a writes a word of end b's file, and things happen to the bytes by a pattern.
-use Rattle.std.specs.Prelude.{ℕ, ◌+◌, ◌/◌, ◌%◌, false, List, [], ◌∷◌, slice_index_or}
+use Rattle.std.specs.Prelude.{ℕ, ◌+◌, ◌/◌, ◌%◌, false, List, [], ◌∷◌, None, slice_index_or}
 use Rattle.std.specs.List.{flat_map, range_with_len}
 use Rattle.df1_base.specs.declared.file_type.FileType.TheVariants.{Integer}
 use Rattle.df1_check.specs.declared.Check.TheVariants.{Bcc}
@@ -97,7 +97,7 @@ event_of (step.Tick who n) = Tick who n
 
 -- the events of a round
 abbrev pub round_of : ℕ → ℕ → List Event
-round_of seed round = Issue A plan_of_b.node (payload_of seed round) ∷ course_of (pattern_of seed round)
+round_of seed round = Issue A None plan_of_b.node (payload_of seed round) ∷ course_of (pattern_of seed round)
 
 -- the rounds from 1 on, one after another
 abbrev pub drill_events : ℕ → ℕ → List Event

@@ -83,6 +83,7 @@ fn put_round(
 {
     events.push(Event::Issue {
         who: Who::A,
+        src: None,
         dst,
         payload: payload(alloc, seed, round)?,
     })?;

@@ -1,13 +1,13 @@
 -- A command whose outcome is known stays as it is.
-use Rattle.std.proofs.Common.{◌≡◌, ℕ, suc, zero, ◌∙◌, Bool, Option, true, false, ◌&&◌, cond, List, [], ◌∷◌, ◌++◌, map, Some, None, refl, sym, ap, get_or, slice_get, is_some, position}
+use Rattle.std.proofs.Common.{◌≡◌, ℕ, suc, zero, ◌∙◌, Bool, Option, true, false, ◌&&◌, cond, List, [], ◌∷◌, ◌++◌, map, Some, None, refl, sym, ap, get_or, slice_get, is_some, position, nat_lt}
 use Rattle.std.specs.Option.{option_map, option_map_or}
-use Rattle.std.specs.List.{fold, list_any}
+use Rattle.std.specs.List.{fold}
 use Rattle.std.proofs.lemmas.List.Quantifiers.{position-Some}
 use Rattle.df1_base.specs.declared.host.Fate.TheVariants as fate
 use Rattle.pccc_envelope.specs.Envelope.{is_reply}
 use Rattle.df1_node.specs.declared.handed.Handed.{Handed}
 use Rattle.df1_node.specs.declared.handed.Handed.TheVariants as handed
-use Rattle.df1_node.specs.Initiator.{InitiatorState, Standing, Waiting, Out, Answered, Undelivered, Unanswered, Issued, command, is_waiting, is_out, is_settled, restated, answered_place, is_reply_to, is_out_at, ticked, cleared, after_hand_out, after_reply}
+use Rattle.df1_node.specs.Initiator.{InitiatorState, Standing, Waiting, Out, Answered, Undelivered, Unanswered, Issued, command, is_waiting, is_out, is_settled, restated, source_of, count_out, count_out_of, answered_place, is_reply_to, is_out_at, ticked, cleared, after_hand_out, after_reply}
 use Rattle.df1_node.specs.Node.{NodeState, Step, Issue, Accept, Next, Told, Tick, Clear, after, initiator_after}
 
 not_waiting : (s : Standing) → is_settled s ≡ true → is_waiting s ≡ false
@@ -79,10 +79,11 @@ after_take : (cs : List Issued) (k : ℕ) (c : Issued) (reply : List ℕ) → sl
 after_take cs k c reply e settled =
     at_found (λ x. is_out x.standing && is_reply_to x.body reply) cs k c (Answered reply) (answered_place cs reply) refl e (ap (λ b. b && is_reply_to c.body reply) (not_out c.standing settled))
 
-after_hand : (cs : List Issued) (k : ℕ) (c : Issued) (left : ℕ) (b : Bool) → slice_get cs k ≡ Some c → is_settled c.standing ≡ true →
-    slice_get (option_map_or (λ p. restated cs p (Out left)) (cond b None (position (λ x. is_waiting x.standing) cs)) cs) k ≡ Some c
-after_hand cs k c left true e settled = e
-after_hand cs k c left false e settled = at_found (λ x. is_waiting x.standing) cs k c (Out left) (position (λ x. is_waiting x.standing) cs) refl e (not_waiting c.standing settled)
+after_hand : (cs : List Issued) (k : ℕ) (c : Issued) (within : Issued → Bool) (left : ℕ) (b : Bool) → slice_get cs k ≡ Some c → is_settled c.standing ≡ true →
+    slice_get (option_map_or (λ p. restated cs p (Out left)) (cond b (position (λ x. is_waiting x.standing && within x) cs) None) cs) k ≡ Some c
+after_hand cs k c within left false e settled = e
+after_hand cs k c within left true e settled =
+    at_found (λ x. is_waiting x.standing && within x) cs k c (Out left) (position (λ x. is_waiting x.standing && within x) cs) refl e (ap (λ w. w && within c) (not_waiting c.standing settled))
 
 given_up : (cs : List Issued) (k p : ℕ) (c : Issued) (b : Bool) → is_out_at cs p ≡ b → slice_get cs k ≡ Some c → is_settled c.standing ≡ true → slice_get (cond b (restated cs p Undelivered) cs) k ≡ Some c
 given_up cs k p c false out e settled = e
@@ -104,7 +105,8 @@ no_command c e = absurd (let f : ⊥ = cc in f)
 
 handed_out : (s : InitiatorState) (k : ℕ) (c : Issued) (b : Bool) → slice_get s.issued k ≡ Some c → is_settled c.standing ≡ true → slice_get (cond b s (after_hand_out s)).issued k ≡ Some c
 handed_out s k c true e settled = e
-handed_out s k c false e settled = after_hand s.issued k c s.reply_ticks (list_any (λ x. is_out x.standing) s.issued) e settled
+handed_out s k c false e settled =
+    after_hand s.issued k c (λ x. nat_lt (count_out_of (source_of x) s.issued) s.per_source) s.reply_ticks (nat_lt (count_out s.issued) s.window) e settled
 
 accepted : (s : InitiatorState) (body : List ℕ) (k : ℕ) (c : Issued) (b : Bool) → slice_get s.issued k ≡ Some c → is_settled c.standing ≡ true → slice_get (cond b (after_reply s body) s).issued k ≡ Some c
 accepted s body k c true e settled = after_take s.issued k c body e settled
@@ -116,7 +118,7 @@ told s handed.Reply k c e settled = e
 told s (handed.Command p) k c e settled = given_up s.issued k p c (is_out_at s.issued p) refl e settled
 
 at_place : (node : NodeState) (step : Step) (k : ℕ) (c : Issued) → slice_get node.initiator.issued k ≡ Some c → is_settled c.standing ≡ true → slice_get (after node step).initiator.issued k ≡ Some c
-at_place node (Issue dst payload) k c e settled = get-append node.initiator.issued _ k c e
+at_place node (Issue src dst payload) k c e settled = get-append node.initiator.issued _ k c e
 at_place node (Accept body) k c e settled = accepted node.initiator body k c (is_reply body) e settled
 at_place node Next k c e settled = handed_out node.initiator k c (is_some (slice_get node.replies 0)) e settled
 at_place node (Told fate.Delivered) k c e settled = e

@@ -1,5 +1,5 @@
 -- The bytes that are kept, as more are added behind them.
-use Rattle.std.proofs.Common.{◌≡◌, ◌≤◌, ◌<◌, ℕ, suc, ◌+◌, ◌-◌, ◌∙◌, Option, List, [], ◌∷◌, ◌++◌, length, Some, None, refl, sym, ap, subst, arith, take, drop, length-append, length-drop}
+use Rattle.std.proofs.Common.{◌≡◌, ◌≤◌, ℕ, ◌+◌, ◌-◌, ◌∙◌, List, [], ◌∷◌, ◌++◌, length, refl, sym, ap, subst, arith, take, drop, length-append, length-drop}
 use Rattle.std.specs.List.{All}
 use Rattle.std.proofs.lemmas.List.{take_all, take-append-le, drop_at, drop-append-le}
 use Rattle.std.proofs.lemmas.List.Elements.{All-head, All-tail, All-weaker}
@@ -9,7 +9,7 @@ use Rattle.df1_node.specs.declared.issued.Command.{Command}
 use Rattle.df1_node.specs.declared.issued.State.{State}
 use Rattle.df1_node.specs.declared.issued.State.TheVariants as stands
 use Rattle.df1_node.specs.Initiator.{Standing, Issued, Answered}
-use Rattle.df1_node.specs.Commands.{IsPart, part_of, standing_of, IsStateKept, issued_of, IsKept, all_issued, open_count}
+use Rattle.df1_node.specs.Commands.{IsPart, part_of, standing_of, IsStateKept, issued_of, IsKept, all_issued}
 
 -- the part of the bytes that are added
 abbrev pub part_behind : List ℕ → List ℕ → Part
@@ -75,21 +75,3 @@ all_issued-more bytes more (x ∷ xs) is =
 pub all_kept-more : (bytes more : List ℕ) (xs : List Command) → All (IsKept bytes) xs → All (IsKept (bytes ++ more)) xs
 all_kept-more bytes more xs is =
     All-weaker (IsKept bytes) (IsKept (bytes ++ more)) (λ c k. record { body = IsPart-more bytes more c.body k.body; state = IsStateKept-more bytes more c.state k.state }) xs is
-
--- ---- how many may still be answered
-
-pub open_push : (count next : ℕ) (out : Option ℕ) → next ≤ count → open_count (suc count) next out ≡ open_count count next out + 1
-open_push count next None few = omega arith
-open_push count next (Some o) few = omega arith
-
-pub open_next : (count next : ℕ) (out : Option ℕ) → open_count count (next + 1) out ≤ open_count count next out
-open_next count next None = omega arith
-open_next count next (Some o) = omega arith
-
-pub open_handed : (count next : ℕ) (out : Option ℕ) (p : ℕ) → out ≡ None → next < count → open_count count (next + 1) (Some p) ≤ open_count count next out
-open_handed count next None p e within = omega arith
-open_handed count next (Some o) p e within = omega arith
-
-pub open_settled : (count next : ℕ) (out : Option ℕ) → open_count count next None ≤ open_count count next out
-open_settled count next None = omega arith
-open_settled count next (Some o) = omega arith

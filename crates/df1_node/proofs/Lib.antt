@@ -1,3 +1,8 @@
 pub mod Final
-pub mod Indexes
 pub mod Kept
+pub mod Places
+pub mod Ordered
+pub mod Steps
+pub mod Ticks
+pub mod Next
+pub mod Cleared

@@ -1,12 +1,13 @@
--- How an initiator keeps its commands, with the place of the one that is out and the place from which on they wait. The bytes of
--- their bodies and replies stand in one row.
-use Rattle.std.specs.Prelude.{◌≡◌, ℕ, suc, zero, ◌+◌, ◌-◌, ◌*◌, ◌≤◌, Bool, true, false, ◌==◌, List, [], ◌∷◌, map, length, All, Option, None, Some, slice_get, slice_range}
+-- How an initiator keeps its commands. The bytes of their bodies and replies stand in one row.
+use Rattle.std.specs.Prelude.{ℕ, suc, zero, ◌+◌, ◌*◌, ◌≤◌, List, [], ◌∷◌, ◌++◌, map, take, drop, length, All, Option, None, slice_get, slice_range}
 use Rattle.df1_base.specs.Host.{IsBody}
 use Rattle.df1_node.specs.declared.part.Part.{Part}
 use Rattle.df1_node.specs.declared.issued.Command.{Command}
 use Rattle.df1_node.specs.declared.issued.State.{State}
 use Rattle.df1_node.specs.declared.issued.State.TheVariants as stands
-use Rattle.df1_node.specs.Initiator.{Standing, Waiting, Out, Answered, Undelivered, Unanswered, Issued, is_waiting, is_out}
+use Rattle.df1_node.specs.declared.queue.Queue.{Queue}
+use Rattle.df1_node.specs.Initiator.{Standing, Waiting, Out, Answered, Undelivered, Unanswered, Issued, ticked}
+use Rattle.df1_node.specs.Queue.{IsQueue}
 
 -- the bytes of a part
 abbrev pub part_of : List ℕ → Part → List ℕ
@@ -52,28 +53,30 @@ abbrev pub kept_at : List Command → ℕ → Option Command
 kept_at commands zero = None
 kept_at commands (suc place) = slice_get commands place
 
--- from a place on the commands wait, and none before; at another place, where one is given, a command is out, and no other is
-abbrev pub Indexed : List Issued → ℕ → Option ℕ → Type 0
-Indexed [] next out = (next ≡ 0) × (out ≡ None)
-Indexed (c ∷ cs) zero out = (is_waiting c.standing ≡ true) × (out ≡ None) × Indexed cs zero None
-Indexed (c ∷ cs) (suc next) None = (is_waiting c.standing ≡ false) × (is_out c.standing ≡ false) × Indexed cs next None
-Indexed (c ∷ cs) (suc next) (Some zero) = (is_waiting c.standing ≡ false) × (is_out c.standing ≡ true) × Indexed cs next None
-Indexed (c ∷ cs) (suc next) (Some (suc out)) = (is_waiting c.standing ≡ false) × (is_out c.standing ≡ false) × Indexed cs next (Some out)
+-- a tick for the command at a place
+abbrev pub ticked_at : ℕ → List Issued → List Issued
+ticked_at place [] = []
+ticked_at zero (c ∷ cs) = record c { standing = ticked c.standing } ∷ cs
+ticked_at (suc place) (c ∷ cs) = c ∷ ticked_at place cs
 
--- whether this is the place of the command that is out
-abbrev pub is_place : Option ℕ → ℕ → Bool
-is_place None p = false
-is_place (Some o) p = o == p
+-- how a command stands after what waits was given up
+abbrev pub cleared_state : State → State
+cleared_state stands.Waiting = stands.Undelivered
+cleared_state (stands.Out left) = stands.Out left
+cleared_state (stands.Answered reply) = stands.Answered reply
+cleared_state stands.Undelivered = stands.Undelivered
+cleared_state stands.Unanswered = stands.Unanswered
 
--- how many of so many commands may still be answered: those that wait, and the one that is out
-abbrev pub open_count : ℕ → ℕ → Option ℕ → ℕ
-open_count count next None = count - next
-open_count count next (Some o) = count - next + 1
+-- the commands after each that waits, from a place on, was given up
+abbrev pub cleared_from : ℕ → List Command → List Command
+cleared_from place commands = take place commands ++ map {A = Command} (λ c. record c { state = cleared_state c.state }) (drop place commands)
 
--- the commands are such as an initiator may have, and there is room for a reply to each that may still be answered
-pub record AreCommands (bytes : List ℕ) (room : ℕ) (commands : List Command) (next : ℕ) (out : Option ℕ) : Type 0 where
-  pub indexed : Indexed (all_issued bytes commands) next out
+-- the commands are such as an initiator may have, what is kept of their order fits them, and there is room for a reply to each that
+-- may still be answered
+pub record AreCommands (bytes : List ℕ) (room : ℕ) (commands : List Command) (queue : Queue) (window : ℕ) : Type 0 where
+  pub ordered : IsQueue (all_issued bytes commands) queue
   pub kept : All (IsKept bytes) commands
   pub few : length commands ≤ 65535
-  pub fits : length bytes + 250 * open_count (length commands) next out ≤ room
-  pub short : length bytes + 250 * open_count (length commands) next out ≤ 500 * length commands
+  pub fits : length bytes + 250 * queue.unsettled ≤ room
+  pub short : length bytes + 250 * queue.unsettled ≤ 500 * length commands
+  pub narrow : window ≤ 16

@@ -1,8 +1,8 @@
 -- The laws of a host, of nodes: a fate is told once, nothing waits after a clearing, what is unanswered rises, and what is handed out is a body.
-use Rattle.std.proofs.Common.{◌≡◌, ℕ, suc, zero, ◌+◌, ◌<◌, ◌≤◌, Bool, true, false, cond, List, [], ◌∷◌, ◌++◌, length, drop, find, position, slice_get, slice_index, Option, Some, None, IsSome, IfSome, is_some, refl, sym, ap, subst, ◌∙◌, arith, length-append, length-drop}
+use Rattle.std.proofs.Common.{◌≡◌, ℕ, suc, zero, ◌+◌, ◌<◌, ◌≤◌, Bool, true, false, ◌&&◌, cond, List, [], ◌∷◌, ◌++◌, length, drop, find, position, slice_get, slice_index, Option, Some, None, IsSome, IfSome, is_some, refl, sym, ap, subst, ◌∙◌, arith, length-append, length-drop}
 use Rattle.std.specs.Prelude.{nat_lt, not, IsTrue, Result, Ok, Err}
 use Rattle.std.specs.Option.{option_map, option_map_or, option_or}
-use Rattle.std.specs.List.{All, list_any, prefix_len}
+use Rattle.std.specs.List.{All, prefix_len}
 use Rattle.std.proofs.lemmas.Bool.Decides.{nat_tests}
 use Rattle.std.specs.List.Sorted.{IsStrictlyIncreasing}
 use Rattle.std.proofs.lemmas.List.Elements.{All-nil, All-cons, All-head, All-tail, All-push, All-drop, All-map}
@@ -24,7 +24,7 @@ use Rattle.plc_commands.specs.Order as plc
 use Rattle.plc_commands.specs.Reading.{order_of as plc_order_of}
 use Rattle.plc_commands.proofs.Replies.{IfShortEcho, echo-fits, reply-fits as plc-fits}
 use Rattle.df1_node.specs.Answer.{StationState, logical_order, asked_by, asked_of, effect_of, extension_of, status_of, done, after_answer, reply_to}
-use Rattle.df1_node.specs.Initiator.{InitiatorState, Standing, Waiting, Out, Answered, Undelivered, Unanswered, Issued, is_waiting, is_out, is_last_tick, cleared, restated, next_place, next_command, answered_place, is_out_at, after_reply, after_hand_out, ticked, unanswered_from, all_cleared}
+use Rattle.df1_node.specs.Initiator.{InitiatorState, Standing, Waiting, Out, Answered, Undelivered, Unanswered, Issued, is_waiting, is_last_tick, cleared, restated, source_of, count_out, count_out_of, is_due, next_place, next_command, answered_place, is_out_at, after_reply, after_hand_out, ticked, unanswered_from, all_cleared}
 use Rattle.df1_node.specs.Node.{NodeState, after_accept, next_body, after_next, is_handed, is_out as awaits, gone_unanswered, news_told, initiator_after, after_told, after_tick, after_clear, holds_bodies, has_room}
 
 -- ---- the first place that passes
@@ -42,7 +42,7 @@ below_more m n = grind (arith, nat_tests)
 more_is_suc : (m : ℕ) → 1 + m ≡ suc m
 more_is_suc m = omega arith
 
-pub position-cons : (t : Issued → Bool) (c : Issued) (cs : List Issued) → position t (c ∷ cs) ≡ cond (t c) (Some 0) (option_map suc (position t cs))
+pub position-cons : {X : Type 0} (t : X → Bool) (c : X) (cs : List X) → position t (c ∷ cs) ≡ cond (t c) (Some 0) (option_map suc (position t cs))
 position-cons t c cs =
     elim (t c) as (λ b. cond (nat_lt (cond (not b) (1 + prefix_len (λ x. not (t x)) cs) 0) (suc (length cs))) (Some (cond (not b) (1 + prefix_len (λ x. not (t x)) cs) 0)) None ≡ cond b (Some 0) (option_map suc (position t cs))) [
       | true ↦ ap (λ (b : Bool). cond {A = Option ℕ} b (Some 0) None) (first_below (length cs))
@@ -66,34 +66,32 @@ found-either : (b : Bool) (c : Issued) (n : Option ℕ) (rest : Option Issued) �
 found-either true c n rest e = refl
 found-either false c n rest e = some-map n ∙ e
 
-found-both : (cs : List Issued) → is_some (position (λ (c : Issued). is_waiting c.standing) cs) ≡ is_some (find (λ (c : Issued). is_waiting c.standing) cs)
-found-both [] = refl
-found-both (c ∷ cs) =
-    ap is_some (position-cons (λ (x : Issued). is_waiting x.standing) c cs)
-    ∙ found-either (is_waiting c.standing) c (position (λ (x : Issued). is_waiting x.standing) cs) (find (λ (x : Issued). is_waiting x.standing) cs) (found-both cs)
+found-both : (t : Issued → Bool) (cs : List Issued) → is_some (position t cs) ≡ is_some (find t cs)
+found-both t [] = refl
+found-both t (c ∷ cs) = ap is_some (position-cons t c cs) ∙ found-either (t c) c (position t cs) (find t cs) (found-both t cs)
 
-next-either : (any : Bool) (place : Option ℕ) (c : Option Issued) → is_some place ≡ is_some c → is_some (cond any None place) ≡ is_some (cond any None (option_map (λ (i : Issued). i.body) c))
-next-either true place c e = refl
-next-either false place c e = e ∙ sym (some-body c)
+next-either : (room : Bool) (place : Option ℕ) (c : Option Issued) → is_some place ≡ is_some c → is_some (cond room place None) ≡ is_some (cond room (option_map (λ (i : Issued). i.body) c) None)
+next-either true place c e = e ∙ sym (some-body c)
+next-either false place c e = refl
 
 -- there is a place to hand out from exactly where there is a command to hand out
-place-command : (cs : List Issued) → is_some (next_place cs) ≡ is_some (next_command cs)
-place-command cs = next-either (list_any (λ (c : Issued). is_out c.standing) cs) (position (λ (c : Issued). is_waiting c.standing) cs) (find (λ (c : Issued). is_waiting c.standing) cs) (found-both cs)
+pub place-command : (s : InitiatorState) → is_some (next_place s) ≡ is_some (next_command s)
+place-command s = next-either (nat_lt (count_out s.issued) s.window) (position (is_due s) s.issued) (find (is_due s) s.issued) (found-both (is_due s) s.issued)
 
-is_some-none : {A : Type 0} (o : Option A) → is_some o ≡ false → o ≡ None
+pub is_some-none : {A : Type 0} (o : Option A) → is_some o ≡ false → o ≡ None
 is_some-none None e = refl
 is_some-none (Some x) e = cc
 
 -- ---- hand-outs and fates
 
 -- where no command is handed out, the initiator stays
-pub hands_nothing : (s : InitiatorState) → next_place s.issued ≡ None → s ≡ after_hand_out s
+pub hands_nothing : (s : InitiatorState) → next_place s ≡ None → s ≡ after_hand_out s
 hands_nothing s e = ap (λ o. record s { issued = option_map_or (λ place. restated s.issued place (Out s.reply_ticks)) o s.issued }) (sym e)
 
 none-parts : (room : ℕ) (station : StationState) (replies : List (List ℕ)) (initiator : InitiatorState) (last : Handed)
     → let node : NodeState = record { room = room; station = station; replies = replies; initiator = initiator; last = last } in next_body node ≡ None → after_next node ≡ node
 none-parts room station [] initiator last e =
-    let none : next_place initiator.issued ≡ None = is_some-none (next_place initiator.issued) (place-command initiator.issued ∙ ap is_some e) in
+    let none : next_place initiator ≡ None = is_some-none (next_place initiator) (place-command initiator ∙ ap is_some e) in
     let from : InitiatorState → Handed → NodeState = λ i l. record { room = room; station = station; replies = []; initiator = i; last = l } in
     ap (λ (place : Option ℕ). from (after_hand_out initiator) (option_map_or handed.Command place last)) none ∙ ap (λ (i : InitiatorState). from i last) (sym (hands_nothing initiator none))
 none-parts room station (reply ∷ replies) initiator last e = absurd cc
@@ -105,9 +103,9 @@ place-hands : (place : Option ℕ) (last : Handed) → is_some place ≡ true �
 place-hands None last e = cc
 place-hands (Some n) last e = refl
 
-hands-parts : (replies : List (List ℕ)) (initiator : InitiatorState) (last : Handed) → IsSome (option_or (slice_get replies 0) (next_command initiator.issued))
-    → is_handed (cond (is_some (slice_get replies 0)) handed.Reply (option_map_or handed.Command (next_place initiator.issued) last)) ≡ true
-hands-parts [] initiator last some = place-hands (next_place initiator.issued) last (place-command initiator.issued ∙ some)
+hands-parts : (replies : List (List ℕ)) (initiator : InitiatorState) (last : Handed) → IsSome (option_or (slice_get replies 0) (next_command initiator))
+    → is_handed (cond (is_some (slice_get replies 0)) handed.Reply (option_map_or handed.Command (next_place initiator) last)) ≡ true
+hands-parts [] initiator last some = place-hands (next_place initiator) last (place-command initiator ∙ some)
 hands-parts (reply ∷ replies) initiator last some = refl
 
 pub next_hands : (node : NodeState) → IsSome (next_body node) → awaits (after_next node) ≡ true
@@ -163,49 +161,48 @@ cleared_waits (Answered reply) = refl
 cleared_waits Undelivered = refl
 cleared_waits Unanswered = refl
 
-none-found : (cs : List Issued) → find (λ (c : Issued). is_waiting c.standing) (all_cleared cs) ≡ None
-none-found [] = refl
-none-found (c ∷ cs) =
-    ap (λ (b : Bool). cond b (Some (record c { standing = cleared c.standing })) (find (λ (x : Issued). is_waiting x.standing) (all_cleared cs))) (cleared_waits c.standing) ∙ none-found cs
+none-found : (within : Issued → Bool) (cs : List Issued) → find (λ (c : Issued). is_waiting c.standing && within c) (all_cleared cs) ≡ None
+none-found within [] = refl
+none-found within (c ∷ cs) =
+    let k : Issued = record c { standing = cleared c.standing } in
+    ap (λ (b : Bool). cond (b && within k) (Some k) (find (λ (x : Issued). is_waiting x.standing && within x) (all_cleared cs))) (cleared_waits c.standing) ∙ none-found within cs
 
-none-either : (any : Bool) (c : Option Issued) → c ≡ None → cond any None (option_map (λ (i : Issued). i.body) c) ≡ None
-none-either true c e = refl
-none-either false c e = ap (option_map (λ (i : Issued). i.body)) e
-
-none_of_cleared : (cs : List Issued) → next_command (all_cleared cs) ≡ None
-none_of_cleared cs = none-either (list_any (λ (c : Issued). is_out c.standing) (all_cleared cs)) (find (λ (c : Issued). is_waiting c.standing) (all_cleared cs)) (none-found cs)
+none-either : (room : Bool) (c : Option Issued) → c ≡ None → cond room (option_map (λ (i : Issued). i.body) c) None ≡ None
+none-either true c e = ap (option_map (λ (i : Issued). i.body)) e
+none-either false c e = refl
 
 pub none_at_clear : (node : NodeState) → next_body (after_clear node) ≡ None
-none_at_clear node = none_of_cleared node.initiator.issued
+none_at_clear node =
+    let s : InitiatorState = (after_clear node).initiator in
+    none-either (nat_lt (count_out s.issued) s.window) (find (is_due s) s.issued) (none-found (λ (c : Issued). nat_lt (count_out_of (source_of c) s.issued) s.per_source) node.initiator.issued)
 
 -- ---- bodies
 
 -- each command has a body
-abbrev AreBodies : List Issued → Type 0
+abbrev pub AreBodies : List Issued → Type 0
 AreBodies cs = All (λ (c : Issued). IsBody c.body) cs
 
 body-either : (b : Bool) (c : Issued) (rest : Option Issued) → IsBody c.body → IfSome (option_map (λ (i : Issued). i.body) rest) IsBody → IfSome (option_map (λ (i : Issued). i.body) (cond b (Some c) rest)) IsBody
 body-either true c rest here later = here
 body-either false c rest here later = later
 
-found-body : (cs : List Issued) → AreBodies cs → IfSome (option_map (λ (i : Issued). i.body) (find (λ (c : Issued). is_waiting c.standing) cs)) IsBody
-found-body [] all = tt
-found-body (c ∷ cs) all =
-    body-either (is_waiting c.standing) c (find (λ (x : Issued). is_waiting x.standing) cs) (All-head (λ (x : Issued). IsBody x.body) c cs all) (found-body cs (All-tail (λ (x : Issued). IsBody x.body) c cs all))
+found-body : (t : Issued → Bool) (cs : List Issued) → AreBodies cs → IfSome (option_map (λ (i : Issued). i.body) (find t cs)) IsBody
+found-body t [] all = tt
+found-body t (c ∷ cs) all = body-either (t c) c (find t cs) (All-head (λ (x : Issued). IsBody x.body) c cs all) (found-body t cs (All-tail (λ (x : Issued). IsBody x.body) c cs all))
 
-free-body : (any : Bool) (c : Option Issued) → IfSome (option_map (λ (i : Issued). i.body) c) IsBody → IfSome (cond any None (option_map (λ (i : Issued). i.body) c)) IsBody
-free-body true c body = tt
-free-body false c body = body
+free-body : (room : Bool) (c : Option Issued) → IfSome (option_map (λ (i : Issued). i.body) c) IsBody → IfSome (cond room (option_map (λ (i : Issued). i.body) c) None) IsBody
+free-body true c body = body
+free-body false c body = tt
 
-command-body : (cs : List Issued) → AreBodies cs → IfSome (next_command cs) IsBody
-command-body cs all = free-body (list_any (λ (c : Issued). is_out c.standing) cs) (find (λ (c : Issued). is_waiting c.standing) cs) (found-body cs all)
+pub command-body : (s : InitiatorState) → AreBodies s.issued → IfSome (next_command s) IsBody
+command-body s all = free-body (nat_lt (count_out s.issued) s.window) (find (is_due s) s.issued) (found-body (is_due s) s.issued all)
 
-next-parts : (replies : List (List ℕ)) (cs : List Issued) → All IsBody replies → AreBodies cs → IfSome (option_or (slice_get replies 0) (next_command cs)) IsBody
-next-parts [] cs waits all = command-body cs all
-next-parts (reply ∷ replies) cs waits all = All-head IsBody reply replies waits
+next-parts : (replies : List (List ℕ)) (s : InitiatorState) → All IsBody replies → AreBodies s.issued → IfSome (option_or (slice_get replies 0) (next_command s)) IsBody
+next-parts [] s waits all = command-body s all
+next-parts (reply ∷ replies) s waits all = All-head IsBody reply replies waits
 
 pub next_is_body : (node : NodeState) → holds_bodies node → IfSome (next_body node) IsBody
-next_is_body node holds = next-parts node.replies node.initiator.issued holds.0 holds.1
+next_is_body node holds = next-parts node.replies node.initiator holds.0 holds.1
 
 bodies-restated : (cs : List Issued) (place : ℕ) (s : Standing) → AreBodies cs → AreBodies (restated cs place s)
 bodies-restated [] place s all = all
@@ -280,7 +277,7 @@ bodies_at_accept node body holds is room = (
 pub bodies_at_next : (node : NodeState) → holds_bodies node → holds_bodies (after_next node)
 bodies_at_next node holds = (
   All-drop IsBody 1 node.replies holds.0,
-  initiator-either (is_some (slice_get node.replies 0)) node.initiator (after_hand_out node.initiator) holds.1 (bodies-at node.initiator.issued (next_place node.initiator.issued) (Out node.initiator.reply_ticks) holds.1),
+  initiator-either (is_some (slice_get node.replies 0)) node.initiator (after_hand_out node.initiator) holds.1 (bodies-at node.initiator.issued (next_place node.initiator) (Out node.initiator.reply_ticks) holds.1),
   holds.2,
 )
 

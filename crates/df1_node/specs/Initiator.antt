@@ -1,8 +1,7 @@
 -- The commands that a node issues, and what becomes of each. Places in the list of commands are counted from 0; command n is
 -- at place n - 1.
-use Rattle.std.specs.Prelude.{ℕ, suc, zero, ◌+◌, ◌-◌, ◌%◌, Bool, false, true, ◌&&◌, List, [], ◌∷◌, ◌++◌, map, length, drop, find, nat_lt, nat_le, ◌==◌, position, slice_get, slice_index, bit_or, if◌then◌else◌, Option, None, Some}
+use Rattle.std.specs.Prelude.{ℕ, suc, zero, ◌+◌, ◌-◌, ◌%◌, Bool, false, true, ◌&&◌, List, [], ◌∷◌, ◌++◌, map, length, drop, find, count_by, nat_lt, nat_le, ◌==◌, position, slice_get, slice_index, bit_or, if◌then◌else◌, Option, None, Some}
 use Rattle.std.specs.Option.{option_map, option_map_or}
-use Rattle.std.specs.List.{list_any}
 use Rattle.std.specs.Int.{bit_at}
 use Rattle.pccc_envelope.specs.Envelope.{spelling, envelope_of}
 use Rattle.df1_node.specs.declared.outcome.Outcome.{Outcome}
@@ -23,11 +22,14 @@ pub record Issued : Type 0 where
   pub body : List ℕ
   pub standing : Standing
 
--- an initiator: its node, the TNS of its first command, the ticks that a reply may take, and its commands in order
+-- an initiator: its node, the TNS of its first command, the ticks that a reply may take, how many commands may be out, how many
+-- of one source, and its commands in order
 pub record InitiatorState : Type 0 where
   pub node : ℕ
   pub tns : ℕ
   pub reply_ticks : ℕ
+  pub window : ℕ
+  pub per_source : ℕ
   pub issued : List Issued
 
 -- the command was not handed out yet
@@ -93,13 +95,13 @@ issue_fault s payload =
     else None
 
 -- the body of the next command: DST SRC CMD 00 TNS and what follows CMD in the payload
-abbrev pub next_issued : InitiatorState → ℕ → List ℕ → List ℕ
-next_issued s dst payload =
-    spelling (record { dst = dst; src = s.node; cmd = slice_index payload 0; sts = 0x00; tns = (s.tns + length s.issued) % 65536 }) ++ drop 1 payload
+abbrev pub next_issued : InitiatorState → ℕ → ℕ → List ℕ → List ℕ
+next_issued s src dst payload =
+    spelling (record { dst = dst; src = src; cmd = slice_index payload 0; sts = 0x00; tns = (s.tns + length s.issued) % 65536 }) ++ drop 1 payload
 
 -- a command more
-abbrev pub after_issue : InitiatorState → ℕ → List ℕ → InitiatorState
-after_issue s dst payload = record s { issued = s.issued ++ record { body = next_issued s dst payload; standing = Waiting } ∷ [] }
+abbrev pub after_issue : InitiatorState → ℕ → ℕ → List ℕ → InitiatorState
+after_issue s src dst payload = record s { issued = s.issued ++ record { body = next_issued s src dst payload; standing = Waiting } ∷ [] }
 
 -- the command at a place stands otherwise
 abbrev pub restated : List Issued → ℕ → Standing → List Issued
@@ -107,17 +109,34 @@ restated [] place standing = []
 restated (c ∷ cs) zero standing = record c { standing = standing } ∷ cs
 restated (c ∷ cs) (suc place) standing = c ∷ restated cs place standing
 
--- the place of the command to be handed out: the lowest that waits, where none is out
-abbrev pub next_place : List Issued → Option ℕ
-next_place issued = if list_any (λ c. is_out c.standing) issued then None else position (λ c. is_waiting c.standing) issued
+-- the source of a command: SRC of its body, the second byte
+abbrev pub source_of : Issued → ℕ
+source_of c = slice_index c.body 1
+
+-- how many commands are out
+abbrev pub count_out : List Issued → ℕ
+count_out issued = count_by (λ c. is_out c.standing) issued
+
+-- how many commands of a source are out
+abbrev pub count_out_of : ℕ → List Issued → ℕ
+count_out_of source issued = count_by (λ c. is_out c.standing && (source_of c == source)) issued
+
+-- a command waits, and fewer commands of its source are out than may be
+abbrev pub is_due : InitiatorState → Issued → Bool
+is_due s c = is_waiting c.standing && nat_lt (count_out_of (source_of c) s.issued) s.per_source
+
+-- the place of the command to be handed out: the lowest that waits and of whose source fewer than `per_source` are out, where fewer
+-- than `window` are out in all
+abbrev pub next_place : InitiatorState → Option ℕ
+next_place s = if nat_lt (count_out s.issued) s.window then position (is_due s) s.issued else None
 
 -- the body of that command
-abbrev pub next_command : List Issued → Option (List ℕ)
-next_command issued = if list_any (λ c. is_out c.standing) issued then None else option_map (λ c. c.body) (find (λ c. is_waiting c.standing) issued)
+abbrev pub next_command : InitiatorState → Option (List ℕ)
+next_command s = if nat_lt (count_out s.issued) s.window then option_map (λ c. c.body) (find (is_due s) s.issued) else None
 
 -- the initiator after that command was handed out
 abbrev pub after_hand_out : InitiatorState → InitiatorState
-after_hand_out s = record s { issued = option_map_or (λ place. restated s.issued place (Out s.reply_ticks)) (next_place s.issued) s.issued }
+after_hand_out s = record s { issued = option_map_or (λ place. restated s.issued place (Out s.reply_ticks)) (next_place s) s.issued }
 
 -- a reply answers a command: the same TNS, CMD with bit 6 set, and SRC and DST changed over
 abbrev pub is_reply_to : List ℕ → List ℕ → Bool

@@ -3,3 +3,4 @@ pub mod Commands
 pub mod HostLaws
 pub mod Initiator
 pub mod Node
+pub mod Queue

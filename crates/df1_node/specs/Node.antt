@@ -50,11 +50,11 @@ after_accept node body = record node {
 
 -- what is handed out next: the oldest reply; where none waits, the next command
 abbrev pub next_body : NodeState → Option (List ℕ)
-next_body node = option_or (slice_get node.replies 0) (next_command node.initiator.issued)
+next_body node = option_or (slice_get node.replies 0) (next_command node.initiator)
 
 -- what that is: a reply, or the command at a place; where nothing is handed out, what was handed out before
 abbrev pub next_handed : NodeState → Handed
-next_handed node = if is_some (slice_get node.replies 0) then handed.Reply else option_map_or handed.Command (next_place node.initiator.issued) node.last
+next_handed node = if is_some (slice_get node.replies 0) then handed.Reply else option_map_or handed.Command (next_place node.initiator) node.last
 
 -- the node after the next body was handed out
 abbrev pub after_next : NodeState → NodeState
@@ -111,9 +111,9 @@ after_tick node = record node { initiator = record node.initiator { issued = all
 abbrev pub after_clear : NodeState → NodeState
 after_clear node = record node { replies = []; initiator = record node.initiator { issued = all_cleared node.initiator.issued } }
 
--- the node after a command was issued
-abbrev pub after_node_issue : NodeState → ℕ → List ℕ → NodeState
-after_node_issue node dst payload = record node { initiator = after_issue node.initiator dst payload }
+-- the node after a command was issued in the name of a source
+abbrev pub after_node_issue : NodeState → ℕ → ℕ → List ℕ → NodeState
+after_node_issue node src dst payload = record node { initiator = after_issue node.initiator src dst payload }
 
 -- the node with another word at a place
 abbrev pub with_node_word : NodeState → ℕ → ℕ → ℕ → NodeState
@@ -121,7 +121,7 @@ with_node_word node number index value = record node { station = with_station_wo
 
 -- what may happen to a node
 pub data Step : Type 0 where
-  Issue : ℕ → List ℕ → Step
+  Issue : ℕ → ℕ → List ℕ → Step
   Accept : List ℕ → Step
   Next : Step
   Told : Fate → Step
@@ -130,7 +130,7 @@ pub data Step : Type 0 where
 
 -- the node after it
 abbrev pub after : NodeState → Step → NodeState
-after node (Issue dst payload) = after_node_issue node dst payload
+after node (Issue src dst payload) = after_node_issue node src dst payload
 after node (Accept body) = after_accept node body
 after node Next = after_next node
 after node (Told told) = after_told node told

@@ -1,18 +1,21 @@
-//! The initiator: it numbers the commands that are issued, hands them out lowest first and one at a time, and keeps
-//! what became of each (manual topic: message packets, transaction numbers).
+//! The initiator: it numbers the commands that are issued, hands them out lowest first as far as its window and their
+//! sources allow, and keeps what became of each (manual topic: message packets, transaction numbers).
 //!
-//! The place of the command that is out, and the place from which on the commands wait, are kept beside the commands,
-//! so no step looks at all of them. The bytes of bodies and replies are kept in one row, each behind those before, and
-//! with each command room is made for the reply to it.
-ghost use Rattle.std.specs.Prelude.{◌≡◌, ◌+◌, ◌*◌, ◌≤◌, ◌<◌, [], ◌++◌, ◌∷◌, length, All, IfOk, IfErr, OnOk, OnErr, Err, IfSome, MatchOption, is_some, ◌==◌, IfNone, IsSome, IsTrue, if◌then◌else◌, vec_len, vec_capacity};
+//! The places of the commands that are out, and those of the commands that wait, source by source, are kept beside the
+//! commands, so no step looks at all of them; a clearing starts at the first that waits, and so comes to each command
+//! once at most. The bytes of bodies and replies are kept in one row, each behind those before, and with each command
+//! room is made for the reply to it.
+ghost use Rattle.std.specs.Prelude.{◌≡◌, ℕ, ◌+◌, ◌*◌, ◌≤◌, ◌<◌, [], ◌++◌, ◌∷◌, length, All, IfOk, IfErr, OnOk, OnErr, Err, IfSome, MatchOption, is_some, option_and_then, ◌==◌, IfNone, IsSome, IsTrue, if◌then◌else◌, vec_len, vec_capacity, slice_index, slice_get, remove, position, unwrap_or};
 ghost use Rattle.std.specs.Int.{bit_at};
 ghost use Rattle.df1_base.specs.Host.{IsBody};
 ghost use Rattle.pccc_envelope.specs.Envelope.{is_reply, spelling};
-ghost use Rattle.df1_node.specs.Initiator.{InitiatorState, after_give_up, after_hand_out, after_issue, after_reply, all_cleared, all_ticked, answered_place, is_out_at, unanswered_from, issue_fault, next_issued, outcome_of, reply_of, next_command, next_place};
-ghost use Rattle.df1_node.specs.Commands.{is_place, kept_at, open_count};
+ghost use Rattle.df1_node.specs.Initiator.{InitiatorState, after_give_up, after_hand_out, after_issue, after_reply, all_cleared, all_ticked, answered_place, is_out_at, is_waiting, unanswered_from, issue_fault, next_issued, outcome_of, reply_of, next_command, next_place};
+ghost use Rattle.df1_node.specs.Commands.{kept_at, cleared_from, ticked_at};
+ghost use Rattle.df1_node.specs.Queue.{places, out_now};
 
 use crate::issued::{Command, State, is_answered_by};
 use crate::part::append;
+use crate::queue::Queue;
 use crate::{IssueFault, Outcome};
 use arrayvec::ArrayVec;
 use df1_base::{MAX_BODY, MAX_PAYLOAD, REPLY};
@@ -23,17 +26,22 @@ use std::marker::Model;
 /// The most commands of an initiator.
 const MAX_COMMANDS: usize = 65535;
 
+/// The most commands that may be out.
+const MAX_WINDOW: usize = 16;
+
 /// An initiator and its commands, which are numbered from 1.
 #[derive(Drop)]
 pub struct Initiator {
+    alloc: Global,
     node: u8,
     tns: u16,
     reply_ticks: u32,
+    window: usize,
+    per_source: usize,
     /// The bodies and replies, in the order in which they came, with room for those replies that may still come.
     bytes: Vec<u8>,
     issued: Vec<Command>,
-    next: usize,
-    out: Option<usize>,
+    queue: Queue,
 }
 
 impl Model for Initiator {
@@ -43,33 +51,64 @@ impl Model for Initiator {
 
     ghost Value = { InitiatorState };
 
-    ghost view = { λ s. record { node = s.node; tns = s.tns; reply_ticks = s.reply_ticks; issued = all_issued s.bytes.items s.issued.items } };
+    ghost view = { λ s. record { node = s.node; tns = s.tns; reply_ticks = s.reply_ticks; window = s.window; per_source = s.per_source; issued = all_issued s.bytes.items s.issued.items } };
 
-    ghost invariant = { λ s. AreCommands s.bytes.items (vec_capacity s.bytes) s.issued.items s.next s.out };
+    ghost invariant = { λ s. AreCommands s.bytes.items (vec_capacity s.bytes) s.issued.items s.queue s.window };
 }
 
 impl Initiator {
-    /// An initiator of this node, with the TNS of its first command and the ticks, at least 1, that a reply may take.
+    /// An initiator of this node, with the TNS of its first command and the ticks, at least 1, that a reply may take. One
+    /// command at a time is out.
     pub fn new(alloc: Global, node: u8, tns: u16, reply_ticks: u32) -> Initiator
         requires { 1 ≤ reply_ticks }
-        ensures { result ≡ record { node = node; tns = tns; reply_ticks = reply_ticks; issued = [] } }
+        ensures { result ≡ record { node = node; tns = tns; reply_ticks = reply_ticks; window = 1; per_source = 16; issued = [] } }
+    {
+        Initiator::with_window(alloc, node, tns, reply_ticks, 1, MAX_WINDOW)
+    }
+
+    /// The same, where up to `window` commands may be out, and up to `per_source` of one source (SRC): 1 to 16 each.
+    pub fn with_window(
+        alloc: Global,
+        node: u8,
+        tns: u16,
+        reply_ticks: u32,
+        window: usize,
+        per_source: usize,
+    ) -> Initiator
+        requires reply_ticks { 1 ≤ reply_ticks }
+        requires window { (1 ≤ window) × (window ≤ 16) }
+        requires per_source { (1 ≤ per_source) × (per_source ≤ 16) }
+        ensures { result ≡ record { node = node; tns = tns; reply_ticks = reply_ticks; window = window; per_source = per_source; issued = [] } }
     {
         Initiator {
+            alloc,
             node,
             tns,
             reply_ticks,
+            window,
+            per_source,
             bytes: Vec::new(alloc),
             issued: Vec::new(alloc),
-            next: 0,
-            out: None,
+            queue: Queue::new(alloc),
         }
     }
 
-    /// Issues a command to a node. The payload is CMD and what follows TNS. The answer is the command's number, from 1.
-    /// After a refusal nothing has changed.
+    /// Issues a command to a node, in the name of the initiator's own node, as `issue_from` does.
     pub fn issue(&mut self, dst: u8, payload: &[u8]) -> Result<u32, IssueFault>
         ensures number { IfOk result (λ number. number ≡ length self.old.issued + 1) }
-        ensures ok { OnOk result (self.new ≡ after_issue self.old dst payload.now) }
+        ensures ok { OnOk result (self.new ≡ after_issue self.old self.old.node dst payload.now) }
+        ensures fault { MatchOption (issue_fault self.old payload.now) (IfErr result (λ fault. fault ≡ IssueFault.NoMemory)) (λ fault. result ≡ Err fault) }
+        ensures err { OnErr result (self.new ≡ self.old) }
+    {
+        self.issue_from(self.node, dst, payload)
+    }
+
+    /// Issues a command to a node in the name of a source, which is its SRC. The payload is CMD and what follows TNS. The
+    /// answer is the command's number, from 1: all sources share one run of numbers and of TNS. After a refusal nothing has
+    /// changed.
+    pub fn issue_from(&mut self, src: u8, dst: u8, payload: &[u8]) -> Result<u32, IssueFault>
+        ensures number { IfOk result (λ number. number ≡ length self.old.issued + 1) }
+        ensures ok { OnOk result (self.new ≡ after_issue self.old src dst payload.now) }
         ensures fault { MatchOption (issue_fault self.old payload.now) (IfErr result (λ fault. fault ≡ IssueFault.NoMemory)) (λ fault. result ≡ Err fault) }
         ensures err { OnErr result (self.new ≡ self.old) }
     {
@@ -79,18 +118,19 @@ impl Initiator {
         let count = self.issued.len();
         let envelope = Envelope {
             dst,
-            src: self.node,
+            src,
             cmd: payload[0],
             sts: 0,
             tns: self.tns.wrapping_add(count as u16),
         };
-        let others = open_commands(count, self.next, self.out);
-        make_room(&mut self.bytes, &mut self.issued, others)?;
+        make_room(&mut self.bytes, &mut self.issued, self.queue.unsettled)?;
+        self.queue.reserve(self.alloc, src)?;
         let body = append(&mut self.bytes, &command_body(&envelope, &payload[1..]));
         self.issued.push_reserved(Command {
             body,
             state: State::Waiting,
         });
+        self.queue.push(src, count as u32);
         Ok(count as u32 + 1)
     }
 
@@ -115,55 +155,46 @@ impl Initiator {
 
     /// Whether a command is to be handed out.
     pub(crate) fn ready(&self) -> bool
-        ensures ready { result ≡ is_some (next_command self.now.issued) }
+        ensures ready { result ≡ is_some (next_command self.now) }
         ensures bodies { All (λ c. IsBody c.body) self.now.issued }
     {
-        if self.out.is_some() {
-            return false;
-        }
-        self.next < self.issued.len()
+        self.next().is_some()
     }
 
-    /// Hands out the lowest command that waits, where none is out: `into` is replaced by its body, and its place is told.
+    /// Hands out the lowest command that waits and of whose source fewer than `per_source` are out, where fewer than
+    /// `window` are out: `into` is replaced by its body, and its place is told.
     pub(crate) fn hand_out(&mut self, into: &mut ArrayVec<u8, 250>) -> Option<usize>
-        ensures place { result ≡ next_place self.old.issued }
-        ensures ready { is_some result ≡ is_some (next_command self.old.issued) }
-        ensures body { MatchOption (next_command self.old.issued) (into.new.items ≡ into.old.items) (λ body. into.new.items ≡ body) }
-        ensures size { IfSome (next_command self.old.issued) IsBody }
+        ensures place { result ≡ next_place self.old }
+        ensures ready { is_some result ≡ is_some (next_command self.old) }
+        ensures body { MatchOption (next_command self.old) (into.new.items ≡ into.old.items) (λ body. into.new.items ≡ body) }
+        ensures size { IfSome (next_command self.old) IsBody }
         ensures after { self.new ≡ after_hand_out self.old }
     {
-        if self.out.is_some() {
-            return None;
-        }
-        let place = self.next;
-        if place >= self.issued.len() {
-            return None;
-        }
-        let command = &mut self.issued[place];
+        let place = self.next()?;
+        let command = &mut self.issued[place as usize];
+        let source = command.source(&self.bytes);
         into.clear();
         into.try_extend_from_slice(command.body.of(&self.bytes))
             .unwrap();
         command.state = State::Out(self.reply_ticks);
-        self.next = place + 1;
-        self.out = Some(place);
-        Some(place)
+        self.queue.hand_out(source, place);
+        Some(place as usize)
     }
 
-    /// Takes a reply: where it answers the command that is out, that command is answered and its place is told.
+    /// Takes a reply: where it answers a command that is out, that command is answered and its place is told.
     pub(crate) fn take_reply(&mut self, reply: &[u8]) -> Option<usize>
         requires { IsBody reply.now }
         ensures place { result ≡ answered_place self.old.issued reply.now }
         ensures few { IfSome result (λ place. place < 65535) }
         ensures after { self.new ≡ after_reply self.old reply.now }
     {
-        let place = self.out?;
-        if !is_answered_by(self.issued[place].body.of(&self.bytes), reply) {
-            return None;
-        }
-        let part = append(&mut self.bytes, reply);
+        let at = self.answered_index(reply)?;
+        let place = self.queue.out[at] as usize;
         let command = &mut self.issued[place];
+        let source = command.source(&self.bytes);
+        let part = append(&mut self.bytes, reply);
         command.state = State::Answered(part);
-        self.out = None;
+        self.queue.settle(source, at);
         Some(place)
     }
 
@@ -173,30 +204,27 @@ impl Initiator {
         ensures few { IsTrue result → place < 65535 }
         ensures after { self.new ≡ after_give_up self.old place }
     {
-        if !is_at(self.out, place) {
+        let Some(at) = self.queue.index_of(place) else {
             return false;
-        }
+        };
         let command = &mut self.issued[place];
+        let source = command.source(&self.bytes);
         command.state = State::Undelivered;
-        self.out = None;
+        self.queue.settle(source, at);
         true
     }
 
-    /// A tick. `gone` is replaced by the numbers of the commands that are unanswered from this tick on.
+    /// A tick. `gone` is replaced by the numbers, which rise, of the commands that are unanswered from this tick on.
     pub(crate) fn tick(&mut self, gone: &mut ArrayVec<u32, 16>)
         ensures gone { gone.new.items ≡ unanswered_from 1 self.old.issued }
         ensures after { self.new ≡ record self.old { issued = all_ticked self.old.issued } }
     {
-        gone.clear();
-        let Some(place) = self.out else {
-            return;
-        };
-        let command = &mut self.issued[place];
-        let is_last = command.state.is_last_tick();
-        command.state = command.state.ticked();
-        if is_last {
-            self.out = None;
-            gone.push(place as u32 + 1);
+        self.tell_gone(gone);
+        let mut at = 0;
+        while at < self.queue.out.len() {
+            if self.tick_at(at) {
+                at += 1;
+            }
         }
     }
 
@@ -204,11 +232,77 @@ impl Initiator {
     pub(crate) fn clear(&mut self)
         ensures { self.new ≡ record self.old { issued = all_cleared self.old.issued } }
     {
-        while self.next < self.issued.len() {
-            let place = self.next;
-            self.issued[place].state = State::Undelivered;
-            self.next = place + 1;
+        let first = self.first_waiting();
+        clear_from(&mut self.issued, first);
+        self.queue.clear();
+    }
+
+    /// The place of the command that is handed out next.
+    fn next(&self) -> Option<u32>
+        ensures place { result ≡ next_place self.now }
+        ensures bodies { All (λ c. IsBody c.body) self.now.issued }
+    {
+        if self.queue.out.len() >= self.window {
+            return None;
         }
+        self.queue.lowest_due(self.per_source)
+    }
+
+    /// The place of the first command that waits, and the number of commands where none does.
+    fn first_waiting(&self) -> usize
+        ensures { result ≡ unwrap_or (position (λ c. is_waiting c.standing) self.now.issued) (length self.now.issued) }
+    {
+        match self.queue.lowest_due(usize::MAX) {
+            Some(place) => place as usize,
+            None => self.issued.len(),
+        }
+    }
+
+    /// The index, among the commands that are out, of the one that a reply answers.
+    fn answered_index(&self, reply: &[u8]) -> Option<usize>
+        requires { IsBody reply.now }
+        ensures within { IfSome result (λ at. at < length (places out_now self.now.issued)) }
+        ensures place { answered_place self.now.issued reply.now ≡ option_and_then (slice_get (places out_now self.now.issued)) result }
+    {
+        let out = self.queue.out.as_slice();
+        for at in 0..out.len() {
+            let body = self.issued[out[at] as usize].body;
+            if is_answered_by(body.of(&self.bytes), reply) {
+                return Some(at);
+            }
+        }
+        None
+    }
+
+    /// Replaces `gone` by the numbers of the commands that are unanswered from the next tick on.
+    fn tell_gone(&self, gone: &mut ArrayVec<u32, 16>)
+        ensures { gone.new.items ≡ unanswered_from 1 self.now.issued }
+    {
+        gone.clear();
+        let out = self.queue.out.as_slice();
+        for place in out {
+            if self.issued[*place as usize].state.is_last_tick() {
+                gone.push(*place + 1);
+            }
+        }
+    }
+
+    /// A tick for the command at this index among those that are out. The answer is whether it still is.
+    fn tick_at(&mut self, at: usize) -> bool
+        requires { at < length (places out_now self.old.issued) }
+        ensures after { self.new ≡ record self.old { issued = ticked_at (slice_index (places out_now self.old.issued) at) self.old.issued } }
+        ensures out { places out_now self.new.issued ≡ (if result then places out_now self.old.issued else remove (places out_now self.old.issued) at) }
+    {
+        let place = self.queue.out[at] as usize;
+        let command = &mut self.issued[place];
+        let source = command.source(&self.bytes);
+        let is_last = command.state.is_last_tick();
+        command.state = command.state.ticked();
+        if !is_last {
+            return true;
+        }
+        self.queue.settle(source, at);
+        false
     }
 
     /// Why a payload is not issued.
@@ -231,13 +325,13 @@ impl Initiator {
     }
 }
 
-/// Whether the command that is out is at this place.
-fn is_at(out: Option<usize>, place: usize) -> bool
-    ensures { result ≡ is_place out place }
+/// Gives up each command that waits, where none does below this place.
+fn clear_from(issued: &mut [Command], place: usize)
+    requires { place ≤ length issued.old }
+    ensures { issued.new ≡ cleared_from place issued.old }
 {
-    match out {
-        Some(other) => other == place,
-        None => false,
+    for command in &mut issued[place..] {
+        command.state = command.state.cleared();
     }
 }
 
@@ -248,17 +342,6 @@ fn command(issued: &[Command], n: u32) -> Option<Command>
 {
     let place = n.checked_sub(1)?;
     issued.get(place as usize).copied()
-}
-
-/// How many of so many commands may still be answered, where those from `next` on wait and `out` is the place of the one that
-/// is out.
-fn open_commands(count: usize, next: usize, out: Option<usize>) -> usize
-    requires next { next ≤ count }
-    requires few { count < 65535 }
-    ensures { result ≡ open_count count next out }
-{
-    let waiting = count - next;
-    if out.is_some() { waiting + 1 } else { waiting }
 }
 
 /// Makes room for one command more, for its body, and for the replies to it and to so many others.

@@ -1,12 +1,15 @@
 //! A command that was issued, and what becomes of it.
 ghost use Rattle.std.specs.Prelude.{◌≡◌, ◌≤◌, ℕ, List, length};
 ghost use Rattle.df1_base.specs.Host.{IsBody};
-ghost use Rattle.df1_node.specs.Initiator.{is_last_tick, is_reply_to, ticked, told_outcome, told_reply};
-ghost use Rattle.df1_node.specs.Commands.{IsStateKept, standing_of};
+ghost use Rattle.df1_node.specs.Initiator.{is_last_tick, is_reply_to, source_of, ticked, told_outcome, told_reply};
+ghost use Rattle.df1_node.specs.Commands.{IsPart, IsStateKept, cleared_state, issued_of, standing_of};
 
 use crate::Outcome;
 use crate::part::Part;
 use pccc_envelope::{read_envelope, reply_of};
+
+/// The place of SRC in a body.
+const SRC: usize = 1;
 
 /// How a command stands.
 #[derive(Clone, Copy, Debug)]
@@ -43,6 +46,16 @@ impl State {
         }
     }
 
+    /// The state after what waits was given up.
+    pub fn cleared(self) -> State
+        ensures { result ≡ cleared_state self }
+    {
+        match self {
+            State::Waiting => State::Undelivered,
+            State::Out(_) | State::Answered(_) | State::Undelivered | State::Unanswered => self,
+        }
+    }
+
     /// What became of the command.
     pub fn outcome(self) -> Outcome
         ensures { (bytes : List ℕ) → result ≡ told_outcome (standing_of bytes self) }
@@ -74,6 +87,16 @@ impl State {
 pub(crate) struct Command {
     pub body: Part,
     pub state: State,
+}
+
+impl Command {
+    /// Its source: SRC of its body. The bytes are those that are kept.
+    pub fn source(self, bytes: &[u8]) -> u8
+        requires { IsPart bytes.now self.body }
+        ensures { result ≡ source_of (issued_of bytes.now self) }
+    {
+        self.body.of(bytes)[SRC]
+    }
 }
 
 /// Whether a reply is that to the command with this body: the same TNS, CMD with bit 6 set, and SRC and DST changed over.

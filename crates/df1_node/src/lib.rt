@@ -10,6 +10,7 @@ pub mod laws;
 mod node;
 mod outcome;
 mod part;
+mod queue;
 mod station;
 
 pub use data_files::{FileSpec, MakeFault, Tables};

@@ -15,10 +15,13 @@ use pccc_envelope::is_reply;
 use std::alloc::Global;
 use std::marker::Model;
 
+/// The most bytes in the data of a status reply.
+const MAX_BLOCK: usize = 244;
+
 /// How a node is set up.
 #[derive(Clone, Copy, Debug, PartialEq, Eq)]
 pub struct NodeSetup {
-    /// The node's address, which is SRC of its commands.
+    /// The node's address, which is SRC of the commands that are issued in no other name.
     pub node: u8,
     /// TNS of its first command.
     pub tns: u16,
@@ -26,6 +29,10 @@ pub struct NodeSetup {
     pub reply_ticks: u32,
     /// How many replies may wait: 2 to 64.
     pub room: usize,
+    /// How many commands may be out at once: 1 to 16.
+    pub window: usize,
+    /// How many commands of one source (SRC) may be out at once: 1 to 16.
+    pub per_source: usize,
 }
 
 /// A station and an initiator behind one end.
@@ -56,18 +63,26 @@ impl Model for Node {
 }
 
 impl Node {
-    /// A node over a station, with memory for the replies that wait. The data of the station's status reply has at most
-    /// 244 bytes, as every station's has.
+    /// A node over a station, with memory for the replies that wait.
     pub fn new(alloc: Global, setup: NodeSetup, station: Station) -> Result<Node, NoMemory>
         requires room { (2 ≤ setup.room) × (setup.room ≤ 64) }
         requires reply_ticks { 1 ≤ setup.reply_ticks }
-        requires block { length station.block ≤ 244 }
-        ensures { IfOk result (λ node. node ≡ record { room = setup.room; station = station; replies = []; initiator = record { node = setup.node; tns = setup.tns; reply_ticks = setup.reply_ticks; issued = [] }; last = Nothing }) }
+        requires window { (1 ≤ setup.window) × (setup.window ≤ 16) }
+        requires per_source { (1 ≤ setup.per_source) × (setup.per_source ≤ 16) }
+        ensures { IfOk result (λ node. node ≡ record { room = setup.room; station = station; replies = []; initiator = record { node = setup.node; tns = setup.tns; reply_ticks = setup.reply_ticks; window = setup.window; per_source = setup.per_source; issued = [] }; last = Nothing }) }
     {
+        prove!(station.block().len() <= MAX_BLOCK);
         let replies = HeapCircularBuffer::with_capacity(alloc, setup.room)?;
         Ok(Node {
             station,
-            initiator: Initiator::new(alloc, setup.node, setup.tns, setup.reply_ticks),
+            initiator: Initiator::with_window(
+                alloc,
+                setup.node,
+                setup.tns,
+                setup.reply_ticks,
+                setup.window,
+                setup.per_source,
+            ),
             replies,
             last: Handed::Nothing,
         })
@@ -76,11 +91,21 @@ impl Node {
     /// Issues a command to a node, as `Initiator::issue` does.
     pub fn issue(&mut self, dst: u8, payload: &[u8]) -> Result<u32, IssueFault>
         ensures number { IfOk result (λ number. number ≡ length self.old.initiator.issued + 1) }
-        ensures ok { OnOk result (self.new ≡ after_node_issue self.old dst payload.now) }
+        ensures ok { OnOk result (self.new ≡ after_node_issue self.old self.old.initiator.node dst payload.now) }
         ensures fault { MatchOption (issue_fault self.old.initiator payload.now) (IfErr result (λ fault. fault ≡ IssueFault.NoMemory)) (λ fault. result ≡ Err fault) }
         ensures err { OnErr result (self.new ≡ self.old) }
     {
         self.initiator.issue(dst, payload)
+    }
+
+    /// Issues a command to a node in the name of a source, as `Initiator::issue_from` does.
+    pub fn issue_from(&mut self, src: u8, dst: u8, payload: &[u8]) -> Result<u32, IssueFault>
+        ensures number { IfOk result (λ number. number ≡ length self.old.initiator.issued + 1) }
+        ensures ok { OnOk result (self.new ≡ after_node_issue self.old src dst payload.now) }
+        ensures fault { MatchOption (issue_fault self.old.initiator payload.now) (IfErr result (λ fault. fault ≡ IssueFault.NoMemory)) (λ fault. result ≡ Err fault) }
+        ensures err { OnErr result (self.new ≡ self.old) }
+    {
+        self.initiator.issue_from(src, dst, payload)
     }
 
     /// The data tables of the station.

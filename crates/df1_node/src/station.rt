@@ -65,6 +65,14 @@ impl Station {
         &self.tables
     }
 
+    /// The data of its status reply: at most 244 bytes.
+    pub fn block(&self) -> &[u8]
+        ensures block { result.now ≡ self.now.block }
+        ensures size { length result.now ≤ 244 }
+    {
+        &self.block
+    }
+
     /// Sets the word of this index in the file of this number, as `Tables::set` does. False, with nothing changed, exactly
     /// where there is no such file or word.
     pub fn set_word(&mut self, number: u16, index: u32, value: u16) -> bool

@@ -1,5 +1,6 @@
 -- Settings that are given one after another are those that the members give.
-use Rattle.std.proofs.Common.{◌≡◌, ◌∙◌, ℕ, ◌+◌, ◌<◌, List, [], ◌∷◌, length, Option, drop, get_or, refl, sym, ap, add-one, drop-cons}
+use Rattle.std.proofs.Common.{◌≡◌, ◌∙◌, ℕ, ◌+◌, ◌<◌, ◌≤◌, List, [], ◌∷◌, length, Option, drop, get_or, refl, sym, ap, add-one, drop-cons}
+use Rattle.std.proofs.lemmas.List.{drop_all}
 use Rattle.end_settings.specs.declared.key.Key.{Key}
 use Rattle.end_settings.specs.declared.key.Key.TheVariants.{Embed}
 use Rattle.end_settings.specs.Rows.{fitting}
@@ -30,3 +31,9 @@ kept-at members other = refl
 
 pub value_of-with_given : (members : Members) (key : Key) → value_of (with_given members no_settings keys) key ≡ given_at members key
 value_of-with_given members key = kept-at members key ∙ fitting-same (row_of key).values (given_at members key) (given-fits members key)
+
+-- where no keys are left, the settings are those of all
+pub none-left : (members : Members) (given : List (Option ℕ)) (i : ℕ) → length keys ≤ i → with_given members given (drop i keys) ≡ with_given members no_settings keys → (key : Key) → value_of given key ≡ given_at members key
+none-left members given i all is key =
+    let same : given ≡ with_given members no_settings keys = sym (ap (with_given members given) (drop_all i keys all)) ∙ is in
+    ap (λ g. value_of g key) same ∙ value_of-with_given members key

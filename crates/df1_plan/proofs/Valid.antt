@@ -1,5 +1,5 @@
 -- A plan that is told is one that an end can be made of.
-use Rattle.std.proofs.Common.{◌≡◌, ℕ, ◌+◌, ◌≤◌, Bool, true, false, cond, List, [], ◌∷◌, ◌++◌, length, nat_le, nat_lt, ◌&&◌, Option, Some, None, Result, Ok, Err, refl, sym, subst, ◌∙◌, arith, length-append}
+use Rattle.std.proofs.Common.{◌≡◌, ℕ, ◌+◌, ◌≤◌, Bool, true, false, cond, List, [], ◌∷◌, ◌++◌, length, nat_le, nat_lt, Option, Some, None, Result, Ok, Err, refl, sym, subst, ◌∙◌, arith, length-append}
 use Rattle.std.specs.Prelude.{IsTrue, All, codes}
 use Rattle.std.specs.Option.{option_and_then}
 use Rattle.std.proofs.lemmas.Bool.{and_parts}
@@ -14,13 +14,14 @@ use Rattle.script_statement.specs.declared.who.Who.TheVariants.{A}
 use Rattle.script_parts.specs.Playable.{IsPlanOf}
 use Rattle.toml.specs.Data.{Data, Items, no_items, item, Members, as_array, get_member}
 use Rattle.df1_plan.specs.declared.plan.Plan.{Plan}
+use Rattle.df1_plan.specs.declared.plan.PlannedCommand.{PlannedCommand}
 use Rattle.df1_plan.specs.declared.plan_key.PlanKey.TheVariants as key
 use Rattle.df1_plan.specs.declared.fault.PlanFault.{PlanFault}
 use Rattle.df1_plan.specs.declared.fault.PlanFault.TheVariants as fault
 use Rattle.df1_plan.specs.Keys.{has_other, is_known, read_or, told_or}
 use Rattle.df1_plan.specs.Values.{at_most, block_in, hex_in}
 use Rattle.df1_plan.specs.Files.{specs_of}
-use Rattle.df1_plan.specs.Issues.{next_of, next_payload, payloads_after, payloads_in, payloads_of_array}
+use Rattle.df1_plan.specs.Issues.{command_in, commands_after, commands_in, commands_of_array, may_issue, next_command, next_of}
 use Rattle.df1_plan.specs.Plans.{Says, back_causes, compat, compat_refusal, entry_causes, files, first_cause, first_there, front_causes}
 use Rattle.df1_plan.specs.Settings.{given_at}
 use Rattle.df1_plan.proofs.Causes.{compat-first}
@@ -50,41 +51,41 @@ short-told (Some value) block h = short-hex (hex_in value) block (short-read (bl
 
 -- ---- the commands
 
-pub record AreCommands (payloads : List (List ℕ)) : Type 0 where
-  pub each : All (λ payload. IsTrue (is_payload payload)) payloads
-  pub few : length payloads ≤ 65535
+pub record AreCommands (commands : List PlannedCommand) : Type 0 where
+  pub each : All (λ command. IsTrue (is_payload command.payload)) commands
+  pub few : length commands ≤ 65535
 
-next-is-if : (b : Bool) (before : List (List ℕ)) (payload next : List ℕ) → (nat_lt (length before) 65535 && is_payload payload) ≡ b → cond b (Some payload) None ≡ Some next → (length (before ++ next ∷ []) ≤ 65535) × (is_payload next ≡ true)
-next-is-if false before payload next e h = cc
-next-is-if true before payload next e h =
-    let parts = and_parts (nat_lt (length before) 65535) (is_payload payload) e in
-    let same : payload ≡ next = grind (arith, h) in
+next-is-if : (b : Bool) (before : List PlannedCommand) (command next : PlannedCommand) → may_issue before command ≡ b → cond b (Some command) None ≡ Some next → (length (before ++ next ∷ []) ≤ 65535) × (is_payload next.payload ≡ true)
+next-is-if false before command next e h = cc
+next-is-if true before command next e h =
+    let parts = and_parts (nat_lt (length before) 65535) (is_payload command.payload) e in
+    let same : command ≡ next = grind (arith, h) in
     (rw (length-append before (next ∷ [])) (grind (arith, nat_tests, parts.0)), rw (← same) parts.1)
 
-next-is : (before : List (List ℕ)) (o : Option (List ℕ)) (next : List ℕ) → next_of before o ≡ Some next → (length (before ++ next ∷ []) ≤ 65535) × (is_payload next ≡ true)
+next-is : (before : List PlannedCommand) (o : Option PlannedCommand) (next : PlannedCommand) → next_of before o ≡ Some next → (length (before ++ next ∷ []) ≤ 65535) × (is_payload next.payload ≡ true)
 next-is before None next h = cc
-next-is before (Some payload) next h = next-is-if (nat_lt (length before) 65535 && is_payload payload) before payload next refl h
+next-is before (Some command) next h = next-is-if (may_issue before command) before command next refl h
 
-commands-after : (before : List (List ℕ)) (values : Items) (payloads : List (List ℕ)) → AreCommands before → payloads_after before values ≡ Ok payloads → AreCommands payloads
-commands-after before no_items payloads h e = rw (← ok-is (Ok before) before payloads refl e) h
-commands-after before (item value values) payloads h e =
-    elim (next_payload before value) as (λ (o : Option (List ℕ)). next_payload before value ≡ o → ◌≡◌ {A = Result (List (List ℕ)) PlanFault} (elim o [ None ↦ Err (fault.Issue (length before + 1)) | Some payload ↦ payloads_after (before ++ payload ∷ []) values ]) (Ok payloads) → AreCommands payloads) [
+commands-after : (before : List PlannedCommand) (values : Items) (commands : List PlannedCommand) → AreCommands before → commands_after before values ≡ Ok commands → AreCommands commands
+commands-after before no_items commands h e = rw (← ok-is (Ok before) before commands refl e) h
+commands-after before (item value values) commands h e =
+    elim (next_command before value) as (λ (o : Option PlannedCommand). next_command before value ≡ o → ◌≡◌ {A = Result (List PlannedCommand) PlanFault} (elim o [ None ↦ Err (fault.Issue (length before + 1)) | Some command ↦ commands_after (before ++ command ∷ []) values ]) (Ok commands) → AreCommands commands) [
       | None ↦ λ n g. cc
       | Some next ↦ λ n g.
-          let both = next-is before (hex_in value) next n in
-          commands-after (before ++ next ∷ []) values payloads (record { each = All-push (λ payload. IsTrue (is_payload payload)) before next h.each both.1; few = both.0 }) g
+          let both = next-is before (command_in value) next n in
+          commands-after (before ++ next ∷ []) values commands (record { each = All-push (λ command. IsTrue (is_payload command.payload)) before next h.each both.1; few = both.0 }) g
     ] refl e
 
 none-at-first : AreCommands []
 none-at-first = record { each = All-nil _; few = omega arith }
 
-commands-of : (o : Option Items) (payloads : List (List ℕ)) → payloads_of_array o ≡ Ok payloads → AreCommands payloads
-commands-of None payloads e = cc
-commands-of (Some entries) payloads e = commands-after [] entries payloads none-at-first e
+commands-of : (o : Option Items) (commands : List PlannedCommand) → commands_of_array o ≡ Ok commands → AreCommands commands
+commands-of None commands e = cc
+commands-of (Some entries) commands e = commands-after [] entries commands none-at-first e
 
-commands-in : (o : Option Data) (payloads : List (List ℕ)) → payloads_in o ≡ Ok payloads → AreCommands payloads
-commands-in None payloads e = rw (← ok-is (Ok []) [] payloads refl e) none-at-first
-commands-in (Some value) payloads e = commands-of (as_array value) payloads e
+commands-in : (o : Option Data) (commands : List PlannedCommand) → commands_in o ≡ Ok commands → AreCommands commands
+commands-in None commands e = rw (← ok-is (Ok []) [] commands refl e) none-at-first
+commands-in (Some value) commands e = commands-of (as_array value) commands e
 
 -- ---- the compatibility file
 
@@ -114,7 +115,7 @@ fits-none members plan s none =
 
 -- ---- all of it
 
-pub says_valid : (members : Members) (plan : Plan) → first_cause members ≡ None → Says members plan → IsPlanOf A plan.end × All (λ payload. IsTrue (is_payload payload)) plan.issue × (length plan.issue ≤ 65535)
+pub says_valid : (members : Members) (plan : Plan) → first_cause members ≡ None → Says members plan → IsPlanOf A plan.end × All (λ command. IsTrue (is_payload command.payload)) plan.issue × (length plan.issue ≤ 65535)
 says_valid members plan none says =
     let right = planned_right (get_member (codes "file") members) says.planned says.files_are in
     let commands = commands-in (get_member (codes "issue") members) plan.issue says.issue_is in (

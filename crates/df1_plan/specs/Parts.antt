@@ -5,6 +5,7 @@ use Rattle.script_statement.specs.declared.who.Who.TheVariants.{A}
 use Rattle.script_parts.specs.Plans.{plan_with}
 use Rattle.toml.specs.Data.{Members}
 use Rattle.df1_plan.specs.declared.plan.Plan.{Plan}
+use Rattle.df1_plan.specs.declared.plan.PlannedCommand.{PlannedCommand}
 use Rattle.df1_plan.specs.declared.reading.Front.{Front}
 use Rattle.df1_plan.specs.declared.reading.Entries.{Entries}
 use Rattle.df1_plan.specs.declared.files.PlannedFile.{PlannedFile}
@@ -30,10 +31,10 @@ pub record BackSays (members : Members) (address : ℕ) : Type 0 where
   pub none : first_there (back_causes members) ≡ None
 
 -- the plan of these settings and of what the other keys tell
-abbrev pub joined : List (Option ℕ) → Front → List PlannedFile → List (List ℕ) → ℕ → Plan
-joined given front planned payloads peer = record {
+abbrev pub joined : List (Option ℕ) → Front → List PlannedFile → List PlannedCommand → ℕ → Plan
+joined given front planned commands peer = record {
   check = front.check;
   peer = peer;
   end = plan_with A (chosen given 1) front.compat front.block (specs_of planned) (words_of_all planned);
-  issue = payloads;
+  issue = commands;
 }

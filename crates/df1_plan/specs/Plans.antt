@@ -12,6 +12,7 @@ use Rattle.script_parts.specs.Plans.{setting_in}
 use Rattle.toml.specs.Data.{Members, get_member}
 use Rattle.toml.specs.Parse.{parse_document}
 use Rattle.df1_plan.specs.declared.plan.Plan.{Plan}
+use Rattle.df1_plan.specs.declared.plan.PlannedCommand.{PlannedCommand}
 use Rattle.df1_plan.specs.declared.files.PlannedFile.{PlannedFile}
 use Rattle.df1_plan.specs.declared.plan_key.PlanKey.{PlanKey}
 use Rattle.df1_plan.specs.declared.plan_key.PlanKey.TheVariants as key
@@ -21,7 +22,7 @@ use Rattle.df1_plan.specs.Keys.{is_known, has_other, name_of, told}
 use Rattle.df1_plan.specs.Settings.{given_at, refused_before, refused_in, refused_last}
 use Rattle.df1_plan.specs.Values.{integer_in, check_in, block_in}
 use Rattle.df1_plan.specs.Files.{files_in, specs_of, words_of_all}
-use Rattle.df1_plan.specs.Issues.{payloads_in}
+use Rattle.df1_plan.specs.Issues.{commands_in}
 
 -- ---- what stands at each key that is no setting
 
@@ -37,8 +38,8 @@ compat = told key.Compat (λ value. option_map Some (integer_in 0 999 value)) No
 abbrev pub files : Members → Result (List PlannedFile) PlanFault
 files members = files_in (get_member (name_of key.File) members)
 
-abbrev pub issue : Members → Result (List (List ℕ)) PlanFault
-issue members = payloads_in (get_member (name_of key.Issue) members)
+abbrev pub issue : Members → Result (List PlannedCommand) PlanFault
+issue members = commands_in (get_member (name_of key.Issue) members)
 
 abbrev pub peer : Members → Result ℕ PlanFault
 peer = told key.Peer (integer_in 0 255) 0

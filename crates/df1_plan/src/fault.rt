@@ -22,7 +22,7 @@ pub enum PlanFault {
     /// This entry of `file`, counted from 1, is no data file, has the number of an earlier one, or is the 257th.
     #[error("file {0}")]
     File(u32),
-    /// This entry of `issue`, counted from 1, is no payload, or is the 65,536th.
+    /// This entry of `issue`, counted from 1, is no command, or is the 65,536th.
     #[error("issue {0}")]
     Issue(u32),
     /// There is no memory left.

@@ -1,12 +1,15 @@
 //! The commands of a plan.
-ghost use Rattle.std.specs.Prelude.{◌≡◌, ◌≢◌, [], Ok, Err, IfOk, IfErr};
+ghost use Rattle.std.specs.Prelude.{◌≡◌, ◌≢◌, [], Ok, Err, IfOk, IfErr, codes, option_map};
 ghost use Rattle.script_statement.specs.Statements.{is_payload as the_payload_test};
 ghost use Rattle.toml.specs.View.{items_view, table_view, view};
+ghost use Rattle.df1_plan.specs.Keys.{has_other};
 ghost use Rattle.df1_plan.specs.Plans.{issue};
-ghost use Rattle.df1_plan.specs.Issues.{next_payload as the_next, payloads_after};
+ghost use Rattle.df1_plan.specs.Issues.{command_from as the_command_from, command_in as the_command, command_with as the_described, commands_after, is_command_field as the_field, next_command as the_next, own_command as own};
+ghost use Rattle.df1_plan.specs.Files.{field};
+ghost use Rattle.df1_plan.specs.Values.{hex_in as the_bytes, integer_in as the_integer};
 
-use crate::plan::Payloads;
-use crate::values::{hex_in, value_at};
+use crate::plan::{Commands, PlannedCommand};
+use crate::values::{hex_in, integer_in, value_at};
 use crate::{PlanFault, PlanKey};
 use df1_base::{MAX_PAYLOAD, NoMemory, REPLY};
 use script_statement::{Bytes, Items};
@@ -16,44 +19,130 @@ use toml::{Table, Value};
 /// The most commands of an end.
 const COMMANDS: usize = 65_535;
 
-/// The payloads at the key `issue`, or the first entry that is refused.
-pub(crate) fn issue_at(alloc: Global, table: &Table) -> Result<Payloads, PlanFault>
-    ensures ok { IfOk result (λ payloads. issue (table_view table.now) ≡ Ok payloads) }
+/// The commands at the key `issue`, or the first entry that is refused.
+pub(crate) fn issue_at(alloc: Global, table: &Table) -> Result<Commands, PlanFault>
+    ensures ok { IfOk result (λ commands. issue (table_view table.now) ≡ Ok commands) }
     ensures refused { IfErr result (λ e. e ≢ PlanFault.NoMemory → issue (table_view table.now) ≡ Err e) }
 {
     match value_at(table, PlanKey::Issue.name()) {
         None => Ok(Items::new(alloc)),
         Some(value) => match value.as_array() {
-            Some(entries) => payloads_of(alloc, entries.as_slice()),
+            Some(entries) => commands_of(alloc, entries.as_slice()),
             None => Err(PlanFault::Key(PlanKey::Issue)),
         },
     }
 }
 
-/// The payloads of entries, or the first entry that is refused.
-fn payloads_of(alloc: Global, entries: &[Value]) -> Result<Payloads, PlanFault>
-    ensures ok { IfOk result (λ payloads. payloads_after [] (items_view entries.now) ≡ Ok payloads) }
-    ensures refused { IfErr result (λ e. e ≢ PlanFault.NoMemory → payloads_after [] (items_view entries.now) ≡ Err e) }
+/// The commands of entries, or the first entry that is refused.
+fn commands_of(alloc: Global, entries: &[Value]) -> Result<Commands, PlanFault>
+    ensures ok { IfOk result (λ commands. commands_after [] (items_view entries.now) ≡ Ok commands) }
+    ensures refused { IfErr result (λ e. e ≢ PlanFault.NoMemory → commands_after [] (items_view entries.now) ≡ Err e) }
 {
-    let mut payloads = Items::new(alloc);
+    let mut commands = Items::new(alloc);
     for entry in entries {
-        match next_payload(alloc, payloads.as_slice(), entry)? {
-            Some(payload) => payloads.push(payload)?,
-            None => return Err(PlanFault::Issue(payloads.as_slice().len() as u32 + 1)),
+        match next_command(alloc, commands.as_slice(), entry)? {
+            Some(command) => commands.push(command)?,
+            None => return Err(PlanFault::Issue(commands.as_slice().len() as u32 + 1)),
         }
     }
-    Ok(payloads)
+    Ok(commands)
 }
 
-/// The payload of an entry after these.
-fn next_payload(alloc: Global, before: &[Bytes], entry: &Value) -> Result<Option<Bytes>, NoMemory>
-    ensures { IfOk result (λ payload. payload ≡ the_next before.now (view entry.now)) }
+/// The command of an entry after these.
+fn next_command(
+    alloc: Global,
+    before: &[PlannedCommand],
+    entry: &Value,
+) -> Result<Option<PlannedCommand>, NoMemory>
+    ensures { IfOk result (λ command. command ≡ the_next before.now (view entry.now)) }
 {
-    match hex_in(alloc, entry)? {
-        Some(payload) if before.len() < COMMANDS && is_payload(payload.as_slice()) => {
-            Ok(Some(payload))
+    match command_in(alloc, entry)? {
+        Some(command) if before.len() < COMMANDS && is_payload(command.payload.as_slice()) => {
+            Ok(Some(command))
         }
         _ => Ok(None),
+    }
+}
+
+/// The command that an entry describes, by itself.
+#[tactic(auto, using(crate::proofs::Entries::no_table))]
+fn command_in(alloc: Global, entry: &Value) -> Result<Option<PlannedCommand>, NoMemory>
+    ensures { IfOk result (λ command. command ≡ the_command (view entry.now)) }
+{
+    let Some(fields) = entry.as_table() else {
+        return Ok(own_command(hex_in(alloc, entry)?));
+    };
+    if has_other_field(fields) {
+        return Ok(None);
+    }
+    command_with(alloc, fields)
+}
+
+/// A command in its end's own name.
+fn own_command(payload: Option<Bytes>) -> Option<PlannedCommand>
+    ensures { result ≡ option_map own payload }
+{
+    Some(PlannedCommand {
+        src: None,
+        payload: payload?,
+    })
+}
+
+/// The command that the fields describe.
+fn command_with(alloc: Global, fields: &Table) -> Result<Option<PlannedCommand>, NoMemory>
+    ensures { IfOk result (λ command. command ≡ the_described (table_view fields.now)) }
+{
+    let payload = payload_in(alloc, fields)?;
+    Ok(command_from(source_in(fields), payload))
+}
+
+/// A command in the name of a source, where both are there.
+fn command_from(src: Option<u8>, payload: Option<Bytes>) -> Option<PlannedCommand>
+    ensures { result ≡ the_command_from src payload }
+{
+    Some(PlannedCommand {
+        src: Some(src?),
+        payload: payload?,
+    })
+}
+
+/// The source that the fields tell.
+fn source_in(fields: &Table) -> Option<u8>
+    ensures { result ≡ field (the_integer 0 255) (codes "source") (table_view fields.now) }
+{
+    let src = integer_in(value_at(fields, "source")?, 0, 255)?;
+    Some(src as u8)
+}
+
+/// The payload that the fields tell.
+fn payload_in(alloc: Global, fields: &Table) -> Result<Option<Bytes>, NoMemory>
+    ensures { IfOk result (λ payload. payload ≡ field the_bytes (codes "payload") (table_view fields.now)) }
+{
+    match value_at(fields, "payload") {
+        Some(value) => hex_in(alloc, value),
+        None => Ok(None),
+    }
+}
+
+/// Whether a field has a name that is none of a command's.
+fn has_other_field(fields: &Table) -> bool
+    ensures { result ≡ has_other the_field (table_view fields.now) }
+{
+    for name in fields.keys() {
+        if !is_field(name.as_str()) {
+            return true;
+        }
+    }
+    false
+}
+
+/// Whether a name is one of a command's fields.
+fn is_field(name: &str) -> bool
+    ensures { result ≡ the_field name.now }
+{
+    match name {
+        "source" | "payload" => true,
+        _ => false,
     }
 }
 

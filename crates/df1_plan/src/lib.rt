@@ -8,7 +8,7 @@
 //! | `block` | text of hexadecimal pairs, at most 244 bytes | empty |
 //! | `compat` | the number of a bit or integer file of the plan | none |
 //! | `file` | an array of tables with `number`, `type`, `count` and perhaps `words` | none |
-//! | `issue` | an array of texts of hexadecimal pairs, each a payload with its CMD | none |
+//! | `issue` | an array of commands, each the text of hexadecimal pairs of a payload with its CMD, or a table with `source`, 0 to 255, and `payload`, such a text | none |
 //! | a setting | of the keys that a full-duplex end has: a boolean for a switch, an integer for a number | its value at first, at the address 1 |
 //!
 //! A document that TOML refuses is told first, then a key that is none of these, then the first key in the order of
@@ -25,6 +25,6 @@ mod settings;
 mod values;
 
 pub use fault::PlanFault;
-pub use plan::Plan;
+pub use plan::{Commands, Plan, PlannedCommand};
 pub use plan_key::PlanKey;
 pub use reading::read_plan;

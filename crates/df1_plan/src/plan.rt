@@ -4,8 +4,17 @@ use df1_check::Check;
 use script_parts::EndPlan;
 use script_statement::{Bytes, Items};
 
-/// The payloads of commands, each of 1 to 245 bytes with CMD as its first, whose bit 6 is clear.
-pub type Payloads = Items<Bytes>;
+/// The commands of a plan, in order.
+pub type Commands = Items<PlannedCommand>;
+
+/// A command of a plan.
+#[derive(Drop)]
+pub struct PlannedCommand {
+    /// The source in whose name it is issued, or None where that is the end itself.
+    pub src: Option<u8>,
+    /// Its payload of 1 to 245 bytes, with CMD as its first, whose bit 6 is clear.
+    pub payload: Bytes,
+}
 
 /// A plan, read.
 #[derive(Drop)]
@@ -17,5 +26,5 @@ pub struct Plan {
     /// How the end is set up; it has the name a.
     pub end: EndPlan,
     /// The commands that the end issues, in order, at most 65,535.
-    pub issue: Payloads,
+    pub issue: Commands,
 }

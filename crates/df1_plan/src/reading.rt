@@ -13,7 +13,7 @@ ghost use Rattle.df1_plan.specs.Parts.{BackSays, EntriesSay, FrontSays, joined a
 
 use crate::files::{PlannedFile, files_at, specs_of, words_of_all};
 use crate::issue::issue_at;
-use crate::plan::Payloads;
+use crate::plan::Commands;
 use crate::plan_key::{is_other, is_setting};
 use crate::settings::{before, refused_in, settings_of};
 use crate::values::{check_in, hex_in, integer_in, value_at};
@@ -41,13 +41,13 @@ struct Front {
 #[derive(Drop)]
 struct Entries {
     files: Items<PlannedFile>,
-    issue: Payloads,
+    issue: Commands,
 }
 
 /// Reads a plan, or tells the first cause why the document is none.
 pub fn read_plan(alloc: Global, text: &[u8]) -> Result<Plan, PlanFault>
     ensures ok { IfOk result (IsPlanOfText text.now) }
-    ensures valid { IfOk result (λ plan. IsPlanOf A plan.end × All (λ payload. IsTrue (is_payload payload)) plan.issue × (length plan.issue ≤ 65535)) }
+    ensures valid { IfOk result (λ plan. IsPlanOf A plan.end × All (λ command. IsTrue (is_payload command.payload)) plan.issue × (length plan.issue ≤ 65535)) }
     ensures refused { IfErr result (λ e. e ≢ PlanFault.NoMemory → IsRefusedFor text.now e) }
 {
     match toml::table_from_slice(alloc, text) {

@@ -1,15 +1,20 @@
 -- The service of one end: the commands that it issues, and the outcomes that it tells.
-use Rattle.std.specs.Prelude.{ℕ, ◌+◌, List, [], ◌∷◌, ◌++◌, codes, decimal}
+use Rattle.std.specs.Prelude.{ℕ, ◌+◌, List, [], ◌∷◌, ◌++◌, codes, decimal, unwrap_or}
 use Rattle.hex.specs.Hex.{encode_upper}
 use Rattle.df1_node.specs.declared.outcome.Outcome.{Outcome}
 use Rattle.df1_node.specs.declared.outcome.Outcome.TheVariants.{Waiting, Out, Answered, Undelivered, Unanswered}
 use Rattle.df1_node.specs.Initiator.{InitiatorState, Issued, told_outcome, told_reply}
 use Rattle.df1_node.specs.Node.{NodeState, after_node_issue}
+use Rattle.df1_plan.specs.declared.plan.PlannedCommand.{PlannedCommand}
 
--- a node after commands of these payloads were issued to this address, in order
-abbrev pub all_issued : NodeState → ℕ → List (List ℕ) → NodeState
+-- a node after a command of a plan was issued to this address, in the name of its source or else in the node's own
+abbrev pub after_command : NodeState → ℕ → PlannedCommand → NodeState
+after_command node dst command = after_node_issue node (unwrap_or command.src node.initiator.node) dst command.payload
+
+-- a node after these commands were issued to this address, in order
+abbrev pub all_issued : NodeState → ℕ → List PlannedCommand → NodeState
 all_issued node dst [] = node
-all_issued node dst (payload ∷ payloads) = all_issued (after_node_issue node dst payload) dst payloads
+all_issued node dst (command ∷ commands) = all_issued (after_command node dst command) dst commands
 
 -- the line of a command: its number, what became of it, and the reply where one was accepted
 abbrev pub outcome_line : ℕ → Outcome → List ℕ → List ℕ

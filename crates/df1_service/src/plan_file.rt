@@ -22,7 +22,7 @@ pub(crate) fn plan_on<H: Shelf>(
     name: &str,
 ) -> Result<Plan, ServiceFault>
     ensures says { IfOk result (SaysPlan (H.file shelf.old name.now)) }
-    ensures valid { IfOk result (λ plan. IsPlanOf A plan.end × All (λ payload. IsTrue (is_payload payload)) plan.issue × (length plan.issue ≤ 65535)) }
+    ensures valid { IfOk result (λ plan. IsPlanOf A plan.end × All (λ command. IsTrue (is_payload command.payload)) plan.issue × (length plan.issue ≤ 65535)) }
     ensures none { IfErr result (TellsNone (SaysNone (H.file shelf.old name.now))) }
     ensures too_long { IsErrOf result ServiceFault.PlanTooLong → IsLonger (H.file shelf.old name.now) plan_limit }
     ensures failed { IsErrOf result ServiceFault.PlanFailed → Rose (H.faults shelf.old) (H.faults shelf.new) }

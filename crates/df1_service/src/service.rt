@@ -111,7 +111,7 @@ fn end_of<H: Shelf>(
 /// The node of a plan before the first signal.
 fn node_before(alloc: Global, plan: &Plan, issues: bool) -> Result<Node, NoMemory>
     requires end { IsPlanOf A plan.now.end }
-    requires payloads { All (λ payload. IsTrue (is_payload payload)) plan.now.issue }
+    requires payloads { All (λ command. IsTrue (is_payload command.payload)) plan.now.issue }
     requires few { length plan.now.issue ≤ 65535 }
     ensures { IfOk result (λ node. node ≡ outset_node issues plan.now) }
 {

@@ -1,5 +1,5 @@
 -- The unit steps on a full-duplex line between two nodes: what each does to the ends and to the bytes on their way.
-use Rattle.std.specs.Prelude.{ℕ, ◌+◌, List, [], ◌∷◌, ◌++◌, drop, slice_get, Option, Some, None}
+use Rattle.std.specs.Prelude.{ℕ, ◌+◌, List, [], ◌∷◌, ◌++◌, drop, slice_get, unwrap_or, Option, Some, None}
 use Rattle.std.specs.Option.{option_map, option_to_list}
 use Rattle.df1_base.specs.declared.link.Step.{Step}
 use Rattle.duplex_receiver.specs.Receiver.{body_at}
@@ -32,7 +32,7 @@ swapped s = record { a = s.b; b = s.a; deceived = s.deceived }
 
 -- what happens at an end, or to the bytes from it
 pub data Deed : Type 0 where
-  Issue : (dst : ℕ) (payload : List ℕ) → Deed
+  Issue : (src : Option ℕ) (dst : ℕ) (payload : List ℕ) → Deed
   Take : Deed
   Deliver : Deed
   Lose : Deed
@@ -42,9 +42,9 @@ pub data Deed : Type 0 where
 
 -- ---- at the end itself
 
--- a command is issued
-abbrev pub after_issue : LineEndState → ℕ → List ℕ → LineEndState
-after_issue s dst payload = record { end = with_host s.end (after_node_issue s.end.host dst payload); lane = s.lane }
+-- a command is issued in the name of a source, or else in that of the node itself
+abbrev pub after_issue : LineEndState → Option ℕ → ℕ → List ℕ → LineEndState
+after_issue s src dst payload = record { end = with_host s.end (after_node_issue s.end.host (unwrap_or src s.end.host.initiator.node) dst payload); lane = s.lane }
 
 -- the cells that a take puts into the lane: one, or none where the end has nothing to give
 abbrev pub taken : LineEndState → List LaneCell
@@ -70,7 +70,7 @@ after_tick s = record { end = end_after_tick node_host s.end; lane = s.lane }
 
 -- the end at which it happens
 abbrev pub near_after : LineEndState → Deed → LineEndState
-near_after s (Issue dst payload) = after_issue s dst payload
+near_after s (Issue src dst payload) = after_issue s src dst payload
 near_after s Take = after_take s
 near_after s Deliver = after_leaving s
 near_after s Lose = after_leaving s
@@ -82,7 +82,7 @@ near_after s Tick = after_tick s
 
 -- what arrives at the other end
 abbrev pub arriving : LineEndState → Deed → Option LaneCell
-arriving s (Issue dst payload) = None
+arriving s (Issue src dst payload) = None
 arriving s Take = None
 arriving s Deliver = slice_get s.lane 0
 arriving s Lose = None
@@ -141,7 +141,7 @@ arrival_lines who s (Some cell) = cell_lines who s cell
 
 -- the lines that it makes at the end itself
 abbrev pub near_lines : Who → LineEndState → Deed → List Line
-near_lines who s (Issue dst payload) = []
+near_lines who s (Issue src dst payload) = []
 near_lines who s Take = []
 near_lines who s Deliver = []
 near_lines who s Lose = []
@@ -155,7 +155,7 @@ lines_at near far s deed = near_lines near s.a deed ++ arrival_lines far s.b (ar
 
 -- the bytes that an end gives
 abbrev pub given_at : LineEndState → Deed → List ℕ
-given_at s (Issue dst payload) = []
+given_at s (Issue src dst payload) = []
 given_at s Take = option_to_list (byte_taken s)
 given_at s Deliver = []
 given_at s Lose = []

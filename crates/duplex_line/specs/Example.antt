@@ -1,5 +1,5 @@
 -- A script whose run deceives no end: a command is issued, crosses the line, is executed and answered.
-use Rattle.std.specs.Prelude.{ℕ, false, List, [], ◌∷◌}
+use Rattle.std.specs.Prelude.{ℕ, false, List, [], ◌∷◌, None}
 use Rattle.df1_base.specs.declared.file_type.FileType.TheVariants.{Integer}
 use Rattle.df1_check.specs.declared.Check.TheVariants.{Bcc}
 use Rattle.script_statement.specs.declared.who.Who.TheVariants.{A, B}
@@ -14,7 +14,7 @@ one_write = record {
   check = Bcc;
   ends = first_plan A 0 ∷ record (first_plan B 1) { files = record { number = 7; kind = Integer; count = 16 } ∷ [] } ∷ [];
   events =
-      Issue A 1 (0x0F ∷ 0xAA ∷ 0x02 ∷ 0x07 ∷ 0x89 ∷ 0x00 ∷ 0x00 ∷ 0x34 ∷ 0x12 ∷ [])
+      Issue A None 1 (0x0F ∷ 0xAA ∷ 0x02 ∷ 0x07 ∷ 0x89 ∷ 0x00 ∷ 0x00 ∷ 0x34 ∷ 0x12 ∷ [])
       ∷ Take A 19 ∷ Deliver (record { from = A; to = B }) 19
       ∷ Take B 15 ∷ Deliver (record { from = B; to = A }) 15
       ∷ Take A 2 ∷ Deliver (record { from = A; to = B }) 2

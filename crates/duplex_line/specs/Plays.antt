@@ -36,7 +36,7 @@ issued_by side = length side.end.host.initiator.issued
 
 -- a command is not the 65,536th of its end
 abbrev pub IsUnspent : LineEndState → Event → Type 0
-IsUnspent side (event.Issue who dst payload) = issued_by side < 65535
+IsUnspent side (event.Issue who src dst payload) = issued_by side < 65535
 IsUnspent side (event.Take who n) = Unit {0}
 IsUnspent side (event.Deliver lane n) = Unit {0}
 IsUnspent side (event.Lose lane n) = Unit {0}
@@ -52,7 +52,7 @@ pub record IsNext (p : Played) (e : Event) : Type 0 where
 
 -- an event that takes bytes away or changes one: it takes no memory
 abbrev pub takes_no_memory : Event → Bool
-takes_no_memory (event.Issue who dst payload) = false
+takes_no_memory (event.Issue who src dst payload) = false
 takes_no_memory (event.Take who n) = false
 takes_no_memory (event.Deliver lane n) = false
 takes_no_memory (event.Lose lane n) = true

@@ -1,5 +1,5 @@
 -- Runs that nothing disturbs: no byte is lost, altered or foreign, and few ticks come between two states in which nothing is under way.
-use Rattle.std.specs.Prelude.{◌≡◌, ℕ, ◌+◌, ◌<◌, Bool, ◌&&◌, List, [], ◌∷◌, slice_get, is_none, min, None, IsTrue, if◌then◌else◌}
+use Rattle.std.specs.Prelude.{◌≡◌, ℕ, ◌+◌, ◌<◌, ◌≤◌, Bool, ◌&&◌, List, [], ◌∷◌, slice_get, is_none, min, None, IsTrue, if◌then◌else◌}
 use Rattle.duplex_end.specs.End.{out_at_take}
 use Rattle.script_statement.specs.declared.who.Who.{Who}
 use Rattle.script_statement.specs.declared.who.Who.TheVariants.{A, B, M, S}
@@ -7,7 +7,7 @@ use Rattle.script_parts.specs.declared.script.Event.{Event}
 use Rattle.script_parts.specs.declared.script.Script.{Script}
 use Rattle.each_once.specs.NodeHost.{node_host}
 use Rattle.duplex_line.specs.Acts.{LineEndState, LineState, Deed, Issue, Take, Deliver, Lose, Alter, Foreign, Tick, after_deed}
-use Rattle.duplex_line.specs.Run.{start, who_of, deeds_of, seen_from, after_event, last_state}
+use Rattle.duplex_line.specs.Run.{start, plan_of_a, plan_of_b, who_of, deeds_of, seen_from, after_event, last_state}
 
 -- an end gives nothing, and nothing of it is on its way
 abbrev pub is_idle : LineEndState → Bool
@@ -33,7 +33,7 @@ late_seen M late = late
 late_seen (S station) late = late
 
 abbrev pub ticks_of : Deed → ℕ
-ticks_of (Issue dst payload) = 0
+ticks_of (Issue src dst payload) = 0
 ticks_of Take = 0
 ticks_of Deliver = 0
 ticks_of Lose = 0
@@ -57,7 +57,7 @@ AreFew late s = (late.a < patience s.a) × (late.b < patience s.b)
 
 -- a step loses, alters and adds no byte
 abbrev pub IsGentle : LineEndState → Deed → Type 0
-IsGentle side (Issue dst payload) = Unit {0}
+IsGentle side (Issue src dst payload) = Unit {0}
 IsGentle side Take = Unit {0}
 IsGentle side Deliver = Unit {0}
 IsGentle side Lose = slice_get side.lane 0 ≡ None
@@ -90,3 +90,8 @@ IsPrompt script = IsPromptAfter none_late (start script) script.events
 -- a run that ends with nothing under way
 abbrev pub EndsQuiet : Script → Type 0
 EndsQuiet script = IsTrue (is_quiet (last_state script))
+
+-- each end has room for as many replies as the other may have commands out
+pub record HasRooms (script : Script) : Type 0 where
+  pub of_a : (plan_of_b script).window ≤ (plan_of_a script).room
+  pub of_b : (plan_of_a script).window ≤ (plan_of_b script).room

@@ -41,7 +41,7 @@ start script = record {
 
 -- the end at which an event happens, or from which its bytes come
 abbrev pub who_of : Event → Who
-who_of (event.Issue who dst payload) = who
+who_of (event.Issue who src dst payload) = who
 who_of (event.Take who n) = who
 who_of (event.Deliver lane n) = lane.from
 who_of (event.Lose lane n) = lane.from
@@ -51,7 +51,7 @@ who_of (event.Tick who n) = who
 
 -- the unit steps of an event
 abbrev pub deeds_of : Event → List Deed
-deeds_of (event.Issue who dst payload) = Issue dst payload ∷ []
+deeds_of (event.Issue who src dst payload) = Issue src dst payload ∷ []
 deeds_of (event.Take who n) = replicate n Take
 deeds_of (event.Deliver lane n) = replicate n Deliver
 deeds_of (event.Lose lane n) = replicate n Lose

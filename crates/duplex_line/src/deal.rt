@@ -53,7 +53,12 @@ pub(crate) fn deal(
     ensures calm { IsTrue (takes_no_memory event.now) → IsOk result }
 {
     match event {
-        Event::Issue { dst, payload, .. } => near.issue(*dst, payload.as_slice()),
+        Event::Issue {
+            src,
+            dst,
+            payload,
+            ..
+        } => near.issue(*src, *dst, payload.as_slice()),
         Event::Take { n, .. } => {
             sent.settle(alloc, &mut reported.lines)?;
             give(alloc, who, near, *n, sent)

@@ -9,7 +9,7 @@ ghost use Rattle.duplex_line.specs.Arrivals.{arrivals_in};
 ghost use Rattle.duplex_line.specs.Issues.{commands_of_a, commands_of_b, issued_of, bodies_of};
 ghost use Rattle.duplex_line.specs.Run.{start, last_state, lines_after, record_of};
 ghost use Rattle.duplex_line.specs.Once.{EachOnce};
-ghost use Rattle.duplex_line.specs.Prompt.{IsPrompt, EndsQuiet};
+ghost use Rattle.duplex_line.specs.Prompt.{IsPrompt, EndsQuiet, HasRooms};
 ghost use Rattle.duplex_line.specs.Complete.{IsComplete};
 ghost use Rattle.each_once.specs.Tells.{executed_in, answers_in};
 ghost use Rattle.duplex_line.specs.Example.{one_write, the_command, the_reply};
@@ -32,19 +32,21 @@ pub fn outcomes_are_told()
 {}
 
 /// A law: in a run that deceives no end, whatever is lost, altered, foreign or late, each end's station executes commands
-/// that were issued to it, in their order, each once; its words are what these made of the first ones; and each reply
-/// that the other end accepts is what the station answered to that very command (manual topic: full-duplex protocol).
+/// that were issued to it, each once, those of each source in their order; its words are what these made of the first ones;
+/// and each reply that the other end accepts is what the station answered to that very command (manual topic: full-duplex
+/// protocol).
 #[tactic(auto, unfolding(crate::specs::Run::record_of))]
 pub fn each_command_once()
     ensures { (script : Script) → IsPlayable script → (record_of script).deceived ≡ 0 → EachOnce script (record_of script) }
 {}
 
-/// A law: in a run that loses, alters and adds no byte, in which few ticks come while something is under way, and which
-/// ends with nothing under way, no end is deceived, and all commands of both ends are executed, in their order, and
-/// answered, in theirs, each by its own reply (manual topic: full-duplex protocol).
+/// A law: in a run that loses, alters and adds no byte, in which few ticks come while something is under way, whose ends
+/// have room for as many replies as the other may have commands out, and which ends with nothing under way, no end is
+/// deceived, and all commands of both ends are executed, each once, those of each source in their order, and answered, each
+/// by its own reply (manual topic: full-duplex protocol).
 #[tactic(auto, unfolding(crate::specs::Run::record_of))]
 pub fn an_undisturbed_run_is_complete()
-    ensures { (script : Script) → IsPlayable script → IsPrompt script → EndsQuiet script → IsComplete script (record_of script) }
+    ensures { (script : Script) → IsPlayable script → HasRooms script → IsPrompt script → EndsQuiet script → IsComplete script (record_of script) }
 {}
 
 /// A law: the premises of `each_command_once` and of `an_undisturbed_run_is_complete` are met, and their conclusions aren't
@@ -52,6 +54,7 @@ pub fn an_undisturbed_run_is_complete()
 #[tactic(auto, unfolding(crate::specs::Run::record_of))]
 pub fn one_write_is_executed_and_answered()
     ensures playable { IsPlayable one_write }
+    ensures rooms { HasRooms one_write }
     ensures prompt { IsPrompt one_write }
     ensures quiet { EndsQuiet one_write }
     ensures honest { (record_of one_write).deceived ≡ 0 }

@@ -53,13 +53,18 @@ impl LineEnd {
         }
     }
 
-    /// Issues a command. The payload has 1 to 245 bytes, bit 6 of its CMD is clear, and the end has issued fewer than
-    /// 65,535 commands.
-    pub fn issue(&mut self, dst: u8, payload: &[u8]) -> Result<(), NoMemory>
+    /// Issues a command in the name of the source `src`, or else of the node itself. The payload has 1 to 245 bytes, bit 6 of
+    /// its CMD is clear, and the end has issued fewer than 65,535 commands.
+    pub fn issue(&mut self, src: Option<u8>, dst: u8, payload: &[u8]) -> Result<(), NoMemory>
         requires { issue_fault self.old.end.host.initiator payload.now ≡ None }
-        ensures { OnOk result (self.new ≡ after_issue self.old dst payload.now) }
+        ensures { OnOk result (self.new ≡ after_issue self.old src dst payload.now) }
     {
-        match self.end.host_mut().issue(dst, payload) {
+        let node = self.end.host_mut();
+        let issued = match src {
+            Some(src) => node.issue_from(src, dst, payload),
+            None => node.issue(dst, payload),
+        };
+        match issued {
             Ok(_) => Ok(()),
             Err(IssueFault::NoMemory) => Err(NoMemory),
             Err(_) => unreachable!(),

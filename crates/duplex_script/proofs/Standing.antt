@@ -16,7 +16,7 @@ use Rattle.script_statement.specs.declared.statement.Verb.{Verb}
 use Rattle.script_statement.specs.declared.statement.Verb.TheVariants.{Take, Tick, Deliver, Lose}
 use Rattle.script_statement.specs.declared.statement.Statement.{Statement}
 use Rattle.script_statement.specs.declared.statement.Statement.TheVariants as statement
-use Rattle.script_statement.specs.declared.statement.Statement.TheVariants.{Mode, Check, Setup, Issue, Times, Alter, Foreign, Half, End}
+use Rattle.script_statement.specs.declared.statement.Statement.TheVariants.{Mode, Check, Setup, Issue, IssueFrom, Times, Alter, Foreign, Half, End}
 use Rattle.end_drafts.specs.declared.flaw.Flaw.{Flaw}
 use Rattle.end_drafts.specs.declared.flaw.Flaw.TheVariants as flaw
 use Rattle.end_settings.specs.declared.row.Role.TheVariants.{Duplex}
@@ -126,25 +126,25 @@ joined B = refl
 spends : (left count : ℕ) → count + left ≡ 65535 → eqb left 0 ≡ false → count + 1 + (left - 1) ≡ 65535
 spends left count sum some = let more : 0 < left = grind (arith, nat_tests) in omega arith
 
-issued_by_a : (d : DuplexReader) (events : List Event) (dst : ℕ) (payload : List ℕ) → Stands d events → IsTrue (is_payload payload) → eqb d.a.commands_left 0 ≡ false → nat_lt d.events_left 1 ≡ false → Stands (record d { stage = Events; events_left = d.events_left - 1; a = record d.a { commands_left = d.a.commands_left - 1 } }) (events ++ event.Issue who.A dst payload ∷ [])
-issued_by_a d events dst payload h ok some few = record {
+issued_by_a : (d : DuplexReader) (events : List Event) (src : Option ℕ) (dst : ℕ) (payload : List ℕ) → Stands d events → IsTrue (is_payload payload) → eqb d.a.commands_left 0 ≡ false → nat_lt d.events_left 1 ≡ false → Stands (record d { stage = Events; events_left = d.events_left - 1; a = record d.a { commands_left = d.a.commands_left - 1 } }) (events ++ event.Issue who.A src dst payload ∷ [])
+issued_by_a d events src dst payload h ok some few = record {
   a = right_with_commands d.a (d.a.commands_left - 1) h.a;
   b = h.b;
-  possible = All-push IsPossible events (event.Issue who.A dst payload) h.possible (refl, ok);
-  commands_of_a = rw (counts (λ y. cond (issues who.A y) 1 0) events (event.Issue who.A dst payload)) (spends d.a.commands_left _ h.commands_of_a some);
-  commands_of_b = rw (counts (λ y. cond (issues who.B y) 1 0) events (event.Issue who.A dst payload)) (let sum = h.commands_of_b in omega arith);
-  sum = rw (counts count_of events (event.Issue who.A dst payload)) (let sum = h.sum in let fits : 1 ≤ d.events_left = grind (arith, nat_tests) in omega arith);
+  possible = All-push IsPossible events (event.Issue who.A src dst payload) h.possible (refl, ok);
+  commands_of_a = rw (counts (λ y. cond (issues who.A y) 1 0) events (event.Issue who.A src dst payload)) (spends d.a.commands_left _ h.commands_of_a some);
+  commands_of_b = rw (counts (λ y. cond (issues who.B y) 1 0) events (event.Issue who.A src dst payload)) (let sum = h.commands_of_b in omega arith);
+  sum = rw (counts count_of events (event.Issue who.A src dst payload)) (let sum = h.sum in let fits : 1 ≤ d.events_left = grind (arith, nat_tests) in omega arith);
   begun = inr refl;
 }
 
-issued_by_b : (d : DuplexReader) (events : List Event) (dst : ℕ) (payload : List ℕ) → Stands d events → IsTrue (is_payload payload) → eqb d.b.commands_left 0 ≡ false → nat_lt d.events_left 1 ≡ false → Stands (record d { stage = Events; events_left = d.events_left - 1; b = record d.b { commands_left = d.b.commands_left - 1 } }) (events ++ event.Issue who.B dst payload ∷ [])
-issued_by_b d events dst payload h ok some few = record {
+issued_by_b : (d : DuplexReader) (events : List Event) (src : Option ℕ) (dst : ℕ) (payload : List ℕ) → Stands d events → IsTrue (is_payload payload) → eqb d.b.commands_left 0 ≡ false → nat_lt d.events_left 1 ≡ false → Stands (record d { stage = Events; events_left = d.events_left - 1; b = record d.b { commands_left = d.b.commands_left - 1 } }) (events ++ event.Issue who.B src dst payload ∷ [])
+issued_by_b d events src dst payload h ok some few = record {
   a = h.a;
   b = right_with_commands d.b (d.b.commands_left - 1) h.b;
-  possible = All-push IsPossible events (event.Issue who.B dst payload) h.possible (refl, ok);
-  commands_of_a = rw (counts (λ y. cond (issues who.A y) 1 0) events (event.Issue who.B dst payload)) (let sum = h.commands_of_a in omega arith);
-  commands_of_b = rw (counts (λ y. cond (issues who.B y) 1 0) events (event.Issue who.B dst payload)) (spends d.b.commands_left _ h.commands_of_b some);
-  sum = rw (counts count_of events (event.Issue who.B dst payload)) (let sum = h.sum in let fits : 1 ≤ d.events_left = grind (arith, nat_tests) in omega arith);
+  possible = All-push IsPossible events (event.Issue who.B src dst payload) h.possible (refl, ok);
+  commands_of_a = rw (counts (λ y. cond (issues who.A y) 1 0) events (event.Issue who.B src dst payload)) (let sum = h.commands_of_a in omega arith);
+  commands_of_b = rw (counts (λ y. cond (issues who.B y) 1 0) events (event.Issue who.B src dst payload)) (spends d.b.commands_left _ h.commands_of_b some);
+  sum = rw (counts count_of events (event.Issue who.B src dst payload)) (let sum = h.sum in let fits : 1 ≤ d.events_left = grind (arith, nat_tests) in omega arith);
   begun = inr refl;
 }
 
@@ -167,8 +167,12 @@ next d events (Setup (Known B) line) h sound none =
     let right = right_with_line who.B Duplex d.b line h.b sound none.missing none.in_range none.new in
     quiet d (settled (counted d (Setup (Known B) line)) (Setup (Known B) line)) events h h.a right refl (same_commands who.B d.b line) refl refl
 next d events (Issue side None) h sound none = let no : true ≡ false = none.in_range in cc
-next d events (Issue A (Some payload)) h sound none = issued_by_a d events _ payload h sound none.unspent none.few
-next d events (Issue B (Some payload)) h sound none = issued_by_b d events _ payload h sound none.unspent none.few
+next d events (Issue A (Some payload)) h sound none = issued_by_a d events None _ payload h sound none.unspent none.few
+next d events (Issue B (Some payload)) h sound none = issued_by_b d events None _ payload h sound none.unspent none.few
+next d events (IssueFrom side None payload) h sound none = let no : true ≡ false = none.in_range in cc
+next d events (IssueFrom side (Some src) None) h sound none = let no : true ≡ false = none.in_range in cc
+next d events (IssueFrom A (Some src) (Some payload)) h sound none = issued_by_a d events (Some src) _ payload h sound none.unspent none.few
+next d events (IssueFrom B (Some src) (Some payload)) h sound none = issued_by_b d events (Some src) _ payload h sound none.unspent none.few
 next d events (Times side verb None) h sound none = let no : true ≡ false = none.in_range in cc
 next d events (Times side verb (Some n)) h sound none =
     let same : count_of (times_event side verb n) ≡ n = times_count side verb n in

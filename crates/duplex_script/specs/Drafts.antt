@@ -1,5 +1,5 @@
 -- What the lines of a full-duplex script so far say, what is wrong with a statement that follows them, and what it changes.
-use Rattle.std.specs.Prelude.{ℕ, ◌-◌, Bool, true, false, List, [], ◌∷◌, length, Option, None, Some, is_none, is_some, not, Result, unwrap_or, nat_lt, ◌==◌}
+use Rattle.std.specs.Prelude.{ℕ, ◌-◌, Bool, true, false, List, [], ◌∷◌, length, Option, None, Some, is_none, is_some, not, Result, unwrap_or, nat_lt, ◌==◌, ◌||◌}
 use Rattle.end_drafts.specs.declared.end_draft.EndDraft.{EndDraft}
 use Rattle.end_drafts.specs.declared.flaw.Flaw.{Flaw}
 use Rattle.end_drafts.specs.declared.flaw.Flaw.TheVariants as flaw
@@ -23,7 +23,7 @@ use Rattle.script_statement.specs.declared.statement.EndName.TheVariants.{Known}
 use Rattle.script_statement.specs.declared.statement.Verb.{Verb}
 use Rattle.script_statement.specs.declared.statement.Verb.TheVariants.{Take, Tick, Deliver, Lose}
 use Rattle.script_statement.specs.declared.statement.Statement.{Statement}
-use Rattle.script_statement.specs.declared.statement.Statement.TheVariants.{Mode, Check, Station, Setup, Issue, Times, Alter, Foreign, Half}
+use Rattle.script_statement.specs.declared.statement.Statement.TheVariants.{Mode, Check, Station, Setup, Issue, IssueFrom, Times, Alter, Foreign, Half}
 use Rattle.duplex_script.specs.declared.reader.DuplexReader.{DuplexReader}
 use Rattle.script_statement.specs.Statements.{who_of, other_end}
 
@@ -63,6 +63,7 @@ abbrev pub is_out_of_range : DuplexReader → Statement → Bool
 is_out_of_range d (Check check) = is_none check
 is_out_of_range d (Setup (Known side) line) = exceeds (end_at d side) line
 is_out_of_range d (Issue side payload) = is_none payload
+is_out_of_range d (IssueFrom side src payload) = is_none src || is_none payload
 is_out_of_range d (Times side verb n) = is_none n
 is_out_of_range d (Alter side mask) = is_none mask
 is_out_of_range d (Foreign side bytes) = is_none bytes
@@ -77,11 +78,13 @@ is_twice d statement = false
 -- it is a command of an end that may issue no more
 abbrev pub is_spent : DuplexReader → Statement → Bool
 is_spent d (Issue side payload) = (end_at d side).commands_left == 0
+is_spent d (IssueFrom side src payload) = (end_at d side).commands_left == 0
 is_spent d statement = false
 
 -- how many events a statement counts
 abbrev pub steps_of : Statement → ℕ
 steps_of (Issue side payload) = 1
+steps_of (IssueFrom side src payload) = 1
 steps_of (Times side verb (Some n)) = n
 steps_of (Alter side mask) = 1
 steps_of (Foreign side (Some bytes)) = length bytes
@@ -114,12 +117,17 @@ abbrev pub settled : DuplexReader → Statement → DuplexReader
 settled d (Check (Some check)) = record d { check = Some check }
 settled d (Setup (Known side) line) = with_end d side (with_line (who_of side) (end_at d side) line)
 settled d (Issue side payload) = with_end d side (record (end_at d side) { commands_left = (end_at d side).commands_left - 1 })
+settled d (IssueFrom side src payload) = with_end d side (record (end_at d side) { commands_left = (end_at d side).commands_left - 1 })
 settled d statement = d
 
 -- the address of an end
 abbrev pub address_of : DuplexReader → EndLetter → ℕ
 address_of d A = node_of d.a 0
 address_of d B = node_of d.b 1
+
+-- the event that issues a command at an end, for the other one, in the name of a source or else in its own
+abbrev pub command : DuplexReader → EndLetter → Option ℕ → List ℕ → Event
+command d side src payload = event.Issue (who_of side) src (address_of d (other_end side)) payload
 
 -- the queue of an end
 abbrev pub lane_from : EndLetter → Lane
@@ -137,7 +145,8 @@ word_given side file index value = Setup (Known side) (Word (Some file) index va
 
 -- the event that a statement is
 abbrev pub event_of : DuplexReader → Statement → Option Event
-event_of d (Issue side (Some payload)) = Some (event.Issue (who_of side) (address_of d (other_end side)) payload)
+event_of d (Issue side (Some payload)) = Some (command d side None payload)
+event_of d (IssueFrom side (Some src) (Some payload)) = Some (command d side (Some src) payload)
 event_of d (Times side verb (Some n)) = Some (times_event side verb n)
 event_of d (Alter side (Some mask)) = Some (event.Alter (lane_from side) mask)
 event_of d (Foreign side (Some bytes)) = Some (event.Foreign (lane_from side) bytes)

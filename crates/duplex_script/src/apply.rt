@@ -2,7 +2,7 @@
 ghost use Rattle.std.specs.Prelude.{◌≡◌, IfOk, MatchResult, OnOk, Ok, Err, None, Some, true, false};
 ghost use Rattle.end_drafts.specs.declared.flaw.Flaw.{Flaw as TheFlaw};
 ghost use Rattle.end_drafts.specs.Flaws.{IsFlawed};
-ghost use Rattle.duplex_script.specs.Drafts.{after_statement, with_statement as the_draft, settled, sets_up as the_setup_test, event_of as the_event, address_of as the_address, lane_from, times_event as the_times, word_given};
+ghost use Rattle.duplex_script.specs.Drafts.{after_statement, with_statement as the_draft, settled, sets_up as the_setup_test, event_of as the_event, address_of as the_address, command as the_command, lane_from, times_event as the_times, word_given};
 ghost use Rattle.script_statement.specs.declared.statement.EndLetter.{EndLetter as End};
 ghost use Rattle.script_statement.specs.declared.statement.Verb.{Verb as Happening};
 
@@ -90,7 +90,7 @@ impl DuplexReader {
         self.stage = Stage::Events;
         self.events_left -= 1;
         self.count_command(side);
-        Ok(self.command(side, payload))
+        Ok(self.command(side, None, payload))
     }
 
     /// Takes a statement that is a line of an end.
@@ -123,7 +123,9 @@ impl DuplexReader {
     {
         match statement {
             Statement::Check(Some(check)) => self.check = Some(*check),
-            Statement::Issue { side, .. } => self.count_command(*side),
+            Statement::Issue { side, .. } | Statement::IssueFrom { side, .. } => {
+                self.count_command(*side)
+            }
             _ => {}
         }
     }
@@ -146,7 +148,8 @@ impl DuplexReader {
             Statement::Issue {
                 side,
                 payload: Some(payload),
-            } => Some(self.command(side, payload)),
+            } => Some(self.command(side, None, payload)),
+            Statement::IssueFrom { side, src, payload } => self.command_from(side, src, payload),
             Statement::Times {
                 side,
                 verb,
@@ -170,15 +173,28 @@ impl DuplexReader {
         }
     }
 
-    /// The event that issues a command at an end, for the other one.
-    fn command(&self, side: EndLetter, payload: Bytes) -> Event
-        ensures { Some result ≡ the_event self.now (Statement.Issue side (Some payload)) }
+    /// The event that issues a command at an end, for the other one, in the name of a source or else in its own.
+    fn command(&self, side: EndLetter, src: Option<u8>, payload: Bytes) -> Event
+        ensures { result ≡ the_command self.now side src payload }
     {
         Event::Issue {
             who: side.who(),
+            src,
             dst: self.address_of(side.other()),
             payload,
         }
+    }
+
+    /// The event that issues a command at an end in the name of a source, where its source and its payload are there.
+    fn command_from(
+        &self,
+        side: EndLetter,
+        src: Option<u8>,
+        payload: Option<Bytes>,
+    ) -> Option<Event>
+        ensures { result ≡ the_event self.now (Statement.IssueFrom side src payload) }
+    {
+        Some(self.command(side, Some(src?), payload?))
     }
 
     /// The address of an end.

@@ -55,6 +55,7 @@ impl DuplexReader {
                 line,
             } => self.end(*side).exceeds(line),
             Statement::Issue { payload, .. } => payload.is_none(),
+            Statement::IssueFrom { src, payload, .. } => src.is_none() || payload.is_none(),
             Statement::Times { n, .. } => n.is_none(),
             Statement::Alter { mask, .. } => mask.is_none(),
             Statement::Foreign { bytes, .. } => bytes.is_none(),
@@ -81,7 +82,9 @@ impl DuplexReader {
         ensures { result ≡ the_spent self.now statement.now }
     {
         match statement {
-            Statement::Issue { side, .. } => self.end(*side).commands_left == 0,
+            Statement::Issue { side, .. } | Statement::IssueFrom { side, .. } => {
+                self.end(*side).commands_left == 0
+            }
             _ => false,
         }
     }
@@ -104,7 +107,7 @@ pub(crate) fn steps_of(statement: &Statement) -> usize
     ensures { result ≡ the_steps statement.now }
 {
     match statement {
-        Statement::Issue { .. } | Statement::Alter { .. } => 1,
+        Statement::Issue { .. } | Statement::IssueFrom { .. } | Statement::Alter { .. } => 1,
         Statement::Times { n: Some(n), .. } => *n as usize,
         Statement::Foreign {
             bytes: Some(bytes),

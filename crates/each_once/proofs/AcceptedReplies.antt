@@ -9,7 +9,7 @@ use Rattle.std.proofs.lemmas.Option.{slice_get-map, slice_get_within}
 use Rattle.pccc_envelope.specs.declared.key.Key.{Key}
 use Rattle.pccc_envelope.specs.Envelope.{is_reply, tns_of}
 use Rattle.df1_node.specs.Answer.{StationState}
-use Rattle.df1_node.specs.Initiator.{Issued, Standing, Waiting, Out, Answered, Undelivered, Unanswered, is_waiting, is_out, is_reply_to, answered_place}
+use Rattle.df1_node.specs.Initiator.{Issued, Standing, Waiting, Out, Answered, Undelivered, Unanswered, InitiatorState, is_waiting, is_out, is_reply_to, answered_place}
 use Rattle.df1_node.specs.Node.{NodeState}
 use Rattle.each_once.specs.Exchanges.{exchanges}
 use Rattle.each_once.specs.Commands.{command_at}
@@ -17,7 +17,8 @@ use Rattle.each_once.proofs.KeptCommands.{is_given_up, IsReplyOf, IsOfLost}
 use Rattle.each_once.proofs.Sublists.{Has, IsWithin, within-filter, within-has, within-front, Differ, IsOther, differ-within, differ-last, get-more, has-filter, from-map, contains-at, filter-keeps}
 use Rattle.each_once.proofs.StationReplies.{exchanges-bodies, exchanges-tns, exchange-fits, fits-tns, fits-key}
 use Rattle.each_once.proofs.CommandBodies.{answered-some, answered-none}
-use Rattle.each_once.proofs.HandedOut.{is_command, AreNumbered, Hosts, IsSettledBy, handed-at, numbered-at, numbered-apart, settled-at, AreSettledBy}
+use Rattle.each_once.proofs.HandedOrder.{turn-differ}
+use Rattle.each_once.proofs.HandedOut.{is_command, bodies_of, AreNumbered, Hosts, Initiates, IsSettledBy, handed-at, numbered-at, numbered-apart, settled-at, AreSettledBy}
 
 -- ---- the numbers of commands differ
 
@@ -35,6 +36,10 @@ numbers-differ tns place (c ∷ cs) few numbered = (
   subst (λ n. IsOther n (map tns_of (map (λ d. d.body) cs))) (sym numbered.1) (numbers-other tns (place + 1) place cs (omega arith) (omega arith) numbered.2),
   numbers-differ tns (place + 1) cs (omega arith) numbered.2,
 )
+
+-- so those of the commands that were handed out differ
+pub handed-differ : (s : InitiatorState) (commands heard : List (List ℕ)) → Initiates s commands heard → length s.issued ≤ 65535 → Differ (map tns_of commands)
+handed-differ s commands heard i few = turn-differ tns_of (bodies_of s.issued) i.in_order.order commands (numbers-differ s.tns 0 s.issued (omega (arith, few)) i.numbered) i.in_order.are_at i.in_order.rise
 
 -- ---- the command that a reply is of
 
@@ -72,7 +77,7 @@ found first other station initiator sent heard commands reply s told i within se
     let executes : slice_get executed in_replies.0 ≡ Some body = ap (λ bs. slice_get bs in_replies.0) (sym (exchanges-bodies first executed)) ∙ slice_get-map (λ (e : List ℕ × List ℕ). e.0) answered in_replies.0 ∙ ap (option_map (λ (e : List ℕ × List ℕ). e.0)) is in
     let handed = within-has executed (filter is_command commands) body (within-filter is_command heard commands within) (in_replies.0, executes) in
     let c = handed-at initiator.initiator.issued (filter is_command commands) handed.0 body i.initiates.in_order handed.1 in
-    found-at first executed initiator.initiator.issued in_replies.0 body reply is handed.0 c.0 c.1 c.2 c.3
+    found-at first executed initiator.initiator.issued in_replies.0 body reply is c.0 c.1 c.2 c.3 c.4
 
 -- ---- the reply answers the command that is out
 

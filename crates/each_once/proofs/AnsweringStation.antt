@@ -10,11 +10,11 @@ use Rattle.df1_base.specs.declared.host.Fate.TheVariants as fate
 use Rattle.pccc_envelope.specs.Envelope.{is_reply}
 use Rattle.df1_node.specs.declared.handed.Handed.{Handed}
 use Rattle.df1_node.specs.Answer.{StationState, after_answer, reply_to}
-use Rattle.df1_node.specs.Initiator.{Issued, is_reply_to, next_command, after_reply, after_hand_out, all_cleared}
+use Rattle.df1_node.specs.Initiator.{Issued, InitiatorState, is_reply_to, next_command, after_reply, after_hand_out, all_cleared}
 use Rattle.df1_node.specs.Node.{NodeState, next_body, next_handed, after_accept, after_next, after_told, after_clear}
 use Rattle.each_once.specs.Exchanges.{exchanges, station_after}
 use Rattle.each_once.proofs.StationReplies.{exchanges-push, exchanges-bodies, exchange-fits}
-use Rattle.each_once.proofs.CommandBodies.{bodies-told}
+use Rattle.each_once.proofs.CommandBodies.{bodies-told, next-first}
 use Rattle.each_once.proofs.Sublists.{IsWithin, nothing, skips, keeps, within-front, within-has, Has, from-map}
 
 -- ---- lists within lists
@@ -79,10 +79,17 @@ serves-accept {first} {node} {executed} {sent} body is h = served first node exe
 
 -- ---- a reply that is handed out
 
+-- where no command was issued, none is next
+none-next : (s : InitiatorState) (body : List ℕ) → s.issued ≡ [] → next_command s ≡ Some body → ⊥
+none-next s body none next =
+    let first = (next-first s body next).0 in
+    let at : slice_get [] first.place ≡ Some first.command = sym (ap (λ (cs : List Issued). slice_get cs first.place) none) ∙ first.is_at in
+    absurd cc
+
 handed-out : (first : StationState) (node : NodeState) (executed sent : List (List ℕ)) (body : List ℕ) (last : Handed) (replies : List (List ℕ)) → node.replies ≡ replies →
-    option_or (slice_get replies 0) (next_command node.initiator.issued) ≡ Some body → Serves first node executed sent →
+    option_or (slice_get replies 0) (next_command node.initiator) ≡ Some body → Serves first node executed sent →
     Serves first (record node { replies = drop 1 replies; initiator = cond (is_some (slice_get replies 0)) node.initiator (after_hand_out node.initiator); last = last }) executed (sent ++ body ∷ [])
-handed-out first node executed sent body last [] none next h = absurd (let no = ap next_command h.issues_none in cc)
+handed-out first node executed sent body last [] none next h = absurd (none-next node.initiator body h.issues_none next)
 handed-out first node executed sent body last (r ∷ rs) some next h =
     let same : node.replies ≡ body ∷ rs = some ∙ ap (λ x. x ∷ rs) (same_Some r body next) in
     record {

@@ -1,6 +1,6 @@
 -- Which command a step finds, and that each step leaves the commands' bodies as they are.
-use Rattle.std.proofs.Common.{◌≡◌, ◌∙◌, ℕ, zero, suc, ◌+◌, Bool, true, false, ◌&&◌, cond, List, [], ◌∷◌, map, Option, Some, None, is_some, get_or, slice_get, position, option_map, refl, sym, ap, suc-add}
-use Rattle.std.specs.List.{position_from, list_any}
+use Rattle.std.proofs.Common.{◌≡◌, ◌∙◌, ℕ, zero, suc, ◌+◌, ◌<◌, Bool, true, false, ◌&&◌, cond, nat_lt, List, [], ◌∷◌, map, Option, Some, None, is_some, get_or, slice_get, find, position, option_map, refl, sym, ap, arith, suc-add}
+use Rattle.std.specs.List.{position_from}
 use Rattle.std.specs.Option.{option_map_or}
 use Rattle.std.proofs.lemmas.Iterator.Adapters.{position_from-zero}
 use Rattle.std.proofs.lemmas.List.Quantifiers.{position-Some}
@@ -11,7 +11,7 @@ use Rattle.df1_base.specs.declared.host.Fate.TheVariants as fate
 use Rattle.pccc_envelope.specs.Envelope.{is_reply}
 use Rattle.df1_node.specs.declared.handed.Handed.{Handed}
 use Rattle.df1_node.specs.declared.handed.Handed.TheVariants as handed
-use Rattle.df1_node.specs.Initiator.{Issued, Standing, Waiting, Out, Answered, Undelivered, InitiatorState, is_out, is_waiting, is_reply_to, restated, answered_place, after_reply, is_out_at, after_hand_out, next_place, all_ticked}
+use Rattle.df1_node.specs.Initiator.{Issued, Standing, Waiting, Out, Answered, Undelivered, InitiatorState, is_out, is_waiting, is_reply_to, restated, answered_place, after_reply, is_out_at, after_hand_out, count_out, is_due, next_place, next_command, all_ticked}
 use Rattle.df1_node.specs.Node.{NodeState, after_accept, after_next, after_told, after_tick, initiator_after}
 
 -- ---- the first place that passes a test
@@ -57,15 +57,63 @@ answered-none issued reply k c none e fits =
 
 -- ---- the command that is handed out
 
-waiting-at : (out : Bool) (issued : List Issued) (p : ℕ) → cond out None (position (λ c. is_waiting c.standing) issued) ≡ Some p → (c : Issued) × (slice_get issued p ≡ Some c) × (is_waiting c.standing ≡ true)
-waiting-at true issued p e = absurd cc
-waiting-at false issued p e =
-    let none : Issued = record { body = []; standing = Waiting } in
-    let at = position-Some (λ c. is_waiting c.standing) issued p none e in
-    (get_or issued p none, slice_get-get_or issued p none at.0, at.1)
+-- the first command that passes a test
+pub record IsFirst (t : Issued → Bool) (cs : List Issued) (body : List ℕ) : Type 0 where
+  pub place : ℕ
+  pub command : Issued
+  pub is_position : position t cs ≡ Some place
+  pub is_at : slice_get cs place ≡ Some command
+  pub has_body : command.body ≡ body
+  pub passes : t command ≡ true
+  pub others : (r : ℕ) (d : Issued) → r < place → slice_get cs r ≡ Some d → t d ≡ false
 
-pub first-waiting : (issued : List Issued) (p : ℕ) → next_place issued ≡ Some p → (c : Issued) × (slice_get issued p ≡ Some c) × (is_waiting c.standing ≡ true)
-first-waiting issued p e = waiting-at (list_any (λ c. is_out c.standing) issued) issued p e
+first-others : (t : Issued → Bool) (c : Issued) (cs : List Issued) (body : List ℕ) → t c ≡ false → (later : IsFirst t cs body) → (r : ℕ) (d : Issued) → r < suc later.place → slice_get (c ∷ cs) r ≡ Some d → t d ≡ false
+first-others t c cs body fails later zero d below is = sym (ap t (same_Some c d is)) ∙ fails
+first-others t c cs body fails later (suc r) d below is = later.others r d (omega arith) is
+
+first-cons : (t : Issued → Bool) (c : Issued) (cs : List Issued) (body : List ℕ) (b : Bool) → t c ≡ b → option_map (λ x. x.body) (cond b (Some c) (find t cs)) ≡ Some body
+    → (option_map (λ x. x.body) (find t cs) ≡ Some body → IsFirst t cs body) → IsFirst t (c ∷ cs) body
+first-cons t c cs body true is e rest = record {
+  place = 0;
+  command = c;
+  is_position = position-cons t c cs ∙ rw is refl;
+  is_at = refl;
+  has_body = same_Some c.body body e;
+  passes = is;
+  others = λ r d below. absurd (omega arith);
+}
+first-cons t c cs body false is e rest = let later = rest e in record {
+  place = suc later.place;
+  command = later.command;
+  is_position = position-cons t c cs ∙ rw (is, later.is_position) refl;
+  is_at = later.is_at;
+  has_body = later.has_body;
+  passes = later.passes;
+  others = first-others t c cs body is later;
+}
+
+first-of : (t : Issued → Bool) (cs : List Issued) (body : List ℕ) → option_map (λ c. c.body) (find t cs) ≡ Some body → IsFirst t cs body
+first-of t [] body e = absurd cc
+first-of t (c ∷ cs) body e = first-cons t c cs body (t c) refl e (first-of t cs body)
+
+-- what is found where it may be found
+where-may : {A : Type 0} (may : Bool) (o : Option A) (x : A) → cond may o None ≡ Some x → (may ≡ true) × (o ≡ Some x)
+where-may true o x e = (refl, e)
+where-may false o x e = absurd cc
+
+-- the next command is the first that is due
+pub next-first : (s : InitiatorState) (body : List ℕ) → next_command s ≡ Some body → (first : IsFirst (is_due s) s.issued body) × (next_place s ≡ Some first.place)
+next-first s body e =
+    let found = where-may (nat_lt (count_out s.issued) s.window) (option_map (λ c. c.body) (find (is_due s) s.issued)) body e in
+    let first = first-of (is_due s) s.issued body found.1 in
+    (first, ap (λ may. cond may (position (is_due s) s.issued) None) found.0 ∙ first.is_position)
+
+pub first-waiting : (s : InitiatorState) (p : ℕ) → next_place s ≡ Some p → (c : Issued) × (slice_get s.issued p ≡ Some c) × (is_waiting c.standing ≡ true)
+first-waiting s p e =
+    let none : Issued = record { body = []; standing = Waiting } in
+    let found = where-may (nat_lt (count_out s.issued) s.window) (position (is_due s) s.issued) p e in
+    let at = position-Some (is_due s) s.issued p none found.1 in
+    (get_or s.issued p none, slice_get-get_or s.issued p none at.0, (and_parts _ _ at.1).0)
 
 -- ---- the bodies stay, at the initiator
 
@@ -98,7 +146,7 @@ pub bodies-tick : (s : InitiatorState) → map (λ c. c.body) (all_ticked s.issu
 bodies-tick s = bodies-ticked s.issued
 
 pub bodies-hand_out : (s : InitiatorState) → map (λ c. c.body) (after_hand_out s).issued ≡ map (λ c. c.body) s.issued
-bodies-hand_out s = bodies-at s.issued (next_place s.issued) (Out s.reply_ticks)
+bodies-hand_out s = bodies-at s.issued (next_place s) (Out s.reply_ticks)
 
 -- ---- the bodies stay, at the node
 

@@ -1,25 +1,30 @@
 -- What a node has handed out and heard, as far as it matters to each command's being executed once.
-use Rattle.std.proofs.Common.{◌≡◌, ◌∙◌, ℕ, zero, suc, ◌+◌, ◌<◌, Bool, true, false, List, [], ◌∷◌, ◌++◌, map, not, Some, refl, sym, ap, ap₂, subst, arith, add-zero}
+use Rattle.std.proofs.Common.{◌≡◌, ◌∙◌, ℕ, zero, suc, ◌+◌, ◌<◌, Bool, true, false, List, [], ◌∷◌, ◌++◌, map, not, Some, option_map, sym, ap, subst, arith, add-zero}
 use Rattle.std.specs.Prelude.{◌%◌, slice_get}
 use Rattle.std.specs.List.{filter, fold}
-use Rattle.std.proofs.lemmas.Option.{same_Some}
+use Rattle.std.proofs.lemmas.Option.{same_Some, slice_get-map}
 use Rattle.pccc_envelope.specs.Envelope.{is_reply, tns_of}
 use Rattle.df1_node.specs.Answer.{StationState, after_answer}
 use Rattle.df1_node.specs.Initiator.{Issued, Standing, Waiting, Out, Answered, Undelivered, Unanswered, InitiatorState, is_waiting, is_reply_to}
 use Rattle.df1_node.specs.Node.{NodeState}
 use Rattle.each_once.specs.Exchanges.{exchanges}
-use Rattle.each_once.proofs.Sublists.{Has}
+use Rattle.each_once.proofs.HandedOrder.{AreInTurn, place-of}
+use Rattle.each_once.proofs.Sublists.{Has, from-map}
 
 -- a message is a command, or else a reply
 abbrev pub is_command : List ℕ → Bool
 is_command body = not (is_reply body)
 
--- the commands that were handed out are the first that were issued, in their order; the others wait
+-- the bodies of commands, and which of them wait
+abbrev pub bodies_of : List Issued → List (List ℕ)
+bodies_of issued = map (λ c. c.body) issued
+
+abbrev pub waits_of : List Issued → List Bool
+waits_of issued = map (λ c. is_waiting c.standing) issued
+
+-- these commands were handed out, those of each source in the order in which they were issued; the others wait
 abbrev pub AreHanded : List Issued → List (List ℕ) → Type 0
-AreHanded [] [] = Unit {0}
-AreHanded [] (x ∷ xs) = ⊥
-AreHanded (c ∷ cs) [] = (is_waiting c.standing ≡ true) × AreHanded cs []
-AreHanded (c ∷ cs) (x ∷ xs) = (is_waiting c.standing ≡ false) × (c.body ≡ x) × AreHanded cs xs
+AreHanded issued handed = AreInTurn (bodies_of issued) (waits_of issued) handed
 
 -- each command is no reply, and has the TNS after the one before
 abbrev pub AreNumbered : ℕ → ℕ → List Issued → Type 0
@@ -52,19 +57,14 @@ pub record Hosts (first : StationState) (node : NodeState) (messages heard : Lis
 
 -- ---- lists of commands, place by place
 
+-- a command that was handed out, and its place
 pub handed-at : (issued : List Issued) (xs : List (List ℕ)) (k : ℕ) (x : List ℕ) → AreHanded issued xs → slice_get xs k ≡ Some x →
-    (c : Issued) × (slice_get issued k ≡ Some c) × (c.body ≡ x) × (is_waiting c.standing ≡ false)
-handed-at [] [] k x h e = absurd cc
-handed-at [] (y ∷ xs) k x h e = absurd h
-handed-at (c ∷ cs) [] k x h e = absurd cc
-handed-at (c ∷ cs) (y ∷ xs) zero x h e = (c, refl, h.1 ∙ same_Some y x e, h.0)
-handed-at (c ∷ cs) (y ∷ xs) (suc k) x h e = handed-at cs xs k x h.2 e
-
-pub handed-front : (issued : List Issued) (xs : List (List ℕ)) → AreHanded issued xs → (rest : List (List ℕ)) × (map (λ c. c.body) issued ≡ xs ++ rest)
-handed-front [] [] h = ([], refl)
-handed-front [] (y ∷ xs) h = absurd h
-handed-front (c ∷ cs) [] h = (map (λ x. x.body) (c ∷ cs), refl)
-handed-front (c ∷ cs) (y ∷ xs) h = let f = handed-front cs xs h.2 in (f.0, ap₂ (λ b bs. b ∷ bs) h.1 f.1)
+    (place : ℕ) × (c : Issued) × (slice_get issued place ≡ Some c) × (c.body ≡ x) × (is_waiting c.standing ≡ false)
+handed-at issued xs k x h e =
+    let at = place-of (bodies_of issued) h.order xs k x h.are_at e in
+    let c = from-map (λ (d : Issued). d.body) issued at.0 x at.1 in
+    let waits = h.waiting at.0 (is_waiting c.0.standing) (slice_get-map (λ (d : Issued). is_waiting d.standing) issued at.0 ∙ ap (option_map (λ (d : Issued). is_waiting d.standing)) c.1) in
+    (at.0, c.0, c.1, c.2, waits ∙ ap not at.2)
 
 pub numbered-at : (tns place : ℕ) (issued : List Issued) (k : ℕ) (c : Issued) → AreNumbered tns place issued → slice_get issued k ≡ Some c →
     (tns_of c.body ≡ (tns + (place + k)) % 65536) × (is_reply c.body ≡ false)

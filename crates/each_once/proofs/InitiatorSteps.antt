@@ -1,27 +1,34 @@
 -- That an initiator keeps to what it handed out and heard, at each of its steps.
-use Rattle.std.proofs.Common.{◌≡◌, ◌∙◌, ℕ, zero, suc, ◌+◌, ◌-◌, ◌<◌, Bool, true, false, cond, eqb, nat_lt, List, [], ◌∷◌, ◌++◌, length, map, Option, Some, None, find, position, option_map, refl, sym, ap, subst, arith, add-zero, zero-add}
+use Rattle.std.proofs.Common.{◌≡◌, ◌∙◌, ℕ, zero, suc, ◌+◌, ◌-◌, ◌<◌, Bool, true, false, cond, eqb, nat_lt, List, [], ◌∷◌, ◌++◌, length, map, Option, Some, None, option_map, refl, sym, ap, ap₂, subst, inl, inr, arith, add-zero, zero-add}
 use Rattle.std.specs.Prelude.{◌%◌, slice_get, slice_index}
 use Rattle.std.specs.Int.{bit_at}
-use Rattle.std.specs.List.{list_any}
 use Rattle.std.specs.Option.{option_map_or}
 use Rattle.std.proofs.Math.Nat.{mod-add-div}
-use Rattle.std.proofs.lemmas.Option.{same_Some}
+use Rattle.std.proofs.lemmas.Bool.{and_parts}
+use Rattle.std.proofs.lemmas.List.{map-append, length-map}
+use Rattle.std.proofs.lemmas.Option.{same_Some, slice_get-map, get_or_from_slice_get}
 use Rattle.pccc_envelope.specs.Envelope.{is_reply, tns_of}
 use Rattle.df1_node.specs.declared.handed.Handed.{Handed}
 use Rattle.df1_node.specs.declared.handed.Handed.TheVariants as last
-use Rattle.df1_node.specs.Initiator.{Issued, Standing, Waiting, Out, Answered, Undelivered, Unanswered, InitiatorState, is_waiting, is_out, is_reply_to, restated, ticked, all_ticked, next_issued, next_place, next_command, answered_place, is_out_at, after_issue, after_reply, after_hand_out}
+use Rattle.df1_node.specs.Initiator.{Issued, Standing, Waiting, Out, Answered, Undelivered, Unanswered, InitiatorState, is_waiting, is_out, is_reply_to, restated, ticked, all_ticked, next_issued, source_of, count_out_of, is_due, next_place, next_command, answered_place, is_out_at, after_issue, after_reply, after_hand_out}
 use Rattle.df1_node.specs.Node.{initiator_after}
-use Rattle.each_once.proofs.Sublists.{Has, get-seam}
-use Rattle.each_once.proofs.HandedOut.{AreHanded, AreNumbered, IsSettledBy, AreSettledBy, Initiates}
-use Rattle.each_once.proofs.CommandBodies.{position-cons, answered-some, bodies-restated, bodies-tick, bodies-hand_out}
+use Rattle.each_once.proofs.Sublists.{Has, from-map, get-seam}
+use Rattle.each_once.proofs.HandedOrder.{AreInTurn, ButOne, source_at, turn-issue, turn-hand_out}
+use Rattle.each_once.proofs.HandedOut.{bodies_of, waits_of, AreHanded, AreNumbered, IsSettledBy, AreSettledBy, Initiates, numbered-at}
+use Rattle.each_once.proofs.CommandBodies.{IsFirst, next-first, answered-some, bodies-restated, bodies-tick, bodies-hand_out}
 
 -- ---- a command more
 
-handed-issue : (cs : List Issued) (xs : List (List ℕ)) (c : Issued) → is_waiting c.standing ≡ true → AreHanded cs xs → AreHanded (cs ++ c ∷ []) xs
-handed-issue [] [] c w h = (w, tt)
-handed-issue [] (x ∷ xs) c w h = absurd h
-handed-issue (d ∷ cs) [] c w h = (h.0, handed-issue cs [] c w h.1)
-handed-issue (d ∷ cs) (x ∷ xs) c w h = (h.0, h.1, handed-issue cs xs c w h.2)
+length-waits : (cs : List Issued) → length (waits_of cs) ≡ length (bodies_of cs)
+length-waits cs = length-map cs (λ (c : Issued). is_waiting c.standing) ∙ sym (length-map cs (λ (c : Issued). c.body))
+
+handed-issue : (cs : List Issued) (xs : List (List ℕ)) (body : List ℕ) → AreHanded cs xs → AreHanded (cs ++ record { body = body; standing = Waiting } ∷ []) xs
+handed-issue cs xs body h =
+    let new : Issued = record { body = body; standing = Waiting } in
+    let bodies = map-append (λ (c : Issued). c.body) cs (new ∷ []) in
+    let waits = map-append (λ (c : Issued). is_waiting c.standing) cs (new ∷ []) in
+    subst (λ (bs : List (List ℕ)). AreInTurn bs (waits_of (cs ++ new ∷ [])) xs) (sym bodies)
+    (subst (λ (ws : List Bool). AreInTurn (bodies_of cs ++ body ∷ []) ws xs) (sym waits) (turn-issue (bodies_of cs) (waits_of cs) xs body (length-waits cs) h))
 
 numbered-issue : (tns place : ℕ) (cs : List Issued) (c : Issued) → is_reply c.body ≡ false → tns_of c.body ≡ (tns + (place + length cs)) % 65536 → AreNumbered tns place cs → AreNumbered tns place (cs ++ c ∷ [])
 numbered-issue tns place [] c plain e n = (plain, e ∙ ap (λ m. (tns + m) % 65536) (add-zero place), tt)
@@ -33,12 +40,12 @@ settled-issue : (heard : List (List ℕ)) (cs : List Issued) (c : Issued) → Is
 settled-issue heard [] c is s = (is, tt)
 settled-issue heard (d ∷ cs) c is s = (s.0, settled-issue heard cs c is s.1)
 
-pub initiates-issue : (s : InitiatorState) (dst : ℕ) (payload : List ℕ) (handed heard : List (List ℕ)) → Initiates s handed heard → eqb (bit_at (slice_index payload 0) 6) 1 ≡ false → length s.issued < 65535 →
-    Initiates (after_issue s dst payload) handed heard
-initiates-issue s dst payload handed heard h is-no-reply few =
-    let c : Issued = record { body = next_issued s dst payload; standing = Waiting } in
+pub initiates-issue : (s : InitiatorState) (src dst : ℕ) (payload : List ℕ) (handed heard : List (List ℕ)) → Initiates s handed heard → eqb (bit_at (slice_index payload 0) 6) 1 ≡ false → length s.issued < 65535 →
+    Initiates (after_issue s src dst payload) handed heard
+initiates-issue s src dst payload handed heard h is-no-reply few =
+    let c : Issued = record { body = next_issued s src dst payload; standing = Waiting } in
     record {
-      in_order = handed-issue s.issued handed c refl h.in_order;
+      in_order = handed-issue s.issued handed c.body h.in_order;
       numbered = numbered-issue s.tns 0 s.issued c is-no-reply (mod-add-div ((s.tns + length s.issued) % 65536) 256 ∙ ap (λ m. (s.tns + m) % 65536) (sym (zero-add (length s.issued)))) h.numbered;
       settled = settled-issue heard s.issued c tt h.settled;
     }
@@ -73,12 +80,16 @@ out-not-waiting (Answered reply) out = refl
 out-not-waiting Undelivered out = refl
 out-not-waiting Unanswered out = refl
 
-handed-restated : (cs : List Issued) (xs : List (List ℕ)) (p : ℕ) (standing : Standing) → is_waiting standing ≡ false → ((c : Issued) → slice_get cs p ≡ Some c → is_waiting c.standing ≡ false) → AreHanded cs xs → AreHanded (restated cs p standing) xs
-handed-restated [] xs p standing is was h = h
-handed-restated (c ∷ cs) [] zero standing is was h = let waits : is_waiting c.standing ≡ true = h.0 in let not_so : is_waiting c.standing ≡ false = was c refl in absurd cc
-handed-restated (c ∷ cs) [] (suc p) standing is was h = (h.0, handed-restated cs [] p standing is was h.1)
-handed-restated (c ∷ cs) (x ∷ xs) zero standing is was h = (is, h.1, h.2)
-handed-restated (c ∷ cs) (x ∷ xs) (suc p) standing is was h = (h.0, h.1, handed-restated cs xs p standing is was h.2)
+-- the same commands wait
+waits-restated : (cs : List Issued) (p : ℕ) (standing : Standing) → is_waiting standing ≡ false → ((c : Issued) → slice_get cs p ≡ Some c → is_waiting c.standing ≡ false) → waits_of (restated cs p standing) ≡ waits_of cs
+waits-restated [] p standing is was = refl
+waits-restated (c ∷ cs) zero standing is was = ap (λ w. w ∷ waits_of cs) (is ∙ sym (was c refl))
+waits-restated (c ∷ cs) (suc p) standing is was = ap (λ ws. is_waiting c.standing ∷ ws) (waits-restated cs p standing is was)
+
+-- the same bodies, of which the same wait
+handed-same : (cs ds : List Issued) (xs : List (List ℕ)) → bodies_of ds ≡ bodies_of cs → waits_of ds ≡ waits_of cs → AreHanded cs xs → AreHanded ds xs
+handed-same cs ds xs bodies waits h =
+    subst (λ (bs : List (List ℕ)). AreInTurn bs (waits_of ds) xs) (sym bodies) (subst (λ (ws : List Bool). AreInTurn (bodies_of cs) ws xs) (sym waits) h)
 
 -- numbers are those of the bodies
 numbered-bodies : (tns place : ℕ) (cs ds : List Issued) → map (λ c. c.body) ds ≡ map (λ c. c.body) cs → AreNumbered tns place cs → AreNumbered tns place ds
@@ -100,7 +111,7 @@ initiates-restated : (s : InitiatorState) (handed heard : List (List ℕ)) (p : 
     Initiates s handed heard → Initiates (record s { issued = restated s.issued p standing }) handed heard
 initiates-restated s handed heard p standing is was h =
     record {
-      in_order = handed-restated s.issued handed p standing is (λ c e. (was c e).0) h.in_order;
+      in_order = handed-same s.issued _ handed (bodies-restated s.issued p standing) (waits-restated s.issued p standing is (λ c e. (was c e).0)) h.in_order;
       numbered = numbered-bodies s.tns 0 s.issued _ (bodies-restated s.issued p standing) h.numbered;
       settled = settled-restated heard s.issued p standing (λ c e. (was c e).1) h.settled;
     }
@@ -150,10 +161,9 @@ ticked-settled heard body (Answered reply) is = is
 ticked-settled heard body Undelivered is = tt
 ticked-settled heard body Unanswered is = tt
 
-handed-ticked : (cs : List Issued) (xs : List (List ℕ)) → AreHanded cs xs → AreHanded (all_ticked cs) xs
-handed-ticked [] xs h = h
-handed-ticked (c ∷ cs) [] h = (ticked-waits c.standing ∙ h.0, handed-ticked cs [] h.1)
-handed-ticked (c ∷ cs) (x ∷ xs) h = (ticked-waits c.standing ∙ h.0, h.1, handed-ticked cs xs h.2)
+all-ticked-wait : (cs : List Issued) → waits_of (all_ticked cs) ≡ waits_of cs
+all-ticked-wait [] = refl
+all-ticked-wait (c ∷ cs) = ap₂ (λ w ws. w ∷ ws) (ticked-waits c.standing) (all-ticked-wait cs)
 
 settled-ticked : (heard : List (List ℕ)) (cs : List Issued) → AreSettledBy heard cs → AreSettledBy heard (all_ticked cs)
 settled-ticked heard [] s = tt
@@ -162,68 +172,67 @@ settled-ticked heard (c ∷ cs) s = (ticked-settled heard c.body c.standing s.0,
 pub initiates-tick : {s : InitiatorState} {handed heard : List (List ℕ)} → Initiates s handed heard → Initiates (record s { issued = all_ticked s.issued }) handed heard
 initiates-tick {s} {handed} {heard} h =
     record {
-      in_order = handed-ticked s.issued handed h.in_order;
+      in_order = handed-same s.issued _ handed (bodies-tick s) (all-ticked-wait s.issued) h.in_order;
       numbered = numbered-bodies s.tns 0 s.issued _ (bodies-tick s) h.numbered;
       settled = settled-ticked heard s.issued h.settled;
     }
 
 -- ---- the next command
 
--- it is found where none is out
-next-found : (out : Bool) (o : Option (List ℕ)) (body : List ℕ) → cond out None o ≡ Some body → (out ≡ false) × (o ≡ Some body)
-next-found true o body e = absurd cc
-next-found false o body e = (refl, e)
+-- the command at one place waits no more
+one-restated : (cs : List Issued) (q : ℕ) (standing : Standing) → is_waiting standing ≡ false → ButOne q (waits_of cs) (waits_of (restated cs q standing))
+one-restated [] q standing stands place w is = absurd cc
+one-restated (c ∷ cs) zero standing stands zero w is = inl (refl, sym (same_Some _ w is) ∙ stands)
+one-restated (c ∷ cs) zero standing stands (suc place) w is = inr (λ e. omega (arith, e), is)
+one-restated (c ∷ cs) (suc q) standing stands zero w is = inr (λ e. omega (arith, e), is)
+one-restated (c ∷ cs) (suc q) standing stands (suc place) w is =
+    elim (one-restated cs q standing stands place w is) [ inl this ↦ inl (ap suc this.0, this.1) | inr other ↦ inr (λ e. other.0 (omega (arith, e)), other.1) ]
 
--- the commands after it was handed out
-abbrev after_next_waiting : ℕ → List Issued → List Issued
-after_next_waiting left cs = option_map_or (λ p. restated cs p (Out left)) (position (λ c. is_waiting c.standing) cs) cs
+body-at : (cs : List Issued) (k : ℕ) (c : Issued) → slice_get cs k ≡ Some c → slice_get (bodies_of cs) k ≡ Some c.body
+body-at cs k c is = slice_get-map (λ (d : Issued). d.body) cs k ∙ ap (option_map (λ (d : Issued). d.body)) is
 
-next-cons : (left : ℕ) (c : Issued) (cs : List Issued) (waits : Bool) → is_waiting c.standing ≡ waits →
-    after_next_waiting left (c ∷ cs) ≡ cond waits (record c { standing = Out left } ∷ cs) (c ∷ after_next_waiting left cs)
-next-cons left c cs waits e =
-    let found = position (λ x. is_waiting x.standing) cs in
-    ap (λ o. option_map_or (λ p. restated (c ∷ cs) p (Out left)) o (c ∷ cs)) (position-cons (λ x. is_waiting x.standing) c cs ∙ ap (λ b. cond b (Some 0) (option_map suc found)) e)
-    ∙ at waits found
-  where
-    at : (waits : Bool) (o : Option ℕ) → option_map_or (λ p. restated (c ∷ cs) p (Out left)) (cond waits (Some 0) (option_map suc o)) (c ∷ cs)
-        ≡ cond waits (record c { standing = Out left } ∷ cs) (c ∷ option_map_or (λ p. restated cs p (Out left)) o cs)
-    at true o = refl
-    at false None = refl
-    at false (Some p) = refl
+wait-at : (cs : List Issued) (k : ℕ) (c : Issued) → slice_get cs k ≡ Some c → slice_get (waits_of cs) k ≡ Some (is_waiting c.standing)
+wait-at cs k c is = slice_get-map (λ (d : Issued). is_waiting d.standing) cs k ∙ ap (option_map (λ (d : Issued). is_waiting d.standing)) is
 
-handed-next : (left : ℕ) (cs : List Issued) (xs : List (List ℕ)) (body : List ℕ) → option_map (λ c. c.body) (find (λ c. is_waiting c.standing) cs) ≡ Some body → AreHanded cs xs →
-    AreHanded (after_next_waiting left cs) (xs ++ body ∷ [])
-handed-next left [] [] body e h = absurd cc
-handed-next left [] (x ∷ xs) body e h = absurd h
-handed-next left (c ∷ cs) [] body e h =
-    let is : c.body ≡ body = same_Some _ _ (sym (ap (λ b. option_map (λ x. x.body) (cond b (Some c) (find (λ x. is_waiting x.standing) cs))) h.0) ∙ e) in
-    subst (λ ds. AreHanded ds (body ∷ [])) (sym (next-cons left c cs true h.0)) (refl, is, h.1)
-handed-next left (c ∷ cs) (x ∷ xs) body e h =
-    let later = sym (ap (λ b. option_map (λ y. y.body) (cond b (Some c) (find (λ y. is_waiting y.standing) cs))) h.0) ∙ e in
-    subst (λ ds. AreHanded ds (x ∷ xs ++ body ∷ [])) (sym (next-cons left c cs false h.0)) (h.0, h.1, handed-next left cs xs body later h.2)
+source-is : (cs : List Issued) (k : ℕ) (c : Issued) → slice_get cs k ≡ Some c → source_at (bodies_of cs) k ≡ source_of c
+source-is cs k c is = ap (λ (body : List ℕ). slice_index body 1) (get_or_from_slice_get (bodies_of cs) k c.body [] (body-at cs k c is))
+
+-- a command that waits is due where one of its source is
+due-too : (s : InitiatorState) (c d : Issued) → is_due s c ≡ true → is_waiting d.standing ≡ true → source_of c ≡ source_of d → is_due s d ≡ true
+due-too s c d due waits same =
+    let may : nat_lt (count_out_of (source_of d) s.issued) s.per_source ≡ true = ap (λ (n : ℕ). nat_lt (count_out_of n s.issued) s.per_source) (sym same) ∙ (and_parts _ _ due).1 in
+    rw (waits, may) refl
+
+handed-next : (s : InitiatorState) (xs : List (List ℕ)) (body : List ℕ) (first : IsFirst (is_due s) s.issued body) → AreHanded s.issued xs → AreHanded (restated s.issued first.place (Out s.reply_ticks)) (xs ++ body ∷ [])
+handed-next s xs body first h =
+    let cs = s.issued in
+    let ds = restated cs first.place (Out s.reply_ticks) in
+    let c = first.command in
+    let waits = (and_parts _ _ first.passes).0 in
+    let before : (r : ℕ) → r < first.place → slice_get (waits_of cs) r ≡ Some true → source_at (bodies_of cs) first.place ≡ source_at (bodies_of cs) r → ⊥ = λ r below waiting same.
+    let d = from-map (λ (x : Issued). is_waiting x.standing) cs r true waiting in
+    let due = due-too s c d.0 first.passes d.2 (sym (source-is cs first.place c first.is_at) ∙ same ∙ source-is cs r d.0 d.1) in
+    let not_due = first.others r d.0 below d.1 in
+    let no : true ≡ false = sym due ∙ not_due in cc in
+    subst (λ (bs : List (List ℕ)). AreInTurn bs (waits_of ds) (xs ++ body ∷ [])) (sym (bodies-restated cs first.place (Out s.reply_ticks)))
+    (turn-hand_out (bodies_of cs) (waits_of cs) (waits_of ds) xs first.place body (body-at cs first.place c first.is_at ∙ ap Some first.has_body) (wait-at cs first.place c first.is_at ∙ ap Some waits) before
+    (one-restated cs first.place (Out s.reply_ticks) refl) h)
 
 settled-out : (heard : List (List ℕ)) (cs : List Issued) (place : Option ℕ) (left : ℕ) → AreSettledBy heard cs → AreSettledBy heard (option_map_or (λ p. restated cs p (Out left)) place cs)
 settled-out heard cs None left s = s
 settled-out heard cs (Some p) left s = settled-restated heard cs p (Out left) (λ c e. tt) s
 
-pub initiates-hand_out : {s : InitiatorState} {handed heard : List (List ℕ)} (body : List ℕ) → next_command s.issued ≡ Some body → Initiates s handed heard →
+pub initiates-hand_out : {s : InitiatorState} {handed heard : List (List ℕ)} (body : List ℕ) → next_command s ≡ Some body → Initiates s handed heard →
     Initiates (after_hand_out s) (handed ++ body ∷ []) heard
 initiates-hand_out {s} {handed} {heard} body next h =
-    let found = next-found (list_any (λ c. is_out c.standing) s.issued) _ body next in
-    let handing : Bool → List Issued = λ out. option_map_or (λ p. restated s.issued p (Out s.reply_ticks)) (cond out None (position (λ c. is_waiting c.standing) s.issued)) s.issued in
+    let found = next-first s body next in
     record {
-      in_order = subst (λ out. AreHanded (handing out) (handed ++ body ∷ [])) (sym found.0) (handed-next s.reply_ticks s.issued handed body found.1 h.in_order);
+      in_order = subst (λ (place : Option ℕ). AreHanded (option_map_or (λ p. restated s.issued p (Out s.reply_ticks)) place s.issued) (handed ++ body ∷ [])) (sym found.1) (handed-next s handed body found.0 h.in_order);
       numbered = numbered-bodies s.tns 0 s.issued _ (bodies-hand_out s) h.numbered;
-      settled = settled-out heard s.issued (next_place s.issued) s.reply_ticks h.settled;
+      settled = settled-out heard s.issued (next_place s) s.reply_ticks h.settled;
     }
 
-found-command : (tns place : ℕ) (cs : List Issued) (body : List ℕ) → option_map (λ c. c.body) (find (λ c. is_waiting c.standing) cs) ≡ Some body → AreNumbered tns place cs → is_reply body ≡ false
-found-command tns place [] body e n = absurd cc
-found-command tns place (c ∷ cs) body e n =
-    elim (is_waiting c.standing) as (λ b. option_map (λ x. x.body) (cond b (Some c) (find (λ x. is_waiting x.standing) cs)) ≡ Some body → is_reply body ≡ false) [
-      | true ↦ λ f. ap is_reply (sym (same_Some _ _ f)) ∙ n.0
-      | false ↦ λ f. found-command tns (place + 1) cs body f n.2
-    ] e
-
-pub next-is-command : {s : InitiatorState} {handed heard : List (List ℕ)} {body : List ℕ} → next_command s.issued ≡ Some body → Initiates s handed heard → is_reply body ≡ false
-next-is-command {s} {handed} {heard} {body} next h = found-command s.tns 0 s.issued body (next-found (list_any (λ c. is_out c.standing) s.issued) _ body next).1 h.numbered
+pub next-is-command : {s : InitiatorState} {handed heard : List (List ℕ)} {body : List ℕ} → next_command s ≡ Some body → Initiates s handed heard → is_reply body ≡ false
+next-is-command {s} {handed} {heard} {body} next h =
+    let first = (next-first s body next).0 in
+    ap is_reply (sym first.has_body) ∙ (numbered-at s.tns 0 s.issued first.place first.command h.numbered first.is_at).1

@@ -57,35 +57,34 @@ same-next node = let at = handed-node (is_some (slice_get node.replies 0)) node.
 pub record AreIssued (node tns : ℕ) (requests : List Request) (s : InitiatorState) : Type 0 where
   pub node_is : s.node ≡ node
   pub tns_is : s.tns ≡ tns
-  pub bodies : map (λ c. c.body) s.issued ≡ command_bodies node tns requests
+  pub bodies : map (λ c. c.body) s.issued ≡ command_bodies tns requests
 
 pub issued-same : (node tns : ℕ) (requests : List Request) (s t : InitiatorState) → SameCommands s t → AreIssued node tns requests s → AreIssued node tns requests t
 issued-same node tns requests s t same i = record { node_is = same.node ∙ i.node_is; tns_is = same.tns ∙ i.tns_is; bodies = same.bodies ∙ i.bodies }
 
-bodies-push : (node number : ℕ) (requests : List Request) (request : Request) → command_bodies node number (requests ++ request ∷ []) ≡ command_bodies node number requests ++ command_body node (number + length requests) request ∷ []
-bodies-push node number [] request = ap (λ (n : ℕ). command_body node n request ∷ []) (sym (add-zero number))
-bodies-push node number (first ∷ requests) request =
+bodies-push : (number : ℕ) (requests : List Request) (request : Request) → command_bodies number (requests ++ request ∷ []) ≡ command_bodies number requests ++ command_body (number + length requests) request ∷ []
+bodies-push number [] request = ap (λ (n : ℕ). command_body n request ∷ []) (sym (add-zero number))
+bodies-push number (first ∷ requests) request =
     let shift : number + 1 + length requests ≡ number + length (first ∷ requests) = omega arith in
-    ap (λ (bodies : List (List ℕ)). command_body node number first ∷ bodies)
-    (bodies-push node (number + 1) requests request ∙ ap (λ (n : ℕ). command_bodies node (number + 1) requests ++ command_body node n request ∷ []) shift)
+    ap (λ (bodies : List (List ℕ)). command_body number first ∷ bodies)
+    (bodies-push (number + 1) requests request ∙ ap (λ (n : ℕ). command_bodies (number + 1) requests ++ command_body n request ∷ []) shift)
 
-length-bodies : (node number : ℕ) (requests : List Request) → length (command_bodies node number requests) ≡ length requests
-length-bodies node number [] = refl
-length-bodies node number (first ∷ requests) = let more = length-bodies node (number + 1) requests in omega (arith, more)
+length-bodies : (number : ℕ) (requests : List Request) → length (command_bodies number requests) ≡ length requests
+length-bodies number [] = refl
+length-bodies number (first ∷ requests) = let more = length-bodies (number + 1) requests in omega (arith, more)
 
-next-is : (s : InitiatorState) (node number count dst : ℕ) (payload : List ℕ) → s.node ≡ node → s.tns ≡ number → length s.issued ≡ count → next_issued s dst payload ≡ command_body node (number + count) (record { dst = dst; payload = payload })
-next-is s node number count dst payload node_is tns_is count_is =
-    ap₂ (λ (n m : ℕ). command_body n (m + length s.issued) (record { dst = dst; payload = payload })) node_is tns_is
-    ∙ ap (λ (k : ℕ). command_body node (number + k) (record { dst = dst; payload = payload })) count_is
+next-is : (s : InitiatorState) (number count src dst : ℕ) (payload : List ℕ) → s.tns ≡ number → length s.issued ≡ count → next_issued s src dst payload ≡ command_body (number + count) (record { src = src; dst = dst; payload = payload })
+next-is s number count src dst payload tns_is count_is = ap₂ (λ (n k : ℕ). command_body (n + k) (record { src = src; dst = dst; payload = payload })) tns_is count_is
 
-pub issued-more : (node tns : ℕ) (requests : List Request) (s : InitiatorState) (dst : ℕ) (payload : List ℕ) → AreIssued node tns requests s → AreIssued node tns (requests ++ record { dst = dst; payload = payload } ∷ []) (after_issue s dst payload)
-issued-more node tns requests s dst payload i =
-    let new : Issued = record { body = next_issued s dst payload; standing = Waiting } in
-    let count : length s.issued ≡ length requests = sym (length-map s.issued (λ (c : Issued). c.body)) ∙ ap length i.bodies ∙ length-bodies node tns requests in
+pub issued-more : (node tns : ℕ) (requests : List Request) (s : InitiatorState) (src dst : ℕ) (payload : List ℕ) → AreIssued node tns requests s
+    → AreIssued node tns (requests ++ record { src = src; dst = dst; payload = payload } ∷ []) (after_issue s src dst payload)
+issued-more node tns requests s src dst payload i =
+    let new : Issued = record { body = next_issued s src dst payload; standing = Waiting } in
+    let count : length s.issued ≡ length requests = sym (length-map s.issued (λ (c : Issued). c.body)) ∙ ap length i.bodies ∙ length-bodies tns requests in
     record {
       node_is = i.node_is;
       tns_is = i.tns_is;
       bodies = map-append (λ (c : Issued). c.body) s.issued (new ∷ [])
-          ∙ ap₂ (λ (xs : List (List ℕ)) (x : List ℕ). xs ++ x ∷ []) i.bodies (next-is s node tns (length requests) dst payload i.node_is i.tns_is count)
-          ∙ sym (bodies-push node tns requests (record { dst = dst; payload = payload }));
+          ∙ ap₂ (λ (xs : List (List ℕ)) (x : List ℕ). xs ++ x ∷ []) i.bodies (next-is s tns (length requests) src dst payload i.tns_is count)
+          ∙ sym (bodies-push tns requests (record { src = src; dst = dst; payload = payload }));
     }

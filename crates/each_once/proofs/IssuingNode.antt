@@ -10,6 +10,7 @@ use Rattle.df1_node.specs.declared.handed.Handed.{Handed}
 use Rattle.df1_node.specs.Answer.{StationState, after_answer, reply_to}
 use Rattle.df1_node.specs.Initiator.{next_command, after_reply, after_hand_out}
 use Rattle.df1_node.specs.Node.{NodeState, next_body, next_handed, after_accept, after_next, after_told, after_tick, after_node_issue}
+use Rattle.each_once.proofs.HandedOrder.{none-in-turn}
 use Rattle.each_once.proofs.HandedOut.{AreHanded, AreNumbered, AreSettledBy, Initiates, handed-at, numbered-at}
 use Rattle.each_once.proofs.InitiatorSteps.{initiates-issue, initiates-reply, initiates-told, initiates-tick, initiates-hand_out}
 use Rattle.each_once.proofs.Sublists.{Has}
@@ -26,7 +27,7 @@ issues-start first node station replies issued =
       station = station;
       replies = replies;
       initiates = record {
-        in_order = subst (λ cs. AreHanded cs []) (sym issued) tt;
+        in_order = subst (λ cs. AreHanded cs []) (sym issued) none-in-turn;
         numbered = subst (λ cs. AreNumbered node.initiator.tns 0 cs) (sym issued) tt;
         settled = subst (λ cs. AreSettledBy [] cs) (sym issued) tt;
       };
@@ -34,10 +35,10 @@ issues-start first node station replies issued =
 
 -- ---- a command that is issued, a fate, a tick
 
-pub issues-issue : {first : StationState} {node : NodeState} {commands heard : List (List ℕ)} (dst : ℕ) (payload : List ℕ) → eqb (bit_at (slice_index payload 0) 6) 1 ≡ false → length node.initiator.issued < 65535
-    → Issues first node commands heard → Issues first (after_node_issue node dst payload) commands heard
-issues-issue {node = node} {commands = commands} {heard = heard} dst payload is-no-reply few h =
-    record { station = h.station; replies = h.replies; initiates = initiates-issue node.initiator dst payload commands heard h.initiates is-no-reply few }
+pub issues-issue : {first : StationState} {node : NodeState} {commands heard : List (List ℕ)} (src dst : ℕ) (payload : List ℕ) → eqb (bit_at (slice_index payload 0) 6) 1 ≡ false → length node.initiator.issued < 65535
+    → Issues first node commands heard → Issues first (after_node_issue node src dst payload) commands heard
+issues-issue {node = node} {commands = commands} {heard = heard} src dst payload is-no-reply few h =
+    record { station = h.station; replies = h.replies; initiates = initiates-issue node.initiator src dst payload commands heard h.initiates is-no-reply few }
 
 pub issues-told : {first : StationState} {node : NodeState} {commands heard : List (List ℕ)} (what : Fate) → Issues first node commands heard → Issues first (after_told node what) commands heard
 issues-told fate.Delivered h = record { station = h.station; replies = h.replies; initiates = h.initiates }
@@ -63,7 +64,7 @@ issues-accept {first} {node} {commands} {heard} body is h = accepted first node 
 -- ---- a command that is handed out
 
 handed-out : (first : StationState) (node : NodeState) (commands heard : List (List ℕ)) (body : List ℕ) (last : Handed) (replies : List (List ℕ)) → node.replies ≡ replies → replies ≡ [] →
-    option_or (slice_get replies 0) (next_command node.initiator.issued) ≡ Some body → Issues first node commands heard →
+    option_or (slice_get replies 0) (next_command node.initiator) ≡ Some body → Issues first node commands heard →
     Issues first (record node { replies = drop 1 replies; initiator = cond (is_some (slice_get replies 0)) node.initiator (after_hand_out node.initiator); last = last }) (commands ++ body ∷ []) heard
 handed-out first node commands heard body last [] is none next h = record { station = h.station; replies = refl; initiates = initiates-hand_out body next h.initiates }
 handed-out first node commands heard body last (r ∷ rs) is none next h = absurd cc
@@ -78,4 +79,4 @@ pub commands-plain : {first : StationState} {node : NodeState} {commands heard :
 commands-plain {node = node} {commands = commands} body h has =
     let s = node.initiator in
     let c = handed-at s.issued commands has.0 body h.initiates.in_order has.1 in
-    ap is_reply (sym c.2) ∙ (numbered-at s.tns 0 s.issued has.0 c.0 h.initiates.numbered c.1).1
+    ap is_reply (sym c.3) ∙ (numbered-at s.tns 0 s.issued c.0 c.1 h.initiates.numbered c.2).1

@@ -1,8 +1,10 @@
 pub mod AcceptedReplies
 pub mod AnsweringStation
 pub mod CommandBodies
+pub mod CommandsUnderWay
 pub mod ContinuedCommands
 pub mod CountedUp
+pub mod HandedOrder
 pub mod HandedOut
 pub mod InitiatorProgress
 pub mod InitiatorSteps

@@ -1,7 +1,7 @@
 -- That messages have the length that a message may have: 6 to 250 bytes.
-use Rattle.std.proofs.Common.{◌≡◌, ℕ, ◌≤◌, Bool, true, false, IsTrue, ◌&&◌, ◌==◌, List, [], ◌∷◌, ◌++◌, length, map, Some, None, find, option_map, refl, sym, subst, arith}
+use Rattle.std.proofs.Common.{◌≡◌, ℕ, zero, suc, ◌≤◌, Bool, true, false, IsTrue, ◌&&◌, ◌==◌, List, [], ◌∷◌, ◌++◌, length, map, Some, refl, sym, subst, arith}
 use Rattle.std.specs.Prelude.{slice_get, bit_and, nat_le}
-use Rattle.std.specs.List.{filter, list_any}
+use Rattle.std.specs.List.{filter}
 use Rattle.std.specs.Option.{option_or}
 use Rattle.std.proofs.lemmas.Bool.{cond_both, leb-true}
 use Rattle.std.proofs.lemmas.List.{map-append}
@@ -9,11 +9,12 @@ use Rattle.std.proofs.lemmas.Option.{same_Some}
 use Rattle.df1_base.specs.Host.{IsBody}
 use Rattle.df1_node.specs.Answer.{StationState, after_answer}
 use Rattle.df1_node.specs.HostLaws.{reply-body}
-use Rattle.df1_node.specs.Initiator.{Issued, InitiatorState, is_waiting, is_out, next_issued, next_command, after_issue}
+use Rattle.df1_node.specs.Initiator.{Issued, InitiatorState, next_issued, next_command, after_issue}
 use Rattle.df1_node.specs.Node.{NodeState, next_body}
 use Rattle.pccc_envelope.specs.Envelope.{is_reply}
 use Rattle.script_statement.specs.Statements.{is_payload}
 use Rattle.each_once.specs.Exchanges.{exchanges}
+use Rattle.each_once.proofs.CommandBodies.{next-first}
 use Rattle.each_once.proofs.HandedOut.{is_command, Hosts}
 
 abbrev pub AreBodies : List (List ℕ) → Type 0
@@ -47,26 +48,23 @@ replies-fit : (first : StationState) (xs : List (List ℕ)) → length first.blo
 replies-fit first [] few h = tt
 replies-fit first (x ∷ xs) few h = (reply-body first x few h.0, replies-fit (after_answer first x) xs few h.1)
 
-first-waiting-fits : (cs : List Issued) (body : List ℕ) → AreBodies (map (λ c. c.body) cs) → option_map (λ c. c.body) (find (λ c. is_waiting c.standing) cs) ≡ Some body → IsBody body
-first-waiting-fits [] body h e = absurd cc
-first-waiting-fits (c ∷ cs) body h e =
-    cond_both (is_waiting c.standing) (Some c) (find (λ x. is_waiting x.standing) cs) (λ o. option_map (λ x. x.body) o ≡ Some body → IsBody body)
-    (λ _ is. subst IsBody (same_Some c.body body is) h.0) (λ _ later. first-waiting-fits cs body h.1 later) e
+fits-at : (cs : List Issued) (k : ℕ) (c : Issued) → AreBodies (map (λ x. x.body) cs) → slice_get cs k ≡ Some c → IsBody c.body
+fits-at [] k c h is = absurd cc
+fits-at (x ∷ cs) zero c h is = subst (λ (y : Issued). IsBody y.body) (same_Some x c is) h.0
+fits-at (x ∷ cs) (suc k) c h is = fits-at cs k c h.1 is
 
-command-fits : (cs : List Issued) (body : List ℕ) → AreBodies (map (λ c. c.body) cs) → next_command cs ≡ Some body → IsBody body
-command-fits cs body h =
-    cond_both (list_any (λ c. is_out c.standing) cs) None (option_map (λ c. c.body) (find (λ c. is_waiting c.standing) cs)) (λ o. o ≡ Some body → IsBody body)
-    (λ _ no. absurd cc) (λ _ e. first-waiting-fits cs body h e)
+command-fits : (s : InitiatorState) (body : List ℕ) → AreBodies (map (λ c. c.body) s.issued) → next_command s ≡ Some body → IsBody body
+command-fits s body h next = let first = (next-first s body next).0 in subst IsBody first.has_body (fits-at s.issued first.place first.command h first.is_at)
 
-next-of : (replies : List (List ℕ)) (cs : List Issued) (body : List ℕ) → AreBodies replies → AreBodies (map (λ c. c.body) cs) → option_or (slice_get replies 0) (next_command cs) ≡ Some body → IsBody body
-next-of [] cs body replies commands next = command-fits cs body commands next
-next-of (r ∷ rs) cs body replies commands next = subst IsBody (same_Some r body next) replies.0
+next-of : (replies : List (List ℕ)) (s : InitiatorState) (body : List ℕ) → AreBodies replies → AreBodies (map (λ c. c.body) s.issued) → option_or (slice_get replies 0) (next_command s) ≡ Some body → IsBody body
+next-of [] s body replies commands next = command-fits s body commands next
+next-of (r ∷ rs) s body replies commands next = subst IsBody (same_Some r body next) replies.0
 
 pub next-fits : {first : StationState} {node : NodeState} {messages heard : List (List ℕ)} → Hosts first node messages heard → length first.block ≤ 244 → AreBodies heard → AreBodies (map (λ c. c.body) node.initiator.issued) →
     (body : List ℕ) → next_body node ≡ Some body → (6 ≤ length body) × (length body ≤ 250)
 next-fits {first} {node} {messages} {heard} h few hears commands body next =
     let replies = subst AreBodies h.replies (replies-fit first (filter is_command heard) few (bodies-filter is_command heard hears)) in
-    next-of node.replies node.initiator.issued body (bodies-back (filter is_reply messages) node.replies replies) commands next
+    next-of node.replies node.initiator body (bodies-back (filter is_reply messages) node.replies replies) commands next
 
 -- ---- a command that is issued
 
@@ -74,14 +72,14 @@ and-left : (a b : Bool) → IsTrue (a && b) → a ≡ true
 and-left true b h = refl
 and-left false b h = absurd cc
 
-payload-fits : (s : InitiatorState) (dst : ℕ) (payload : List ℕ) → IsTrue (is_payload payload) → IsBody (next_issued s dst payload)
-payload-fits s dst [] h = absurd cc
-payload-fits s dst (cmd ∷ rest) h =
+payload-fits : (s : InitiatorState) (src dst : ℕ) (payload : List ℕ) → IsTrue (is_payload payload) → IsBody (next_issued s src dst payload)
+payload-fits s src dst [] h = absurd cc
+payload-fits s src dst (cmd ∷ rest) h =
     let few = leb-true (length (cmd ∷ rest)) 245 (and-left (nat_le (length (cmd ∷ rest)) 245) (bit_and cmd 0x40 == 0) h) in
     (omega arith, omega arith)
 
-pub issued-fits : (s : InitiatorState) (dst : ℕ) (payload : List ℕ) → AreBodies (map (λ c. c.body) s.issued) → IsTrue (is_payload payload) → AreBodies (map (λ c. c.body) (after_issue s dst payload).issued)
-issued-fits s dst payload h may =
-    let fits = payload-fits s dst payload may in
+pub issued-fits : (s : InitiatorState) (src dst : ℕ) (payload : List ℕ) → AreBodies (map (λ c. c.body) s.issued) → IsTrue (is_payload payload) → AreBodies (map (λ c. c.body) (after_issue s src dst payload).issued)
+issued-fits s src dst payload h may =
+    let fits = payload-fits s src dst payload may in
     let more = map-append (λ (c : Issued). c.body) s.issued _ in
-    subst AreBodies (sym more) (bodies-push (map (λ c. c.body) s.issued) (next_issued s dst payload) h fits.0 fits.1)
+    subst AreBodies (sym more) (bodies-push (map (λ c. c.body) s.issued) (next_issued s src dst payload) h fits.0 fits.1)

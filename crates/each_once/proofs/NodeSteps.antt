@@ -17,6 +17,7 @@ use Rattle.df1_node.specs.Initiator.{next_command, after_reply, after_hand_out}
 use Rattle.df1_node.specs.Node.{NodeState, next_body, next_handed, after_accept, after_next, after_told, after_tick, after_node_issue}
 use Rattle.each_once.specs.Exchanges.{exchanges}
 use Rattle.each_once.proofs.StationReplies.{exchanges-push, exchange-fits}
+use Rattle.each_once.proofs.HandedOrder.{none-in-turn}
 use Rattle.each_once.proofs.HandedOut.{is_command, AreHanded, AreNumbered, AreSettledBy, Initiates, Hosts}
 use Rattle.each_once.proofs.InitiatorSteps.{initiates-issue, initiates-heard, initiates-reply, initiates-told, initiates-tick, initiates-hand_out, next-is-command}
 use Rattle.each_once.proofs.Sublists.{get-seam}
@@ -37,7 +38,7 @@ hosts-start first node station replies issued =
       station = station;
       replies = sym replies;
       initiates = record {
-        in_order = subst (λ cs. AreHanded cs []) (sym issued) tt;
+        in_order = subst (λ cs. AreHanded cs []) (sym issued) none-in-turn;
         numbered = subst (λ cs. AreNumbered node.initiator.tns 0 cs) (sym issued) tt;
         settled = subst (λ cs. AreSettledBy [] cs) (sym issued) tt;
       };
@@ -45,10 +46,10 @@ hosts-start first node station replies issued =
 
 -- ---- a command that is issued, a fate, a tick
 
-pub hosts-issue : {first : StationState} {node : NodeState} {messages heard : List (List ℕ)} → Hosts first node messages heard → (dst : ℕ) (payload : List ℕ) →
-    eqb (bit_at (slice_index payload 0) 6) 1 ≡ false → length node.initiator.issued < 65535 → Hosts first (after_node_issue node dst payload) messages heard
-hosts-issue {first} {node} {messages} {heard} h dst payload is-no-reply few =
-    record { station = h.station; replies = h.replies; initiates = initiates-issue node.initiator dst payload (filter is_command messages) heard h.initiates is-no-reply few }
+pub hosts-issue : {first : StationState} {node : NodeState} {messages heard : List (List ℕ)} → Hosts first node messages heard → (src dst : ℕ) (payload : List ℕ) →
+    eqb (bit_at (slice_index payload 0) 6) 1 ≡ false → length node.initiator.issued < 65535 → Hosts first (after_node_issue node src dst payload) messages heard
+hosts-issue {first} {node} {messages} {heard} h src dst payload is-no-reply few =
+    record { station = h.station; replies = h.replies; initiates = initiates-issue node.initiator src dst payload (filter is_command messages) heard h.initiates is-no-reply few }
 
 pub hosts-told : {first : StationState} {node : NodeState} {messages heard : List (List ℕ)} → Hosts first node messages heard → (what : Fate) → Hosts first (after_told node what) messages heard
 hosts-told h fate.Delivered = record { station = h.station; replies = h.replies; initiates = h.initiates }
@@ -102,8 +103,12 @@ replied first xs before r rest e =
     let exchange = second-of (slice_get (exchanges first xs) (length before)) r there in
     (exchange-fits first xs (length before) exchange.0 r exchange.1).1
 
+-- a reply that waits is a reply
+pub waiting-reply : {first : StationState} {node : NodeState} {messages heard : List (List ℕ)} → Hosts first node messages heard → (r : List ℕ) (rs : List (List ℕ)) → node.replies ≡ r ∷ rs → is_reply r ≡ true
+waiting-reply {first} {node} {messages} {heard} h r rs some = replied first (filter is_command heard) (filter is_reply messages) r rs (h.replies ∙ ap (λ xs. filter is_reply messages ++ xs) some)
+
 handed-out : (first : StationState) (node : NodeState) (messages heard : List (List ℕ)) (body : List ℕ) (last : Handed) (replies : List (List ℕ)) → node.replies ≡ replies →
-    option_or (slice_get replies 0) (next_command node.initiator.issued) ≡ Some body → Hosts first node messages heard →
+    option_or (slice_get replies 0) (next_command node.initiator) ≡ Some body → Hosts first node messages heard →
     Hosts first (record node { replies = drop 1 replies; initiator = cond (is_some (slice_get replies 0)) node.initiator (after_hand_out node.initiator); last = last }) (messages ++ body ∷ []) heard
 handed-out first node messages heard body last [] none next h =
     let command = next-is-command next h.initiates in

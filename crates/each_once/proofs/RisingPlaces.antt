@@ -1,13 +1,17 @@
--- Where bodies stand among commands: at places that rise.
-use Rattle.std.proofs.Common.{◌≡◌, ◌∙◌, ℕ, zero, suc, ◌+◌, ◌<◌, ◌≤◌, List, [], ◌∷◌, ◌++◌, length, map, Option, Some, refl, ap, ap₂, sym, arith, append_assoc, length-append, add-one}
-use Rattle.std.specs.Prelude.{slice_get, slice_index}
+-- Where bodies stand among commands: at places that rise, or those of each source do.
+use Rattle.std.proofs.Common.{◌≡◌, ◌∙◌, ℕ, zero, suc, ◌+◌, ◌<◌, ◌≤◌, true, false, List, [], ◌∷◌, ◌++◌, length, map, Option, Some, refl, ap, ap₂, sym, subst, arith, append_assoc, length-append, add-one}
+use Rattle.std.specs.Prelude.{Bool, slice_get, slice_index, nat_eq, All}
+use Rattle.std.specs.List.{filter, IsDistinct, AllByRecursion}
 use Rattle.std.specs.List.Sorted.{IsStrictlyIncreasing}
-use Rattle.std.proofs.lemmas.Option.{slice_get_within}
+use Rattle.std.proofs.lemmas.Bool.{cond_both, eq-eqb, eqb-true, false_from_ne_true}
+use Rattle.std.proofs.lemmas.Option.{slice_get_within, get_or_from_slice_get}
 use Rattle.pccc_envelope.specs.Envelope.{tns_of}
 use Rattle.df1_node.specs.Initiator.{Issued}
+use Rattle.each_once.specs.BySource.{AreOnceOf, is_of_source}
 use Rattle.each_once.specs.Direction.{AreSomeOf}
 use Rattle.each_once.specs.Once.{AreApart}
 use Rattle.each_once.proofs.Sublists.{IsWithin, nothing, skips, keeps, from-map, get-seam}
+use Rattle.each_once.proofs.HandedOrder.{AreAt, AreInTurn, IsEarlierThanAll, RiseBySource, source_at, places-within, rise-within}
 use Rattle.each_once.proofs.HandedOut.{AreNumbered, numbered-at, numbered-apart}
 
 -- numbers that rise, from one on
@@ -53,6 +57,80 @@ places-of {A} front _ _ (keeps x xs ys h) =
 -- elements of a list that stand in it in order
 pub some-of : (some all : List (List ℕ)) → IsWithin some all → AreSomeOf some all
 some-of some all within = let places = places-of [] some all within in (places.0, increasing 0 places.0 places.1, places.2)
+
+-- ---- places that rise by source
+
+-- numbers of which each is less than all later ones
+abbrev IsBelowAll : ℕ → List ℕ → Type 0
+IsBelowAll p [] = Unit {0}
+IsBelowAll p (q ∷ qs) = (p < q) × IsBelowAll p qs
+
+below-first : (p : ℕ) (qs : List ℕ) → IsBelowAll p qs → 0 < length qs → p < slice_index qs 0
+below-first p [] h some = absurd (omega arith)
+below-first p (q ∷ qs) h some = h.0
+
+increasing-cons : (p : ℕ) (qs : List ℕ) → IsBelowAll p qs → IsStrictlyIncreasing qs → IsStrictlyIncreasing (p ∷ qs)
+increasing-cons p qs below h zero inside = below-first p qs below (omega arith)
+increasing-cons p qs below h (suc k) inside = let more = h k (omega arith) in rw add-one (rw add-one at more)
+
+is-of : (all : List (List ℕ)) (source place : ℕ) → is_of_source all source place ≡ true → source_at all place ≡ source
+is-of all source place is = eqb-true (source_at all place) source is
+
+below-others : (all : List (List ℕ)) (source p : ℕ) (ps : List ℕ) → source_at all p ≡ source → IsEarlierThanAll all p ps → IsBelowAll p (filter (is_of_source all source) ps)
+below-others all source p [] same h = tt
+below-others all source p (q ∷ qs) same h =
+    cond_both (is_of_source all source q) (q ∷ filter (is_of_source all source) qs) (filter (is_of_source all source) qs) (IsBelowAll p)
+    (λ of. (h.0 (same ∙ sym (is-of all source q of)), below-others all source p qs same h.1))
+    (λ _. below-others all source p qs same h.1)
+
+-- the places of one source rise
+increasing-of : (all : List (List ℕ)) (source : ℕ) (places : List ℕ) → RiseBySource all places → IsStrictlyIncreasing (filter (is_of_source all source) places)
+increasing-of all source [] h = λ k inside. absurd (omega arith)
+increasing-of all source (p ∷ ps) h =
+    cond_both (is_of_source all source p) (p ∷ filter (is_of_source all source) ps) (filter (is_of_source all source) ps) IsStrictlyIncreasing
+    (λ of. increasing-cons p (filter (is_of_source all source) ps) (below-others all source p ps (is-of all source p of) h.0) (increasing-of all source ps h.1))
+    (λ _. increasing-of all source ps h.1)
+
+others-differ : (all : List (List ℕ)) (p : ℕ) (ps : List ℕ) → IsEarlierThanAll all p ps → AllByRecursion (λ q. nat_eq p q ≡ false) ps
+others-differ all p [] h = tt
+others-differ all p (q ∷ qs) h = (false_from_ne_true (nat_eq p q) (λ yes. let same = eqb-true p q yes in let lower = h.0 (ap (source_at all) same) in absurd (omega arith)), others-differ all p qs h.1)
+
+places-differ : (all : List (List ℕ)) (places : List ℕ) → RiseBySource all places → IsDistinct nat_eq places
+unfolding IsDistinct
+places-differ all [] h = tt
+places-differ all (p ∷ ps) h = (others-differ all p ps h.0, places-differ all ps h.1)
+
+at-places : (all : List (List ℕ)) (places : List ℕ) (some : List (List ℕ)) → AreAt all places some → map Some some ≡ map (slice_get all) places
+at-places all [] [] h = refl
+at-places all [] (x ∷ xs) h = absurd h
+at-places all (p ∷ ps) [] h = absurd h
+at-places all (p ∷ ps) (x ∷ xs) h = ap₂ (λ (o : Option (List ℕ)) (os : List (Option (List ℕ))). o ∷ os) (sym h.0) (at-places all ps xs h.1)
+
+-- bodies that stand in order among what was handed out in turn
+pub some-in-turn : (some handed all : List (List ℕ)) (waits : List Bool) → IsWithin some handed → AreInTurn all waits handed → AreOnceOf some all
+some-in-turn some handed all waits within turn =
+    let places = places-within all turn.order some handed within turn.are_at in
+    let rise = rise-within all places.0 turn.order places.1 turn.rise in
+    (places.0, places-differ all places.0 rise, λ source. increasing-of all source places.0 rise, at-places all places.0 some places.2)
+
+-- ---- one source
+
+all-of-one : (all : List (List ℕ)) (source : ℕ) (some : List (List ℕ)) (places : List ℕ) → All (λ body. slice_index body 1 ≡ source) all → map Some some ≡ map (slice_get all) places
+    → filter (is_of_source all source) places ≡ places
+all-of-one all source some [] one at = refl
+all-of-one all source [] (p ∷ ps) one at = absurd cc
+all-of-one all source (x ∷ xs) (p ∷ ps) one at =
+    let here : slice_get all p ≡ Some x = cc in
+    let later : map Some xs ≡ map (slice_get all) ps = cc in
+    let inside = slice_get_within all p x here in
+    let body = get_or_from_slice_get all p x [] here in
+    let is : is_of_source all source p ≡ true = eq-eqb (source_at all p) source (one p [] inside) in
+    rw is (ap (λ (qs : List ℕ). p ∷ qs) (all-of-one all source xs ps one later))
+
+-- where all bodies have one source, what is some of each source in order is some of all in order
+pub some-of-one-source : (some all : List (List ℕ)) (source : ℕ) → All (λ body. slice_index body 1 ≡ source) all → AreOnceOf some all → AreSomeOf some all
+some-of-one-source some all source one once =
+    (once.0, subst IsStrictlyIncreasing (all-of-one all source some once.0 one once.3) (once.2 source), once.3)
 
 -- ---- commands
 

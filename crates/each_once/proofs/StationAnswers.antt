@@ -1,5 +1,5 @@
 -- A reply that is accepted from a station is what that station answered to one of the commands.
-use Rattle.std.proofs.Common.{◌≡◌, ℕ, suc, ◌+◌, ◌≤◌, true, List, [], ◌∷◌, ◌++◌, length, map, Option, Some, None, ap, sym, subst, arith}
+use Rattle.std.proofs.Common.{◌≡◌, ℕ, suc, ◌+◌, ◌≤◌, true, List, [], ◌∷◌, ◌++◌, length, map, Option, Some, None, ap, sym, subst}
 use Rattle.std.specs.Prelude.{Contains}
 use Rattle.pccc_envelope.specs.declared.key.Key.{Key}
 use Rattle.pccc_envelope.specs.Envelope.{tns_of}
@@ -7,12 +7,12 @@ use Rattle.df1_node.specs.Answer.{StationState}
 use Rattle.df1_node.specs.Initiator.{Issued, InitiatorState, is_reply_to, answered_place}
 use Rattle.each_once.specs.Exchanges.{exchanges}
 use Rattle.each_once.proofs.AnsweringStation.{replies_to, Replies}
-use Rattle.each_once.proofs.AcceptedReplies.{IsFound, numbers-differ, is-answer, given-up}
+use Rattle.each_once.proofs.AcceptedReplies.{IsFound, handed-differ, is-answer, given-up}
 use Rattle.each_once.proofs.CommandBodies.{answered-none}
-use Rattle.each_once.proofs.HandedOut.{Initiates, handed-at, handed-front, settled-at}
+use Rattle.each_once.proofs.HandedOut.{Initiates, handed-at, settled-at}
 use Rattle.each_once.proofs.KeptCommands.{IsReplyOf, IsOfLost}
 use Rattle.each_once.proofs.StationReplies.{exchanges-tns, fits-key}
-use Rattle.each_once.proofs.Sublists.{Has, IsWithin, within-has, within-front, Differ, differ-within, differ-last, contains-at}
+use Rattle.each_once.proofs.Sublists.{Has, IsWithin, within-has, Differ, differ-within, differ-last, contains-at}
 
 -- ---- the command that a reply is of
 
@@ -23,21 +23,19 @@ found-of first executed s commands heard reply i within r =
     let handed = within-has executed commands r.body within (r.place, r.is_executed) in
     let c = handed-at s.issued commands handed.0 r.body i.in_order handed.1 in
     record {
-      command = c.0;
-      place = handed.0;
-      is_at = c.1;
-      is_out_of_hand = c.3;
-      answer = subst (λ b. Contains (exchanges first executed) (b, reply)) (sym c.2) (contains-at (exchanges first executed) r.place (r.body, reply) r.exchanged);
-      fits = subst (λ b. is_reply_to b reply ≡ true) (sym c.2) r.fits;
+      command = c.1;
+      place = c.0;
+      is_at = c.2;
+      is_out_of_hand = c.4;
+      answer = subst (λ b. Contains (exchanges first executed) (b, reply)) (sym c.3) (contains-at (exchanges first executed) r.place (r.body, reply) r.exchanged);
+      fits = subst (λ b. is_reply_to b reply ≡ true) (sym c.3) r.fits;
     }
 
 -- ---- where the command was given up
 
 executed-differ : (executed : List (List ℕ)) (s : InitiatorState) (commands heard : List (List ℕ)) → Initiates s commands heard → length s.issued ≤ 65535 → IsWithin executed commands → Differ (map tns_of executed)
 executed-differ executed s commands heard i few within =
-    let front = handed-front s.issued commands i.in_order in
-    let numbers : Differ (map tns_of (commands ++ front.0)) = subst (λ (bodies : List (List ℕ)). Differ (map tns_of bodies)) front.1 (numbers-differ s.tns 0 s.issued (omega (arith, few)) i.numbered) in
-    differ-within tns_of executed (commands ++ front.0) (within-front executed commands front.0 within) numbers
+    differ-within tns_of executed commands within (handed-differ s commands heard i few)
 
 -- a command that was answered before was answered by an earlier reply of the station; but its replies to one command are one
 other-answer : (first : StationState) (executed told : List (List ℕ)) (body reply earlier : List ℕ) → Differ (map tns_of executed) → IsWithin (told ++ reply ∷ []) (replies_to first executed)

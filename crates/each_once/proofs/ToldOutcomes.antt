@@ -177,7 +177,7 @@ outcomes-out who issued left (Some p) lines waits told =
 
 outcomes-next-at : (who : Who) (reply : Bool) (initiator : InitiatorState) (lines : List Line) → AreOutcomesTold who initiator.issued lines → AreOutcomesTold who (cond reply initiator (after_hand_out initiator)).issued lines
 outcomes-next-at who true initiator lines told = told
-outcomes-next-at who false initiator lines told = outcomes-out who initiator.issued initiator.reply_ticks (next_place initiator.issued) lines (first-waiting initiator.issued) told
+outcomes-next-at who false initiator lines told = outcomes-out who initiator.issued initiator.reply_ticks (next_place initiator) lines (first-waiting initiator) told
 
 pub outcomes-next : (who : Who) (node : NodeState) (lines : List Line) → AreOutcomesTold who node.initiator.issued lines → AreOutcomesTold who (after_next node).initiator.issued lines
 outcomes-next who node lines told = outcomes-next-at who (is_some (slice_get node.replies 0)) node.initiator lines told

@@ -1,37 +1,23 @@
--- Two nodes, each of which handed out what the other accepted, but for the messages in flight.
-use Rattle.std.proofs.Common.{◌≡◌, ◌∙◌, ℕ, ◌+◌, ◌-◌, ◌<◌, ◌≤◌, Bool, true, false, not, List, [], ◌∷◌, ◌++◌, length, map, Option, Some, None, option_map, refl, sym, ap, subst, arith, length-append, append-nil}
+-- Two nodes, each of which handed out what the other accepted, but for the messages in flight: however many commands may be out.
+use Rattle.std.proofs.Common.{◌≡◌, ◌∙◌, ℕ, ◌+◌, ◌-◌, ◌<◌, ◌≤◌, Bool, true, false, not, List, [], ◌∷◌, ◌++◌, length, map, Option, Some, None, option_map, refl, sym, ap, subst, arith, length-append}
 use Rattle.std.specs.Prelude.{slice_get, ◌==◌}
 use Rattle.std.specs.Int.{bit_at}
 use Rattle.std.specs.List.{filter}
 use Rattle.std.proofs.lemmas.Bool.{and_parts, eqb-true, false_from_ne_true}
-use Rattle.std.proofs.lemmas.List.{length-map, nil_from_length}
+use Rattle.std.proofs.lemmas.List.{length-map}
 use Rattle.std.proofs.lemmas.List.Elements.{filter-append}
-use Rattle.std.proofs.lemmas.Option.{slice_get-map, slice_get_within}
+use Rattle.std.proofs.lemmas.Option.{slice_get-map}
 use Rattle.pccc_envelope.specs.Envelope.{is_reply, tns_of, key_of}
 use Rattle.pccc_envelope.specs.Accepted.{is_kept, last_key}
 use Rattle.df1_node.specs.Answer.{StationState}
-use Rattle.df1_node.specs.Initiator.{Issued, is_reply_to, next_command}
+use Rattle.df1_node.specs.Initiator.{is_reply_to}
 use Rattle.df1_node.specs.Node.{NodeState}
 use Rattle.each_once.specs.Exchanges.{exchanges}
 use Rattle.each_once.proofs.Sublists.{IsWithin, nothing, keeps, within-front, Differ, differ-within, differ-last, get-more, has-filter, from-map, filter-keeps, get-seam}
 use Rattle.each_once.proofs.StationReplies.{exchanges-bodies, exchanges-tns, exchange-fits}
-use Rattle.each_once.proofs.AcceptedReplies.{numbers-differ}
-use Rattle.each_once.proofs.HandedOut.{is_command, Hosts, handed-at, handed-front}
-use Rattle.each_once.proofs.InitiatorProgress.{IsUnderWay, IsDone, out_count, under-count, under-all}
-
--- ---- how many are out
-
-at-most-one : (out : Option ℕ) → out_count out ≤ 1
-at-most-one None = omega arith
-at-most-one (Some left) = omega arith
-
-one-is-out : (out : Option ℕ) → 0 < out_count out → (left : ℕ) × (out ≡ Some left)
-one-is-out None some = absurd (omega arith)
-one-is-out (Some left) some = (left, refl)
-
-none-is-out : (out : Option ℕ) → out_count out ≡ 0 → out ≡ None
-none-is-out None none = refl
-none-is-out (Some left) none = absurd cc
+use Rattle.each_once.proofs.AcceptedReplies.{handed-differ}
+use Rattle.each_once.proofs.HandedOut.{bodies_of, is_command, Hosts}
+use Rattle.each_once.proofs.CommandsUnderWay.{AreUnderWay, at-count}
 
 -- ---- the replies of a station, by their places
 
@@ -56,37 +42,29 @@ replied-at first executed replies rest n reply all at =
       (exchange-fits first executed n body reply is).0,
     )
 
--- ---- the reply that is in flight is to the command that is out
+-- ---- the reply that is in flight is to the first command that isn't answered
 
 pub answer-fits : {first other : StationState} {station initiator : NodeState} {sent heard commands told : List (List ℕ)} → Hosts first station sent heard → Hosts other initiator commands told →
-    (reply : List ℕ) → sent ≡ told ++ reply ∷ [] → (flight : List (List ℕ)) → commands ≡ heard ++ flight → is_reply reply ≡ true →
-    (n : ℕ) (out : Option ℕ) → length (filter is_reply told) ≡ n → IsUnderWay initiator.initiator.issued n out →
-    (left : ℕ) × (out ≡ Some left) × ((c : Issued) × (slice_get initiator.initiator.issued n ≡ Some c) × (is_reply_to c.body reply ≡ true))
-answer-fits {first} {other} {station} {initiator} {sent} {heard} {commands} {told} s i reply sends flight flies replies n out count u =
-    let issued = initiator.initiator.issued in
+    (reply : List ℕ) → sent ≡ told ++ reply ∷ [] → (flight : List (List ℕ)) → commands ≡ heard ++ flight → is_reply reply ≡ true → (n : ℕ) → length (filter is_reply told) ≡ n →
+    (body : List ℕ) × (slice_get (filter is_command commands) n ≡ Some body) × (is_reply_to body reply ≡ true)
+answer-fits {first} {other} {station} {initiator} {sent} {heard} {commands} {told} s i reply sends flight flies replies n count =
     let sent_replies : filter is_reply sent ≡ filter is_reply told ++ reply ∷ [] = ap (filter is_reply) sends ∙ filter-keeps is_reply told reply replies in
     let at : slice_get (filter is_reply sent) n ≡ Some reply = ap (λ rs. slice_get rs n) sent_replies ∙ ap (slice_get (filter is_reply told ++ reply ∷ [])) (sym count) ∙ get-seam (filter is_reply told) reply [] in
     let executed = replied-at first (filter is_command heard) (filter is_reply sent) station.replies n reply s.replies at in
     let handed : filter is_command commands ≡ filter is_command heard ++ filter is_command flight = ap (filter is_command) flies ∙ filter-append is_command heard flight in
-    let is : slice_get (filter is_command commands) n ≡ Some executed.0 = ap (λ xs. slice_get xs n) handed ∙ get-more (filter is_command heard) (filter is_command flight) n executed.0 executed.1 in
-    let c = handed-at issued (filter is_command commands) n executed.0 i.initiates.in_order is in
-    let some = under-count issued (filter is_command commands) n out i.initiates.in_order u in
-    let inside = slice_get_within (filter is_command commands) n executed.0 is in
-    let one = one-is-out out (omega arith) in
-    (one.0, one.1, (c.0, c.1, ap (λ b. is_reply_to b reply) c.2 ∙ executed.2))
+    (executed.0, ap (λ xs. slice_get xs n) handed ∙ get-more (filter is_command heard) (filter is_command flight) n executed.0 executed.1, executed.2)
 
--- ---- while a command is in flight, no reply waits
+-- ---- while a command is in flight, fewer replies wait than commands may be out
 
-pub no-reply-waits : {first other : StationState} {station initiator : NodeState} {sent heard commands told : List (List ℕ)} → Hosts first station sent heard → Hosts other initiator commands told →
+pub few-replies : {first other : StationState} {station initiator : NodeState} {sent heard commands told : List (List ℕ)} → Hosts first station sent heard → Hosts other initiator commands told →
     (command : List ℕ) → commands ≡ heard ++ command ∷ [] → is_reply command ≡ false → (flight : List (List ℕ)) → sent ≡ told ++ flight →
-    (n : ℕ) (out : Option ℕ) → length (filter is_reply told) ≡ n → IsUnderWay initiator.initiator.issued n out → station.replies ≡ []
-no-reply-waits {first} {other} {station} {initiator} {sent} {heard} {commands} {told} s i command sends plain flight flies n out count u =
-    let handed = under-count initiator.initiator.issued (filter is_command commands) n out i.initiates.in_order u in
-    let few = at-most-one out in
+    (n late : ℕ) → length (filter is_reply told) ≡ n → AreUnderWay initiator.initiator (filter is_command commands) n late → length station.replies < initiator.initiator.window
+few-replies {first} {other} {station} {initiator} {sent} {heard} {commands} {told} s i command sends plain flight flies n late count u =
+    let handed = at-count (bodies_of initiator.initiator.issued) u.order (filter is_command commands) u.are_at in
     let one_more = ap length (ap (filter is_command) sends ∙ filter-keeps is_command heard command (ap not plain)) ∙ length-append (filter is_command heard) (command ∷ []) in
     let replied = replied-count s in
     let told_some = ap length (ap (filter is_reply) flies ∙ filter-append is_reply told flight) ∙ length-append (filter is_reply told) (filter is_reply flight) in
-    nil_from_length station.replies (omega arith)
+    omega (arith, handed, one_more, replied, told_some, count, u.counted, u.few)
 
 -- ---- keys
 
@@ -101,9 +79,7 @@ differ-front xs ys = differ-within tns_of xs (xs ++ ys) (within-front xs xs ys (
 commands-differ : {first : StationState} {node : NodeState} {messages heard : List (List ℕ)} → Hosts first node messages heard → length node.initiator.issued ≤ 65535 →
     Differ (map tns_of (filter is_command messages))
 commands-differ {first} {node} {messages} {heard} h few =
-    let s = node.initiator in
-    let all = handed-front s.issued (filter is_command messages) h.initiates.in_order in
-    differ-front (filter is_command messages) all.0 (subst (λ bs. Differ (map tns_of bs)) all.1 (numbers-differ s.tns 0 s.issued (omega arith) h.initiates.numbered))
+    handed-differ node.initiator (filter is_command messages) heard h.initiates few
 
 replies-differ : {first : StationState} {node : NodeState} {messages heard : List (List ℕ)} → Hosts first node messages heard → Differ (map tns_of (filter is_command heard)) →
     Differ (map tns_of (filter is_reply messages))
@@ -143,20 +119,13 @@ key-is-new {first} {other} {station} {initiator} {sent} {heard} {commands} {told
     let last = kept-one (slice_get heard (length heard - 1)) m kept in
     other-key heard m (length heard - 1) last.0 (is_reply m) of_commands of_replies last.1 last.2 last.3 refl)
 
--- ---- once nothing is in flight, waits or is out, each command is answered
+-- ---- once nothing is in flight and no reply waits, each command that was handed out is answered
 
 pub all-answered : {first other : StationState} {station initiator : NodeState} {sent heard commands told : List (List ℕ)} → Hosts first station sent heard → Hosts other initiator commands told →
-    commands ≡ heard → sent ≡ told → station.replies ≡ [] → (n : ℕ) (out : Option ℕ) → length (filter is_reply told) ≡ n → IsUnderWay initiator.initiator.issued n out → next_command initiator.initiator.issued ≡ None →
-    (map (λ c. c.body) initiator.initiator.issued ≡ filter is_command heard) × ((k : ℕ) (c : Issued) → slice_get initiator.initiator.issued k ≡ Some c → IsDone c.standing)
-all-answered {first} {other} {station} {initiator} {sent} {heard} {commands} {told} s i took accepted none n out count u idle =
-    let issued = initiator.initiator.issued in
-    let handed = under-count issued (filter is_command commands) n out i.initiates.in_order u in
+    commands ≡ heard → sent ≡ told → station.replies ≡ [] → (n : ℕ) → length (filter is_reply told) ≡ n → n ≡ length (filter is_command commands)
+all-answered s i took accepted none n count =
     let executed = ap (λ xs. length (filter is_command xs)) took in
     let replied = replied-count s in
     let told_all = ap (λ xs. length (filter is_reply xs)) accepted in
     let no_more = ap length none in
-    let ended = under-all issued n (subst (λ o. IsUnderWay issued n o) (none-is-out out (omega arith)) u) idle in
-    let front = handed-front issued (filter is_command commands) i.initiates.in_order in
-    let bodies = sym (length-map issued (λ c. c.body)) ∙ ap length front.1 ∙ length-append (filter is_command commands) front.0 in
-    let rest : front.0 ≡ [] = nil_from_length front.0 (omega (arith, ended.0)) in
-    (front.1 ∙ ap (λ xs. filter is_command commands ++ xs) rest ∙ append-nil (filter is_command commands) ∙ ap (filter is_command) took, ended.1)
+    omega (arith, executed, replied, told_all, no_more, count)

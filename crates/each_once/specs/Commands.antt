@@ -6,20 +6,21 @@ use Rattle.script_statement.specs.declared.who.Who.{Who}
 use Rattle.replay_report.specs.declared.record.Line.{Line}
 use Rattle.each_once.specs.Tells.{outcomes_in}
 
--- what is issued: the address that it goes to, and the payload, which is CMD and what follows TNS
+-- what is issued: in whose name, the address that it goes to, and the payload, which is CMD and what follows TNS
 pub record Request : Type 0 where
+  pub src : ℕ
   pub dst : ℕ
   pub payload : List ℕ
 
 -- the body of a command: DST SRC CMD 00 TNS and what follows CMD in the payload; TNS is counted modulo 65,536
-abbrev pub command_body : ℕ → ℕ → Request → List ℕ
-command_body node number request =
-    spelling (record { dst = request.dst; src = node; cmd = slice_index request.payload 0; sts = 0x00; tns = number % 65536 }) ++ drop 1 request.payload
+abbrev pub command_body : ℕ → Request → List ℕ
+command_body number request =
+    spelling (record { dst = request.dst; src = request.src; cmd = slice_index request.payload 0; sts = 0x00; tns = number % 65536 }) ++ drop 1 request.payload
 
 -- the bodies of a node's commands, which it numbers one by one, from a first TNS on
-abbrev pub command_bodies : ℕ → ℕ → List Request → List (List ℕ)
-command_bodies node number [] = []
-command_bodies node number (request ∷ requests) = command_body node number request ∷ command_bodies node (number + 1) requests
+abbrev pub command_bodies : ℕ → List Request → List (List ℕ)
+command_bodies number [] = []
+command_bodies number (request ∷ requests) = command_body number request ∷ command_bodies (number + 1) requests
 
 -- command n, counted from 1
 abbrev pub command_at : {C : Type 0} → List C → ℕ → Option C

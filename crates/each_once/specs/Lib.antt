@@ -1,3 +1,4 @@
+pub mod BySource
 pub mod Commands
 pub mod Direction
 pub mod Exchanges

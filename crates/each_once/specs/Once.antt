@@ -5,7 +5,7 @@ use Rattle.df1_node.specs.Answer.{StationState}
 use Rattle.script_statement.specs.declared.who.Who.{Who}
 use Rattle.replay_report.specs.declared.record.Line.{Line}
 use Rattle.each_once.specs.Commands.{command_at}
-use Rattle.each_once.specs.Direction.{AreSomeOf}
+use Rattle.each_once.specs.BySource.{AreOnceOf}
 use Rattle.each_once.specs.Exchanges.{exchanges}
 use Rattle.each_once.specs.Tells.{executed_in, answers_in, strays_in, outcomes_in, given_up_in}
 
@@ -25,12 +25,12 @@ pub record IsAstray (issued : List (List ℕ)) (answered : List (List ℕ × Lis
   pub replies : IsReplyTo issued answered number reply
   pub is_given_up : Contains given_up number
 
--- The commands that one end issues have different bodies. The station of the other end executes some of them, in their order,
--- each once. A reply that is told as the answer to command n is what the station answered to that very command. Of each
+-- The commands that one end issues have different bodies. The station of the other end executes some of them, each once, those of
+-- each source in their order. A reply that is told as the answer to command n is what the station answered to that very command. Of each
 -- command one outcome is told at most. A stray reply is the answer to a command that is told as given up.
 pub record Once (from to : Who) (issued : List (List ℕ)) (first : StationState) (lines : List Line) : Type 0 where
   pub apart : AreApart issued
-  pub in_order : AreSomeOf (executed_in to lines) issued
+  pub in_order : AreOnceOf (executed_in to lines) issued
   pub answers : All (λ a. IsReplyTo issued (exchanges first (executed_in to lines)) a.0 a.1) (answers_in from lines)
   pub outcomes : (n : ℕ) → length (outcomes_in from n lines) ≤ 1
   pub strays : All (IsAstray issued (exchanges first (executed_in to lines)) (given_up_in from lines)) (strays_in from lines)

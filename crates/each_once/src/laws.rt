@@ -1,9 +1,17 @@
-//! Laws of one direction of a link. The functions do nothing.
-ghost use Rattle.std.specs.Prelude.{List};
+//! Laws of one direction of a link, and of commands by source. The functions do nothing.
+ghost use Rattle.std.specs.Prelude.{◌≡◌, ℕ, List, All, slice_index};
+ghost use Rattle.each_once.specs.BySource.{AreOnceOf};
 ghost use Rattle.each_once.specs.Direction.{Happening, direction_after, AreSomeOf};
 
 /// A law: whatever happens to the bytes and whatever responses the sender hears, the accepted messages are some of those
 /// that were taken up, in their order, each taking up once at most (manual topic: message packets).
 pub fn accepted_messages_were_taken_up()
     ensures { (happenings : List Happening) → AreSomeOf (direction_after happenings).accepted (direction_after happenings).taken_up }
+{}
+
+/// A law: where all commands are of one source, what is some of those of each source in order is some of all, in order: no
+/// command overtakes another.
+pub fn commands_of_one_source_stay_in_order()
+    ensures { (some all : List (List ℕ)) (source : ℕ) → All (λ body. slice_index body 1 ≡ source) all → AreOnceOf some all
+        → AreSomeOf some all }
 {}

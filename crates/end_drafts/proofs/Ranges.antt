@@ -21,7 +21,7 @@ use Rattle.script_statement.specs.declared.statement.Statement.TheVariants as st
 use Rattle.script_parts.specs.Playable.{IsBetween}
 use Rattle.script_parts.specs.HalfPlayable.{IsStationNumber}
 use Rattle.script_statement.specs.Words.{number_of, within, hex_of, byte_of, register_of}
-use Rattle.script_statement.specs.Statements.{statement_of, end_of, check_of, setting_of, set_statement, file_number, compat_line, is_block, block_of, block_line, setting_at, end_setting, set_line, file_type, file_spec, file_line, word_line, station_number, station_line, times_of, is_payload, payload_of, mask_of, foreign_of, verb_of, times_line, issue_line, alter_line, foreign_line, half_issue, master_take, master_tick, station_take, half_deliver, half_lose, half_alter, half_foreign, way_event, way_once, master_times, once_to_station, master_event, to_station, station_once, station_event, half_line, end_in, letter_in, event_alone, event_with, event_to, bare_event, operand_event, station_operand_event, one_word, two_words, three_words, five_words}
+use Rattle.script_statement.specs.Statements.{statement_of, end_of, check_of, setting_of, set_statement, file_number, compat_line, is_block, block_of, block_line, setting_at, end_setting, set_line, file_type, file_spec, file_line, word_line, station_number, station_line, times_of, source_of, is_payload, payload_of, mask_of, foreign_of, verb_of, times_line, issue_line, issue_from, side_from, alter_line, foreign_line, half_issue, half_issue_from, master_take, master_tick, station_take, half_deliver, half_lose, half_alter, half_foreign, way_event, way_once, master_times, once_to_station, master_event, to_station, to_station_from, station_once, station_event, half_line, end_in, letter_in, event_alone, event_with, event_to, event_to_from, bare_event, operand_event, number_operand_event, source_operand_event, one_word, two_words, three_words, five_words}
 
 -- a number within bounds, if there is one
 abbrev pub IfBetween : ℕ → ℕ → Option ℕ → Type 0
@@ -35,6 +35,7 @@ IsSoundLine other = Unit {0}
 
 abbrev pub IsSoundEvent : HalfEvent → Type 0
 IsSoundEvent (half.Issue station (Some payload)) = IsTrue (is_payload payload)
+IsSoundEvent (half.IssueFrom station src (Some payload)) = IsTrue (is_payload payload)
 IsSoundEvent (half.MasterTake n) = IfBetween 1 4000000 n
 IsSoundEvent (half.MasterTick n) = IfBetween 1 4000000 n
 IsSoundEvent (half.StationTake station n) = IfBetween 1 4000000 n
@@ -54,6 +55,7 @@ abbrev pub IsSound : Statement → Type 0
 IsSound (statement.Station number) = IfStation number
 IsSound (statement.Setup end line) = IsSoundLine line
 IsSound (statement.Issue side (Some payload)) = IsTrue (is_payload payload)
+IsSound (statement.IssueFrom side src (Some payload)) = IsTrue (is_payload payload)
 IsSound (statement.Times side verb n) = IfBetween 1 4000000 n
 IsSound (statement.Alter side (Some mask)) = 0 < mask
 IsSound (statement.Foreign side (Some bytes)) = IsBetween 1 250 (length bytes)
@@ -163,6 +165,15 @@ sound_issue_line : (side : EndLetter) (bytes : Option (List ℕ)) → IfSound (i
 sound_issue_line side None = tt
 sound_issue_line side (Some bytes) = sound_payload (λ o. IsSound (statement.Issue side o)) bytes (λ e. e) tt
 
+sound_issue_from : (side : EndLetter) (src : Option ℕ) (bytes : Option (List ℕ)) → IfSound (issue_from side src bytes)
+sound_issue_from side None bytes = tt
+sound_issue_from side (Some src) None = tt
+sound_issue_from side (Some src) (Some bytes) = sound_payload (λ o. IsSound (statement.IssueFrom side (source_of src) o)) bytes (λ e. e) tt
+
+sound_side_from : (side : EndLetter) (letter : ℕ) (src : Option ℕ) (operand : List ℕ) → IfSound (side_from side letter src operand)
+sound_side_from side letter src operand =
+    cond_both (eqb letter 105) (issue_from side src (hex_of operand)) None IfSound (λ _. sound_issue_from side src (hex_of operand)) (λ _. tt)
+
 sound_alter_line : (side : EndLetter) (mask : Option ℕ) → IfSound (alter_line side mask)
 sound_alter_line side None = tt
 sound_alter_line side (Some mask) = sound_mask (λ o. IsSound (statement.Alter side o)) mask (λ e. e) tt
@@ -190,6 +201,12 @@ sound_times F (Some n) ok = ok (within 1 4000000 (Some n)) (IfBetween-within 1 4
 sound_half_issue : (station : ℕ) (bytes : Option (List ℕ)) → IfSoundEvent (half_issue station bytes)
 sound_half_issue station None = tt
 sound_half_issue station (Some bytes) = sound_payload (λ o. IsSoundEvent (half.Issue station o)) bytes (λ e. e) tt
+
+sound_half_issue_from : (station src : Option ℕ) (bytes : Option (List ℕ)) → IfSoundEvent (half_issue_from station src bytes)
+sound_half_issue_from None src bytes = tt
+sound_half_issue_from (Some station) None bytes = tt
+sound_half_issue_from (Some station) (Some src) None = tt
+sound_half_issue_from (Some station) (Some src) (Some bytes) = sound_payload (λ o. IsSoundEvent (half.IssueFrom station (source_of src) o)) bytes (λ e. e) tt
 
 sound_half_alter : (way : Way) (mask : Option ℕ) → IfSoundEvent (half_alter way mask)
 sound_half_alter way None = tt
@@ -251,6 +268,10 @@ sound_to_station (Some station) letter operand =
     cond_both (eqb letter 105) (half_issue station (hex_of operand)) (way_event (ToStation station) letter operand) IfSoundEvent
     (λ _. sound_half_issue station (hex_of operand)) (λ _. sound_way (ToStation station) letter operand)
 
+sound_to_station_from : (station src : Option ℕ) (letter : ℕ) (operand : List ℕ) → IfSoundEvent (to_station_from station src letter operand)
+sound_to_station_from station src letter operand =
+    cond_both (eqb letter 105) (half_issue_from station src (hex_of operand)) None IfSoundEvent (λ _. sound_half_issue_from station src (hex_of operand)) (λ _. tt)
+
 sound_station_once : (station letter : ℕ) → IfSoundEvent (station_once station letter)
 sound_station_once station letter =
     cond_both (eqb letter 107) (Some (half.StationTake station (Some 1))) (way_once (ToMaster station) letter) IfSoundEvent
@@ -279,11 +300,17 @@ sound_with (Some (Known side)) letter operand = events (eqb letter 105) (eqb let
 sound_with (Some Master) letter operand = sound_half (master_event letter operand) (sound_master_event letter operand)
 sound_with (Some (Station station)) letter operand = sound_half (station_event station letter operand) (sound_station_event station letter operand)
 
-sound_to : (end : Option EndName) (letter : ℕ) (station : Option ℕ) (operand : List ℕ) → IfSound (event_to end letter station operand)
-sound_to None letter station operand = tt
-sound_to (Some (Known side)) letter station operand = tt
-sound_to (Some Master) letter station operand = sound_half (to_station station letter operand) (sound_to_station station letter operand)
-sound_to (Some (Station number)) letter station operand = tt
+sound_to : (end : Option EndName) (letter : ℕ) (number : Option ℕ) (operand : List ℕ) → IfSound (event_to end letter number operand)
+sound_to None letter number operand = tt
+sound_to (Some (Known side)) letter number operand = sound_side_from side letter number operand
+sound_to (Some Master) letter number operand = sound_half (to_station number letter operand) (sound_to_station number letter operand)
+sound_to (Some (Station station)) letter number operand = tt
+
+sound_to_from : (end : Option EndName) (letter : ℕ) (station src : Option ℕ) (operand : List ℕ) → IfSound (event_to_from end letter station src operand)
+sound_to_from None letter station src operand = tt
+sound_to_from (Some (Known side)) letter station src operand = tt
+sound_to_from (Some Master) letter station src operand = sound_half (to_station_from station src letter operand) (sound_to_station_from station src letter operand)
+sound_to_from (Some (Station number)) letter station src operand = tt
 
 sound_bare : (word : List ℕ) → IfSound (bare_event word)
 sound_bare [] = tt
@@ -293,9 +320,13 @@ sound_operand : (word operand : List ℕ) → IfSound (operand_event word operan
 sound_operand [] operand = tt
 sound_operand (byte ∷ rest) operand = sound_with (end_in (byte ∷ rest)) (letter_in (byte ∷ rest)) operand
 
-sound_station_operand : (word station operand : List ℕ) → IfSound (station_operand_event word station operand)
-sound_station_operand [] station operand = tt
-sound_station_operand (byte ∷ rest) station operand = sound_to (end_in (byte ∷ rest)) (letter_in (byte ∷ rest)) (number_of station) operand
+sound_number_operand : (word number operand : List ℕ) → IfSound (number_operand_event word number operand)
+sound_number_operand [] number operand = tt
+sound_number_operand (byte ∷ rest) number operand = sound_to (end_in (byte ∷ rest)) (letter_in (byte ∷ rest)) (number_of number) operand
+
+sound_source_operand : (word station src operand : List ℕ) → IfSound (source_operand_event word station src operand)
+sound_source_operand [] station src operand = tt
+sound_source_operand (byte ∷ rest) station src operand = sound_to_from (end_in (byte ∷ rest)) (letter_in (byte ∷ rest)) (number_of station) (number_of src) operand
 
 -- ---- stations
 
@@ -320,7 +351,7 @@ sound_two word operand =
     (λ _. sound_station_line (number_of operand)) (λ _. sound_operand word operand)
 
 sound_three : (verb key value : List ℕ) → IfSound (three_words verb key value)
-sound_three verb key value = cond_both (bytes_eq verb (codes "set")) (set_line key value) (station_operand_event verb key value) IfSound (λ _. sound_set_line key value) (λ _. sound_station_operand verb key value)
+sound_three verb key value = cond_both (bytes_eq verb (codes "set")) (set_line key value) (number_operand_event verb key value) IfSound (λ _. sound_set_line key value) (λ _. sound_number_operand verb key value)
 
 five : (file word : Bool) (end : Option EndName) (number count index value : Option ℕ) (kind : Option FileType) → IfSound (
     if file then file_line end number kind count
@@ -341,6 +372,6 @@ IfSound-statement_of [] = tt
 IfSound-statement_of (a ∷ []) = sound_one a
 IfSound-statement_of (a ∷ b ∷ []) = sound_two a b
 IfSound-statement_of (a ∷ b ∷ c ∷ []) = sound_three a b c
-IfSound-statement_of (a ∷ b ∷ c ∷ d ∷ []) = tt
+IfSound-statement_of (a ∷ b ∷ c ∷ d ∷ []) = sound_source_operand a b c d
 IfSound-statement_of (a ∷ b ∷ c ∷ d ∷ e ∷ []) = sound_five a b c d e
 IfSound-statement_of (a ∷ b ∷ c ∷ d ∷ e ∷ f ∷ more) = tt

@@ -1,7 +1,7 @@
 -- What the lines so far allow.
 use Rattle.std.specs.Prelude.{Bool, true, false}
 use Rattle.script_statement.specs.declared.statement.Statement.{Statement}
-use Rattle.script_statement.specs.declared.statement.Statement.TheVariants.{Mode, Check, Station, Setup, Issue, Times, Alter, Foreign, Half, End}
+use Rattle.script_statement.specs.declared.statement.Statement.TheVariants.{Mode, Check, Station, Setup, Issue, IssueFrom, Times, Alter, Foreign, Half, End}
 use Rattle.end_drafts.specs.declared.stage.Stage.{Stage}
 use Rattle.end_drafts.specs.declared.stage.Stage.TheVariants.{Fresh, Settings, Events, Ended}
 
@@ -23,6 +23,7 @@ stage_after (Check check) = Settings
 stage_after (Station number) = Settings
 stage_after (Setup end line) = Settings
 stage_after (Issue side payload) = Events
+stage_after (IssueFrom side src payload) = Events
 stage_after (Times side verb n) = Events
 stage_after (Alter side mask) = Events
 stage_after (Foreign side bytes) = Events

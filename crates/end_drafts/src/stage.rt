@@ -28,6 +28,7 @@ impl Stage {
             | Statement::Station(_)
             | Statement::Setup { .. } => Stage::Settings,
             Statement::Issue { .. }
+            | Statement::IssueFrom { .. }
             | Statement::Times { .. }
             | Statement::Alter { .. }
             | Statement::Foreign { .. }

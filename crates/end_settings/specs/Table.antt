@@ -2,7 +2,7 @@
 use Rattle.std.specs.Prelude.{ℕ, Bool, true, false, List, [], ◌∷◌, Option, find, codes}
 use Rattle.std.specs.Str.{bytes_eq}
 use Rattle.end_settings.specs.declared.key.Key.{Key}
-use Rattle.end_settings.specs.declared.key.Key.TheVariants.{AckTicks, Embed, MaxEnqs, MaxNaks, MaxResends, MaxSends, Node, PollTicks, ReplyTicks, Room, Tns}
+use Rattle.end_settings.specs.declared.key.Key.TheVariants.{AckTicks, Embed, MaxEnqs, MaxNaks, MaxResends, MaxSends, Node, PerSource, PollTicks, ReplyTicks, Room, Tns, Window}
 use Rattle.end_settings.specs.declared.row.Role.{Role}
 use Rattle.end_settings.specs.declared.row.Roles.{Roles}
 use Rattle.end_settings.specs.declared.row.Values.TheVariants.{Switch, Number}
@@ -37,14 +37,16 @@ row_of MaxNaks = record { name = codes "max_naks"; roles = duplex; values = Numb
 row_of MaxResends = record { name = codes "max_resends"; roles = master; values = Number 0 255; first = Value 3 }
 row_of MaxSends = record { name = codes "max_sends"; roles = station; values = Number 1 255; first = Value 3 }
 row_of Node = record { name = codes "node"; roles = issuers; values = Number 0 255; first = Address }
+row_of PerSource = record { name = codes "per_source"; roles = issuers; values = Number 1 16; first = Value 16 }
 row_of PollTicks = record { name = codes "poll_ticks"; roles = master; values = Number 1 1000000; first = Value 10 }
 row_of ReplyTicks = record { name = codes "reply_ticks"; roles = issuers; values = Number 33 1000000; first = Value 100 }
 row_of Room = record { name = codes "room"; roles = all; values = Number 2 64; first = Value 2 }
 row_of Tns = record { name = codes "tns"; roles = issuers; values = Number 0 65535; first = Value 1 }
+row_of Window = record { name = codes "window"; roles = issuers; values = Number 1 16; first = Value 1 }
 
 -- all keys, in the order of the names' bytes
 abbrev pub keys : List Key
-keys = AckTicks ∷ Embed ∷ MaxEnqs ∷ MaxNaks ∷ MaxResends ∷ MaxSends ∷ Node ∷ PollTicks ∷ ReplyTicks ∷ Room ∷ Tns ∷ []
+keys = AckTicks ∷ Embed ∷ MaxEnqs ∷ MaxNaks ∷ MaxResends ∷ MaxSends ∷ Node ∷ PerSource ∷ PollTicks ∷ ReplyTicks ∷ Room ∷ Tns ∷ Window ∷ []
 
 -- an end of this kind has the key
 abbrev pub has_key : Role → Key → Bool

@@ -21,6 +21,8 @@ pub enum Key {
     MaxSends,
     /// Its address, DST of what is sent to it.
     Node,
+    /// How many commands of one source may be out.
+    PerSource,
     /// Ticks until a poll counts as not answered.
     PollTicks,
     /// Ticks until a command counts as unanswered.
@@ -29,10 +31,12 @@ pub enum Key {
     Room,
     /// TNS of its first command.
     Tns,
+    /// How many commands may be out.
+    Window,
 }
 
 /// How many keys there are.
-pub(crate) const COUNT: usize = 11;
+pub(crate) const COUNT: usize = 13;
 
 /// All keys, in the order of the names' bytes.
 pub const KEYS: [Key; COUNT] = [
@@ -43,14 +47,19 @@ pub const KEYS: [Key; COUNT] = [
     Key::MaxResends,
     Key::MaxSends,
     Key::Node,
+    Key::PerSource,
     Key::PollTicks,
     Key::ReplyTicks,
     Key::Room,
     Key::Tns,
+    Key::Window,
 ];
 
 /// The highest count of ticks.
 const TICKS: u32 = 1_000_000;
+
+/// The most commands that an end may have out.
+const OUT: u32 = 16;
 
 /// An end of a full-duplex link alone.
 const DUPLEX: Roles = Roles {
@@ -128,6 +137,7 @@ impl Key {
             Key::MaxResends => Row::new("max_resends", MASTER, number(0, 255), First::Value(3)),
             Key::MaxSends => Row::new("max_sends", STATION, number(1, 255), First::Value(3)),
             Key::Node => Row::new("node", ISSUERS, number(0, 255), First::Address),
+            Key::PerSource => Row::new("per_source", ISSUERS, number(1, OUT), First::Value(16)),
             Key::PollTicks => Row::new("poll_ticks", MASTER, number(1, TICKS), First::Value(10)),
             Key::ReplyTicks => Row::new(
                 "reply_ticks",
@@ -137,6 +147,7 @@ impl Key {
             ),
             Key::Room => Row::new("room", ALL, number(2, 64), First::Value(2)),
             Key::Tns => Row::new("tns", ISSUERS, number(0, 65_535), First::Value(1)),
+            Key::Window => Row::new("window", ISSUERS, number(1, OUT), First::Value(1)),
         }
     }
 

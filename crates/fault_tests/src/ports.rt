@@ -33,6 +33,8 @@ fn end(alloc: Global) -> Result<End<Node>, Fail> {
         tns: 1,
         reply_ticks: 100,
         room: 2,
+        window: 1,
+        per_source: 16,
     };
     let node = Node::new(alloc, setup, Station::new(tables, None, &[]))?;
     let limits = Limits {

@@ -1,5 +1,5 @@
 -- The unit steps on a half-duplex line between a master and its stations: what each does to the ends and to the bytes on their way.
-use Rattle.std.specs.Prelude.{ℕ, ◌+◌, List, [], ◌++◌, drop, map, slice_get, Option, Some, None}
+use Rattle.std.specs.Prelude.{ℕ, ◌+◌, List, [], ◌++◌, drop, map, slice_get, unwrap_or, Option, Some, None}
 use Rattle.std.specs.Option.{option_map, option_to_list}
 use Rattle.df1_base.specs.declared.link.Step.{Step}
 use Rattle.df1_node.specs.Node.{NodeState, after_node_issue}
@@ -46,13 +46,13 @@ link_state m side deceived = record { master = m; side = side; deceived = deceiv
 
 -- what happens at the master
 pub data MasterDeed : Type 0 where
-  Issue : (dst : ℕ) (payload : List ℕ) → MasterDeed
+  Issue : (src : Option ℕ) (dst : ℕ) (payload : List ℕ) → MasterDeed
   Give : MasterDeed
   Tick : MasterDeed
 
--- a command is issued
-abbrev pub after_issue : MasterState NodeState → ℕ → List ℕ → MasterState NodeState
-after_issue m dst payload = with_host m (after_node_issue m.host dst payload)
+-- a command is issued in the name of a source, or else in that of the node itself
+abbrev pub after_issue : MasterState NodeState → Option ℕ → ℕ → List ℕ → MasterState NodeState
+after_issue m src dst payload = with_host m (after_node_issue m.host (unwrap_or src m.host.initiator.node) dst payload)
 
 -- the cells that a take puts into each lane: one, or none where the master has nothing to give
 abbrev pub cells_given : MasterState NodeState → List LaneCell
@@ -63,7 +63,7 @@ abbrev pub byte_given : MasterState NodeState → Option ℕ
 byte_given m = option_map (λ out. out.byte) (master.out_at_take node_host m)
 
 abbrev pub master_after : MasterState NodeState → MasterDeed → MasterState NodeState
-master_after m (Issue dst payload) = after_issue m dst payload
+master_after m (Issue src dst payload) = after_issue m src dst payload
 master_after m Give = master_after_take node_host m
 master_after m Tick = master_after_tick node_host m
 
@@ -73,7 +73,7 @@ joined cells side = record side { to_it = side.to_it ++ cells }
 
 -- a byte of the master joins the lane to each station
 abbrev pub stations_after : List LineStationState → MasterState NodeState → MasterDeed → List LineStationState
-stations_after stations m (Issue dst payload) = stations
+stations_after stations m (Issue src dst payload) = stations
 stations_after stations m Give = map (joined (cells_given m)) stations
 stations_after stations m Tick = stations
 
@@ -86,13 +86,13 @@ after_master_deed s deed = record {
 
 -- the lines: at a tick first that of the message that was given up, then the unanswered commands
 abbrev pub master_lines : MasterState NodeState → MasterDeed → List Line
-master_lines m (Issue dst payload) = []
+master_lines m (Issue src dst payload) = []
 master_lines m Give = []
 master_lines m Tick = turn_lines M (turn_at_tick node_host m) ++ gone_lines M (gone_at_tick node_host m)
 
 -- the bytes that the master gives
 abbrev pub master_bytes : MasterState NodeState → MasterDeed → List ℕ
-master_bytes m (Issue dst payload) = []
+master_bytes m (Issue src dst payload) = []
 master_bytes m Give = option_to_list (byte_given m)
 master_bytes m Tick = []
 

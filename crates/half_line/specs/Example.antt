@@ -1,5 +1,5 @@
 -- A half-duplex script whose run nothing disturbs: a command is issued, executed, and answered at a poll.
-use Rattle.std.specs.Prelude.{ℕ, true, List, [], ◌∷◌}
+use Rattle.std.specs.Prelude.{ℕ, true, List, [], ◌∷◌, None}
 use Rattle.df1_base.specs.declared.file_type.FileType.TheVariants.{Integer}
 use Rattle.df1_check.specs.declared.Check.TheVariants.{Bcc}
 use Rattle.script_statement.specs.declared.who.Who.TheVariants.{M, S}
@@ -23,7 +23,7 @@ polled_write = record {
   check = Bcc;
   ends = first_plan M 0 ∷ record (first_plan (S 3) 3) { files = record { number = 7; kind = Integer; count = 16 } ∷ [] } ∷ first_plan (S 5) 5 ∷ [];
   events =
-      Issue M 3 (0x0F ∷ 0xAA ∷ 0x02 ∷ 0x07 ∷ 0x89 ∷ 0x00 ∷ 0x00 ∷ 0x34 ∷ 0x12 ∷ [])
+      Issue M None 3 (0x0F ∷ 0xAA ∷ 0x02 ∷ 0x07 ∷ 0x89 ∷ 0x00 ∷ 0x00 ∷ 0x34 ∷ 0x12 ∷ [])
       ∷ Take M 22 ∷ reach 3 22 ∷ reach 5 22 ∷ Take (S 3) 2 ∷ come_from 3 2
       ∷ Tick M 1 ∷ Take M 4 ∷ reach 3 4 ∷ reach 5 4 ∷ Take (S 3) 11 ∷ come_from 3 11
       ∷ Take M 2 ∷ reach 3 2 ∷ reach 5 2

@@ -46,7 +46,7 @@ issued_by m = length m.host.initiator.issued
 
 -- a command is not the master's 65,536th
 abbrev pub IsUnspent : MasterState NodeState → Event → Type 0
-IsUnspent m (event.Issue who dst payload) = issued_by m < 65535
+IsUnspent m (event.Issue who src dst payload) = issued_by m < 65535
 IsUnspent m (event.Take who n) = Unit {0}
 IsUnspent m (event.Deliver lane n) = Unit {0}
 IsUnspent m (event.Lose lane n) = Unit {0}
@@ -62,7 +62,7 @@ pub record IsNext (p : Played) (e : Event) : Type 0 where
 
 -- an event that takes bytes away or changes one: it takes no memory
 abbrev pub takes_no_memory : Event → Bool
-takes_no_memory (event.Issue who dst payload) = false
+takes_no_memory (event.Issue who src dst payload) = false
 takes_no_memory (event.Take who n) = false
 takes_no_memory (event.Deliver lane n) = false
 takes_no_memory (event.Lose lane n) = true

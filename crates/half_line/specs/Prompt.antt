@@ -25,7 +25,7 @@ is_quiet s = is_none (master.out_at_take node_host s.master) && list_all is_idle
 -- ---- late ticks: those of the master that came while something was under way
 
 abbrev pub master_ticks : MasterDeed → ℕ
-master_ticks (Issue dst payload) = 0
+master_ticks (Issue src dst payload) = 0
 master_ticks Give = 0
 master_ticks Tick = 1
 
@@ -107,8 +107,13 @@ pub record KeepsNone (side : LineStationState) : Type 0 where
 abbrev pub EndsFetched : Script → Type 0
 EndsFetched script = All KeepsNone (last_state script).stations
 
--- a run that nothing disturbs, with few ticks, that ends with nothing under way and no reply left at a station
+-- the master has one command out at a time
+abbrev pub IsOneAtATime : Script → Type 0
+IsOneAtATime script = (plan_of_m script).window ≡ 1
+
+-- a run of a master that has one command out at a time, that nothing disturbs, with few ticks, that ends with nothing under way and no reply left at a station
 pub record IsUndisturbed (script : Script) : Type 0 where
+  pub single : IsOneAtATime script
   pub prompt : IsPrompt script
   pub quiet : EndsQuiet script
   pub few_ticks : HasFewTicks script

@@ -69,7 +69,7 @@ way_from other = ToStation
 
 -- the number of the station at which an event happens, or between which and the master its bytes are; none where it happens at the master
 abbrev pub station_at : Event → Option ℕ
-station_at (event.Issue who dst payload) = None
+station_at (event.Issue who src dst payload) = None
 station_at (event.Take who n) = number_of who
 station_at (event.Deliver lane n) = Some (station_between lane.from lane.to)
 station_at (event.Lose lane n) = Some (station_between lane.from lane.to)
@@ -81,14 +81,14 @@ station_at (event.Tick who n) = None
 
 -- at the master
 abbrev pub master_deeds : Event → List MasterDeed
-master_deeds (event.Issue who dst payload) = Issue dst payload ∷ []
+master_deeds (event.Issue who src dst payload) = Issue src dst payload ∷ []
 master_deeds (event.Take who n) = replicate n Give
 master_deeds (event.Tick who n) = replicate n Tick
 master_deeds other = []
 
 -- at a station, or with the bytes to it or from it
 abbrev pub link_deeds : Event → List LinkDeed
-link_deeds (event.Issue who dst payload) = []
+link_deeds (event.Issue who src dst payload) = []
 link_deeds (event.Take who n) = replicate n StationGives
 link_deeds (event.Deliver lane n) = replicate n (OnLane (way_from lane.from) Deliver)
 link_deeds (event.Lose lane n) = replicate n (OnLane (way_from lane.from) Lose)

@@ -22,10 +22,11 @@ pub fn a_polled_write_is_executed_and_answered()
     ensures answered { answers_in M (record_of polled_write).lines ≡ (1, the_reply) ∷ [] }
 {}
 
-/// A law: in a run that loses, alters and adds no byte, in which few ticks come while something is under way and fewer in all
-/// than the master waits for a reply, and which ends with nothing under way and no reply left at a station, no end is
-/// deceived; each station executes all commands that were issued to it, in their order; and the master accepts for each
-/// command, in their order, what the station answered to it (manual topic: half-duplex protocol).
+/// A law: where the master has one command out at a time, in a run that loses, alters and adds no byte, in which few ticks
+/// come while something is under way and fewer in all than the master waits for a reply, and which ends with nothing under
+/// way and no reply left at a station, no end is deceived; each station executes all commands that were issued to it, in
+/// their order; and the master accepts for each command, in their order, what the station answered to it (manual topic:
+/// half-duplex protocol).
 #[tactic(auto, unfolding(crate::specs::Run::record_of))]
 pub fn an_undisturbed_polled_run_is_complete()
     ensures { (script : Script) → IsHalfPlayable script → IsUndisturbed script → IsComplete script (record_of script) }

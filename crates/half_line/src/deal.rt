@@ -38,7 +38,12 @@ pub(crate) fn deal_at_master(
     ensures calm { IsTrue (takes_no_memory event.now) → IsOk result }
 {
     match event {
-        Event::Issue { dst, payload, .. } => issue(master, *dst, payload.as_slice()),
+        Event::Issue {
+            src,
+            dst,
+            payload,
+            ..
+        } => issue(master, *src, *dst, payload.as_slice()),
         Event::Take { n, .. } => master::give(alloc, master, stations, *n, lines),
         Event::Tick { n, .. } => pass(master, *n, lines),
         Event::Deliver { .. } | Event::Lose { .. } | Event::Alter { .. } | Event::Foreign { .. } =>

@@ -19,13 +19,23 @@ use report_lines::{tell_gone, tell_turn};
 use script_statement::{Bytes, Who};
 use std::alloc::Global;
 
-/// The master issues a command. The payload has 1 to 245 bytes, bit 6 of its CMD is clear, and the master has issued fewer
-/// than 65,535 commands.
-pub(crate) fn issue(master: &mut Master<Node>, dst: u8, payload: &[u8]) -> Result<(), NoMemory>
+/// The master issues a command in the name of the source `src`, or else in its own. The payload has 1 to 245 bytes, bit 6 of
+/// its CMD is clear, and the master has issued fewer than 65,535 commands.
+pub(crate) fn issue(
+    master: &mut Master<Node>,
+    src: Option<u8>,
+    dst: u8,
+    payload: &[u8],
+) -> Result<(), NoMemory>
     requires { issue_fault master.old.host.initiator payload.now ≡ None }
-    ensures { OnOk result (master.new ≡ after_issue master.old dst payload.now) }
+    ensures { OnOk result (master.new ≡ after_issue master.old src dst payload.now) }
 {
-    match master.host_mut().issue(dst, payload) {
+    let node = master.host_mut();
+    let issued = match src {
+        Some(src) => node.issue_from(src, dst, payload),
+        None => node.issue(dst, payload),
+    };
+    match issued {
         Ok(_) => Ok(()),
         Err(IssueFault::NoMemory) => Err(NoMemory),
         Err(_) => unreachable!(),

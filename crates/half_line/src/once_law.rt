@@ -15,8 +15,9 @@ pub fn outcomes_are_told()
 {}
 
 /// A law: in a run that deceives no end, whatever is lost, altered, foreign or late, each station executes commands that the
-/// master issued to it, in their order, each once; its words are what these made of the first ones; and each reply that the
-/// master accepts from it is what the station answered to that very command (manual topic: half-duplex protocol).
+/// master issued to it, each once, those of each source in their order; its words are what these made of the first ones; and
+/// each reply that the master accepts from it is what the station answered to that very command (manual topic: half-duplex
+/// protocol).
 #[tactic(auto, unfolding(crate::specs::Run::record_of))]
 pub fn each_command_once_at_each_station()
     ensures { (script : Script) → IsHalfPlayable script → (record_of script).deceived ≡ 0 → EachOnce script (record_of script) }

@@ -27,7 +27,7 @@ use Rattle.script_statement.specs.declared.half_event.HalfEvent.TheVariants as h
 use Rattle.script_statement.specs.declared.statement.EndName.TheVariants.{Known, Master, Station}
 use Rattle.script_statement.specs.declared.statement.Statement.{Statement}
 use Rattle.script_statement.specs.declared.statement.Statement.TheVariants as statement
-use Rattle.script_statement.specs.declared.statement.Statement.TheVariants.{Mode, Check, Setup, Issue, Times, Alter, Foreign, Half, End}
+use Rattle.script_statement.specs.declared.statement.Statement.TheVariants.{Mode, Check, Setup, Issue, IssueFrom, Times, Alter, Foreign, Half, End}
 use Rattle.script_parts.specs.declared.script.EndPlan.{EndPlan}
 use Rattle.script_parts.specs.declared.script.Event.{Event}
 use Rattle.script_parts.specs.declared.script.Event.TheVariants as event
@@ -201,16 +201,16 @@ eventful d events x h possible no_command few = record {
 spends : (left count : ℕ) → count + left ≡ 65535 → eqb left 0 ≡ false → count + 1 + (left - 1) ≡ 65535
 spends left count sum some = let more : 0 < left = grind (arith, nat_tests) in omega arith
 
-issued_to : (d : HalfReader) (events : List Event) (station : ℕ) (payload : List ℕ) → Stands d events → IsHalfPossible (numbers d) (event.Issue M station payload) → eqb d.master.commands_left 0 ≡ false → nat_lt d.events_left 1 ≡ false
-    → Stands (record d { stage = Events; events_left = d.events_left - 1; master = record d.master { commands_left = d.master.commands_left - 1 } }) (events ++ event.Issue M station payload ∷ [])
-issued_to d events station payload h possible some few = record {
+issued_to : (d : HalfReader) (events : List Event) (src : Option ℕ) (station : ℕ) (payload : List ℕ) → Stands d events → IsHalfPossible (numbers d) (event.Issue M src station payload) → eqb d.master.commands_left 0 ≡ false → nat_lt d.events_left 1 ≡ false
+    → Stands (record d { stage = Events; events_left = d.events_left - 1; master = record d.master { commands_left = d.master.commands_left - 1 } }) (events ++ event.Issue M src station payload ∷ [])
+issued_to d events src station payload h possible some few = record {
   master = right_with_commands d.master (d.master.commands_left - 1) h.master;
   stations = h.stations;
   at_most = h.at_most;
   distinct = h.distinct;
-  possible = All-push (IsHalfPossible (numbers d)) events (event.Issue M station payload) h.possible possible;
-  commands = rw (counts (λ y. cond (is_issue y) 1 0) events (event.Issue M station payload)) (spends d.master.commands_left _ h.commands some);
-  sum = rw (counts (half_count_of (numbers d)) events (event.Issue M station payload)) (let sum = h.sum in let fits : 1 ≤ d.events_left = grind (arith, nat_tests) in omega arith);
+  possible = All-push (IsHalfPossible (numbers d)) events (event.Issue M src station payload) h.possible possible;
+  commands = rw (counts (λ y. cond (is_issue y) 1 0) events (event.Issue M src station payload)) (spends d.master.commands_left _ h.commands some);
+  sum = rw (counts (half_count_of (numbers d)) events (event.Issue M src station payload)) (let sum = h.sum in let fits : 1 ≤ d.events_left = grind (arith, nat_tests) in omega arith);
   begun = inr refl;
 }
 
@@ -221,7 +221,12 @@ happens : (d : HalfReader) (events : List Event) (x : HalfEvent) → Stands d ev
 happens d events (half.Issue station None) h sound none = let no : true ≡ false = none.in_range in cc
 happens d events (half.Issue station (Some payload)) h sound none =
     let there : is_declared (numbers d) station ≡ true = no_other (is_declared (numbers d) station) none.missing in
-    rw there (issued_to d events station payload h (refl, there, sound) none.unspent none.few)
+    rw there (issued_to d events None station payload h (refl, there, sound) none.unspent none.few)
+happens d events (half.IssueFrom station None payload) h sound none = let no : true ≡ false = none.in_range in cc
+happens d events (half.IssueFrom station (Some src) None) h sound none = let no : true ≡ false = none.in_range in cc
+happens d events (half.IssueFrom station (Some src) (Some payload)) h sound none =
+    let there : is_declared (numbers d) station ≡ true = no_other (is_declared (numbers d) station) none.missing in
+    rw there (issued_to d events (Some src) station payload h (refl, there, sound) none.unspent none.few)
 happens d events (half.MasterTake None) h sound none = let no : true ≡ false = none.in_range in cc
 happens d events (half.MasterTake (Some n)) h sound none = eventful d events (event.Take M n) h (refl, sound) refl none.few
 happens d events (half.MasterTick None) h sound none = let no : true ≡ false = none.in_range in cc
@@ -287,6 +292,7 @@ next d events (Setup (Station n) line) h sound none =
     let right = station_line d.stations n line (station_at d.stations n) refl h.stations sound none.missing none.in_range none.new in
     quiet d (settled (counted d (Setup (Station n) line)) (Setup (Station n) line)) events h h.master right.right right.same refl refl (inl (no_events (is_set_up d.stage) events h.begun none.placed))
 next d events (Issue side payload) h sound none = let no : true ≡ false = none.missing in cc
+next d events (IssueFrom side src payload) h sound none = let no : true ≡ false = none.missing in cc
 next d events (Times side verb n) h sound none = let no : true ≡ false = none.missing in cc
 next d events (Alter side mask) h sound none = let no : true ≡ false = none.missing in cc
 next d events (Foreign side bytes) h sound none = let no : true ≡ false = none.missing in cc

@@ -23,7 +23,7 @@ use Rattle.script_statement.specs.declared.statement.EndName.{EndName}
 use Rattle.script_statement.specs.declared.statement.EndName.TheVariants.{Known, Master, Station}
 use Rattle.script_statement.specs.declared.statement.Statement.{Statement}
 use Rattle.script_statement.specs.declared.statement.Statement.TheVariants as statement
-use Rattle.script_statement.specs.declared.statement.Statement.TheVariants.{Mode, Check, Setup, Issue, Times, Alter, Foreign, Half, End}
+use Rattle.script_statement.specs.declared.statement.Statement.TheVariants.{Mode, Check, Setup, Issue, IssueFrom, Times, Alter, Foreign, Half, End}
 use Rattle.script_parts.specs.declared.script.EndPlan.{EndPlan}
 use Rattle.script_parts.specs.declared.script.Event.{Event}
 use Rattle.script_parts.specs.declared.script.Event.TheVariants as event
@@ -71,6 +71,7 @@ station_of (ToMaster station) = station
 -- the station that an event names, if it names one
 abbrev pub named_by : HalfEvent → Option ℕ
 named_by (half.Issue station payload) = Some station
+named_by (half.IssueFrom station src payload) = Some station
 named_by (half.MasterTake n) = None
 named_by (half.MasterTick n) = None
 named_by (half.StationTake station n) = Some station
@@ -83,6 +84,7 @@ named_by (half.Foreign way bytes) = Some (station_of way)
 abbrev pub is_missing : HalfReader → Statement → Bool
 is_missing d (Setup end line) = option_map_or (λ draft. lacks (role_of end) draft line) (draft_at d end) true
 is_missing d (Issue side payload) = true
+is_missing d (IssueFrom side src payload) = true
 is_missing d (Times side verb n) = true
 is_missing d (Alter side mask) = true
 is_missing d (Foreign side bytes) = true
@@ -92,6 +94,7 @@ is_missing d statement = false
 -- a number or a length of an event is out of its range
 abbrev pub is_outside : HalfEvent → Bool
 is_outside (half.Issue station payload) = is_none payload
+is_outside (half.IssueFrom station src payload) = is_none src || is_none payload
 is_outside (half.MasterTake n) = is_none n
 is_outside (half.MasterTick n) = is_none n
 is_outside (half.StationTake station n) = is_none n
@@ -118,11 +121,13 @@ is_twice d statement = false
 -- it is a command of the master, which may issue no more
 abbrev pub is_spent : HalfReader → Statement → Bool
 is_spent d (Half (half.Issue station payload)) = d.master.commands_left == 0
+is_spent d (Half (half.IssueFrom station src payload)) = d.master.commands_left == 0
 is_spent d statement = false
 
 -- how many events an event of a line counts: each byte of the master goes into the queue of each station
 abbrev pub event_steps : List ℕ → HalfEvent → ℕ
 event_steps numbers (half.Issue station payload) = 1
+event_steps numbers (half.IssueFrom station src payload) = 1
 event_steps numbers (half.MasterTake n) = unwrap_or n 0 * master_weight numbers
 event_steps numbers (half.MasterTick n) = unwrap_or n 0
 event_steps numbers (half.StationTake station n) = unwrap_or n 0
@@ -170,6 +175,7 @@ settled d (Check (Some check)) = record d { check = Some check }
 settled d (statement.Station (Some number)) = record d { stations = with_station d.stations number }
 settled d (Setup end line) = with_end_line d end line
 settled d (Half (half.Issue station payload)) = record d { master = record d.master { commands_left = d.master.commands_left - 1 } }
+settled d (Half (half.IssueFrom station src payload)) = record d { master = record d.master { commands_left = d.master.commands_left - 1 } }
 settled d statement = d
 
 abbrev pub who_at : List ℕ → ℕ → Option Who
@@ -186,9 +192,14 @@ abbrev pub lane_at : List ℕ → Way → Option Lane
 lane_at numbers (ToStation station) = option_map lane_to (declared numbers station)
 lane_at numbers (ToMaster station) = option_map lane_from (declared numbers station)
 
-abbrev pub issued : Option ℕ → Option (List ℕ) → Option Event
-issued (Some station) (Some payload) = Some (event.Issue M station payload)
-issued station payload = None
+-- a command of the master to a station, in the name of a source or else in its own
+abbrev pub issued : Option ℕ → Option ℕ → Option (List ℕ) → Option Event
+issued src (Some station) (Some payload) = Some (event.Issue M src station payload)
+issued src station payload = None
+
+abbrev pub issued_from : Option ℕ → Option ℕ → Option (List ℕ) → Option Event
+issued_from None station payload = None
+issued_from (Some src) station payload = issued (Some src) station payload
 
 abbrev pub taken : Option Who → Option ℕ → Option Event
 taken (Some who) (Some n) = Some (event.Take who n)
@@ -216,7 +227,8 @@ heard lane bytes = None
 
 -- the event of a half-duplex line, where its station is declared and its values are there
 abbrev pub happening : List ℕ → HalfEvent → Option Event
-happening numbers (half.Issue station payload) = issued (declared numbers station) payload
+happening numbers (half.Issue station payload) = issued None (declared numbers station) payload
+happening numbers (half.IssueFrom station src payload) = issued_from src (declared numbers station) payload
 happening numbers (half.MasterTake n) = taken (Some M) n
 happening numbers (half.MasterTick n) = ticked n
 happening numbers (half.StationTake station n) = taken (who_at numbers station) n

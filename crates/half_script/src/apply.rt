@@ -1,6 +1,6 @@
 //! What a statement with nothing wrong changes, and the event that it is.
 ghost use Rattle.std.specs.Prelude.{◌≡◌, IfOk, OnOk, Some, true, false};
-ghost use Rattle.half_script.specs.Drafts.{altered, delivered, event_of as the_event, happening as the_happening, heard, issued, lane_at as the_lane, lost, numbers, sets_up as the_setup_test, settled, taken, ticked, who_at as the_who, with_statement as the_draft};
+ghost use Rattle.half_script.specs.Drafts.{altered, delivered, event_of as the_event, happening as the_happening, heard, issued, issued_from, lane_at as the_lane, lost, numbers, sets_up as the_setup_test, settled, taken, ticked, who_at as the_who, with_statement as the_draft};
 
 use crate::HalfReader;
 use df1_base::NoMemory;
@@ -62,7 +62,9 @@ impl HalfReader {
         match statement {
             Statement::Check(Some(check)) => self.check = Some(*check),
             Statement::Station(Some(number)) => self.stations.push(alloc, *number)?,
-            Statement::Half(HalfEvent::Issue { .. }) => self.master.count_command(),
+            Statement::Half(HalfEvent::Issue { .. } | HalfEvent::IssueFrom { .. }) => {
+                self.master.count_command()
+            }
             _ => {}
         }
         Ok(())
@@ -84,8 +86,13 @@ impl HalfReader {
     {
         match event {
             HalfEvent::Issue { station, payload } => {
-                issue(self.stations.declared(station), payload)
+                issue(None, self.stations.declared(station), payload)
             }
+            HalfEvent::IssueFrom {
+                station,
+                src,
+                payload,
+            } => issue_from(src, self.stations.declared(station), payload),
             HalfEvent::MasterTake { n } => take(Some(Who::M), n),
             HalfEvent::MasterTick { n } => tick(n),
             HalfEvent::StationTake { station, n } => take(self.who(station), n),
@@ -127,15 +134,23 @@ fn sets_up(statement: &Statement) -> bool
     matches!(statement, Statement::Setup { .. })
 }
 
-/// A command of the master.
-fn issue(dst: Option<u8>, payload: Option<Bytes>) -> Option<Event>
-    ensures { result ≡ issued dst payload }
+/// A command of the master, in the name of a source or else in its own.
+fn issue(src: Option<u8>, dst: Option<u8>, payload: Option<Bytes>) -> Option<Event>
+    ensures { result ≡ issued src dst payload }
 {
     Some(Event::Issue {
         who: Who::M,
+        src,
         dst: dst?,
         payload: payload?,
     })
+}
+
+/// A command of the master in the name of a source, where there is one.
+fn issue_from(src: Option<u8>, dst: Option<u8>, payload: Option<Bytes>) -> Option<Event>
+    ensures { result ≡ issued_from src dst payload }
+{
+    issue(Some(src?), dst, payload)
 }
 
 /// An end gives bytes.

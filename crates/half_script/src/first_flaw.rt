@@ -42,6 +42,7 @@ impl HalfReader {
                 None => true,
             },
             Statement::Issue { .. }
+            | Statement::IssueFrom { .. }
             | Statement::Times { .. }
             | Statement::Alter { .. }
             | Statement::Foreign { .. } => true,
@@ -90,7 +91,9 @@ impl HalfReader {
         ensures { result ≡ the_spent self.now statement.now }
     {
         match statement {
-            Statement::Half(HalfEvent::Issue { .. }) => self.master.commands_left == 0,
+            Statement::Half(HalfEvent::Issue { .. } | HalfEvent::IssueFrom { .. }) => {
+                self.master.commands_left == 0
+            }
             _ => false,
         }
     }
@@ -110,7 +113,7 @@ impl HalfReader {
         ensures { result ≡ the_event_steps (numbers self.now) event.now }
     {
         match event {
-            HalfEvent::Issue { .. } | HalfEvent::Alter { .. } => 1,
+            HalfEvent::Issue { .. } | HalfEvent::IssueFrom { .. } | HalfEvent::Alter { .. } => 1,
             HalfEvent::MasterTake { n } => number_of(*n) * self.weight(),
             HalfEvent::MasterTick { n }
             | HalfEvent::StationTake { n, .. }
@@ -167,7 +170,9 @@ fn named_by(event: &HalfEvent) -> Option<u32>
     ensures { result ≡ the_name event.now }
 {
     match event {
-        HalfEvent::Issue { station, .. } | HalfEvent::StationTake { station, .. } => Some(*station),
+        HalfEvent::Issue { station, .. }
+        | HalfEvent::IssueFrom { station, .. }
+        | HalfEvent::StationTake { station, .. } => Some(*station),
         HalfEvent::MasterTake { .. } | HalfEvent::MasterTick { .. } => None,
         HalfEvent::Deliver { way, .. }
         | HalfEvent::Lose { way, .. }
@@ -191,6 +196,7 @@ fn is_outside(event: &HalfEvent) -> bool
 {
     match event {
         HalfEvent::Issue { payload, .. } => payload.is_none(),
+        HalfEvent::IssueFrom { src, payload, .. } => src.is_none() || payload.is_none(),
         HalfEvent::MasterTake { n }
         | HalfEvent::MasterTick { n }
         | HalfEvent::StationTake { n, .. }

@@ -9,7 +9,7 @@ use Rattle.script_parts.specs.declared.script.Script.{Script}
 use Rattle.script_statement.specs.declared.statement.EndLetter.TheVariants.{A, B}
 use Rattle.script_statement.specs.declared.statement.Statement.{Statement}
 use Rattle.script_statement.specs.declared.statement.Statement.TheVariants as statement
-use Rattle.script_statement.specs.declared.statement.Statement.TheVariants.{Mode, Check, Station, Setup, Issue, Times, Alter, Foreign, End}
+use Rattle.script_statement.specs.declared.statement.Statement.TheVariants.{Mode, Check, Station, Setup, Issue, IssueFrom, Times, Alter, Foreign, End}
 use Rattle.script_statement.specs.declared.half_event.HalfEvent.{HalfEvent}
 use Rattle.script_statement.specs.declared.half_event.HalfEvent.TheVariants as event
 use Rattle.duplex_script.specs.declared.reader.DuplexReader.{DuplexReader}
@@ -74,6 +74,12 @@ full-stated d (Issue A None) placed = λ begun. (λ events. refl, refl)
 full-stated d (Issue B None) placed = λ begun. (λ events. refl, refl)
 full-stated d (Issue A (Some payload)) placed = (λ events. refl, refl)
 full-stated d (Issue B (Some payload)) placed = (λ events. refl, refl)
+full-stated d (IssueFrom A None payload) placed = λ begun. (λ events. refl, refl)
+full-stated d (IssueFrom B None payload) placed = λ begun. (λ events. refl, refl)
+full-stated d (IssueFrom A (Some src) None) placed = λ begun. (λ events. refl, refl)
+full-stated d (IssueFrom B (Some src) None) placed = λ begun. (λ events. refl, refl)
+full-stated d (IssueFrom A (Some src) (Some payload)) placed = (λ events. refl, refl)
+full-stated d (IssueFrom B (Some src) (Some payload)) placed = (λ events. refl, refl)
 full-stated d (Times side verb None) placed = λ begun. (λ events. refl, refl)
 full-stated d (Times side verb (Some n)) placed = (λ events. refl, refl)
 full-stated d (Alter side None) placed = λ begun. (λ events. refl, refl)
@@ -85,6 +91,7 @@ full-stated d End placed = λ begun. (λ events. refl, refl)
 
 half-happens : (d : HalfReader) (x : HalfEvent) → IsKeptBy (Half d) (Half (half.with_statement d (statement.Half x)).0) (half.with_statement d (statement.Half x)).1
 half-happens d (event.Issue station payload) = either (Half d) (Half (half.with_statement d (statement.Half (event.Issue station payload))).0) (half.with_statement d (statement.Half (event.Issue station payload))).1 (λ events. refl) refl
+half-happens d (event.IssueFrom station src payload) = either (Half d) (Half (half.with_statement d (statement.Half (event.IssueFrom station src payload))).0) (half.with_statement d (statement.Half (event.IssueFrom station src payload))).1 (λ events. refl) refl
 half-happens d (event.MasterTake n) = either (Half d) (Half (half.with_statement d (statement.Half (event.MasterTake n))).0) (half.with_statement d (statement.Half (event.MasterTake n))).1 (λ events. refl) refl
 half-happens d (event.MasterTick n) = either (Half d) (Half (half.with_statement d (statement.Half (event.MasterTick n))).0) (half.with_statement d (statement.Half (event.MasterTick n))).1 (λ events. refl) refl
 half-happens d (event.StationTake station n) = either (Half d) (Half (half.with_statement d (statement.Half (event.StationTake station n))).0) (half.with_statement d (statement.Half (event.StationTake station n))).1 (λ events. refl) refl
@@ -99,6 +106,7 @@ half-stated d (Check check) placed = λ begun. absurd (contradicts (is_set_up d.
 half-stated d (Station number) placed = λ begun. absurd (contradicts (is_set_up d.stage) placed begun)
 half-stated d (Setup end line) placed = λ begun. absurd (contradicts (is_set_up d.stage) placed begun)
 half-stated d (Issue side payload) placed = λ begun. (λ events. refl, refl)
+half-stated d (IssueFrom side src payload) placed = λ begun. (λ events. refl, refl)
 half-stated d (Times side verb n) placed = λ begun. (λ events. refl, refl)
 half-stated d (Alter side mask) placed = λ begun. (λ events. refl, refl)
 half-stated d (Foreign side bytes) placed = λ begun. (λ events. refl, refl)

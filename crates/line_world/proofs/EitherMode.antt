@@ -27,7 +27,7 @@ use Rattle.duplex_line.specs.Acts.{LineState}
 use Rattle.duplex_line.specs.Plays.{Played}
 use Rattle.duplex_line.specs.Run as duplex
 use Rattle.duplex_line.specs.Once.{EachOnce}
-use Rattle.duplex_line.specs.Prompt.{IsPrompt, EndsQuiet}
+use Rattle.duplex_line.specs.Prompt.{IsPrompt, EndsQuiet, HasRooms}
 use Rattle.duplex_line.specs.Complete.{IsComplete as DuplexComplete}
 use Rattle.duplex_line.proofs.Complete.WholeRun.{is-complete as duplex-is-complete}
 use Rattle.duplex_line.proofs.Once.WholeRun.{each-once}
@@ -193,9 +193,9 @@ pub duplex-once : (script : Script) → IsPlayable script → (record_of script)
 unfolding duplex.record_of
 duplex-once script playable = subst (λ (r : Record). r.deceived ≡ 0 → EachOnce script r) (sym (duplex-record script playable.mode)) (each-once script playable)
 
-duplex-complete : (script : Script) → IsPlayable script → IsPrompt script → EndsQuiet script → DuplexComplete script (record_of script)
+duplex-complete : (script : Script) → IsPlayable script → HasRooms script → IsPrompt script → EndsQuiet script → DuplexComplete script (record_of script)
 unfolding duplex.record_of
-duplex-complete script playable = subst (λ (r : Record). IsPrompt script → EndsQuiet script → DuplexComplete script r) (sym (duplex-record script playable.mode)) (duplex-is-complete script playable)
+duplex-complete script playable = subst (λ (r : Record). HasRooms script → IsPrompt script → EndsQuiet script → DuplexComplete script r) (sym (duplex-record script playable.mode)) (duplex-is-complete script playable)
 
 -- ---- and on a half-duplex line
 
@@ -222,7 +222,7 @@ polled-complete script playable = subst (λ (r : Record). HalfUndisturbed script
 
 complete-in : (half : Bool) (script : Script) → script.half ≡ half → CanBePlayed script → IsUndisturbedIn half script → IsCompleteIn half script (record_of script)
 complete-in true script mode h undisturbed = polled-complete script (h.half mode) undisturbed
-complete-in false script mode h undisturbed = duplex-complete script (h.full mode) undisturbed.0 undisturbed.1
+complete-in false script mode h undisturbed = duplex-complete script (h.full mode) undisturbed.0 undisturbed.1 undisturbed.2
 
 pub all-complete : (script : Script) → CanBePlayed script → IsUndisturbed script → IsComplete script (record_of script)
 all-complete script h = complete-in script.half script refl h

@@ -37,6 +37,8 @@ fn a_reply_answers_its_command_once(rt: HostRuntime) -> Result<(), Fail> {
         tns: 1,
         reply_ticks: 33,
         room: 2,
+        window: 1,
+        per_source: 16,
     };
     let mut node = Node::new(rt.alloc(), setup, Station::new(tables, None, b""))?;
     let mut body = ArrayVec::new();
@@ -69,6 +71,8 @@ fn each_reply_stays_as_it_came(rt: HostRuntime) -> Result<(), Fail> {
         tns: 1,
         reply_ticks: 1,
         room: 2,
+        window: 1,
+        per_source: 16,
     };
     let mut node = Node::new(rt.alloc(), setup, Station::new(tables, None, b""))?;
     let mut body = ArrayVec::new();
@@ -116,6 +120,8 @@ fn a_word_is_set_where_there_is_one(rt: HostRuntime) -> Result<(), Fail> {
         tns: 1,
         reply_ticks: 33,
         room: 2,
+        window: 1,
+        per_source: 16,
     };
     for (file, index, known, words) in &SET_WORDS {
         let tables = Tables::new(rt.alloc(), &[integers])?;

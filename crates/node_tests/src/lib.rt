@@ -5,3 +5,5 @@
 mod answers;
 #[cfg(test)]
 mod exchanges;
+#[cfg(test)]
+mod windows;

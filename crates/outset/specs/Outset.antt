@@ -33,7 +33,7 @@ first_node plan = record {
   room = plan.room;
   station = first_station plan;
   replies = [];
-  initiator = record { node = plan.node; tns = plan.tns; reply_ticks = plan.reply_ticks; issued = [] };
+  initiator = record { node = plan.node; tns = plan.tns; reply_ticks = plan.reply_ticks; window = plan.window; per_source = plan.per_source; issued = [] };
   last = handed.Nothing;
 }
 

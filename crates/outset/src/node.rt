@@ -21,6 +21,8 @@ pub fn node_of(alloc: Global, plan: &EndPlan) -> Result<Node, NoMemory>
         tns: plan.tns,
         reply_ticks: plan.reply_ticks,
         room: plan.room,
+        window: plan.window,
+        per_source: plan.per_source,
     };
     Node::new(alloc, setup, station_of(alloc, plan)?)
 }

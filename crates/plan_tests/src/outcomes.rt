@@ -81,8 +81,8 @@ fn each_outcome_has_its_line(rt: HostRuntime) -> Result<(), Fail> {
     for (ends, text) in table {
         let plan = read_plan(alloc, PLAN.as_bytes())?;
         let mut node = node_of(alloc, &plan.end)?;
-        for payload in plan.issue.as_slice() {
-            node.issue(plan.peer, payload.as_slice())?;
+        for command in plan.issue.as_slice() {
+            node.issue(plan.peer, command.payload.as_slice())?;
         }
         for end in ends {
             settle(&mut node, end);

@@ -19,6 +19,7 @@ fn an_empty_document_is_a_plan(rt: HostRuntime) {
     assert!(rt; !plan.end.embed && plan.end.node == 1 && plan.end.tns == 1);
     assert!(rt; plan.end.ack_ticks == 10 && plan.end.max_naks == 3 && plan.end.max_enqs == 3);
     assert!(rt; plan.end.reply_ticks == 100 && plan.end.room == 2);
+    assert!(rt; plan.end.window == 1 && plan.end.per_source == 16);
     assert!(rt; plan.end.compat == None && plan.end.block.as_slice().is_empty());
     assert!(rt; plan.end.files.as_slice().is_empty() && plan.issue.as_slice().is_empty());
 }
@@ -27,7 +28,8 @@ fn an_empty_document_is_a_plan(rt: HostRuntime) {
 fn each_key_is_read(rt: HostRuntime) {
     let text =
         "check = \"crc\"\nembed = true\nnode = 7\npeer = 9\ntns = 65535\nack_ticks = 1000000\nmax_naks = 255\n\
-        max_enqs = 0\nreply_ticks = 33\nroom = 64\nblock = \"01aB\"\ncompat = 3\nissue = [\"060055\", \"0603\"]\n\
+        max_enqs = 0\nreply_ticks = 33\nroom = 64\nblock = \"01aB\"\ncompat = 3\nwindow = 16\nper_source = 1\n\
+        issue = [\"060055\", { source = 255, payload = \"0603\" }, { payload = \"0600\", source = 0 }]\n\
         [[file]]\nnumber = 7\ntype = \"8A\"\ncount = 2\nwords = \"341278560100\"\n\
         [[file]]\nnumber = 3\ntype = \"85\"\ncount = 1000\n";
     let plan = plan(&rt, rt.alloc(), text);
@@ -47,7 +49,14 @@ fn each_key_is_read(rt: HostRuntime) {
     assert!(rt; words[0].file == 7 && words[0].index == 0 && words[0].value == 0x1234);
     assert!(rt; words[2].file == 7 && words[2].index == 2 && words[2].value == 0x0001);
     let issue = plan.issue.as_slice();
-    assert!(rt; issue.len() == 2 && issue[0].as_slice() == [0x06, 0x00, 0x55].as_slice());
+    assert!(rt; issue.len() == 3 && plan.end.window == 16 && plan.end.per_source == 1);
+    assert!(rt;
+        issue[0].src == None && issue[0].payload.as_slice() == [0x06, 0x00, 0x55].as_slice()
+    );
+    assert!(rt;
+        issue[1].src == Some(255) && issue[1].payload.as_slice() == [0x06, 0x03].as_slice()
+    );
+    assert!(rt; issue[2].src == Some(0) && issue[2].payload.as_slice() == [0x06, 0x00].as_slice());
 }
 
 // The cause that a document is refused for.
@@ -86,6 +95,16 @@ fn each_refusal_has_its_cause(rt: HostRuntime) {
         ("issue = [\"4F00\"]", "issue 1"),
         ("issue = [\"0600\", \"\"]", "issue 2"),
         ("issue = [\"0600\", 6]", "issue 2"),
+        ("window = 0", "key window"),
+        ("window = 17", "key window"),
+        ("window = \"1\"", "key window"),
+        ("per_source = 0", "key per_source"),
+        ("per_source = 17\nwindow = 17", "key per_source"),
+        ("per_source = 17\nroom = 1", "key per_source"),
+        ("per_source = 17\npeer = 256", "key peer"),
+        ("window = 17\ntns = -1", "key tns"),
+        ("window = 17\ncompat = 7", "key window"),
+        ("max_sends = 3", "unknown key"),
         ("node = ", "text"),
         ("node = 1\nnode = 1", "text"),
     ];
@@ -122,6 +141,35 @@ fn each_file_that_is_none_is_refused(rt: HostRuntime) {
         ).expect(&rt, "memory");
         assert!(rt;
             cause(&rt, rt.alloc(), text.as_bytes()).as_str() == "file 2",
+            "{row}"
+        );
+    }
+}
+
+#[test]
+fn each_command_that_is_none_is_refused(rt: HostRuntime) {
+    let rows = [
+        "{}",
+        "{ source = 9 }",
+        "{ payload = \"0600\" }",
+        "{ source = 256, payload = \"0600\" }",
+        "{ source = -1, payload = \"0600\" }",
+        "{ source = \"9\", payload = \"0600\" }",
+        "{ source = 9, payload = 600 }",
+        "{ source = 9, payload = \"060\" }",
+        "{ source = 9, payload = \"\" }",
+        "{ source = 9, payload = \"4F00\" }",
+        "{ source = 9, payload = \"0600\", speed = 1 }",
+        "{ src = 9, payload = \"0600\" }",
+        "[9, \"0600\"]",
+        "9",
+    ];
+    for row in rows {
+        let text = format!(in rt.alloc(); "issue = [\"0600\", {row}, \"4F00\"]\n").expect(
+            &rt, "memory",
+        );
+        assert!(rt;
+            cause(&rt, rt.alloc(), text.as_bytes()).as_str() == "issue 2",
             "{row}"
         );
     }

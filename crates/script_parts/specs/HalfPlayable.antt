@@ -67,7 +67,7 @@ is_master other = false
 
 -- an event that may happen: the master alone issues, to a station that is declared, and has ticks
 abbrev pub IsHalfPossible : List ℕ → Event → Type 0
-IsHalfPossible numbers (Issue who dst payload) = IsTrue (is_master who) × IsTrue (is_declared numbers dst) × IsTrue (is_payload payload)
+IsHalfPossible numbers (Issue who src dst payload) = IsTrue (is_master who) × IsTrue (is_declared numbers dst) × IsTrue (is_payload payload)
 IsHalfPossible numbers (Take who n) = IsTrue (is_half_end numbers who) × IsBetween 1 4000000 n
 IsHalfPossible numbers (Deliver lane n) = IsHalfLane numbers lane × IsBetween 1 4000000 n
 IsHalfPossible numbers (Lose lane n) = IsHalfLane numbers lane × IsBetween 1 4000000 n
@@ -77,7 +77,7 @@ IsHalfPossible numbers (Tick who n) = IsTrue (is_master who) × IsBetween 1 4000
 
 -- a command
 abbrev pub is_issue : Event → Bool
-is_issue (Issue by dst payload) = true
+is_issue (Issue by src dst payload) = true
 is_issue other = false
 
 -- how many events a byte of the master counts: one for each station, and one where none is declared
@@ -91,7 +91,7 @@ take_count numbers other n = n
 
 -- how many events an event counts
 abbrev pub half_count_of : List ℕ → Event → ℕ
-half_count_of numbers (Issue who dst payload) = 1
+half_count_of numbers (Issue who src dst payload) = 1
 half_count_of numbers (Take who n) = take_count numbers who n
 half_count_of numbers (Deliver lane n) = n
 half_count_of numbers (Lose lane n) = n

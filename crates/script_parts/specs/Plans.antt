@@ -2,7 +2,7 @@
 use Rattle.std.specs.Prelude.{ℕ, List, [], Option, None, ◌==◌, if◌then◌else◌}
 use Rattle.data_files.specs.declared.file_spec.FileSpec.{FileSpec}
 use Rattle.end_settings.specs.declared.key.Key.{Key}
-use Rattle.end_settings.specs.declared.key.Key.TheVariants.{AckTicks, Embed, MaxEnqs, MaxNaks, MaxResends, MaxSends, Node, PollTicks, ReplyTicks, Room, Tns}
+use Rattle.end_settings.specs.declared.key.Key.TheVariants.{AckTicks, Embed, MaxEnqs, MaxNaks, MaxResends, MaxSends, Node, PerSource, PollTicks, ReplyTicks, Room, Tns, Window}
 use Rattle.end_settings.specs.Table.{first_of}
 use Rattle.script_statement.specs.declared.who.Who.{Who}
 use Rattle.script_parts.specs.declared.script.EndPlan.{EndPlan}
@@ -23,6 +23,8 @@ plan_with who value compat block files words = record {
   poll_ticks = value PollTicks;
   max_sends = value MaxSends;
   room = value Room;
+  window = value Window;
+  per_source = value PerSource;
   compat = compat;
   block = block;
   files = files;
@@ -42,6 +44,8 @@ setting_in plan MaxResends = plan.max_resends
 setting_in plan PollTicks = plan.poll_ticks
 setting_in plan MaxSends = plan.max_sends
 setting_in plan Room = plan.room
+setting_in plan Window = plan.window
+setting_in plan PerSource = plan.per_source
 
 -- the plan of an end of which nothing is told: each key has its value at first; the end has this address
 abbrev pub first_plan : Who → ℕ → EndPlan

@@ -50,7 +50,7 @@ IsLane lane = IsTrue (joins lane.from lane.to)
 
 -- an event that may happen
 abbrev pub IsPossible : Event → Type 0
-IsPossible (Issue who dst payload) = IsTrue (is_end who) × IsTrue (is_payload payload)
+IsPossible (Issue who src dst payload) = IsTrue (is_end who) × IsTrue (is_payload payload)
 IsPossible (Take who n) = IsTrue (is_end who) × IsBetween 1 4000000 n
 IsPossible (Deliver lane n) = IsLane lane × IsBetween 1 4000000 n
 IsPossible (Lose lane n) = IsLane lane × IsBetween 1 4000000 n
@@ -65,12 +65,12 @@ is_same_end who other = false
 
 -- a command of this end
 abbrev pub issues : Who → Event → Bool
-issues who (Issue by dst payload) = is_same_end who by
+issues who (Issue by src dst payload) = is_same_end who by
 issues who event = false
 
 -- how many events an event counts
 abbrev pub count_of : Event → ℕ
-count_of (Issue who dst payload) = 1
+count_of (Issue who src dst payload) = 1
 count_of (Take who n) = n
 count_of (Deliver lane n) = n
 count_of (Lose lane n) = n

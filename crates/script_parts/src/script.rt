@@ -29,20 +29,44 @@ pub struct Lane {
 /// Something that happens on the line.
 #[derive(Drop)]
 pub enum Event {
-    /// An end issues a command to the station `dst`; the payload begins with CMD and has 1 to 245 bytes.
-    Issue { who: Who, dst: u8, payload: Bytes },
+    /// An end issues a command to the station `dst`, in the name of the source `src`, or else in its own; the payload begins
+    /// with CMD and has 1 to 245 bytes.
+    Issue {
+        who: Who,
+        src: Option<u8>,
+        dst: u8,
+        payload: Bytes,
+    },
     /// An end gives up to `n` bytes, which go into its queue.
-    Take { who: Who, n: u32 },
+    Take {
+        who: Who,
+        n: u32,
+    },
     /// Up to `n` bytes at the head of a queue arrive.
-    Deliver { lane: Lane, n: u32 },
+    Deliver {
+        lane: Lane,
+        n: u32,
+    },
     /// Up to `n` bytes at the head of a queue are lost.
-    Lose { lane: Lane, n: u32 },
+    Lose {
+        lane: Lane,
+        n: u32,
+    },
     /// The byte at the head of a queue is altered by exclusive or with `mask`, which isn't 0.
-    Alter { lane: Lane, mask: u8 },
+    Alter {
+        lane: Lane,
+        mask: u8,
+    },
     /// Foreign bytes, at most 250, arrive at once, as if through this queue.
-    Foreign { lane: Lane, bytes: Bytes },
+    Foreign {
+        lane: Lane,
+        bytes: Bytes,
+    },
     /// `n` ticks pass at an end.
-    Tick { who: Who, n: u32 },
+    Tick {
+        who: Who,
+        n: u32,
+    },
 }
 
 /// The first value of a word: word `index`, from 0, of data file `file` of an end.
@@ -80,6 +104,10 @@ pub struct EndPlan {
     pub max_sends: u32,
     /// How many replies may wait.
     pub room: usize,
+    /// How many commands may be out.
+    pub window: usize,
+    /// How many commands of one source may be out.
+    pub per_source: usize,
     /// The number of the compatibility file, a bit or integer file of the end.
     pub compat: Option<u16>,
     /// The status block, at most 244 bytes.
@@ -117,6 +145,8 @@ impl EndPlan {
             poll_ticks: settings.chosen(Key::PollTicks, address),
             max_sends: settings.chosen(Key::MaxSends, address),
             room: settings.chosen(Key::Room, address) as usize,
+            window: settings.chosen(Key::Window, address) as usize,
+            per_source: settings.chosen(Key::PerSource, address) as usize,
             compat,
             block,
             files,

@@ -2,15 +2,15 @@
 use Rattle.std.proofs.Common.{◌≡◌, ◌≢◌, ℕ, List, [], ◌∷◌, length, take, None, refl}
 use Rattle.script_statement.specs.Statements.{statement_of}
 
-pub no_form : (words : List (List ℕ)) → length words ≢ 1 → length words ≢ 2 → length words ≢ 3 → length words ≢ 5 → statement_of words ≡ None
+pub no_form : (words : List (List ℕ)) → length words ≢ 1 → length words ≢ 2 → length words ≢ 3 → length words ≢ 4 → length words ≢ 5 → statement_of words ≡ None
 unfolding statement_of
-no_form [] one two three five = refl
-no_form (a ∷ []) one two three five = absurd (one refl)
-no_form (a ∷ b ∷ []) one two three five = absurd (two refl)
-no_form (a ∷ b ∷ c ∷ []) one two three five = absurd (three refl)
-no_form (a ∷ b ∷ c ∷ d ∷ []) one two three five = refl
-no_form (a ∷ b ∷ c ∷ d ∷ e ∷ []) one two three five = absurd (five refl)
-no_form (a ∷ b ∷ c ∷ d ∷ e ∷ f ∷ more) one two three five = refl
+no_form [] one two three four five = refl
+no_form (a ∷ []) one two three four five = absurd (one refl)
+no_form (a ∷ b ∷ []) one two three four five = absurd (two refl)
+no_form (a ∷ b ∷ c ∷ []) one two three four five = absurd (three refl)
+no_form (a ∷ b ∷ c ∷ d ∷ []) one two three four five = absurd (four refl)
+no_form (a ∷ b ∷ c ∷ d ∷ e ∷ []) one two three four five = absurd (five refl)
+no_form (a ∷ b ∷ c ∷ d ∷ e ∷ f ∷ more) one two three four five = refl
 
 -- a line is read by its first six words
 pub first_six : (words : List (List ℕ)) → statement_of (take 6 words) ≡ statement_of words

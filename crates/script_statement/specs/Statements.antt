@@ -185,6 +185,10 @@ mask_of mask = if mask == 0 then None else Some mask
 abbrev pub foreign_of : List ℕ → Option (List ℕ)
 foreign_of bytes = if nat_le 1 (length bytes) && nat_le (length bytes) 250 then Some bytes else None
 
+-- a source is a byte
+abbrev pub source_of : ℕ → Option ℕ
+source_of src = within 0 255 (Some src)
+
 -- ---- events of a full-duplex link
 
 -- the letters `k`, `t`, `d` and `x`
@@ -204,6 +208,11 @@ abbrev pub issue_line : EndLetter → Option (List ℕ) → Option Statement
 issue_line side None = None
 issue_line side (Some bytes) = Some (statement.Issue side (payload_of bytes))
 
+-- the same in the name of a source
+abbrev pub issue_from : EndLetter → Option ℕ → Option (List ℕ) → Option Statement
+issue_from side (Some src) (Some bytes) = Some (statement.IssueFrom side (source_of src) (payload_of bytes))
+issue_from side src bytes = None
+
 abbrev pub alter_line : EndLetter → Option ℕ → Option Statement
 alter_line side None = None
 alter_line side (Some mask) = Some (statement.Alter side (mask_of mask))
@@ -220,11 +229,20 @@ side_event side letter operand =
     else if letter == 110 then foreign_line side (hex_of operand)
     else times_line side (verb_of letter) (number_of operand)
 
+-- the letter `i` alone stands before a source and an operand
+abbrev pub side_from : EndLetter → ℕ → Option ℕ → List ℕ → Option Statement
+side_from side letter src operand = if letter == 105 then issue_from side src (hex_of operand) else None
+
 -- ---- events of a half-duplex line
 
 abbrev pub half_issue : ℕ → Option (List ℕ) → Option HalfEvent
 half_issue station None = None
 half_issue station (Some bytes) = Some (half.Issue station (payload_of bytes))
+
+-- the same in the name of a source
+abbrev pub half_issue_from : Option ℕ → Option ℕ → Option (List ℕ) → Option HalfEvent
+half_issue_from (Some station) (Some src) (Some bytes) = Some (half.IssueFrom station (source_of src) (payload_of bytes))
+half_issue_from station src bytes = None
 
 abbrev pub master_take : Option ℕ → Option HalfEvent
 master_take n = option_map half.MasterTake (times_of n)
@@ -289,6 +307,10 @@ to_station (Some station) letter operand =
     if letter == 105 then half_issue station (hex_of operand)
     else way_event (ToStation station) letter operand
 
+-- the master with a station, a source and an operand: the letter `i`
+abbrev pub to_station_from : Option ℕ → Option ℕ → ℕ → List ℕ → Option HalfEvent
+to_station_from station src letter operand = if letter == 105 then half_issue_from station src (hex_of operand) else None
+
 -- a station alone: the letters `k`, `d` and `x`
 abbrev pub station_once : ℕ → ℕ → Option HalfEvent
 station_once station letter =
@@ -325,10 +347,16 @@ event_with (Some (Known side)) letter operand = side_event side letter operand
 event_with (Some Master) letter operand = half_line (master_event letter operand)
 event_with (Some (Station station)) letter operand = half_line (station_event station letter operand)
 
--- the master alone has events with a station and an operand
+-- the number before the operand is a source at an end of a full-duplex link, and a station at the master
 abbrev pub event_to : Option EndName → ℕ → Option ℕ → List ℕ → Option Statement
-event_to (Some Master) letter station operand = half_line (to_station station letter operand)
-event_to end letter station operand = None
+event_to (Some (Known side)) letter number operand = side_from side letter number operand
+event_to (Some Master) letter number operand = half_line (to_station number letter operand)
+event_to end letter number operand = None
+
+-- the master alone has events with a station, a source and an operand
+abbrev pub event_to_from : Option EndName → ℕ → Option ℕ → Option ℕ → List ℕ → Option Statement
+event_to_from (Some Master) letter station src operand = half_line (to_station_from station src letter operand)
+event_to_from end letter station src operand = None
 
 abbrev pub bare_event : List ℕ → Option Statement
 bare_event [] = None
@@ -338,9 +366,13 @@ abbrev pub operand_event : List ℕ → List ℕ → Option Statement
 operand_event [] operand = None
 operand_event (byte ∷ rest) operand = event_with (end_in (byte ∷ rest)) (letter_in (byte ∷ rest)) operand
 
-abbrev pub station_operand_event : List ℕ → List ℕ → List ℕ → Option Statement
-station_operand_event [] station operand = None
-station_operand_event (byte ∷ rest) station operand = event_to (end_in (byte ∷ rest)) (letter_in (byte ∷ rest)) (number_of station) operand
+abbrev pub number_operand_event : List ℕ → List ℕ → List ℕ → Option Statement
+number_operand_event [] number operand = None
+number_operand_event (byte ∷ rest) number operand = event_to (end_in (byte ∷ rest)) (letter_in (byte ∷ rest)) (number_of number) operand
+
+abbrev pub source_operand_event : List ℕ → List ℕ → List ℕ → List ℕ → Option Statement
+source_operand_event [] station src operand = None
+source_operand_event (byte ∷ rest) station src operand = event_to_from (end_in (byte ∷ rest)) (letter_in (byte ∷ rest)) (number_of station) (number_of src) operand
 
 -- ---- all forms, by the count of their words
 
@@ -351,7 +383,7 @@ abbrev pub two_words : List ℕ → List ℕ → Option Statement
 two_words word operand = if bytes_eq word (codes "station") then station_line (number_of operand) else operand_event word operand
 
 abbrev pub three_words : List ℕ → List ℕ → List ℕ → Option Statement
-three_words verb key value = if bytes_eq verb (codes "set") then set_line key value else station_operand_event verb key value
+three_words verb key value = if bytes_eq verb (codes "set") then set_line key value else number_operand_event verb key value
 
 abbrev pub five_words : List ℕ → List ℕ → List ℕ → List ℕ → List ℕ → Option Statement
 five_words verb end first second third =
@@ -364,6 +396,7 @@ unfoldable pub statement_of : List (List ℕ) → Option Statement
 statement_of (word ∷ []) = one_word word
 statement_of (word ∷ operand ∷ []) = two_words word operand
 statement_of (verb ∷ key ∷ value ∷ []) = three_words verb key value
+statement_of (word ∷ station ∷ src ∷ operand ∷ []) = source_operand_event word station src operand
 statement_of (verb ∷ end ∷ first ∷ second ∷ third ∷ []) = five_words verb end first second third
 statement_of other = None
 
@@ -377,4 +410,5 @@ is_block_key key = option_map_or (λ stop. bytes_eq (drop (stop + 1) key) (codes
 abbrev pub takes_memory : List (List ℕ) → Bool
 takes_memory (word ∷ operand ∷ []) = not (bytes_eq word (codes "station"))
 takes_memory (verb ∷ key ∷ value ∷ []) = not (bytes_eq verb (codes "set")) || is_block_key key
+takes_memory (word ∷ station ∷ src ∷ operand ∷ []) = true
 takes_memory other = false

@@ -1,11 +1,11 @@
-//! The lines that are events: an end and the letter of a verb in one word, and in most an operand. For the master a
-//! station may stand between the two.
+//! The lines that are events: an end and the letter of a verb in one word, and in most an operand. Between the two a
+//! source may stand, and for the master a station.
 ghost use Rattle.std.specs.Prelude.{◌≡◌, IfOk};
-ghost use Rattle.script_statement.specs.Statements.{verb_of as the_verb, times_of as the_times_of, times_line as the_times, bare_event as the_bare, operand_event as the_operand, station_operand_event as the_station_operand, event_alone as the_alone, event_with as the_with, event_to as the_to, side_event as the_side_event, issue_line as the_issue, alter_line as the_alter, foreign_line as the_foreign, payload_of as the_payload, mask_of as the_mask, foreign_of as the_foreign_bytes, half_line as the_half, is_payload as the_test};
+ghost use Rattle.script_statement.specs.Statements.{verb_of as the_verb, times_of as the_times_of, times_line as the_times, bare_event as the_bare, operand_event as the_operand, number_operand_event as the_number_operand, source_operand_event as the_source_operand, event_alone as the_alone, event_with as the_with, event_to as the_to, event_to_from as the_to_from, side_from as the_side_from, source_of as the_source, issue_from as the_issue_from, side_event as the_side_event, issue_line as the_issue, alter_line as the_alter, foreign_line as the_foreign, payload_of as the_payload, mask_of as the_mask, foreign_of as the_foreign_bytes, half_line as the_half, is_payload as the_test};
 
 use crate::Bytes;
 use crate::half_event::{
-    HalfEvent, master_event, master_times, station_event, station_once, to_station,
+    HalfEvent, master_event, master_times, station_event, station_once, to_station, to_station_from,
 };
 use crate::statement::{EVENTS, EndLetter, EndName, Statement, Verb, end_of};
 use crate::words::{byte_of, hex_of, is_within, number_of, within};
@@ -14,6 +14,9 @@ use std::alloc::Global;
 
 /// The most foreign bytes of one event, as many as a body may have.
 const FOREIGN: usize = MAX_BODY;
+
+/// The highest source.
+const HIGHEST_SOURCE: u32 = 255;
 
 /// The events of one word.
 pub(crate) fn bare_event(word: &[u8]) -> Option<Statement>
@@ -39,17 +42,40 @@ pub(crate) fn operand_event(
     }
 }
 
-/// The events of a word, a station and an operand.
-pub(crate) fn station_operand_event(
+/// The events of a word, a number and an operand.
+pub(crate) fn number_operand_event(
+    alloc: Global,
+    word: &[u8],
+    number: &[u8],
+    operand: &[u8],
+) -> Result<Option<Statement>, NoMemory>
+    ensures { IfOk result (λ s. s ≡ the_number_operand word.now number.now operand.now) }
+{
+    match word {
+        [end @ .., verb] => event_to(alloc, end_of(end), *verb, number_of(number), operand),
+        [] => Ok(None),
+    }
+}
+
+/// The events of a word, a station, a source and an operand.
+pub(crate) fn source_operand_event(
     alloc: Global,
     word: &[u8],
     station: &[u8],
+    src: &[u8],
     operand: &[u8],
 ) -> Result<Option<Statement>, NoMemory>
-    ensures { IfOk result (λ s. s ≡ the_station_operand word.now station.now operand.now) }
+    ensures { IfOk result (λ s. s ≡ the_source_operand word.now station.now src.now operand.now) }
 {
     match word {
-        [end @ .., verb] => event_to(alloc, end_of(end), *verb, number_of(station), operand),
+        [end @ .., verb] => event_to_from(
+            alloc,
+            end_of(end),
+            *verb,
+            number_of(station),
+            number_of(src),
+            operand,
+        ),
         [] => Ok(None),
     }
 }
@@ -84,18 +110,39 @@ fn event_with(
     }
 }
 
-/// An event of the master with a station and an operand.
+/// An event with a number and an operand: the number is a source at an end of a full-duplex link, and a station at the
+/// master.
 fn event_to(
     alloc: Global,
     end: Option<EndName>,
     verb: u8,
-    station: Option<u32>,
+    number: Option<u32>,
     operand: &[u8],
 ) -> Result<Option<Statement>, NoMemory>
-    ensures { IfOk result (λ s. s ≡ the_to end verb station operand.now) }
+    ensures { IfOk result (λ s. s ≡ the_to end verb number operand.now) }
 {
     match end {
-        Some(EndName::Master) => Ok(half_line(to_station(alloc, station, verb, operand)?)),
+        Some(EndName::Known(side)) => side_from(alloc, side, verb, number, operand),
+        Some(EndName::Master) => Ok(half_line(to_station(alloc, number, verb, operand)?)),
+        _ => Ok(None),
+    }
+}
+
+/// An event of the master with a station, a source and an operand.
+fn event_to_from(
+    alloc: Global,
+    end: Option<EndName>,
+    verb: u8,
+    station: Option<u32>,
+    src: Option<u32>,
+    operand: &[u8],
+) -> Result<Option<Statement>, NoMemory>
+    ensures { IfOk result (λ s. s ≡ the_to_from end verb station src operand.now) }
+{
+    match end {
+        Some(EndName::Master) => Ok(half_line(to_station_from(
+            alloc, station, src, verb, operand,
+        )?)),
         _ => Ok(None),
     }
 }
@@ -121,6 +168,22 @@ fn side_event(
         b'c' => Ok(alter_line(side, byte_of(operand))),
         b'n' => Ok(foreign_line(side, hex_of(alloc, operand)?)),
         _ => Ok(times_line(side, verb_of(verb), number_of(operand))),
+    }
+}
+
+/// An event of an end of a full-duplex link in the name of a source, by its verb's letter.
+fn side_from(
+    alloc: Global,
+    side: EndLetter,
+    verb: u8,
+    src: Option<u32>,
+    operand: &[u8],
+) -> Result<Option<Statement>, NoMemory>
+    ensures { IfOk result (λ s. s ≡ the_side_from side verb src operand.now) }
+{
+    match verb {
+        b'i' => Ok(issue_from(side, src, hex_of(alloc, operand)?)),
+        _ => Ok(None),
     }
 }
 
@@ -164,6 +227,25 @@ fn issue_line(side: EndLetter, payload: Option<Bytes>) -> Option<Statement>
         side,
         payload: payload_of(payload?),
     })
+}
+
+/// A command of an end in the name of a source.
+fn issue_from(side: EndLetter, src: Option<u32>, payload: Option<Bytes>) -> Option<Statement>
+    ensures { result ≡ the_issue_from side src payload }
+{
+    Some(Statement::IssueFrom {
+        side,
+        src: source_of(src?),
+        payload: payload_of(payload?),
+    })
+}
+
+/// A source, where the number is one: it is at most 255.
+pub(crate) fn source_of(src: u32) -> Option<u8>
+    ensures { result ≡ the_source src }
+{
+    let src = within(0, HIGHEST_SOURCE, Some(src))?;
+    Some(src as u8)
 }
 
 /// A payload, where it is one: it has 1 to 245 bytes, and bit 6 of its CMD is clear. None comes exactly for all other bytes.

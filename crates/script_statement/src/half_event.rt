@@ -1,9 +1,9 @@
 //! The events of a half-duplex line: those of the master, of its stations, and of the queues between them.
 ghost use Rattle.std.specs.Prelude.{◌≡◌, IfOk};
-ghost use Rattle.script_statement.specs.Statements.{half_issue as the_issue, master_take as the_master_take, master_tick as the_master_tick, station_take as the_station_take, half_deliver as the_deliver, half_lose as the_lose, half_alter as the_alter, half_foreign as the_foreign, way_event as the_way_event, way_once as the_way_once, master_times as the_master_times, once_to_station as the_once, master_event as the_master_event, to_station as the_to_station, station_once as the_station_once, station_event as the_station_event};
+ghost use Rattle.script_statement.specs.Statements.{half_issue as the_issue, half_issue_from as the_issue_from, master_take as the_master_take, master_tick as the_master_tick, station_take as the_station_take, half_deliver as the_deliver, half_lose as the_lose, half_alter as the_alter, half_foreign as the_foreign, way_event as the_way_event, way_once as the_way_once, master_times as the_master_times, once_to_station as the_once, to_station_from as the_to_station_from, master_event as the_master_event, to_station as the_to_station, station_once as the_station_once, station_event as the_station_event};
 
 use crate::Bytes;
-use crate::event_line::{foreign_of, mask_of, payload_of, times_of};
+use crate::event_line::{foreign_of, mask_of, payload_of, source_of, times_of};
 use crate::words::{byte_of, hex_of, number_of};
 use df1_base::NoMemory;
 use std::alloc::Global;
@@ -23,6 +23,12 @@ pub enum HalfEvent {
     /// The master issues a command to a station.
     Issue {
         station: u32,
+        payload: Option<Bytes>,
+    },
+    /// The master issues a command to a station, in the name of a source.
+    IssueFrom {
+        station: u32,
+        src: Option<u8>,
         payload: Option<Bytes>,
     },
     /// The master gives up to `n` bytes, which go into the queue of each station.
@@ -118,6 +124,22 @@ fn to_known_station(
     }
 }
 
+/// The events of the master with a station, a source and an operand.
+pub(crate) fn to_station_from(
+    alloc: Global,
+    station: Option<u32>,
+    src: Option<u32>,
+    verb: u8,
+    operand: &[u8],
+) -> Result<Option<HalfEvent>, NoMemory>
+    ensures { IfOk result (λ event. event ≡ the_to_station_from station src verb operand.now) }
+{
+    match verb {
+        b'i' => Ok(issue_from(station, src, hex_of(alloc, operand)?)),
+        _ => Ok(None),
+    }
+}
+
 /// The events of a station alone.
 pub(crate) fn station_once(station: u32, verb: u8) -> Option<HalfEvent>
     ensures { result ≡ the_station_once station verb }
@@ -181,6 +203,17 @@ fn issue(station: u32, payload: Option<Bytes>) -> Option<HalfEvent>
 {
     Some(HalfEvent::Issue {
         station,
+        payload: payload_of(payload?),
+    })
+}
+
+/// A command of the master in the name of a source.
+fn issue_from(station: Option<u32>, src: Option<u32>, payload: Option<Bytes>) -> Option<HalfEvent>
+    ensures { result ≡ the_issue_from station src payload }
+{
+    Some(HalfEvent::IssueFrom {
+        station: station?,
+        src: source_of(src?),
         payload: payload_of(payload?),
     })
 }

@@ -3,13 +3,14 @@
 //! the reader of the lines.
 //!
 //! The forms, by the count of their words. E is an end: `a` or `b` of a full-duplex link, `m` or the number S of a station
-//! of a half-duplex line; `n` is a number, HH, HHHH and HEX are pairs of hexadecimal digits.
+//! of a half-duplex line; `n` and SRC are numbers, HH, HHHH and HEX are pairs of hexadecimal digits.
 //!
 //! | Words | Forms |
 //! |---|---|
 //! | one | `end`; `Ek`, `Et`, `Ed`, `Ex` of a and b; `mk`, `mt`; `Sk`, `Sd`, `Sx` |
 //! | two | `station S`; `Ek n`, `Et n`, `Ed n`, `Ex n`, `Ei HEX`, `Ec HH`, `En HEX` of a and b; `mk n`, `mt n`, `md S`, `mx S`; `Sk n`, `Sd n`, `Sx n`, `Sc HH`, `Sn HEX` |
-//! | three | `set mode full`, `set mode half`, `set check VALUE`, `set E.NAME VALUE`; `mi S HEX`, `md S n`, `mx S n`, `mc S HH`, `mn S HEX` |
+//! | three | `set mode full`, `set mode half`, `set check VALUE`, `set E.NAME VALUE`; `mi S HEX`, `md S n`, `mx S n`, `mc S HH`, `mn S HEX`; `Ei SRC HEX` of a and b |
+//! | four | `mi S SRC HEX` |
 //! | five | `file E NUMBER TYPE COUNT`; `word E NUMBER INDEX HHHH` |
 #![tactic(auto)]
 

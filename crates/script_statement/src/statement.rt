@@ -5,7 +5,7 @@ ghost use Rattle.std.specs.Str.{bytes_eq};
 ghost use Rattle.script_statement.specs.Words.{within as the_bounded};
 ghost use Rattle.script_statement.specs.Statements.{end_of as the_end, other_end, who_of, statement_of as the_statement, one_word as the_one, two_words as the_two, station_line as the_station, station_number as the_station_number, three_words as the_three, file_line as the_file, word_line as the_word, five_words as the_five, file_spec as the_spec, file_type as the_type, is_block_key, takes_memory};
 
-use crate::event_line::{bare_event, operand_event, station_operand_event};
+use crate::event_line::{bare_event, number_operand_event, operand_event, source_operand_event};
 use crate::half_event::HalfEvent;
 use crate::set_line::set_line;
 use crate::setup_statement::SetupStatement;
@@ -105,6 +105,12 @@ pub enum Statement {
         side: EndLetter,
         payload: Option<Bytes>,
     },
+    /// A command of an end of a full-duplex link, in the name of a source.
+    IssueFrom {
+        side: EndLetter,
+        src: Option<u8>,
+        payload: Option<Bytes>,
+    },
     /// What happens `n` times at an end of a full-duplex link, or at its queue.
     Times {
         side: EndLetter,
@@ -138,6 +144,7 @@ pub fn statement_of(alloc: Global, words: &[&[u8]]) -> Result<Option<Statement>,
         [word] => Ok(one_word(word)),
         [word, operand] => two_words(alloc, word, operand),
         [verb, key, value] => three_words(alloc, verb, key, value),
+        [word, station, src, operand] => source_operand_event(alloc, word, station, src, operand),
         [verb, end, first, second, third] => Ok(five_words(verb, end, first, second, third)),
         _ => Ok(None),
     }
@@ -197,7 +204,7 @@ fn three_words(
     if is(verb, "set") {
         set_line(alloc, key, value)
     } else {
-        station_operand_event(alloc, verb, key, value)
+        number_operand_event(alloc, verb, key, value)
     }
 }
 

@@ -10,7 +10,7 @@ use std::process::Abort;
 use std::test::Fail;
 
 /// Flawed lines behind `set mode half`, with the number of the first and its first flaw.
-const FLAWED: [(&str, u32, Flaw); 58] = [
+const FLAWED: [(&str, u32, Flaw); 70] = [
     ("set mode half", 1, Flaw::Place),
     ("set mode full", 1, Flaw::Place),
     ("mk\nset check crc", 2, Flaw::Place),
@@ -73,6 +73,18 @@ const FLAWED: [(&str, u32, Flaw); 58] = [
         7,
         Flaw::Twice,
     ),
+    ("ai 9 0600", 1, Flaw::Missing),
+    ("ai 256 4F00", 1, Flaw::Missing),
+    ("mi 3 9 0600", 1, Flaw::Missing),
+    ("station 3\nmi 9 3 0600", 2, Flaw::Missing),
+    ("station 3\nset 3.window 1", 2, Flaw::Missing),
+    ("station 3\nset 3.per_source 0", 2, Flaw::Missing),
+    ("set m.window 17", 1, Flaw::Value),
+    ("set m.window 0", 1, Flaw::Value),
+    ("set m.per_source x", 1, Flaw::Value),
+    ("station 3\nmi 3 256 0600", 2, Flaw::Value),
+    ("station 3\nmi 3 9 4F00", 2, Flaw::Value),
+    ("set m.window 2\nset m.window 2", 2, Flaw::Twice),
     ("mk 4000000\nmt", 2, Flaw::Events),
     ("station 1\nstation 2\nmk 2000001", 3, Flaw::Events),
     ("station 1\nstation 2\nmk 2000000\nmt", 4, Flaw::Events),
@@ -153,7 +165,7 @@ fn a_line_has_32_stations_and_a_master_65535_commands(rt: HostRuntime) -> Result
 
 /// A script with a master and two stations.
 const TEXT: &str =
-    "set check crc\nstation 254\nset m.tns 9\nstation 3\nset m.room 64\nset 3.max_sends 255\nset 254.block 01fE\nfile 3 7 89 2\nword 3 7 1 12aB\nset 3.compat 7\nmi 254 0fAA\nmk\nmt 3\n3k 2\nmd 3 4\n254x\nmc 254 0f\n3n 1015";
+    "set check crc\nstation 254\nset m.tns 9\nstation 3\nset m.room 64\nset m.window 16\nset m.per_source 2\nset 3.max_sends 255\nset 254.block 01fE\nfile 3 7 89 2\nword 3 7 1 12aB\nset 3.compat 7\nmi 254 0fAA\nmi 3 9 0600\nmk\nmt 3\n3k 2\nmd 3 4\n254x\nmc 254 0f\n3n 1015";
 
 /// Compares the plans of the script.
 fn check_ends<R: Abort>(rt: &R, ends: &[EndPlan]) -> Result<(), Fail> {
@@ -164,6 +176,7 @@ fn check_ends<R: Abort>(rt: &R, ends: &[EndPlan]) -> Result<(), Fail> {
         (m.who, m.node, m.tns, m.room, m.max_sends),
         (Who::M, 0, 9, 64, 3)
     );
+    assert_eq!(rt; (m.window, m.per_source), (16, 2));
     assert_eq!(rt;
         (first.who, first.node, first.room, first.compat),
         (Who::S(254), 254, 2, None)
@@ -183,19 +196,20 @@ fn check_ends<R: Abort>(rt: &R, ends: &[EndPlan]) -> Result<(), Fail> {
     Ok(())
 }
 
-/// An event's letter, its end or the two of its lane, its number, and its bytes.
-type Shown = (char, Who, Option<Who>, u32, &'static [u8]);
+/// An event's letter, its end or the two of its lane, the source that it names, its number, and its bytes.
+type Shown = (char, Who, Option<Who>, Option<u8>, u32, &'static [u8]);
 
 /// The events of the script.
-const EVENTS: [Shown; 8] = [
-    ('i', Who::M, None, 254, b"\x0f\xaa"),
-    ('k', Who::M, None, 1, b""),
-    ('t', Who::M, None, 3, b""),
-    ('k', Who::S(3), None, 2, b""),
-    ('d', Who::M, Some(Who::S(3)), 4, b""),
-    ('x', Who::S(254), Some(Who::M), 1, b""),
-    ('c', Who::M, Some(Who::S(254)), 0x0F, b""),
-    ('n', Who::S(3), Some(Who::M), 0, b"\x10\x15"),
+const EVENTS: [Shown; 9] = [
+    ('i', Who::M, None, None, 254, b"\x0f\xaa"),
+    ('i', Who::M, None, Some(9), 3, b"\x06\x00"),
+    ('k', Who::M, None, None, 1, b""),
+    ('t', Who::M, None, None, 3, b""),
+    ('k', Who::S(3), None, None, 2, b""),
+    ('d', Who::M, Some(Who::S(3)), None, 4, b""),
+    ('x', Who::S(254), Some(Who::M), None, 1, b""),
+    ('c', Who::M, Some(Who::S(254)), None, 0x0F, b""),
+    ('n', Who::S(3), Some(Who::M), None, 0, b"\x10\x15"),
 ];
 
 /// The letter of an event, and its end or the two of its lane.
@@ -208,6 +222,14 @@ fn place_of(event: &Event) -> (char, Who, Option<Who>) {
         Event::Alter { lane, .. } => ('c', lane.from, Some(lane.to)),
         Event::Foreign { lane, .. } => ('n', lane.from, Some(lane.to)),
         Event::Tick { who, .. } => ('t', *who, None),
+    }
+}
+
+/// The source that a command names.
+fn source_of(event: &Event) -> Option<u8> {
+    match event {
+        Event::Issue { src, .. } => *src,
+        _ => None,
     }
 }
 
@@ -234,8 +256,9 @@ fn bytes_of(event: &Event) -> &[u8] {
 /// Compares the events of the script.
 fn check_events<R: Abort>(rt: &R, events: &[Event]) -> Result<(), Fail> {
     assert_eq!(rt; events.len(), EVENTS.len());
-    for (event, (letter, who, to, number, bytes)) in events.iter().zip(EVENTS) {
+    for (event, (letter, who, to, src, number, bytes)) in events.iter().zip(EVENTS) {
         assert_eq!(rt; place_of(event), (letter, who, to));
+        assert_eq!(rt; source_of(event), src);
         assert_eq!(rt; number_of(event), number);
         assert_eq!(rt; bytes_of(event), bytes);
     }

@@ -2,7 +2,7 @@
 use end_settings::{First, KEYS, Key, Role, Setting, Settings, Values};
 
 /// Which kinds of end have each key: a full-duplex end, a master, a station.
-const ROLES: [(&str, bool, bool, bool); 11] = [
+const ROLES: [(&str, bool, bool, bool); 13] = [
     ("ack_ticks", true, true, false),
     ("embed", true, false, false),
     ("max_enqs", true, false, false),
@@ -10,10 +10,12 @@ const ROLES: [(&str, bool, bool, bool); 11] = [
     ("max_resends", false, true, false),
     ("max_sends", false, false, true),
     ("node", true, true, false),
+    ("per_source", true, true, false),
     ("poll_ticks", false, true, false),
     ("reply_ticks", true, true, false),
     ("room", true, true, true),
     ("tns", true, true, false),
+    ("window", true, true, false),
 ];
 
 #[test]
@@ -33,7 +35,7 @@ fn each_kind_of_end_has_its_keys(rt: HostRuntime) {
 }
 
 /// The least and the most of each key's values, and its value at first, of an end whose address is 7.
-const VALUES: [(Key, u32, u32, u32); 11] = [
+const VALUES: [(Key, u32, u32, u32); 13] = [
     (Key::AckTicks, 1, 1_000_000, 10),
     (Key::Embed, 0, 1, 0),
     (Key::MaxEnqs, 0, 255, 3),
@@ -41,10 +43,12 @@ const VALUES: [(Key, u32, u32, u32); 11] = [
     (Key::MaxResends, 0, 255, 3),
     (Key::MaxSends, 1, 255, 3),
     (Key::Node, 0, 255, 7),
+    (Key::PerSource, 1, 16, 16),
     (Key::PollTicks, 1, 1_000_000, 10),
     (Key::ReplyTicks, 33, 1_000_000, 100),
     (Key::Room, 2, 64, 2),
     (Key::Tns, 0, 65_535, 1),
+    (Key::Window, 1, 16, 1),
 ];
 
 #[test]

@@ -155,8 +155,65 @@ fn a_line_gives_bytes_to_a_half_duplex_line(rt: HostRuntime) {
     );
 }
 
+/// What a line says of a command that it issues: of an end of a full-duplex link or to a station, with the source that it
+/// names, and whether its payload is one.
+type Issued = (Option<EndLetter>, Option<u32>, Option<Option<u8>>, bool);
+
+/// Lines that issue a command: the end or the station, the source where the line names one, which is None where it is out of its
+/// range, and whether there is a payload.
+const ISSUED: [(&str, Issued); 11] = [
+    ("ai 0600", (Some(EndLetter::A), None, None, true)),
+    ("ai 9 0600", (Some(EndLetter::A), None, Some(Some(9)), true)),
+    ("bi 000 06", (Some(EndLetter::B), None, Some(Some(0)), true)),
+    (
+        "bi 255 0fAA",
+        (Some(EndLetter::B), None, Some(Some(255)), true),
+    ),
+    ("ai 256 0600", (Some(EndLetter::A), None, Some(None), true)),
+    (
+        "ai 999999999 4F00",
+        (Some(EndLetter::A), None, Some(None), false),
+    ),
+    (
+        "ai 9 4F00",
+        (Some(EndLetter::A), None, Some(Some(9)), false),
+    ),
+    ("mi 3 0600", (None, Some(3), None, true)),
+    ("mi 3 9 0600", (None, Some(3), Some(Some(9)), true)),
+    ("mi 999 255 0600", (None, Some(999), Some(Some(255)), true)),
+    ("mi 3 256 4F00", (None, Some(3), Some(None), false)),
+];
+
+/// The command that a line issues.
+fn issued(alloc: Global, line: &str) -> Option<Issued> {
+    match said(alloc, line)? {
+        Statement::Issue { side, payload } => Some((Some(side), None, None, payload.is_some())),
+        Statement::IssueFrom { side, src, payload } => {
+            Some((Some(side), None, Some(src), payload.is_some()))
+        }
+        Statement::Half(HalfEvent::Issue { station, payload }) => {
+            Some((None, Some(station), None, payload.is_some()))
+        }
+        Statement::Half(
+            HalfEvent::IssueFrom {
+                station,
+                src,
+                payload,
+            },
+        ) => Some((None, Some(station), Some(src), payload.is_some())),
+        _ => None,
+    }
+}
+
+#[test]
+fn a_line_issues_a_command_in_the_name_of_a_source(rt: HostRuntime) {
+    for (line, command) in ISSUED {
+        assert!(rt; issued(rt.alloc(), line) == Some(command), "in {line:?}");
+    }
+}
+
 /// Lines that are none of the forms, though others like them are.
-const FORMLESS: [&str; 40] = [
+const FORMLESS: [&str; 56] = [
     "3t",
     "3t 1",
     "3i",
@@ -197,6 +254,22 @@ const FORMLESS: [&str; 40] = [
     "station 0000000001",
     "station 3 4",
     "set mode Half",
+    "3i 9 0600",
+    "3i 4 9 0600",
+    "ai 9",
+    "ai x 0600",
+    "ai 0000000009 0600",
+    "ai 10 ZZ",
+    "ai 9 060",
+    "ai 9 0600 1",
+    "ai 3 9 0600",
+    "ak 9 1",
+    "an 9 1015",
+    "mi x 9 0600",
+    "mi 3 x 0600",
+    "mi 3 9 0",
+    "mi 3 9 0600 1",
+    "mn 3 9 1015",
 ];
 
 #[test]
@@ -230,7 +303,7 @@ fn a_station_has_a_number_to_254_and_not_16(rt: HostRuntime) {
 }
 
 /// Lines that set something, with the end, the key and the value.
-const SETTINGS: [(&str, EndName, Key, Option<u32>); 16] = [
+const SETTINGS: [(&str, EndName, Key, Option<u32>); 20] = [
     (
         "set a.embed off",
         EndName::Known(EndLetter::A),
@@ -307,6 +380,20 @@ const SETTINGS: [(&str, EndName, Key, Option<u32>); 16] = [
         Some(2),
     ),
     ("set m.room 65", EndName::Master, Key::Room, None),
+    ("set m.window 16", EndName::Master, Key::Window, Some(16)),
+    (
+        "set a.window 17",
+        EndName::Known(EndLetter::A),
+        Key::Window,
+        None,
+    ),
+    (
+        "set b.per_source 1",
+        EndName::Known(EndLetter::B),
+        Key::PerSource,
+        Some(1),
+    ),
+    ("set m.per_source 0", EndName::Master, Key::PerSource, None),
 ];
 
 #[test]

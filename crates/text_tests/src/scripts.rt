@@ -11,7 +11,7 @@ use std::process::Abort;
 use std::test::Fail;
 
 /// Texts that have no end, or a line that follows the end or has none of the forms, each with its line and its cause.
-const FORMLESS: [(&str, u32, Cause); 30] = [
+const FORMLESS: [(&str, u32, Cause); 35] = [
     ("", 1, Cause::NoEnd),
     ("ak\n# end\n", 3, Cause::NoEnd),
     ("ak", 2, Cause::NoEnd),
@@ -40,12 +40,17 @@ const FORMLESS: [(&str, u32, Cause); 30] = [
     ("ai 0G\n", 1, Cause::Form),
     ("ac 1\n", 1, Cause::Form),
     ("ac 0101\n", 1, Cause::Form),
+    ("ai 9\n", 1, Cause::Form),
+    ("ai 10 ZZ\n", 1, Cause::Form),
+    ("ai 9 0600 1\n", 1, Cause::Form),
+    ("set mode half\nstation 3\n3i 9 0600\n", 3, Cause::Form),
+    ("set a.windows 1\n", 1, Cause::Form),
     ("end end\n", 1, Cause::Form),
     ("x\nak\nset mode full\n", 1, Cause::Form),
 ];
 
 /// Texts with a line that may not stand there, or that names what isn't there, each with its line and its cause.
-const MISPLACED: [(&str, u32, Cause); 37] = [
+const MISPLACED: [(&str, u32, Cause); 44] = [
     ("set mode half\nset mode full\nend", 2, Cause::Place),
     ("set check crc\nset mode half\nend", 2, Cause::Place),
     ("# a\n\n\tset mode half\nak\nend", 4, Cause::Missing),
@@ -86,12 +91,23 @@ const MISPLACED: [(&str, u32, Cause); 37] = [
     ("word b 7 0 1234\n", 1, Cause::Missing),
     ("word b 1000 0 1234\n", 1, Cause::Missing),
     ("file b 7 89 16\nword a 7 99 1234\n", 2, Cause::Missing),
+    ("mi 3 9 0600\n", 1, Cause::Missing),
+    ("set mode half\nai 9 0600\n", 2, Cause::Missing),
+    ("set mode half\nstation 3\nmi 9 3 0600\n", 3, Cause::Missing),
+    ("set 3.window 1\n", 1, Cause::Missing),
+    (
+        "set mode half\nstation 3\nset 3.window 1\n",
+        3,
+        Cause::Missing,
+    ),
+    ("set m.window 17\n", 1, Cause::Missing),
+    ("ak\nset a.window 2\n", 2, Cause::Place),
     ("ak\nset mode full\nx\n", 2, Cause::Place),
 ];
 
 /// Texts with a number out of its range, a line that is given twice, or too many commands or events, each with its line and its
 /// cause.
-const EXCESSIVE: [(&str, u32, Cause); 49] = [
+const EXCESSIVE: [(&str, u32, Cause); 59] = [
     ("set mode half\nstation 3\nstation 03\nend", 3, Cause::Twice),
     (
         "set mode half\nstation 1\nstation 2\nmk 2000001\nend",
@@ -183,6 +199,16 @@ const EXCESSIVE: [(&str, u32, Cause); 49] = [
         3,
         Cause::Twice,
     ),
+    ("set a.window 17\n", 1, Cause::Value),
+    ("set a.window 0\n", 1, Cause::Value),
+    ("set a.window x\n", 1, Cause::Value),
+    ("set b.per_source 17\n", 1, Cause::Value),
+    ("set b.per_source 0\n", 1, Cause::Value),
+    ("ai 256 0600\n", 1, Cause::Value),
+    ("bi 9 4F00\n", 1, Cause::Value),
+    ("set mode half\nstation 3\nmi 3 256 0600\n", 3, Cause::Value),
+    ("set a.window 2\nset a.window 2\n", 2, Cause::Twice),
+    ("set b.per_source 16\nset b.per_source 1\n", 2, Cause::Twice),
     ("ak 4000000\nat\n", 2, Cause::Events),
     ("ak 3999999\nbn 1015\n", 2, Cause::Events),
 ];
@@ -239,9 +265,18 @@ fn a_fault_is_printed_with_its_line_and_cause(rt: HostRuntime) -> Result<(), Fai
 
 /// Texts at a limit and past it: what stands in front, a part and how often it follows, what stands behind, and the line and
 /// the cause where the text is refused.
-const LIMITS: [(&str, &str, u32, &str, Option<(u32, Cause)>); 10] = [
+const LIMITS: [(&str, &str, u32, &str, Option<(u32, Cause)>); 13] = [
     ("", "ai 0600\n", 65_535, "end", None),
     ("", "ai 0600\n", 65_536, "end", Some((65_536, Cause::Spent))),
+    (
+        "ai 0600\n",
+        "ai 9 0600\n",
+        65_535,
+        "end",
+        Some((65_536, Cause::Spent)),
+    ),
+    ("ai 255 ", "06", 245, "\nend", None),
+    ("ai 255 ", "06", 246, "\nend", Some((1, Cause::Value))),
     ("", "#", 1024, "\nend", None),
     ("", "#", 1024, "\r\nend", Some((1, Cause::Long))),
     ("ai ", "06", 245, "\nend", None),
@@ -325,6 +360,7 @@ fn numbers(plan: &EndPlan) -> [u32; 9] {
 /// Compares end b of the script below.
 fn check_end_b<R: Abort>(rt: &R, end: &EndPlan) -> Result<(), Fail> {
     assert_eq!(rt; (end.who, end.embed, end.room), (Who::B, false, 64));
+    assert_eq!(rt; (end.window, end.per_source), (1, 16));
     assert_eq!(rt; numbers(end), [7, 1, 10, 3, 3, 100, 3, 10, 3]);
     assert_eq!(rt;
         (end.compat, end.block.as_slice()),
@@ -362,19 +398,21 @@ fn check_end_b<R: Abort>(rt: &R, end: &EndPlan) -> Result<(), Fail> {
     Ok(())
 }
 
-/// An event's letter, its end or the two of its lane, its number, and its bytes.
-type Shown = (char, Who, Option<Who>, u32, &'static [u8]);
+/// An event's letter, its end or the two of its lane, the source that it names, its number, and its bytes.
+type Shown = (char, Who, Option<Who>, Option<u8>, u32, &'static [u8]);
 
 /// The events of the script below.
-const EVENTS: [Shown; 8] = [
-    ('i', Who::A, None, 7, b"\x0f\xaa"),
-    ('i', Who::B, None, 0, b"\x06"),
-    ('k', Who::A, None, 1, b""),
-    ('t', Who::B, None, 3, b""),
-    ('d', Who::B, Some(Who::A), 4000, b""),
-    ('x', Who::A, Some(Who::B), 2, b""),
-    ('c', Who::A, Some(Who::B), 0x0F, b""),
-    ('n', Who::B, Some(Who::A), 0, b"\x10\x15"),
+const EVENTS: [Shown; 10] = [
+    ('i', Who::A, None, None, 7, b"\x0f\xaa"),
+    ('i', Who::B, None, None, 0, b"\x06"),
+    ('i', Who::A, None, Some(9), 7, b"\x06\x00"),
+    ('i', Who::B, None, Some(255), 0, b"\x06"),
+    ('k', Who::A, None, None, 1, b""),
+    ('t', Who::B, None, None, 3, b""),
+    ('d', Who::B, Some(Who::A), None, 4000, b""),
+    ('x', Who::A, Some(Who::B), None, 2, b""),
+    ('c', Who::A, Some(Who::B), None, 0x0F, b""),
+    ('n', Who::B, Some(Who::A), None, 0, b"\x10\x15"),
 ];
 
 /// The letter of an event, and its end or the two of its lane.
@@ -387,6 +425,14 @@ fn place_of(event: &Event) -> (char, Who, Option<Who>) {
         Event::Alter { lane, .. } => ('c', lane.from, Some(lane.to)),
         Event::Foreign { lane, .. } => ('n', lane.from, Some(lane.to)),
         Event::Tick { who, .. } => ('t', *who, None),
+    }
+}
+
+/// The source that a command names.
+fn source_of(event: &Event) -> Option<u8> {
+    match event {
+        Event::Issue { src, .. } => *src,
+        _ => None,
     }
 }
 
@@ -413,8 +459,9 @@ fn bytes_of(event: &Event) -> &[u8] {
 /// Compares the events of the script below.
 fn check_events<R: Abort>(rt: &R, events: &[Event]) -> Result<(), Fail> {
     assert_eq!(rt; events.len(), EVENTS.len());
-    for (event, (letter, who, to, number, bytes)) in events.iter().zip(EVENTS) {
+    for (event, (letter, who, to, src, number, bytes)) in events.iter().zip(EVENTS) {
         assert_eq!(rt; place_of(event), (letter, who, to));
+        assert_eq!(rt; source_of(event), src);
         assert_eq!(rt; number_of(event), number);
         assert_eq!(rt; bytes_of(event), bytes);
     }
@@ -428,6 +475,7 @@ fn check_script<R: Abort>(rt: &R, script: &Script) -> Result<(), Fail> {
         return Err(Fail::new("there are not two ends"));
     };
     assert_eq!(rt; (a.who, a.embed, a.room, a.compat), (Who::A, true, 2, None));
+    assert_eq!(rt; (a.window, a.per_source), (2, 3));
     assert_eq!(rt; numbers(a), [0, 1, 10, 3, 3, 100, 3, 10, 3]);
     assert_eq!(rt;
         (
@@ -444,10 +492,10 @@ fn check_script<R: Abort>(rt: &R, script: &Script) -> Result<(), Fail> {
 #[test]
 fn a_script_says_what_its_lines_say(rt: HostRuntime) -> Result<(), Fail> {
     let text =
-        "# a script\r\nset mode full\r\n\tset check\tcrc \nset a.embed on\nset b.node 7\n set b.room 64\n\
+        "# a script\r\nset mode full\r\n\tset check\tcrc \nset a.embed on\nset a.window 2\nset a.per_source 3\nset b.node 7\n set b.room 64\n\
         file b 7 89 16\nfile b 010 85 1\nword b 7 15 12aB\nword b 10 0 fFfF\n\
         set b.compat 0010\nset b.block 01fE\n\n\
-        ai 0fAA\nbi 06\nak\nbt 03\nbd 4000\nax 2\nac 0f\nbn 1015\nend\n# more\n";
+        ai 0fAA\nbi 06\nai 9 0600\nbi\t255  06\nak\nbt 03\nbd 4000\nax 2\nac 0f\nbn 1015\nend\n# more\n";
     let script = read_script(rt.alloc(), text.as_bytes())?;
     check_script(&rt, &script)
 }

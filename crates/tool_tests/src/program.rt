@@ -477,9 +477,14 @@ fn faults_of_a_script_have_texts(rt: HostRuntime) -> Result<(), Fail> {
 #[test]
 fn an_end_issues_65535_commands_and_no_more(rt: HostRuntime) -> Result<(), Fail> {
     let words = words(rt.alloc(), &["replay"])?;
-    let expected: [(u32, u8, &str); 2] = [(65_535, 0, ""), (65_536, 3, "df1: line 65536: spent\n")];
-    for (count, status, note) in expected {
-        let mut text = repeated(rt.alloc(), "ai 0600\n", count)?;
+    let spent = "df1: line 65536: spent\n";
+    let expected: [(&str, u32, u8, &str); 3] = [
+        ("ai 0600\n", 65_535, 0, ""),
+        ("ai 0600\n", 65_536, 3, spent),
+        ("ai 0600\nai 9 0600\n", 32_768, 3, spent),
+    ];
+    for (lines, count, status, note) in expected {
+        let mut text = repeated(rt.alloc(), lines, count)?;
         text.push_str("end\n")?;
         let ran = run(
             rt.alloc(),

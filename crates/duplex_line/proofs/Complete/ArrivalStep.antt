@@ -1,5 +1,5 @@
 -- A byte arrives, in a run that nothing disturbs.
-use Rattle.std.proofs.Common.{◌≡◌, ◌∙◌, ℕ, suc, ◌+◌, ◌≤◌, Bool, true, false, List, [], ◌∷◌, ◌++◌, length, map, Option, Some, None, refl, ap, sym, subst, arith, length-append, inl, inr}
+use Rattle.std.proofs.Common.{◌≡◌, ◌∙◌, ◌<◌, ℕ, suc, ◌+◌, ◌≤◌, Bool, true, false, List, [], ◌∷◌, ◌++◌, length, map, Option, Some, None, refl, ap, sym, subst, arith, length-append, inl, inr}
 use Rattle.std.specs.Prelude.{◌⊎◌, slice_get}
 use Rattle.std.specs.Option.{option_map}
 use Rattle.std.specs.List.{filter}
@@ -19,7 +19,7 @@ use Rattle.pccc_envelope.specs.declared.key.Key.{Key}
 use Rattle.pccc_envelope.specs.Envelope.{is_reply, key_of}
 use Rattle.pccc_envelope.specs.Accepted.{is_kept}
 use Rattle.df1_node.specs.Answer.{StationState}
-use Rattle.df1_node.specs.Initiator.{Issued, answered_place, is_reply_to}
+use Rattle.df1_node.specs.Initiator.{answered_place, is_reply_to}
 use Rattle.df1_node.specs.Node.{NodeState, has_room, after_accept, after_told}
 use Rattle.duplex_sender.specs.declared.Limits.{Limits}
 use Rattle.duplex_sender.specs.Sender.{Activity, Idle, Sending, Waiting, ack_fate}
@@ -32,7 +32,7 @@ use Rattle.each_once.specs.NodeHost.{node_host}
 use Rattle.lane_cells.specs.Deception.{deceptions}
 use Rattle.report_lines.specs.NodeLines.{news_lines}
 use Rattle.duplex_line.specs.Acts.{LineEndState, LineState, deceptions_at, cell_lines}
-use Rattle.each_once.specs.Tells.{executed_in, answers_in}
+use Rattle.each_once.specs.Tells.{executed_in}
 use Rattle.duplex_line.proofs.Once.IssueLimits.{byte-commands}
 use Rattle.each_once.proofs.Sublists.{filter-keeps, filter-drops}
 use Rattle.duplex_line.proofs.Once.SentMessages.{Sends, sends-byte}
@@ -43,11 +43,12 @@ use Rattle.duplex_line.proofs.Once.ArrivingCell.{told_at, coming, arrived}
 use Rattle.duplex_line.specs.Prompt.{Late}
 use Rattle.duplex_line.proofs.Complete.ClearLane.{end_of, IsTrueEnd}
 use Rattle.duplex_line.proofs.Complete.MessageUnderWay.{awaits, heard_by, byte-acts, flow-silent, far-silent, flow-acked, far-acked, good-end, good-arrives, flow-accepted, far-accepted}
-use Rattle.each_once.proofs.InitiatorProgress.{IsUnderWay, under-reply}
-use Rattle.each_once.proofs.TwoNodes.{answer-fits, no-reply-waits, key-is-new}
+use Rattle.each_once.proofs.CommandsUnderWay.{under-way-reply}
+use Rattle.each_once.proofs.HandedOut.{is_command, Hosts}
+use Rattle.each_once.proofs.TwoNodes.{answer-fits, few-replies, key-is-new}
 use Rattle.each_once.proofs.MessageLengths.{AreBodies}
-use Rattle.duplex_line.proofs.Complete.ToldMessages.{tells-silent, tells-nothing, tells-accept, none-accepted}
-use Rattle.duplex_line.proofs.Complete.Invariant.{IsAhead, Flows}
+use Rattle.duplex_line.proofs.Complete.ToldMessages.{tells-silent, tells-accept, none-accepted}
+use Rattle.duplex_line.proofs.Complete.Invariant.{IsAllowed, IsAhead, Flows, allowed-accept}
 
 -- ---- what is heard
 
@@ -104,6 +105,9 @@ reach-silent near far first far_first end cell cells b count after late lines ac
   heard = h.heard;
   far_sent = h.far_sent;
   far_heard = h.far_heard;
+  allowed = h.allowed;
+  far_allowed = h.far_allowed;
+  rooms = h.rooms;
   end = h.end;
   far_end = record {
     hosts = h.far_end.hosts;
@@ -111,14 +115,14 @@ reach-silent near far first far_first end cell cells b count after late lines ac
     ahead = h.far_end.ahead;
     bodies = h.far_end.bodies;
     commands = h.far_end.commands;
-    room = h.far_end.room;
+    allowed = h.far_end.allowed;
     block = h.far_end.block;
     few = h.far_end.few;
   };
   flow = flow-silent node_host end b.end cell cells b.lane h.sent h.far_heard late.a is h.flow;
   far_flow = far-silent node_host end b.end cell cells b.lane h.far_sent h.heard late.b is h.far_flow;
-  tells = tells-silent near h.heard lines [] (tells-nothing near) h.tells;
-  far_tells = tells-silent far h.far_heard lines [] (tells-nothing far) h.far_tells;
+  tells = tells-silent near h.heard lines [] refl h.tells;
+  far_tells = tells-silent far h.far_heard lines [] refl h.far_tells;
   honest = none;
 }
 
@@ -143,21 +147,24 @@ reach-ack near far first far_first end cell cells b count after late lines acts 
       heard = h.heard;
       far_sent = h.far_sent;
       far_heard = h.far_heard;
+      allowed = h.allowed;
+      far_allowed = h.far_allowed;
+      rooms = h.rooms;
       end = h.end;
       far_end = record {
         hosts = hosts-fate (ack_fate b.end.sender) far_first b.end.host h.far_sent h.far_heard h.far_end.hosts;
         sends = subst (λ (e : EndState NodeState). Sends e h.far_sent) (byte-acts node_host b.end cell.byte act.PeerAck acts) (sends-byte node_host b.end cell.byte h.far_end.sends);
-        ahead = subst (λ (node : NodeState). IsAhead node.initiator h.far_heard late.b) is_host (record { done = h.far_end.ahead.done; out = h.far_end.ahead.out; under_way = h.far_end.ahead.under_way; answers = h.far_end.ahead.answers; in_time = h.far_end.ahead.in_time });
+        ahead = subst (λ (node : NodeState). IsAhead node.initiator (filter is_command h.far_sent) h.far_heard late.b) is_host (record { done = h.far_end.ahead.done; under_way = h.far_end.ahead.under_way; answers = h.far_end.ahead.answers });
         bodies = h.far_end.bodies;
         commands = subst (λ (node : NodeState). AreBodies (map (λ c. c.body) node.initiator.issued)) is_host h.far_end.commands;
-        room = subst (λ (node : NodeState). 2 ≤ node.room) is_host h.far_end.room;
+        allowed = subst (λ (node : NodeState). IsAllowed h.far_allowed node) is_host (record { room = h.far_end.allowed.room; window = h.far_end.allowed.window; per_source = h.far_end.allowed.per_source });
         block = h.far_end.block;
         few = subst (λ (node : NodeState). length node.initiator.issued ≤ 65535) is_host h.far_end.few;
       };
       flow = flow-acked node_host end b.end cell cells b.lane h.sent h.far_heard late.a is h.flow;
       far_flow = acked.0;
-      tells = tells-silent near h.heard lines news (record { executes = ap (executed_in near) no_news; answers = ap (answers_in near) no_news }) h.tells;
-      far_tells = tells-silent far h.far_heard lines news (record { executes = ap (executed_in far) no_news; answers = ap (answers_in far) no_news }) h.far_tells;
+      tells = tells-silent near h.heard lines news (ap (executed_in near) no_news) h.tells;
+      far_tells = tells-silent far h.far_heard lines news (ap (executed_in far) no_news) h.far_tells;
       honest = none;
     }
 
@@ -166,45 +173,40 @@ reach-ack near far first far_first end cell cells b count after late lines acts 
 length-push : {A : Type 0} (xs : List A) (x : A) → length (xs ++ x ∷ []) ≡ suc (length xs)
 length-push xs x = omega (arith, length-append xs (x ∷ []))
 
--- a reply answers the command that is out
-reply-ahead : (node : NodeState) (heard : List (List ℕ)) (body : List ℕ) (late : ℕ) (c : Issued) (left : ℕ) → is_reply body ≡ true → (a : IsAhead node.initiator heard late) → a.out ≡ Some left → slice_get node.initiator.issued a.done ≡ Some c → is_reply_to c.body body ≡ true
-    → IsAhead (after_accept node body).initiator (heard ++ body ∷ []) late
-reply-ahead node heard body late c left reply a is at fits =
-    let under = subst (IsUnderWay node.initiator.issued a.done) is a.under_way in
-    let next = under-reply node.initiator a.done left c body under at fits in
+-- a reply answers the first command that isn't answered, and that is its place
+reply-ahead : (first : StationState) (node : NodeState) (sent heard : List (List ℕ)) (body : List ℕ) (late : ℕ) (command : List ℕ) → is_reply body ≡ true → Hosts first node sent heard → length node.initiator.issued ≤ 65535
+    → (a : IsAhead node.initiator (filter is_command sent) heard late) → slice_get (filter is_command sent) a.done ≡ Some command → is_reply_to command body ≡ true → IsAhead (after_accept node body).initiator (filter is_command sent) (heard ++ body ∷ []) late
+reply-ahead first node sent heard body late command reply h few a next fits =
+    let answered = under-way-reply node.initiator (filter is_command sent) a.done late command body few h.initiates.numbered next fits a.under_way in
     rw reply (record {
       done = suc a.done;
-      out = None;
-      under_way = next.1;
+      under_way = answered.2;
       answers = ap length (filter-keeps is_reply heard body reply) ∙ length-push (filter is_reply heard) body ∙ ap suc a.answers;
-      in_time = tt;
     })
 
-command-ahead : (node : NodeState) (heard : List (List ℕ)) (body : List ℕ) (late : ℕ) → is_reply body ≡ false → IsAhead node.initiator heard late → IsAhead (after_accept node body).initiator (heard ++ body ∷ []) late
-command-ahead node heard body late command a = rw command (record {
+command-ahead : (node : NodeState) (commands heard : List (List ℕ)) (body : List ℕ) (late : ℕ) → is_reply body ≡ false → IsAhead node.initiator commands heard late → IsAhead (after_accept node body).initiator commands (heard ++ body ∷ []) late
+command-ahead node commands heard body late command a = rw command (record {
   done = a.done;
-  out = a.out;
   under_way = a.under_way;
   answers = ap length (filter-drops is_reply heard body command) ∙ a.answers;
-  in_time = a.in_time;
 })
 
 accepted-ahead : (near far : Who) (first far_first : StationState) (end : EndState NodeState) (cell : LaneCell) (cells : List LaneCell) (b : LineEndState) (count : ℕ) (late : Late) (lines : List Line) (body : List ℕ) → (h : Flows near far first far_first (coming end cell cells b count) late lines)
-    → h.sent ≡ h.far_heard ++ body ∷ [] → (reply : Bool) → is_reply body ≡ reply → IsAhead (after_accept b.end.host body).initiator (h.far_heard ++ body ∷ []) late.b
+    → h.sent ≡ h.far_heard ++ body ∷ [] → (reply : Bool) → is_reply body ≡ reply → IsAhead (after_accept b.end.host body).initiator (filter is_command h.far_sent) (h.far_heard ++ body ∷ []) late.b
 accepted-ahead near far first far_first end cell cells b count late lines body h arrives true reply =
     let a = h.far_end.ahead in
-    let fits = answer-fits h.end.hosts h.far_end.hosts body arrives _ h.far_flow.flight reply a.done a.out a.answers a.under_way in
-    reply-ahead b.end.host h.far_heard body late.b fits.2.0 fits.0 reply a fits.1 fits.2.1 fits.2.2
-accepted-ahead near far first far_first end cell cells b count late lines body h arrives false command = command-ahead b.end.host h.far_heard body late.b command h.far_end.ahead
+    let fits = answer-fits h.end.hosts h.far_end.hosts body arrives _ h.far_flow.flight reply a.done a.answers in
+    reply-ahead far_first b.end.host h.far_sent h.far_heard body late.b fits.0 reply h.far_end.hosts h.far_end.few a fits.1 fits.2
+accepted-ahead near far first far_first end cell cells b count late lines body h arrives false command = command-ahead b.end.host (filter is_command h.far_sent) h.far_heard body late.b command h.far_end.ahead
 
--- the command that a reply answers is the first that wasn't answered before
+-- it answers some command
 accepted-place : (near far : Who) (first far_first : StationState) (end : EndState NodeState) (cell : LaneCell) (cells : List LaneCell) (b : LineEndState) (count : ℕ) (late : Late) (lines : List Line) (body : List ℕ) → (h : Flows near far first far_first (coming end cell cells b count) late lines)
-    → h.sent ≡ h.far_heard ++ body ∷ [] → is_reply body ≡ true → answered_place b.end.host.initiator.issued body ≡ Some (length (filter is_reply h.far_heard))
+    → h.sent ≡ h.far_heard ++ body ∷ [] → is_reply body ≡ true → (place : ℕ) × (answered_place b.end.host.initiator.issued body ≡ Some place)
 accepted-place near far first far_first end cell cells b count late lines body h arrives reply =
     let a = h.far_end.ahead in
-    let fits = answer-fits h.end.hosts h.far_end.hosts body arrives _ h.far_flow.flight reply a.done a.out a.answers a.under_way in
-    let under = subst (IsUnderWay b.end.host.initiator.issued a.done) fits.1 a.under_way in
-    (under-reply b.end.host.initiator a.done fits.0 fits.2.0 body under fits.2.1 fits.2.2).0 ∙ ap Some (sym a.answers)
+    let fits = answer-fits h.end.hosts h.far_end.hosts body arrives _ h.far_flow.flight reply a.done a.answers in
+    let answered = under-way-reply b.end.host.initiator (filter is_command h.far_sent) a.done late.b fits.0 body h.far_end.few h.far_end.hosts.initiates.numbered fits.1 fits.2 a.under_way in
+    (answered.0, answered.1)
 
 -- there is room for it
 has-room : (near far : Who) (first far_first : StationState) (end : EndState NodeState) (cell : LaneCell) (cells : List LaneCell) (b : LineEndState) (count : ℕ) (late : Late) (lines : List Line) (body : List ℕ) → (h : Flows near far first far_first (coming end cell cells b count) late lines)
@@ -212,8 +214,9 @@ has-room : (near far : Who) (first far_first : StationState) (end : EndState Nod
 has-room near far first far_first end cell cells b count late lines body h arrives true reply = rw reply refl
 has-room near far first far_first end cell cells b count late lines body h arrives false command =
     let a = h.end.ahead in
-    let none = no-reply-waits h.far_end.hosts h.end.hosts body arrives command _ h.far_flow.flight a.done a.out a.answers a.under_way in
-    rw (command, none) (lt-ltb 0 b.end.host.room (omega (arith, h.far_end.room)))
+    let few = few-replies h.far_end.hosts h.end.hosts body arrives command _ h.far_flow.flight a.done late.a a.answers a.under_way in
+    let fewer : length b.end.host.replies < b.end.host.room = omega (arith, few, h.end.allowed.window, h.far_end.allowed.room, h.rooms.far_room) in
+    rw command (lt-ltb (length b.end.host.replies) b.end.host.room fewer)
 
 -- its key is new
 new-key : (near far : Who) (first far_first : StationState) (end : EndState NodeState) (cell : LaneCell) (cells : List LaneCell) (b : LineEndState) (count : ℕ) (late : Late) (lines : List Line) (body : List ℕ) → (h : Flows near far first far_first (coming end cell cells b count) late lines)
@@ -232,6 +235,9 @@ reach-good near far two first far_first end cell cells b count after late lines 
       heard = h.heard;
       far_sent = h.far_sent;
       far_heard = h.far_heard ++ body ∷ [];
+      allowed = h.allowed;
+      far_allowed = h.far_allowed;
+      rooms = h.rooms;
       end = h.end;
       far_end = record {
         hosts = hosts-act act.Accept far_first b.end.host h.far_sent h.far_heard body h.far_end.hosts;
@@ -239,14 +245,14 @@ reach-good near far two first far_first end cell cells b count after late lines 
         ahead = accepted-ahead near far first far_first end cell cells b count late lines body h arrives (is_reply body) refl;
         bodies = h.far_end.bodies;
         commands = subst AreBodies (sym (bodies-accept b.end.host body)) h.far_end.commands;
-        room = h.far_end.room;
+        allowed = allowed-accept h.far_allowed b.end.host body h.far_end.allowed;
         block = h.far_end.block;
         few = let same = byte-commands b.end cell.byte in subst (λ (x : EndState NodeState). length x.host.initiator.issued ≤ 65535) (byte-acts node_host b.end cell.byte act.Accept acts) (omega (arith, same, h.far_end.few));
       };
       flow = flow-accepted node_host end b.end cell cells b.lane h.sent h.far_heard late.a is h.flow;
       far_flow = far-accepted node_host end b.end cell cells b.lane h.far_sent h.heard late.b is h.far_flow;
       tells = tells-silent near h.heard lines _ (none-accepted near far two.other body place (is_reply body)) h.tells;
-      far_tells = tells-accept far two.far_itself h.far_heard lines body place (is_reply body) refl (accepted-place near far first far_first end cell cells b count late lines body h arrives) h.far_tells;
+      far_tells = tells-accept far two.far_itself h.far_heard lines body place (is_reply body) refl h.far_tells;
       honest = none;
     }
 

@@ -1,6 +1,7 @@
 -- A command is issued, and a byte is given, in a run that nothing disturbs.
 use Rattle.std.proofs.Common.{◌≡◌, ◌∙◌, ℕ, ◌<◌, ◌≤◌, Bool, true, false, List, [], ◌∷◌, ◌++◌, length, map, Option, Some, None, is_none, eqb, refl, ap, sym, subst, arith, append-nil, length-append}
-use Rattle.std.specs.Prelude.{IsTrue, slice_index, option_to_list, if◌then◌else◌}
+use Rattle.std.specs.Prelude.{IsTrue, slice_index, option_to_list, unwrap_or, if◌then◌else◌}
+use Rattle.std.specs.List.{filter}
 use Rattle.std.specs.Option.{option_map, option_map_or}
 use Rattle.std.specs.Int.{bit_at}
 use Rattle.df1_base.specs.declared.link.Out.{Out}
@@ -26,37 +27,41 @@ use Rattle.duplex_line.specs.Plays.{issued_by}
 use Rattle.duplex_line.proofs.Once.IssueLimits.{take-commands}
 use Rattle.duplex_line.proofs.Steps.NothingToGive.{take-none}
 use Rattle.duplex_line.proofs.Once.SentMessages.{Sends, handed_in, handed_at, sends-host, sends-take, prepared-sends, ends-begun, take-host, take-handed}
-use Rattle.each_once.proofs.HandedOut.{Hosts}
+use Rattle.each_once.proofs.HandedOut.{is_command, Hosts}
 use Rattle.each_once.proofs.NodeSteps.{hosts-issue}
 use Rattle.each_once.proofs.CommandBodies.{bodies-next}
 use Rattle.duplex_line.proofs.Once.EndSteps.{hosts-handed}
 use Rattle.duplex_line.specs.Prompt.{Late}
 use Rattle.duplex_line.proofs.Complete.MessageUnderWay.{Flow, gave, flow-transmits, flow-loads, flow-gives, flow-back, flow-host, far-host}
-use Rattle.each_once.proofs.InitiatorProgress.{under-issue}
+use Rattle.each_once.proofs.CommandsUnderWay.{under-way-issue}
 use Rattle.each_once.proofs.MessageLengths.{AreBodies, issued-fits, next-fits, bodies-push, bodies-last}
-use Rattle.duplex_line.proofs.Complete.Invariant.{IsAhead, IsEnd, Flows, heard-bodies, ahead-next}
+use Rattle.duplex_line.proofs.Complete.Invariant.{Allowance, IsAllowed, IsAhead, IsEnd, Flows, heard-bodies, allowed-next, ahead-next}
 use Rattle.each_once.proofs.Sublists.{none-is}
 
 -- ---- a command is issued
 
-pub flows-issue : (near far : Who) (first far_first : StationState) (s : LineState) (late : Late) (lines : List Line) (dst : ℕ) (payload : List ℕ) → IsTrue (is_payload payload) → eqb (bit_at (slice_index payload 0) 6) 1 ≡ false → issued_by s.a < 65535
-    → Flows near far first far_first s late lines → Flows near far first far_first (after_deed s (Issue dst payload)) late lines
-flows-issue near far first far_first s late lines dst payload may command few h =
+pub flows-issue : (near far : Who) (first far_first : StationState) (s : LineState) (late : Late) (lines : List Line) (src : Option ℕ) (dst : ℕ) (payload : List ℕ) → IsTrue (is_payload payload) → eqb (bit_at (slice_index payload 0) 6) 1 ≡ false → issued_by s.a < 65535
+    → Flows near far first far_first s late lines → Flows near far first far_first (after_deed s (Issue src dst payload)) late lines
+flows-issue near far first far_first s late lines src dst payload may command few h =
     let node = s.a.end.host in
-    let new : Issued = record { body = next_issued node.initiator dst payload; standing = Waiting } in
-    let after = after_node_issue node dst payload in
+    let source = unwrap_or src node.initiator.node in
+    let new : Issued = record { body = next_issued node.initiator source dst payload; standing = Waiting } in
+    let after = after_node_issue node source dst payload in
     record {
       sent = h.sent;
       heard = h.heard;
       far_sent = h.far_sent;
       far_heard = h.far_heard;
+      allowed = h.allowed;
+      far_allowed = h.far_allowed;
+      rooms = h.rooms;
       end = record {
-        hosts = hosts-issue h.end.hosts dst payload command few;
+        hosts = hosts-issue h.end.hosts source dst payload command few;
         sends = sends-host s.a.end after h.end.sends;
-        ahead = record { done = h.end.ahead.done; out = h.end.ahead.out; under_way = under-issue node.initiator.issued h.end.ahead.done h.end.ahead.out new h.end.ahead.under_way tt; answers = h.end.ahead.answers; in_time = h.end.ahead.in_time };
+        ahead = record { done = h.end.ahead.done; under_way = under-way-issue node.initiator source dst payload (filter is_command h.sent) h.end.ahead.done late.a h.end.ahead.under_way; answers = h.end.ahead.answers };
         bodies = h.end.bodies;
-        commands = issued-fits node.initiator dst payload h.end.commands may;
-        room = h.end.room;
+        commands = issued-fits node.initiator source dst payload h.end.commands may;
+        allowed = record { room = h.end.allowed.room; window = h.end.allowed.window; per_source = h.end.allowed.per_source };
         block = h.end.block;
         few = omega (arith, length-append node.initiator.issued (new ∷ []), few);
       };
@@ -114,32 +119,33 @@ handed-bodies : (sent : List (List ℕ)) (o : Option (List ℕ)) → AreBodies s
 handed-bodies sent None bodies fits = rw (append-nil sent) bodies
 handed-bodies sent (Some body) bodies fits = let fit = fits body refl in bodies-push sent body bodies fit.0 fit.1
 
-handed-ahead : (o : Option (List ℕ)) (node : NodeState) (heard : List (List ℕ)) (late : ℕ) → ((body : List ℕ) → o ≡ Some body → next_body node ≡ Some body) → IsAhead node.initiator heard late → IsAhead (option_map_or (λ (body : List ℕ). after_next node) o node).initiator heard late
-handed-ahead None node heard late next a = a
-handed-ahead (Some body) node heard late next a = ahead-next node body heard late (next body refl) a
+handed-ahead : (o : Option (List ℕ)) (first : StationState) (node : NodeState) (sent heard : List (List ℕ)) (late : ℕ) → ((body : List ℕ) → o ≡ Some body → next_body node ≡ Some body) → Hosts first node sent heard → IsAhead node.initiator (filter is_command sent) heard late
+    → IsAhead (option_map_or (λ (body : List ℕ). after_next node) o node).initiator (filter is_command (sent ++ option_to_list o)) heard late
+handed-ahead None first node sent heard late next h a = rw (append-nil sent) a
+handed-ahead (Some body) first node sent heard late next h a = ahead-next first node body sent heard late (next body refl) h a
 
 handed-commands : (o : Option (List ℕ)) (node : NodeState) → map (λ c. c.body) (option_map_or (λ (body : List ℕ). after_next node) o node).initiator.issued ≡ map (λ c. c.body) node.initiator.issued
 handed-commands None node = refl
 handed-commands (Some body) node = bodies-next node
 
-handed-room : (o : Option (List ℕ)) (node : NodeState) → (option_map_or (λ (body : List ℕ). after_next node) o node).room ≡ node.room
-handed-room None node = refl
-handed-room (Some body) node = refl
+handed-allowed : (o : Option (List ℕ)) (allowed : Allowance) (node : NodeState) → IsAllowed allowed node → IsAllowed allowed (option_map_or (λ (body : List ℕ). after_next node) o node)
+handed-allowed None allowed node a = a
+handed-allowed (Some body) allowed node a = allowed-next allowed node a
 
 -- the end that gives it
-gave-end : (first : StationState) (e : EndState NodeState) (sent heard : List (List ℕ)) (late : ℕ) → ((body : List ℕ) → next_body e.host ≡ Some body → (6 ≤ length body) × (length body ≤ 250)) → IsEnd first e sent heard late
-    → IsEnd first (end_after_take node_host e) (sent ++ option_to_list (handed_at node_host e)) heard late
-gave-end first e sent heard late fits h =
+gave-end : (first : StationState) (allowed : Allowance) (e : EndState NodeState) (sent heard : List (List ℕ)) (late : ℕ) → ((body : List ℕ) → next_body e.host ≡ Some body → (6 ≤ length body) × (length body ≤ 250)) → IsEnd first allowed e sent heard late
+    → IsEnd first allowed (end_after_take node_host e) (sent ++ option_to_list (handed_at node_host e)) heard late
+gave-end first allowed e sent heard late fits h =
     let o = handed_at node_host e in
     let host = option_map_or (λ (body : List ℕ). after_next e.host) o e.host in
     let is_host : host ≡ (end_after_take node_host e).host = sym (take-host node_host e) in
     record {
       hosts = subst (λ (node : NodeState). Hosts first node (sent ++ option_to_list o) heard) is_host (hosts-handed o first e.host sent heard (λ body is. take-handed node_host e body is) h.hosts);
       sends = sends-take node_host e h.sends;
-      ahead = subst (λ (node : NodeState). IsAhead node.initiator heard late) is_host (handed-ahead o e.host heard late (λ body is. take-handed node_host e body is) h.ahead);
+      ahead = subst (λ (node : NodeState). IsAhead node.initiator (filter is_command (sent ++ option_to_list o)) heard late) is_host (handed-ahead o first e.host sent heard late (λ body is. take-handed node_host e body is) h.hosts h.ahead);
       bodies = handed-bodies sent o h.bodies (λ body is. fits body (take-handed node_host e body is));
       commands = subst (λ (node : NodeState). AreBodies (map (λ c. c.body) node.initiator.issued)) is_host (subst AreBodies (sym (handed-commands o e.host)) h.commands);
-      room = subst (λ (node : NodeState). 2 ≤ node.room) is_host (subst (λ (n : ℕ). 2 ≤ n) (sym (handed-room o e.host)) h.room);
+      allowed = subst (λ (node : NodeState). IsAllowed allowed node) is_host (handed-allowed o allowed e.host h.allowed);
       block = h.block;
       few = let same = take-commands e in omega (arith, same, h.few);
     }
@@ -174,7 +180,10 @@ take-some near far first far_first s late lines out is h =
       heard = h.heard;
       far_sent = h.far_sent;
       far_heard = h.far_heard;
-      end = gave-end first s.a.end h.sent h.heard late.a fits h.end;
+      allowed = h.allowed;
+      far_allowed = h.far_allowed;
+      rooms = h.rooms;
+      end = gave-end first h.allowed s.a.end h.sent h.heard late.a fits h.end;
       far_end = h.far_end;
       flow = both.0;
       far_flow = both.1;

@@ -1,43 +1,60 @@
 -- What holds at each point of a run that nothing disturbs.
-use Rattle.std.proofs.Common.{◌≡◌, ℕ, ◌+◌, ◌≤◌, List, [], ◌∷◌, ◌++◌, length, map, Option, Some, None, refl, subst, arith}
+use Rattle.std.proofs.Common.{◌≡◌, ◌∙◌, ℕ, ◌≤◌, Bool, true, false, not, List, [], ◌∷◌, ◌++◌, drop, length, map, Some, is_some, refl, ap, sym, subst}
+use Rattle.std.specs.Prelude.{slice_get, if◌then◌else◌}
+use Rattle.std.specs.Option.{option_or}
 use Rattle.std.specs.List.{filter}
-use Rattle.df1_node.specs.Answer.{StationState}
-use Rattle.df1_node.specs.Initiator.{InitiatorState, next_command}
-use Rattle.df1_node.specs.Node.{NodeState, next_body, after_next}
+use Rattle.df1_node.specs.Answer.{StationState, after_answer, reply_to}
+use Rattle.df1_node.specs.declared.handed.Handed.{Handed}
+use Rattle.df1_node.specs.Initiator.{InitiatorState, next_command, after_hand_out, after_reply}
+use Rattle.df1_node.specs.Node.{NodeState, next_body, next_handed, after_next, after_accept}
 use Rattle.pccc_envelope.specs.Envelope.{is_reply}
 use Rattle.duplex_end.specs.End.{EndState}
 use Rattle.script_statement.specs.declared.who.Who.{Who}
 use Rattle.replay_report.specs.declared.record.Line.{Line}
 use Rattle.duplex_line.specs.Acts.{LineState, swapped}
 use Rattle.duplex_line.proofs.Once.SentMessages.{Sends}
-use Rattle.each_once.proofs.HandedOut.{Hosts}
+use Rattle.each_once.proofs.HandedOut.{is_command, Hosts}
 use Rattle.duplex_line.specs.Prompt.{Late}
 use Rattle.duplex_line.proofs.Complete.MessageUnderWay.{Flow}
 use Rattle.duplex_line.proofs.Complete.ToldMessages.{TellsOf}
-use Rattle.each_once.proofs.InitiatorProgress.{IsUnderWay, under-hand_out}
+use Rattle.each_once.proofs.CommandsUnderWay.{AreUnderWay, under-way-hand_out}
+use Rattle.each_once.proofs.InitiatorSteps.{next-is-command}
+use Rattle.each_once.proofs.NodeSteps.{waiting-reply}
+use Rattle.each_once.proofs.Sublists.{same-some, filter-keeps, filter-drops}
 use Rattle.each_once.proofs.MessageLengths.{AreBodies, bodies-front}
 
--- the ticks of a reply that were not late are left of it
-abbrev pub IsInTime : ℕ → ℕ → Option ℕ → Type 0
-IsInTime ticks late None = Unit {0}
-IsInTime ticks late (Some left) = ticks ≤ left + late
+-- how many replies may wait, and how many commands may be out
+pub record Allowance : Type 0 where
+  pub room : ℕ
+  pub window : ℕ
 
--- how far an initiator is: so many of its commands are answered, by as many replies, and one may be out
-pub record IsAhead (s : InitiatorState) (heard : List (List ℕ)) (late : ℕ) : Type 0 where
+-- a node that may have so many
+pub record IsAllowed (allowed : Allowance) (node : NodeState) : Type 0 where
+  pub room : node.room ≡ allowed.room
+  pub window : node.initiator.window ≡ allowed.window
+  pub per_source : 1 ≤ node.initiator.per_source
+
+-- each may have as many replies wait as the other may have commands out
+pub record HaveRoom (near far : Allowance) : Type 0 where
+  pub near_room : far.window ≤ near.room
+  pub far_room : near.window ≤ far.room
+  pub near_some : 1 ≤ near.window
+  pub far_some : 1 ≤ far.window
+
+-- how far an initiator is that handed out these commands: so many of them are answered, by as many replies
+pub record IsAhead (s : InitiatorState) (commands heard : List (List ℕ)) (late : ℕ) : Type 0 where
   pub done : ℕ
-  pub out : Option ℕ
-  pub under_way : IsUnderWay s.issued done out
+  pub under_way : AreUnderWay s commands done late
   pub answers : length (filter is_reply heard) ≡ done
-  pub in_time : IsInTime s.reply_ticks late out
 
 -- an end that handed out these messages and accepted those
-pub record IsEnd (first : StationState) (e : EndState NodeState) (sent heard : List (List ℕ)) (late : ℕ) : Type 0 where
+pub record IsEnd (first : StationState) (may : Allowance) (e : EndState NodeState) (sent heard : List (List ℕ)) (late : ℕ) : Type 0 where
   pub hosts : Hosts first e.host sent heard
   pub sends : Sends e sent
-  pub ahead : IsAhead e.host.initiator heard late
+  pub ahead : IsAhead e.host.initiator (filter is_command sent) heard late
   pub bodies : AreBodies sent
   pub commands : AreBodies (map (λ c. c.body) e.host.initiator.issued)
-  pub room : 2 ≤ e.host.room
+  pub allowed : IsAllowed may e.host
   pub block : length first.block ≤ 244
   pub few : length e.host.initiator.issued ≤ 65535
 
@@ -47,8 +64,11 @@ pub record Flows (near far : Who) (first far_first : StationState) (s : LineStat
   pub heard : List (List ℕ)
   pub far_sent : List (List ℕ)
   pub far_heard : List (List ℕ)
-  pub end : IsEnd first s.a.end sent heard late.a
-  pub far_end : IsEnd far_first s.b.end far_sent far_heard late.b
+  pub allowed : Allowance
+  pub far_allowed : Allowance
+  pub rooms : HaveRoom allowed far_allowed
+  pub end : IsEnd first allowed s.a.end sent heard late.a
+  pub far_end : IsEnd far_first far_allowed s.b.end far_sent far_heard late.b
   pub flow : Flow s.a.end s.b.end s.a.lane s.b.lane sent far_heard late.a
   pub far_flow : Flow s.b.end s.a.end s.b.lane s.a.lane far_sent heard late.b
   pub tells : TellsOf near heard lines
@@ -64,6 +84,9 @@ flows-swapped near far first far_first s late lines h = record {
   heard = h.far_heard;
   far_sent = h.sent;
   far_heard = h.heard;
+  allowed = h.far_allowed;
+  far_allowed = h.allowed;
+  rooms = record { near_room = h.rooms.far_room; far_room = h.rooms.near_room; near_some = h.rooms.far_some; far_some = h.rooms.near_some };
   end = h.far_end;
   far_end = h.end;
   flow = h.far_flow;
@@ -77,13 +100,44 @@ flows-swapped near far first far_first s late lines h = record {
 pub heard-bodies : (sent heard flight : List (List ℕ)) → AreBodies sent → sent ≡ heard ++ flight → AreBodies heard
 heard-bodies sent heard flight bodies is = bodies-front heard flight (subst AreBodies is bodies)
 
--- after a message was handed out
-pub ahead-next : (node : NodeState) (body : List ℕ) (heard : List (List ℕ)) (late : ℕ) → next_body node ≡ Some body → IsAhead node.initiator heard late → IsAhead (after_next node).initiator heard late
-ahead-next node body heard late next a = by-replies node.replies refl
+-- ---- what an end may have stays
+
+allowed-if : (reply : Bool) (allowed : Allowance) (node : NodeState) (s : InitiatorState) (last : Handed) (replies : List (List ℕ)) → s.window ≡ node.initiator.window → s.per_source ≡ node.initiator.per_source → IsAllowed allowed node
+    → IsAllowed allowed (record node { replies = replies; initiator = if reply then node.initiator else s; last = last })
+allowed-if true allowed node s last replies window per_source a = record { room = a.room; window = a.window; per_source = a.per_source }
+allowed-if false allowed node s last replies window per_source a = record { room = a.room; window = window ∙ a.window; per_source = rw per_source a.per_source }
+
+pub allowed-next : (allowed : Allowance) (node : NodeState) → IsAllowed allowed node → IsAllowed allowed (after_next node)
+allowed-next allowed node a = allowed-if (is_some (slice_get node.replies 0)) allowed node (after_hand_out node.initiator) (next_handed node) (drop 1 node.replies) refl refl a
+
+pub allowed-accept : (allowed : Allowance) (node : NodeState) (body : List ℕ) → IsAllowed allowed node → IsAllowed allowed (after_accept node body)
+allowed-accept allowed node body a = by-kind (is_reply body)
   where
-    by-replies : (replies : List (List ℕ)) → node.replies ≡ replies → IsAhead (after_next node).initiator heard late
-    by-replies (r ∷ rs) is = rw is (record { done = a.done; out = a.out; under_way = a.under_way; answers = a.answers; in_time = a.in_time })
+    by-kind : (reply : Bool) → IsAllowed allowed (record node {
+      station = if reply then node.station else after_answer node.station body;
+      replies = if reply then node.replies else node.replies ++ reply_to node.station body ∷ [];
+      initiator = if reply then after_reply node.initiator body else node.initiator;
+    })
+    by-kind true = record { room = a.room; window = a.window; per_source = a.per_source }
+    by-kind false = record { room = a.room; window = a.window; per_source = a.per_source }
+
+-- ---- a message is handed out
+
+pub ahead-next : (first : StationState) (node : NodeState) (body : List ℕ) (sent heard : List (List ℕ)) (late : ℕ) → next_body node ≡ Some body → Hosts first node sent heard → IsAhead node.initiator (filter is_command sent) heard late
+    → IsAhead (after_next node).initiator (filter is_command (sent ++ body ∷ [])) heard late
+ahead-next first node body sent heard late next h a = by-replies node.replies refl
+  where
+    by-replies : (replies : List (List ℕ)) → node.replies ≡ replies → IsAhead (after_next node).initiator (filter is_command (sent ++ body ∷ [])) heard late
+    by-replies (r ∷ rs) is =
+        let same : r ≡ body = same-some r body (sym (ap (λ (xs : List (List ℕ)). option_or (slice_get xs 0) (next_command node.initiator)) is) ∙ next) in
+        let reply : is_reply body ≡ true = ap is_reply (sym same) ∙ waiting-reply h r rs is in
+        rw is (subst (λ (xs : List (List ℕ)). IsAhead node.initiator xs heard late) (sym (filter-drops is_command sent body (ap not reply))) a)
     by-replies [] is =
-        let command : next_command node.initiator.issued ≡ Some body = rw is at next in
-        let u = under-hand_out node.initiator a.done a.out body a.under_way command in
-        rw is (record { done = a.done; out = Some node.initiator.reply_ticks; under_way = u.1; answers = a.answers; in_time = omega arith })
+        let command : next_command node.initiator ≡ Some body = sym (ap (λ (xs : List (List ℕ)). option_or (slice_get xs 0) (next_command node.initiator)) is) ∙ next in
+        let plain : is_reply body ≡ false = next-is-command command h.initiates in
+        let after : IsAhead (after_hand_out node.initiator) (filter is_command sent ++ body ∷ []) heard late = record {
+          done = a.done;
+          under_way = under-way-hand_out node.initiator body (filter is_command sent) a.done late command a.under_way;
+          answers = a.answers;
+        } in
+        rw is (subst (λ (xs : List (List ℕ)). IsAhead (after_hand_out node.initiator) xs heard late) (sym (filter-keeps is_command sent body (ap not plain))) after)

@@ -1,8 +1,10 @@
 -- A unit of time passes, in a run that nothing disturbs; and what is so where nothing is under way.
-use Rattle.std.proofs.Common.{◌≡◌, ◌∙◌, ℕ, zero, suc, ◌+◌, ◌-◌, ◌<◌, ◌≤◌, Bool, true, false, List, [], ◌∷◌, ◌++◌, length, Option, Some, None, is_none, min, refl, sym, subst, arith, append-nil}
-use Rattle.std.specs.Prelude.{slice_get, ◌&&◌, if◌then◌else◌}
+use Rattle.std.proofs.Common.{◌≡◌, ◌∙◌, ℕ, ◌+◌, ◌<◌, ◌≤◌, Bool, true, false, List, [], ◌∷◌, ◌++◌, length, Option, Some, None, is_none, min, refl, sym, subst, arith, append-nil}
+use Rattle.std.specs.Prelude.{◌⊎◌, slice_get, ◌&&◌, if◌then◌else◌}
+use Rattle.std.specs.List.{filter}
+use Rattle.std.proofs.Common.{inl, inr}
 use Rattle.df1_node.specs.Answer.{StationState}
-use Rattle.df1_node.specs.Initiator.{Issued, Standing, Waiting, Out, Answered, Undelivered, Unanswered, next_command}
+use Rattle.df1_node.specs.Initiator.{InitiatorState, next_command}
 use Rattle.df1_base.specs.declared.host.Fate.{Fate}
 use Rattle.df1_base.specs.declared.host.Fate.TheVariants as fate
 use Rattle.df1_base.specs.HostAnswers.{host_told}
@@ -20,20 +22,20 @@ use Rattle.each_once.specs.NodeHost.{node_host}
 use Rattle.report_lines.specs.NodeLines.{turn_lines, gone_lines}
 use Rattle.duplex_line.specs.Acts.{LineState, Tick, after_deed, lines_at}
 use Rattle.duplex_line.proofs.Once.IssueLimits.{tick-commands}
-use Rattle.each_once.proofs.Sublists.{same-some, none-is}
+use Rattle.each_once.proofs.Sublists.{none-is}
 use Rattle.duplex_line.proofs.Once.SentMessages.{Sends, sends-tick}
-use Rattle.each_once.proofs.HandedOut.{Hosts}
+use Rattle.each_once.proofs.HandedOut.{is_command, Hosts}
 use Rattle.each_once.proofs.NodeSteps.{hosts-tick}
 use Rattle.each_once.proofs.CommandBodies.{bodies-after_tick}
 use Rattle.duplex_line.proofs.Once.LineSteps.{tick-silent}
 use Rattle.duplex_line.specs.Prompt.{Late, none_late, is_idle, is_quiet, late_with, late_after, AreFew, patience}
 use Rattle.duplex_line.proofs.Complete.MessageUnderWay.{Flow, awaits, IsPatient, IsSteady, ticked, steadied, tick-steady, ticked-awaits, flow-ticks, far-ticks, flow-late}
 use Rattle.duplex_line.proofs.Complete.QuietEnd.{GivesNothing, gives-nothing, awaits-none, never-waits, all-heard}
-use Rattle.each_once.proofs.InitiatorProgress.{IsUnderWay, IsDone, IsOutFor, under-busy, under-at, under-tick-out, under-tick-none}
+use Rattle.each_once.proofs.CommandsUnderWay.{AreUnderWay, under-way-tick, under-way-later, under-way-rests}
 use Rattle.each_once.proofs.TwoNodes.{all-answered}
 use Rattle.each_once.proofs.MessageLengths.{AreBodies}
 use Rattle.duplex_line.proofs.Complete.ToldMessages.{TellsOf, tells-silent}
-use Rattle.duplex_line.proofs.Complete.Invariant.{IsInTime, IsAhead, IsEnd, Flows}
+use Rattle.duplex_line.proofs.Complete.Invariant.{Allowance, IsAhead, IsEnd, Flows}
 
 -- ---- nothing is under way
 
@@ -66,42 +68,24 @@ quiet-still s quiet =
     }
 
 -- a node that has nothing to hand out
-next-parts : (node : NodeState) → next_body node ≡ None → (node.replies ≡ []) × (next_command node.initiator.issued ≡ None)
+next-parts : (node : NodeState) → next_body node ≡ None → (node.replies ≡ []) × (next_command node.initiator ≡ None)
 next-parts node none = by-replies node.replies refl
   where
-    by-replies : (replies : List (List ℕ)) → node.replies ≡ replies → (node.replies ≡ []) × (next_command node.initiator.issued ≡ None)
+    by-replies : (replies : List (List ℕ)) → node.replies ≡ replies → (node.replies ≡ []) × (next_command node.initiator ≡ None)
     by-replies [] is = (is, rw is at none)
     by-replies (r ∷ rs) is = absurd (let no : Some r ≡ None = rw is at none in cc)
 
 replies-none : (node : NodeState) → next_body (node_ticked node) ≡ None → node.replies ≡ []
 replies-none node none = (next-parts (node_ticked node) none).0
 
-not-both : (s : Standing) (left : ℕ) → IsOutFor left s → IsDone s → ⊥
-not-both Waiting left out done = done
-not-both (Out n) left out done = done
-not-both (Answered reply) left out done = out
-not-both Undelivered left out done = done
-not-both Unanswered left out done = done
+-- all commands that were handed out are answered
+abbrev pub AreAnswered : (s : InitiatorState) (commands heard : List (List ℕ)) (late : ℕ) → IsAhead s commands heard late → Type 0
+AreAnswered s commands heard late a = a.done ≡ length commands
 
--- a command that is out isn't done
-out-not-done : (issued : List Issued) (n left : ℕ) (c : Issued) → IsUnderWay issued n (Some left) → slice_get issued n ≡ Some c → IsDone c.standing → ⊥
-out-not-done [] zero left c under at done = under
-out-not-done [] (suc n) left c under at done = under
-out-not-done (d ∷ ds) zero left c under at done = not-both d.standing left under.0 (subst (λ (x : Issued). IsDone x.standing) (same-some c d (sym at)) done)
-out-not-done (d ∷ ds) (suc n) left c under at done = out-not-done ds n left c under.1 at done
-
--- where all was heard and no reply waits, no command is out
-pub none-out : (first other : StationState) (station initiator : NodeState) (sent heard commands told : List (List ℕ)) (late : ℕ) → Hosts first station sent heard → Hosts other initiator commands told → commands ≡ heard → sent ≡ told → station.replies ≡ [] → (a : IsAhead initiator.initiator told late) → a.out ≡ None
-none-out first other station initiator sent heard commands told late s i all_heard all_told none a = by-out a.out refl
-  where
-    by-out : (out : Option ℕ) → a.out ≡ out → a.out ≡ None
-    by-out None is = is
-    by-out (Some left) is =
-        let under = subst (IsUnderWay initiator.initiator.issued a.done) is a.under_way in
-        let busy = under-busy initiator.initiator.issued a.done left under in
-        let all = all-answered s i all_heard all_told none a.done (Some left) a.answers under busy in
-        let c = under-at initiator.initiator.issued a.done left under in
-        absurd (out-not-done initiator.initiator.issued a.done left c.0 under c.1 (all.1 a.done c.0 c.1))
+-- where all was heard and no reply waits
+pub none-out : (first other : StationState) (station initiator : NodeState) (sent heard commands told : List (List ℕ)) (late : ℕ) → Hosts first station sent heard → Hosts other initiator commands told → commands ≡ heard → sent ≡ told → station.replies ≡ []
+    → (a : IsAhead initiator.initiator (filter is_command commands) told late) → AreAnswered initiator.initiator (filter is_command commands) told late a
+none-out first other station initiator sent heard commands told late s i all_heard all_told none a = all-answered s i all_heard all_told none a.done a.answers
 
 -- ---- the two ends at rest
 
@@ -115,19 +99,16 @@ awaits-steady Idle none = tt
 awaits-steady (Sending body naks enqs) none = tt
 awaits-steady (Awaiting body naks enqs left) none = absurd (omega (arith, none))
 
-in-time-none : (out : Option ℕ) (ticks late : ℕ) → out ≡ None → IsInTime ticks late out
-in-time-none out ticks late is = rw is tt
-
 -- neither end awaits a response or has a message to send, all messages were heard, and no command is out
 pub record AreAtRest (near far : Who) (first far_first : StationState) (s : LineState) (late : Late) (lines : List Line) (h : Flows near far first far_first s late lines) : Type 0 where
   pub awaits_none : awaits s.a.end.sender.activity ≡ 0
   pub far_awaits_none : awaits s.b.end.sender.activity ≡ 0
-  pub none_out : h.end.ahead.out ≡ None
-  pub far_none_out : h.far_end.ahead.out ≡ None
+  pub none_out : h.end.ahead.done ≡ length (filter is_command h.sent)
+  pub far_none_out : h.far_end.ahead.done ≡ length (filter is_command h.far_sent)
   pub all_heard : h.sent ≡ h.far_heard
   pub far_all_heard : h.far_sent ≡ h.heard
-  pub nothing_waits : (s.a.end.host.replies ≡ []) × (next_command s.a.end.host.initiator.issued ≡ None)
-  pub far_nothing_waits : (s.b.end.host.replies ≡ []) × (next_command s.b.end.host.initiator.issued ≡ None)
+  pub nothing_waits : (s.a.end.host.replies ≡ []) × (next_command s.a.end.host.initiator ≡ None)
+  pub far_nothing_waits : (s.b.end.host.replies ≡ []) × (next_command s.b.end.host.initiator ≡ None)
 
 -- two ends of which nothing is on its way and that choose nothing
 lanes-empty : (a b : EndState NodeState) (lane back : List LaneCell) (sent heard : List (List ℕ)) (late : ℕ) → lane ≡ [] → back ≡ [] → Flow a b lane back sent heard late → Flow a b [] [] sent heard late
@@ -157,14 +138,14 @@ at-rest near far first far_first s late lines h still =
     }
 
 -- the ticks of an end are counted anew
-later-end : (first : StationState) (e : EndState NodeState) (sent heard : List (List ℕ)) (late later : ℕ) (h : IsEnd first e sent heard late) → h.ahead.out ≡ None → IsEnd first e sent heard later
-later-end first e sent heard late later h none = record {
+later-end : (first : StationState) (allowed : Allowance) (e : EndState NodeState) (sent heard : List (List ℕ)) (late later : ℕ) (h : IsEnd first allowed e sent heard late) → h.ahead.done ≡ length (filter is_command sent) → IsEnd first allowed e sent heard later
+later-end first allowed e sent heard late later h all = record {
   hosts = h.hosts;
   sends = h.sends;
-  ahead = record { done = h.ahead.done; out = h.ahead.out; under_way = h.ahead.under_way; answers = h.ahead.answers; in_time = in-time-none h.ahead.out e.host.initiator.reply_ticks later none };
+  ahead = record { done = h.ahead.done; under_way = under-way-later e.host.initiator (filter is_command sent) h.ahead.done late later all h.ahead.under_way; answers = h.ahead.answers };
   bodies = h.bodies;
   commands = h.commands;
-  room = h.room;
+  allowed = h.allowed;
   block = h.block;
   few = h.few;
 }
@@ -178,8 +159,11 @@ flows-late near far first far_first s late later lines still h =
       heard = h.heard;
       far_sent = h.far_sent;
       far_heard = h.far_heard;
-      end = later-end first s.a.end h.sent h.heard late.a later.a h.end rest.none_out;
-      far_end = later-end far_first s.b.end h.far_sent h.far_heard late.b later.b h.far_end rest.far_none_out;
+      allowed = h.allowed;
+      far_allowed = h.far_allowed;
+      rooms = h.rooms;
+      end = later-end first h.allowed s.a.end h.sent h.heard late.a later.a h.end rest.none_out;
+      far_end = later-end far_first h.far_allowed s.b.end h.far_sent h.far_heard late.b later.b h.far_end rest.far_none_out;
       flow = flow-late s.a.end s.b.end s.a.lane s.b.lane h.sent h.far_heard late.a later.a (awaits-trivial s.a.end.sender.activity s.a.end.sender.limits.ack_ticks later.a rest.awaits_none) h.flow;
       far_flow = flow-late s.b.end s.a.end s.b.lane s.a.lane h.far_sent h.heard late.b later.b (awaits-trivial s.b.end.sender.activity s.b.end.sender.limits.ack_ticks later.b rest.far_awaits_none) h.far_flow;
       tells = h.tells;
@@ -189,13 +173,10 @@ flows-late near far first far_first s late later lines still h =
 
 -- ---- a unit of time passes
 
--- no wait of the end is at its last tick
-pub record IsReady (activity : Activity) (out : Option ℕ) : Type 0 where
+-- no wait of the end is at its last tick: none of its commands is out, or enough ticks are left to each
+pub record IsReady (activity : Activity) (commands done late ticks : ℕ) : Type 0 where
   pub steady : IsSteady activity
-  pub out_steady : (left : ℕ) → out ≡ Some left → 1 < left
-
-no-out : (out : Option ℕ) → out ≡ None → (left : ℕ) → out ≡ Some left → 1 < left
-no-out out none left some = let no : None ≡ Some left = sym none ∙ some in absurd cc
+  pub out_steady : (done ≡ commands) ⊎ (late + 1 < ticks)
 
 ticked-idle : (limits : Limits) (a : Activity) → phase_of (record { limits = limits; activity = ticked a }) ≡ phase.Idle → phase_of (record { limits = limits; activity = a }) ≡ phase.Idle
 ticked-idle limits Idle is = refl
@@ -203,7 +184,7 @@ ticked-idle limits (Sending body naks enqs) is = absurd cc
 ticked-idle limits (Awaiting body naks enqs left) is = absurd cc
 
 -- where nothing is under way after it, nothing was before
-ready-after : (near far : Who) (first far_first : StationState) (s : LineState) (late : Late) (lines : List Line) (h : Flows near far first far_first s late lines) → IsStill (after_deed s Tick) → IsReady s.a.end.sender.activity h.end.ahead.out
+ready-after : (near far : Who) (first far_first : StationState) (s : LineState) (late : Late) (lines : List Line) (h : Flows near far first far_first s late lines) → IsStill (after_deed s Tick) → IsReady s.a.end.sender.activity (length (filter is_command h.sent)) h.end.ahead.done late.a s.a.end.host.initiator.reply_ticks
 ready-after near far first far_first s late lines h still =
     let a = s.a.end in
     let b = s.b.end in
@@ -219,17 +200,13 @@ ready-after near far first far_first s late lines h still =
     let far_all = all-heard b a [] [] h.far_sent h.heard late.b far_idle.0 g in
     record {
       steady = steady;
-      out_steady = no-out h.end.ahead.out (none-out far_first first b.host a.host h.far_sent h.far_heard h.sent h.heard late.a h.far_end.hosts h.end.hosts all far_all (next-parts b.host far_idle.1).0 h.end.ahead);
+      out_steady = inl (none-out far_first first b.host a.host h.far_sent h.far_heard h.sent h.heard late.a h.far_end.hosts h.end.hosts all far_all (next-parts b.host far_idle.1).0 h.end.ahead);
     }
 
 patient-steady : (a : Activity) (ticks late : ℕ) → IsPatient ticks late a → late + 1 < ticks → IsSteady a
 patient-steady Idle ticks late patient few = tt
 patient-steady (Sending body naks enqs) ticks late patient few = tt
 patient-steady (Awaiting body naks enqs left) ticks late patient few = omega (arith, patient, few)
-
-in-time-steady : (out : Option ℕ) (ticks late : ℕ) → IsInTime ticks late out → late + 1 < ticks → (left : ℕ) → out ≡ Some left → 1 < left
-in-time-steady None ticks late in_time few left is = absurd cc
-in-time-steady (Some n) ticks late in_time few left is = let same : n ≡ left = cc in omega (arith, in_time, few, same)
 
 -- how long a reply may take stays
 told-ticks : (o : Option Fate) (node : NodeState) → (host_told node_host o node).initiator.reply_ticks ≡ node.initiator.reply_ticks
@@ -242,20 +219,21 @@ told-ticks (Some fate.Undelivered) node = last-ticks node.last
     last-ticks handed.Reply = refl
     last-ticks (handed.Command place) = refl
 
-ready-few : (near far : Who) (first far_first : StationState) (s : LineState) (late : Late) (lines : List Line) (h : Flows near far first far_first s late lines) → late.a + 1 < patience (after_deed s Tick).a → IsReady s.a.end.sender.activity h.end.ahead.out
+ready-few : (near far : Who) (first far_first : StationState) (s : LineState) (late : Late) (lines : List Line) (h : Flows near far first far_first s late lines) → late.a + 1 < patience (after_deed s Tick).a
+    → IsReady s.a.end.sender.activity (length (filter is_command h.sent)) h.end.ahead.done late.a s.a.end.host.initiator.reply_ticks
 ready-few near far first far_first s late lines h few =
     let same = told-ticks (fate_of_tick (tick_turn s.a.end.sender)) s.a.end.host in
     let fewer : late.a + 1 < min s.a.end.sender.limits.ack_ticks s.a.end.host.initiator.reply_ticks = subst (λ (n : ℕ). late.a + 1 < min s.a.end.sender.limits.ack_ticks n) same few in
     record {
       steady = patient-steady s.a.end.sender.activity s.a.end.sender.limits.ack_ticks late.a h.flow.patient (omega (arith, fewer));
-      out_steady = in-time-steady h.end.ahead.out s.a.end.host.initiator.reply_ticks late.a h.end.ahead.in_time (omega (arith, fewer));
+      out_steady = inr (omega (arith, fewer));
     }
 
 tick-ready : (near far : Who) (first far_first : StationState) (s : LineState) (late : Late) (lines : List Line) (h : Flows near far first far_first s late lines) → (quiet after : Bool) → is_quiet s ≡ quiet → is_quiet (after_deed s Tick) ≡ after
-    → AreFew (if after then none_late else late_with late quiet Tick) (after_deed s Tick) → IsReady s.a.end.sender.activity h.end.ahead.out
+    → AreFew (if after then none_late else late_with late quiet Tick) (after_deed s Tick) → IsReady s.a.end.sender.activity (length (filter is_command h.sent)) h.end.ahead.done late.a s.a.end.host.initiator.reply_ticks
 tick-ready near far first far_first s late lines h true after is is_after few =
     let rest = at-rest near far first far_first s late lines h (quiet-still s is) in
-    record { steady = awaits-steady s.a.end.sender.activity rest.awaits_none; out_steady = no-out h.end.ahead.out rest.none_out }
+    record { steady = awaits-steady s.a.end.sender.activity rest.awaits_none; out_steady = inl rest.none_out }
 tick-ready near far first far_first s late lines h false true is is_after few = ready-after near far first far_first s late lines h (quiet-still (after_deed s Tick) is_after)
 tick-ready near far first far_first s late lines h false false is is_after few = ready-few near far first far_first s late lines h few.0
 
@@ -273,30 +251,26 @@ later-patient : (near far : Who) (first far_first : StationState) (s : LineState
 later-patient near far first far_first s late lines h true is steady = ticked-trivial s.a.end.sender.activity s.a.end.sender.limits.ack_ticks late.a (at-rest near far first far_first s late lines h (quiet-still s is)).awaits_none
 later-patient near far first far_first s late lines h false is steady = ticked-patient s.a.end.sender.activity s.a.end.sender.limits.ack_ticks late.a h.flow.patient steady
 
-ticked-ahead : (node : NodeState) (heard : List (List ℕ)) (late later : ℕ) (a : IsAhead node.initiator heard late) → ((left : ℕ) → a.out ≡ Some left → (1 < left) × (node.initiator.reply_ticks ≤ left - 1 + later)) → IsAhead (node_ticked node).initiator heard later
-ticked-ahead node heard late later a steady = by-out a.out refl
-  where
-    by-out : (out : Option ℕ) → a.out ≡ out → IsAhead (node_ticked node).initiator heard later
-    by-out None is = record { done = a.done; out = None; under_way = under-tick-none node.initiator.issued a.done (subst (IsUnderWay node.initiator.issued a.done) is a.under_way); answers = a.answers; in_time = tt }
-    by-out (Some left) is =
-        let s = steady left is in
-        record { done = a.done; out = Some (left - 1); under_way = under-tick-out node.initiator.issued a.done left (subst (IsUnderWay node.initiator.issued a.done) is a.under_way) s.0; answers = a.answers; in_time = s.1 }
+ticked-ahead : (node : NodeState) (commands heard : List (List ℕ)) (late later : ℕ) (a : IsAhead node.initiator commands heard late) → (a.done ≡ length commands) ⊎ ((late + 1 < node.initiator.reply_ticks) × (later ≡ late + 1)) → IsAhead (node_ticked node).initiator commands heard later
+ticked-ahead node commands heard late later a (inl all) = record { done = a.done; under_way = under-way-rests node.initiator commands a.done late later all a.under_way; answers = a.answers }
+ticked-ahead node commands heard late later a (inr more) = record {
+  done = a.done;
+  under_way = subst (λ (n : ℕ). AreUnderWay (node_ticked node).initiator commands a.done n) (sym more.1) (under-way-tick node.initiator commands a.done late more.0 a.under_way);
+  answers = a.answers;
+}
 
-later-in-time : (near far : Who) (first far_first : StationState) (s : LineState) (late : Late) (lines : List Line) (h : Flows near far first far_first s late lines) → (quiet : Bool) → is_quiet s ≡ quiet → ((left : ℕ) → h.end.ahead.out ≡ Some left → 1 < left)
-    → (left : ℕ) → h.end.ahead.out ≡ Some left → (1 < left) × (s.a.end.host.initiator.reply_ticks ≤ left - 1 + (late_with late quiet Tick).a)
-later-in-time near far first far_first s late lines h true is steady left out =
-    let rest = at-rest near far first far_first s late lines h (quiet-still s is) in
-    let no : None ≡ Some left = sym rest.none_out ∙ out in absurd cc
-later-in-time near far first far_first s late lines h false is steady left out =
-    let more = steady left out in
-    let time = subst (IsInTime s.a.end.host.initiator.reply_ticks late.a) out h.end.ahead.in_time in
-    (more, omega (arith, more, time))
+later-ready : (near far : Who) (first far_first : StationState) (s : LineState) (late : Late) (lines : List Line) (h : Flows near far first far_first s late lines) → (quiet : Bool) → is_quiet s ≡ quiet
+    → (h.end.ahead.done ≡ length (filter is_command h.sent)) ⊎ (late.a + 1 < s.a.end.host.initiator.reply_ticks)
+    → (h.end.ahead.done ≡ length (filter is_command h.sent)) ⊎ ((late.a + 1 < s.a.end.host.initiator.reply_ticks) × ((late_with late quiet Tick).a ≡ late.a + 1))
+later-ready near far first far_first s late lines h quiet is (inl all) = inl all
+later-ready near far first far_first s late lines h true is (inr more) = inl (at-rest near far first far_first s late lines h (quiet-still s is)).none_out
+later-ready near far first far_first s late lines h false is (inr more) = inr (more, refl)
 
 tells-tick : (who near : Who) (e : EndState NodeState) (heard : List (List ℕ)) (lines : List Line) → TellsOf who heard lines → TellsOf who heard (lines ++ ((turn_lines near (turn_at_tick node_host e) ++ gone_lines near (gone_at_tick node_host e)) ++ []))
 tells-tick who near e heard lines t =
     let more = turn_lines near (turn_at_tick node_host e) ++ gone_lines near (gone_at_tick node_host e) in
     let silent = tick-silent who who near e in
-    rw (append-nil more) (tells-silent who heard lines more (record { executes = silent.executes; answers = silent.answers }) t)
+    rw (append-nil more) (tells-silent who heard lines more silent.executes t)
 
 pub flows-tick : (near far : Who) (first far_first : StationState) (s : LineState) (late : Late) (lines : List Line) → AreFew (late_after late s Tick) (after_deed s Tick) → Flows near far first far_first s late lines
     → Flows near far first far_first (after_deed s Tick) (late_with late (is_quiet s) Tick) (lines ++ lines_at near far s Tick)
@@ -310,13 +284,16 @@ flows-tick near far first far_first s late lines few h =
       heard = h.heard;
       far_sent = h.far_sent;
       far_heard = h.far_heard;
+      allowed = h.allowed;
+      far_allowed = h.far_allowed;
+      rooms = h.rooms;
       end = record {
         hosts = hosts-tick h.end.hosts;
         sends = subst (λ (e : EndState NodeState). Sends e h.sent) same (sends-tick node_host a h.end.sends);
-        ahead = ticked-ahead a.host h.heard late.a later.a h.end.ahead (later-in-time near far first far_first s late lines h (is_quiet s) refl ready.out_steady);
+        ahead = ticked-ahead a.host (filter is_command h.sent) h.heard late.a later.a h.end.ahead (later-ready near far first far_first s late lines h (is_quiet s) refl ready.out_steady);
         bodies = h.end.bodies;
         commands = subst AreBodies (sym (bodies-after_tick a.host)) h.end.commands;
-        room = h.end.room;
+        allowed = record { room = h.end.allowed.room; window = h.end.allowed.window; per_source = h.end.allowed.per_source };
         block = h.end.block;
         few = let count = tick-commands a in subst (λ (e : EndState NodeState). length e.host.initiator.issued ≤ 65535) same (omega (arith, count, h.end.few));
       };

@@ -1,14 +1,16 @@
 -- Over a whole run that nothing disturbs, and that ends with nothing under way: each command executed and answered.
-use Rattle.std.proofs.Common.{◌≡◌, ◌∙◌, ℕ, ◌+◌, ◌<◌, ◌≤◌, Bool, true, false, List, [], ◌∷◌, ◌++◌, map, None, refl, ap, sym, subst, arith, append-nil, append_assoc, length}
-use Rattle.std.specs.Prelude.{IsTrue, All, replicate, count_by, slice_get, slice_index_or, if◌then◌else◌}
-use Rattle.std.specs.List.{filter, enumerate_from}
+use Rattle.std.proofs.Common.{◌≡◌, ◌∙◌, ℕ, zero, suc, ◌+◌, ◌<◌, ◌≤◌, Bool, true, false, List, [], ◌∷◌, ◌++◌, map, Option, Some, None, refl, ap, sym, subst, arith, append-nil, append_assoc, length}
+use Rattle.std.specs.Prelude.{IsTrue, All, replicate, count_by, slice_get, slice_index_or, ◌==◌, if◌then◌else◌}
+use Rattle.std.specs.List.{filter}
+use Rattle.std.proofs.lemmas.Bool.{eqb-true}
+use Rattle.std.proofs.lemmas.List.{length-map}
 use Rattle.std.proofs.lemmas.List.Elements.{All-head, All-tail}
+use Rattle.std.proofs.lemmas.Option.{same_Some}
 use Rattle.df1_check.specs.declared.Check.{Check}
-use Rattle.pccc_envelope.specs.Envelope.{is_reply}
 use Rattle.df1_node.specs.Answer.{StationState}
-use Rattle.df1_node.specs.Initiator.{next_command}
+use Rattle.df1_node.specs.Initiator.{Issued, Standing, Answered, Undelivered, Unanswered, next_command}
 use Rattle.df1_node.specs.Node.{NodeState}
-use Rattle.end_settings.specs.declared.key.Key.TheVariants.{Room}
+use Rattle.end_settings.specs.declared.key.Key.TheVariants.{PerSource, Window}
 use Rattle.script_statement.specs.declared.who.Who.{Who}
 use Rattle.script_statement.specs.declared.who.Who.TheVariants.{A, B, M, S}
 use Rattle.script_parts.specs.declared.script.Event.{Event}
@@ -17,31 +19,38 @@ use Rattle.script_parts.specs.declared.script.EndPlan.{EndPlan}
 use Rattle.script_parts.specs.declared.script.Script.{Script}
 use Rattle.script_parts.specs.Plans.{first_plan}
 use Rattle.script_statement.specs.Statements.{is_payload}
-use Rattle.script_parts.specs.Playable.{IsPossible, IsPlayable, AreEnds, issues, is_end}
+use Rattle.script_parts.specs.Playable.{IsPlanOf, IsPossible, IsPlayable, AreEnds, issues, is_end}
 use Rattle.replay_report.specs.declared.record.Line.{Line}
+use Rattle.replay_report.specs.declared.record.Line.TheVariants as line
 use Rattle.replay_report.specs.Report.{sent_lines}
 use Rattle.lane_cells.specs.Cells.{LaneCell}
 use Rattle.lane_cells.specs.Cells.{altered}
 use Rattle.duplex_line.specs.Acts.{LineEndState, LineState, swapped, Deed, Issue, Take, Deliver, Lose, Alter, Foreign, Tick, after_leaving, after_alter, after_deed, after_deeds, lines_at, lines_over, given_over}
 use Rattle.duplex_line.specs.Run.{first_station, first_side, first_node, setup_of, plan_of_a, plan_of_b, start, who_of, deeds_of, other, seen_from, after_event, deed_lines, lines_of, state_after, lines_after, last_state, record_from}
 use Rattle.duplex_line.specs.Plays.{issued_by, IsUnspent}
+use Rattle.each_once.specs.Commands.{AreOutcomesTold, told_of}
 use Rattle.each_once.specs.Exchanges.{exchanges}
+use Rattle.each_once.specs.Once.{Once, IsReplyTo}
+use Rattle.each_once.specs.Tells.{is_who, executed_in, answers_in, outcomes_in}
 use Rattle.duplex_line.proofs.Steps.EventsToCome.{room-of-a, room-of-b, unspent}
 use Rattle.duplex_line.proofs.Steps.NothingToGive.{leave-none}
 use Rattle.duplex_line.proofs.Once.SentMessages.{sends-start}
+use Rattle.each_once.proofs.Sublists.{Has}
 use Rattle.each_once.proofs.HandedOut.{is_command, Hosts}
 use Rattle.each_once.proofs.NodeSteps.{hosts-start}
 use Rattle.duplex_line.proofs.Once.Invariant.{AreTwo, two-swapped, joins-end, a-and-b}
 use Rattle.duplex_line.proofs.Once.LineSteps.{payload-command}
-use Rattle.duplex_line.proofs.Once.WholeRun.{IsPlain, ArePlain, plain-again, plain-foreign}
+use Rattle.duplex_line.proofs.Once.WholeRun.{IsPlain, ArePlain, plain-again, plain-foreign, each-once}
 use Rattle.duplex_line.proofs.Once.ToldCommands.{recounts-run}
-use Rattle.duplex_line.specs.Prompt.{Late, none_late, late_seen, ticks_of, late_with, late_after, is_quiet, AreFew, IsGentle, late_over, IsPromptOver, late_event, IsPromptAfter, IsPrompt, EndsQuiet}
-use Rattle.duplex_line.specs.Complete.{AreAllDone, IsComplete}
+use Rattle.duplex_line.specs.Prompt.{Late, none_late, late_seen, ticks_of, late_with, late_after, is_quiet, AreFew, IsGentle, late_over, IsPromptOver, late_event, IsPromptAfter, IsPrompt, EndsQuiet, HasRooms}
+use Rattle.duplex_line.specs.Complete.{IsAnswered, AreAllDone, IsComplete}
 use Rattle.duplex_line.proofs.Complete.DecoderPlace.{sync-start}
 use Rattle.duplex_line.proofs.Complete.MessageUnderWay.{Flow}
+use Rattle.each_once.proofs.InitiatorProgress.{IsDone}
+use Rattle.each_once.proofs.CommandsUnderWay.{under-way-start, under-way-all, under-way-full}
 use Rattle.each_once.proofs.TwoNodes.{all-answered}
-use Rattle.duplex_line.proofs.Complete.ToldMessages.{TellsOf, TellsNone, tells-silent, tells-nothing}
-use Rattle.duplex_line.proofs.Complete.Invariant.{IsAhead, IsEnd, Flows, flows-swapped}
+use Rattle.duplex_line.proofs.Complete.ToldMessages.{TellsOf, tells-silent}
+use Rattle.duplex_line.proofs.Complete.Invariant.{Allowance, IsAhead, IsEnd, Flows, flows-swapped}
 use Rattle.duplex_line.proofs.Complete.GivingStep.{flows-issue, flows-take}
 use Rattle.duplex_line.proofs.Complete.ArrivalStep.{flows-arrival}
 use Rattle.duplex_line.proofs.Complete.TickStep.{quiet-still, at-rest, flows-late, flows-tick}
@@ -79,7 +88,7 @@ altered-none s mask (cell ∷ cells) is none = absurd cc
 
 flows-plain : (deed : Deed) → IsPlain deed → (s : LineState) (late : Late) → IsGentle s.a deed → AreFew (late_after late s deed) (after_deed s deed) → (near far : Who) → AreTwo near far → (first far_first : StationState) (lines : List Line) → Flows near far first far_first s late lines
     → Flows near far first far_first (after_deed s deed) (late_after late s deed) (lines ++ lines_at near far s deed)
-flows-plain (Issue dst payload) plain s late gentle few near far two first far_first lines h = absurd plain
+flows-plain (Issue src dst payload) plain s late gentle few near far two first far_first lines h = absurd plain
 flows-plain Take plain s late gentle few near far two first far_first lines h = stepped near far first far_first s late lines [] Take refl (rw (append-nil lines) (flows-take near far first far_first s late lines h))
 flows-plain Deliver plain s late gentle few near far two first far_first lines h = stepped near far first far_first s late lines (lines_at near far s Deliver) Deliver refl (deliver-cells near far two first far_first s s.a.lane late lines h)
 flows-plain Lose plain s late gentle few near far two first far_first lines h =
@@ -104,19 +113,22 @@ moves-plain (deed ∷ deeds) plain s late prompt near far two first far_first li
     let more = moves-plain deeds plain.1 (after_deed s deed) (late_after late s deed) prompt.2 near far two first far_first (lines ++ lines_at near far s deed) one in
     subst (λ (all : List Line). Flows near far first far_first (after_deeds (after_deed s deed) deeds) (late_over (late_after late s deed) (after_deed s deed) deeds) all) (append_assoc lines (lines_at near far s deed) (lines_over near far (after_deed s deed) deeds)) more
 
-moves-issue : (s : LineState) (late : Late) (dst : ℕ) (payload : List ℕ) → IsTrue (is_payload payload) → issued_by s.a < 65535 → Moves s late (Issue dst payload ∷ [])
-moves-issue s late dst payload may few near far two first far_first lines h =
-    stepped near far first far_first s late lines [] (Issue dst payload) refl (rw (append-nil lines) (flows-issue near far first far_first s late lines dst payload may (payload-command payload may) few h))
+moves-issue : (s : LineState) (late : Late) (src : Option ℕ) (dst : ℕ) (payload : List ℕ) → IsTrue (is_payload payload) → issued_by s.a < 65535 → Moves s late (Issue src dst payload ∷ [])
+moves-issue s late src dst payload may few near far two first far_first lines h =
+    stepped near far first far_first s late lines [] (Issue src dst payload) refl (rw (append-nil lines) (flows-issue near far first far_first s late lines src dst payload may (payload-command payload may) few h))
 
 -- ---- events
 
--- more lines that tell of no message
-flows-silent : (near far : Who) (first far_first : StationState) (s : LineState) (late : Late) (lines more : List Line) → TellsNone near more → TellsNone far more → Flows near far first far_first s late lines → Flows near far first far_first s late (lines ++ more)
+-- more lines that tell of no command as executed
+flows-silent : (near far : Who) (first far_first : StationState) (s : LineState) (late : Late) (lines more : List Line) → executed_in near more ≡ [] → executed_in far more ≡ [] → Flows near far first far_first s late lines → Flows near far first far_first s late (lines ++ more)
 flows-silent near far first far_first s late lines more none far_none h = record {
   sent = h.sent;
   heard = h.heard;
   far_sent = h.far_sent;
   far_heard = h.far_heard;
+  allowed = h.allowed;
+  far_allowed = h.far_allowed;
+  rooms = h.rooms;
   end = h.end;
   far_end = h.far_end;
   flow = h.flow;
@@ -126,9 +138,9 @@ flows-silent near far first far_first s late lines more none far_none h = record
   honest = h.honest;
 }
 
-none-sent : (who by : Who) (bytes : List ℕ) → TellsNone who (sent_lines by bytes)
-none-sent who by [] = tells-nothing who
-none-sent who by (byte ∷ bytes) = record { executes = refl; answers = refl }
+none-sent : (who by : Who) (bytes : List ℕ) → executed_in who (sent_lines by bytes) ≡ []
+none-sent who by [] = refl
+none-sent who by (byte ∷ bytes) = refl
 
 moves-deeds : (near far : Who) → AreTwo near far → (first far_first : StationState) (s : LineState) (late : Late) (deeds : List Deed) (bytes : List ℕ) (lines : List Line) → Moves s late deeds → Flows near far first far_first s late lines
     → Flows near far first far_first (after_deeds s deeds) (late_over late s deeds) (lines ++ (lines_over near far s deeds ++ sent_lines near bytes))
@@ -149,7 +161,7 @@ moves-seen (S station) end first_a first_b s late deeds lines moves h = absurd c
 
 flows-event : (first_a first_b : StationState) (e : Event) (s : LineState) (late : Late) (lines : List Line) → IsPossible e → IsUnspent (seen_from (who_of e) s).a e → IsPromptOver (late_seen (who_of e) late) (seen_from (who_of e) s) (deeds_of e) → Flows A B first_a first_b s late lines
     → Flows A B first_a first_b (after_event s e) (late_event late s e) (lines ++ lines_of s e)
-flows-event first_a first_b (event.Issue who dst payload) s late lines possible few prompt h = moves-seen who possible.0 first_a first_b s late (Issue dst payload ∷ []) lines (moves-issue (seen_from who s) (late_seen who late) dst payload possible.1 few) h
+flows-event first_a first_b (event.Issue who src dst payload) s late lines possible few prompt h = moves-seen who possible.0 first_a first_b s late (Issue src dst payload ∷ []) lines (moves-issue (seen_from who s) (late_seen who late) src dst payload possible.1 few) h
 flows-event first_a first_b (event.Take who n) s late lines possible few prompt h = moves-seen who possible.0 first_a first_b s late (replicate n Take) lines (moves-plain (replicate n Take) (plain-again Take tt n) (seen_from who s) (late_seen who late) prompt) h
 flows-event first_a first_b (event.Deliver lane n) s late lines possible few prompt h =
     moves-seen lane.from (joins-end lane.from lane.to possible.0) first_a first_b s late (replicate n Deliver) lines (moves-plain (replicate n Deliver) (plain-again Deliver tt n) (seen_from lane.from s) (late_seen lane.from late) prompt) h
@@ -177,76 +189,194 @@ flows-events first_a first_b (e ∷ events) s late lines possible few_a few_b pr
 
 -- ---- a run
 
--- room for two replies at least, and a status reply that fits a message
-abbrev HasRoom : EndPlan → Type 0
-HasRoom plan = (2 ≤ plan.room) × (length plan.block ≤ 244)
+-- how many replies an end may have waiting, and how many commands it may have out
+abbrev allowance : EndPlan → Allowance
+allowance plan = record { room = plan.room; window = plan.window }
 
-room-at-first : (ends : List EndPlan) → AreEnds ends → (a b : EndPlan) → HasRoom (slice_index_or ends 0 a) × HasRoom (slice_index_or ends 1 b)
-room-at-first [] ends a b = absurd ends
-room-at-first (x ∷ []) ends a b = absurd ends
-room-at-first (x ∷ y ∷ []) ends a b = (((ends.0.settings Room).0, ends.0.block), ((ends.1.settings Room).0, ends.1.block))
-room-at-first (x ∷ y ∷ z ∷ more) ends a b = absurd ends
+-- at least one command may be out, of each source, and a status reply fits a message
+record IsFit (plan : EndPlan) : Type 0 where
+  pub window : 1 ≤ plan.window
+  pub per_source : 1 ≤ plan.per_source
+  pub block : length plan.block ≤ 244
 
-start-end : (plan : EndPlan) (script : Script) → HasRoom plan → IsEnd (first_station plan) (first_side script.check plan).end [] [] 0
-start-end plan script room = record {
+fit-plan : (who : Who) (plan : EndPlan) → IsPlanOf who plan → IsFit plan
+fit-plan who plan p = record { window = (p.settings Window).0; per_source = (p.settings PerSource).0; block = p.block }
+
+fit-at-first : (ends : List EndPlan) → AreEnds ends → (a b : EndPlan) → IsFit (slice_index_or ends 0 a) × IsFit (slice_index_or ends 1 b)
+fit-at-first [] ends a b = absurd ends
+fit-at-first (x ∷ []) ends a b = absurd ends
+fit-at-first (x ∷ y ∷ []) ends a b = (fit-plan A x ends.0, fit-plan B y ends.1)
+fit-at-first (x ∷ y ∷ z ∷ more) ends a b = absurd ends
+
+start-end : (plan : EndPlan) (script : Script) → IsFit plan → IsEnd (first_station plan) (allowance plan) (first_side script.check plan).end [] [] 0
+start-end plan script fit = record {
   hosts = hosts-start (first_station plan) (first_node plan) refl refl refl;
   sends = sends-start (setup_of script.check plan) (first_node plan);
-  ahead = record { done = 0; out = None; under_way = tt; answers = refl; in_time = tt };
+  ahead = record { done = 0; under_way = under-way-start (first_node plan).initiator refl; answers = refl };
   bodies = tt;
   commands = tt;
-  room = room.0;
-  block = room.1;
+  allowed = record { room = refl; window = refl; per_source = fit.per_source };
+  block = fit.block;
   few = omega arith;
 }
 
 start-flow : (a b : EndPlan) (check : Check) → Flow (first_side check a).end (first_side check b).end [] [] [] [] 0
 start-flow a b check = record { clear = sync-start check a.embed; responses = omega arith; bodies = tt; flight = refl; kept = refl; patient = tt }
 
-flows-start : (script : Script) → IsPlayable script → Flows A B (first_station (plan_of_a script)) (first_station (plan_of_b script)) (start script) none_late []
-flows-start script playable =
+flows-start : (script : Script) → IsPlayable script → HasRooms script → Flows A B (first_station (plan_of_a script)) (first_station (plan_of_b script)) (start script) none_late []
+flows-start script playable rooms =
     let a = plan_of_a script in
     let b = plan_of_b script in
-    let rooms = room-at-first script.ends playable.ends (first_plan A 0) (first_plan B 1) in
+    let fit = fit-at-first script.ends playable.ends (first_plan A 0) (first_plan B 1) in
     record {
       sent = [];
       heard = [];
       far_sent = [];
       far_heard = [];
-      end = start-end a script rooms.0;
-      far_end = start-end b script rooms.1;
+      allowed = allowance a;
+      far_allowed = allowance b;
+      rooms = record { near_room = rooms.of_a; far_room = rooms.of_b; near_some = fit.0.window; far_some = fit.1.window };
+      end = start-end a script fit.0;
+      far_end = start-end b script fit.1;
       flow = start-flow a b script.check;
       far_flow = start-flow b a script.check;
-      tells = record { executes = refl; answers = refl };
-      far_tells = record { executes = refl; answers = refl };
+      tells = record { executes = refl };
+      far_tells = record { executes = refl };
       honest = refl;
     }
 
--- the commands of one end, where nothing is under way
-all-done : (from to : Who) (first other : StationState) (station initiator : NodeState) (sent heard commands told : List (List ℕ)) (late : ℕ) (lines : List Line) → Hosts first station sent heard → Hosts other initiator commands told → commands ≡ heard → sent ≡ told
-    → station.replies ≡ [] → next_command initiator.initiator.issued ≡ None → IsAhead initiator.initiator told late → TellsOf to heard lines → TellsOf from told lines → AreAllDone from to (map (λ c. c.body) initiator.initiator.issued) first lines
-all-done from to first other station initiator sent heard commands told late lines s i all_heard all_told none nothing a executes answers =
-    let all = all-answered s i all_heard all_told none a.done a.out a.answers a.under_way nothing in
-    let replies : filter is_reply told ≡ map (λ e. e.1) (exchanges first (filter is_command heard)) =
-    sym (s.replies ∙ ap (λ (rest : List (List ℕ)). filter is_reply sent ++ rest) none ∙ append-nil (filter is_reply sent) ∙ ap (filter is_reply) all_told) in
-    record {
-      executed = executes.executes ∙ sym all.0;
-      answered = answers.answers ∙ ap (enumerate_from 1) replies ∙ ap (λ (bodies : List (List ℕ)). enumerate_from 1 (map (λ e. e.1) (exchanges first bodies))) (sym all.0);
-    }
+-- ---- an outcome that is a reply is told as an answer
 
-pub is-complete : (script : Script) → IsPlayable script → IsPrompt script → EndsQuiet script → IsComplete script (record_from (last_state script) (lines_after (start script) script.events))
-is-complete script playable prompt quiet =
+-- the answers have this at some place
+abbrev IsAmong : ℕ → List ℕ → List (ℕ × List ℕ) → Type 0
+IsAmong n reply answers = (k : ℕ) × (slice_get answers k ≡ Some (n, reply))
+
+answered-first : (who by : Who) (n number : ℕ) (reply body : List ℕ) (lines : List Line) (own same : Bool) → is_who who by ≡ own → (number == n) ≡ same → slice_get (outcomes_in who n (line.Answered by number body ∷ lines)) 0 ≡ Some (Answered reply)
+    → (slice_get (outcomes_in who n lines) 0 ≡ Some (Answered reply) → IsAmong n reply (answers_in who lines)) → IsAmong n reply (answers_in who (line.Answered by number body ∷ lines))
+answered-first who by n number reply body lines true true is at first later =
+    let here : outcomes_in who n (line.Answered by number body ∷ lines) ≡ Answered body ∷ outcomes_in who n lines = rw (is, at) refl in
+    let answer : Some (Answered body) ≡ Some (Answered reply) = ap (λ (os : List Standing). slice_get os 0) (sym here) ∙ first in
+    (0, rw is (ap (λ (m : ℕ). Some (m, body)) (eqb-true number n at) ∙ ap (λ (r : List ℕ). Some (n, r)) (reply-of body reply answer)))
+  where
+    reply-of : (x y : List ℕ) → Some (Answered x) ≡ Some (Answered y) → x ≡ y
+    reply-of x y e = cc
+answered-first who by n number reply body lines true false is at first later =
+    let here : outcomes_in who n (line.Answered by number body ∷ lines) ≡ outcomes_in who n lines = rw (is, at) refl in
+    let among = later (ap (λ (os : List Standing). slice_get os 0) (sym here) ∙ first) in
+    let told : answers_in who (line.Answered by number body ∷ lines) ≡ (number, body) ∷ answers_in who lines = rw is refl in
+    (suc among.0, ap (λ (all : List (ℕ × List ℕ)). slice_get all (suc among.0)) told ∙ among.1)
+answered-first who by n number reply body lines false same is at first later =
+    let here : outcomes_in who n (line.Answered by number body ∷ lines) ≡ outcomes_in who n lines = rw is refl in
+    let among = later (ap (λ (os : List Standing). slice_get os 0) (sym here) ∙ first) in
+    let told : answers_in who (line.Answered by number body ∷ lines) ≡ answers_in who lines = rw is refl in
+    (among.0, ap (λ (all : List (ℕ × List ℕ)). slice_get all among.0) told ∙ among.1)
+
+undelivered-first : (who by : Who) (n number : ℕ) (reply : List ℕ) (lines : List Line) (own same : Bool) → is_who who by ≡ own → (number == n) ≡ same → slice_get (outcomes_in who n (line.Undelivered by number ∷ lines)) 0 ≡ Some (Answered reply)
+    → slice_get (outcomes_in who n lines) 0 ≡ Some (Answered reply)
+undelivered-first who by n number reply lines true true is at first =
+    let here : outcomes_in who n (line.Undelivered by number ∷ lines) ≡ Undelivered ∷ outcomes_in who n lines = rw (is, at) refl in
+    let no : Some Undelivered ≡ Some (Answered reply) = ap (λ (os : List Standing). slice_get os 0) (sym here) ∙ first in
+    absurd cc
+undelivered-first who by n number reply lines true false is at first =
+    let here : outcomes_in who n (line.Undelivered by number ∷ lines) ≡ outcomes_in who n lines = rw (is, at) refl in
+    ap (λ (os : List Standing). slice_get os 0) (sym here) ∙ first
+undelivered-first who by n number reply lines false same is at first =
+    let here : outcomes_in who n (line.Undelivered by number ∷ lines) ≡ outcomes_in who n lines = rw is refl in
+    ap (λ (os : List Standing). slice_get os 0) (sym here) ∙ first
+
+unanswered-first : (who by : Who) (n number : ℕ) (reply : List ℕ) (lines : List Line) (own same : Bool) → is_who who by ≡ own → (number == n) ≡ same → slice_get (outcomes_in who n (line.Unanswered by number ∷ lines)) 0 ≡ Some (Answered reply)
+    → slice_get (outcomes_in who n lines) 0 ≡ Some (Answered reply)
+unanswered-first who by n number reply lines true true is at first =
+    let here : outcomes_in who n (line.Unanswered by number ∷ lines) ≡ Unanswered ∷ outcomes_in who n lines = rw (is, at) refl in
+    let no : Some Unanswered ≡ Some (Answered reply) = ap (λ (os : List Standing). slice_get os 0) (sym here) ∙ first in
+    absurd cc
+unanswered-first who by n number reply lines true false is at first =
+    let here : outcomes_in who n (line.Unanswered by number ∷ lines) ≡ outcomes_in who n lines = rw (is, at) refl in
+    ap (λ (os : List Standing). slice_get os 0) (sym here) ∙ first
+unanswered-first who by n number reply lines false same is at first =
+    let here : outcomes_in who n (line.Unanswered by number ∷ lines) ≡ outcomes_in who n lines = rw is refl in
+    ap (λ (os : List Standing). slice_get os 0) (sym here) ∙ first
+
+first-answer : (who : Who) (n : ℕ) (reply : List ℕ) (lines : List Line) → slice_get (outcomes_in who n lines) 0 ≡ Some (Answered reply) → IsAmong n reply (answers_in who lines)
+first-answer who n reply [] is = absurd cc
+first-answer who n reply (line.Sent by bytes ∷ lines) is = first-answer who n reply lines is
+first-answer who n reply (line.Exec by body ∷ lines) is = first-answer who n reply lines is
+first-answer who n reply (line.Answered by number body ∷ lines) is = answered-first who by n number reply body lines (is_who who by) (number == n) refl refl is (first-answer who n reply lines)
+first-answer who n reply (line.Undelivered by number ∷ lines) is = first-answer who n reply lines (undelivered-first who by n number reply lines (is_who who by) (number == n) refl refl is)
+first-answer who n reply (line.Unanswered by number ∷ lines) is = first-answer who n reply lines (unanswered-first who by n number reply lines (is_who who by) (number == n) refl refl is)
+first-answer who n reply (line.Stray by body ∷ lines) is = first-answer who n reply lines is
+first-answer who n reply (line.Repeat by ∷ lines) is = first-answer who n reply lines is
+first-answer who n reply (line.Full by ∷ lines) is = first-answer who n reply lines is
+first-answer who n reply (line.Damaged by ∷ lines) is = first-answer who n reply lines is
+first-answer who n reply (line.Enquiry by ∷ lines) is = first-answer who n reply lines is
+first-answer who n reply (line.Dropped by ∷ lines) is = first-answer who n reply lines is
+
+-- ---- the commands of one end, where nothing is under way
+
+answered-by : (s : Standing) → IsDone s → (reply : List ℕ) × (told_of s ≡ Answered reply ∷ [])
+answered-by (Answered reply) done = (reply, refl)
+answered-by other done = absurd done
+
+all-at : {X : Type 0} (P : X → Type 0) (xs : List X) (k : ℕ) (x : X) → All P xs → slice_get xs k ≡ Some x → P x
+all-at P [] k x all is = absurd cc
+all-at P (y ∷ xs) zero x all is = subst P (same_Some y x is) (All-head P y xs all)
+all-at P (y ∷ xs) (suc k) x all is = all-at P xs k x (All-tail P y xs all) is
+
+-- an answered command is told as such
+answered-at : (from to : Who) (bodies : List (List ℕ)) (first : StationState) (issued : List Issued) (lines : List Line) → AreOutcomesTold from issued lines → Once from to bodies first lines → (k : ℕ) (c : Issued) → slice_get issued k ≡ Some c → IsDone c.standing
+    → IsAnswered from bodies (exchanges first (executed_in to lines)) lines (suc k)
+answered-at from to bodies first issued lines told once k c is done =
+    let by = answered-by c.standing done in
+    let outcome : outcomes_in from (suc k) lines ≡ Answered by.0 ∷ [] = told (suc k) ∙ rw is by.1 in
+    let answer = first-answer from (suc k) by.0 lines (ap (λ (os : List Standing). slice_get os 0) outcome) in
+    record { reply = by.0; told = outcome; is_reply = all-at (λ a. IsReplyTo bodies (exchanges first (executed_in to lines)) a.0 a.1) (answers_in from lines) answer.0 (suc k, by.0) once.answers answer.1 }
+
+at-place : (issued : List Issued) (k : ℕ) → suc k ≤ length issued → (c : Issued) × (slice_get issued k ≡ Some c)
+at-place [] k within = absurd (omega (arith, within))
+at-place (c ∷ cs) zero within = (c, refl)
+at-place (c ∷ cs) (suc k) within = at-place cs k (omega (arith, within))
+
+all-done : (from to : Who) (first other : StationState) (station initiator : NodeState) (sent heard commands told : List (List ℕ)) (late : ℕ) (lines : List Line) → Hosts first station sent heard → Hosts other initiator commands told → commands ≡ heard → sent ≡ told
+    → station.replies ≡ [] → next_command initiator.initiator ≡ None → 1 ≤ initiator.initiator.window → 1 ≤ initiator.initiator.per_source → IsAhead initiator.initiator (filter is_command commands) told late → TellsOf to heard lines
+    → AreOutcomesTold from initiator.initiator.issued lines → (bodies : List (List ℕ)) → map (λ c. c.body) initiator.initiator.issued ≡ bodies → Once from to bodies first lines → AreAllDone from to bodies first lines
+all-done from to first other station initiator sent heard commands told late lines s i all_heard all_told none nothing window per_source a executes outcomes bodies are once =
+    let handed = filter is_command commands in
+    let all = all-answered s i all_heard all_told none a.done a.answers in
+    let each = under-way-all initiator.initiator handed a.done late window per_source all nothing a.under_way in
+    let full = under-way-full initiator.initiator handed a.done late a.under_way each in
+    let issued = initiator.initiator.issued in
+    let count : length (executed_in to lines) ≡ length bodies =
+    ap length (executes.executes ∙ ap (filter is_command) (sym all_heard)) ∙ full ∙ sym (length-map issued (λ c. c.body)) ∙ ap length are in
+    record {
+      executed = (once.in_order, count);
+      answered = by-number (sym (length-map issued (λ c. c.body)) ∙ ap length are) each;
+    }
+  where
+    by-number : length initiator.initiator.issued ≡ length bodies → ((k : ℕ) (c : Issued) → slice_get initiator.initiator.issued k ≡ Some c → Has a.under_way.order k × IsDone c.standing)
+        → (n : ℕ) → 1 ≤ n → n ≤ length bodies → IsAnswered from bodies (exchanges first (executed_in to lines)) lines n
+    by-number same each zero least most = absurd (omega (arith, least))
+    by-number same each (suc k) least most =
+        let c = at-place initiator.initiator.issued k (omega (arith, same, most)) in
+        answered-at from to bodies first initiator.initiator.issued lines outcomes once k c.0 c.1 (each k c.0 c.1).1
+
+pub is-complete : (script : Script) → IsPlayable script → HasRooms script → IsPrompt script → EndsQuiet script → IsComplete script (record_from (last_state script) (lines_after (start script) script.events))
+is-complete script playable rooms prompt quiet =
     let a = first_station (plan_of_a script) in
     let b = first_station (plan_of_b script) in
     let s = last_state script in
     let late = late_events none_late (start script) script.events in
     let lines = lines_after (start script) script.events in
-    let h = flows-events a b script.events (start script) none_late [] playable.events (omega (arith, playable.commands_of_a)) (omega (arith, playable.commands_of_b)) prompt (flows-start script playable) in
+    let h = flows-events a b script.events (start script) none_late [] playable.events (omega (arith, playable.commands_of_a)) (omega (arith, playable.commands_of_b)) prompt (flows-start script playable rooms) in
     let rest = at-rest A B a b s late lines h (quiet-still s quiet) in
     let r = recounts-run script playable in
+    let once = each-once script playable h.honest in
     record {
       honest = h.honest;
-      of_a = subst (λ (bodies : List (List ℕ)). AreAllDone A B bodies b lines) r.recounts.issued.bodies
-          (all-done A B b a s.b.end.host s.a.end.host h.far_sent h.far_heard h.sent h.heard late.a lines h.far_end.hosts h.end.hosts rest.all_heard rest.far_all_heard rest.far_nothing_waits.0 rest.nothing_waits.1 h.end.ahead h.far_tells h.tells);
-      of_b = subst (λ (bodies : List (List ℕ)). AreAllDone B A bodies a lines) r.far_recounts.issued.bodies
-          (all-done B A a b s.a.end.host s.b.end.host h.sent h.heard h.far_sent h.far_heard late.b lines h.end.hosts h.far_end.hosts rest.far_all_heard rest.all_heard rest.nothing_waits.0 rest.far_nothing_waits.1 h.far_end.ahead h.tells h.far_tells);
+      of_a = all-done A B b a s.b.end.host s.a.end.host h.far_sent h.far_heard h.sent h.heard late.a lines h.far_end.hosts h.end.hosts rest.all_heard rest.far_all_heard rest.far_nothing_waits.0 rest.nothing_waits.1
+          (some-window h.allowed h.rooms.near_some h.end.allowed.window) h.end.allowed.per_source h.end.ahead h.far_tells r.recounts.outcomes _ r.recounts.issued.bodies once.to_b;
+      of_b = all-done B A a b s.a.end.host s.b.end.host h.sent h.heard h.far_sent h.far_heard late.b lines h.end.hosts h.far_end.hosts rest.far_all_heard rest.all_heard rest.nothing_waits.0 rest.far_nothing_waits.1
+          (some-window h.far_allowed h.rooms.far_some h.far_end.allowed.window) h.far_end.allowed.per_source h.far_end.ahead h.tells r.far_recounts.outcomes _ r.far_recounts.issued.bodies once.to_a;
     }
+  where
+    some-window : {window : ℕ} (allowed : Allowance) → 1 ≤ allowed.window → window ≡ allowed.window → 1 ≤ window
+    some-window allowed some is = omega (arith, some, is)

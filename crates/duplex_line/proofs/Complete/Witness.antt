@@ -13,7 +13,7 @@ use Rattle.script_parts.proofs.PlanSettings.{Fits-first_plan}
 use Rattle.script_parts.specs.Playable.{IsPossible, IsPlayable}
 use Rattle.duplex_line.specs.Acts.{LineEndState, LineState, Deed, Issue, Take, Deliver, Lose, Alter, Foreign, Tick, after_deed}
 use Rattle.duplex_line.specs.Run.{start, who_of, deeds_of, seen_from, after_event, last_state, lines_after}
-use Rattle.duplex_line.specs.Prompt.{Late, none_late, late_seen, late_after, late_event, patience, AreFew, IsGentle, IsPromptOver, IsPromptAfter, IsPrompt, EndsQuiet}
+use Rattle.duplex_line.specs.Prompt.{Late, none_late, late_seen, late_after, late_event, patience, AreFew, IsGentle, IsPromptOver, IsPromptAfter, IsPrompt, EndsQuiet, HasRooms}
 use Rattle.each_once.specs.Tells.{executed_in, answers_in}
 use Rattle.duplex_line.specs.Example.{one_write, the_command, the_reply}
 use Rattle.each_once.proofs.Sublists.{none-is}
@@ -55,7 +55,7 @@ one_write-answered = refl
 -- ---- nothing disturbs it
 
 is_gentle : LineEndState → Deed → Bool
-is_gentle side (Issue dst payload) = true
+is_gentle side (Issue src dst payload) = true
 is_gentle side Take = true
 is_gentle side Deliver = true
 is_gentle side Lose = is_none (slice_get side.lane 0)
@@ -76,7 +76,7 @@ prompt_after late s (e ∷ events) = prompt_over (late_seen (who_of e) late) (se
 
 gentle-is : (side : LineEndState) (deed : Deed) → is_gentle side deed ≡ true → IsGentle side deed
 unfolding is_gentle
-gentle-is side (Issue dst payload) h = tt
+gentle-is side (Issue src dst payload) h = tt
 gentle-is side Take h = tt
 gentle-is side Deliver h = tt
 gentle-is side Lose h = none-is (slice_get side.lane 0) h
@@ -103,6 +103,9 @@ prompt-after late s (e ∷ events) h =
 one_write-checked : prompt_after none_late (start one_write) one_write.events ≡ true
 unfolding check_bytes with_byte spelled_order fields three_front is_gentle
 one_write-checked = refl
+
+pub one_write-rooms : HasRooms one_write
+one_write-rooms = record { of_a = omega arith; of_b = omega arith }
 
 pub one_write-prompt : IsPrompt one_write
 one_write-prompt = prompt-after none_late (start one_write) one_write.events one_write-checked

@@ -25,7 +25,7 @@ pub record Hears (check : Check) (arrivals : List Arrival) (side : LineEndState)
   pub heard : HeardByGrammar check arrivals
 
 hears-near : (check : Check) (arrivals : List Arrival) (deed : Deed) (side : LineEndState) → Hears check arrivals side → Hears check arrivals (near_after side deed)
-hears-near check arrivals (Issue dst payload) side h = record { stands = h.stands; heard = h.heard }
+hears-near check arrivals (Issue src dst payload) side h = record { stands = h.stands; heard = h.heard }
 hears-near check arrivals Take side h = record { stands = stands-take node_host side.end check (bytes_arrived arrivals) h.stands; heard = h.heard }
 hears-near check arrivals Deliver side h = record { stands = h.stands; heard = h.heard }
 hears-near check arrivals Lose side h = record { stands = h.stands; heard = h.heard }
@@ -67,7 +67,7 @@ hear-seen M end check at_a at_b s e is h = absurd cc
 hear-seen (S station) end check at_a at_b s e is h = absurd cc
 
 end-of : (e : Event) → IsPossible e → IsTrue (is_end (who_of e))
-end-of (event.Issue who dst payload) possible = possible.0
+end-of (event.Issue who src dst payload) possible = possible.0
 end-of (event.Take who n) possible = possible.0
 end-of (event.Deliver lane n) possible = joins-end lane.from lane.to possible.0
 end-of (event.Lose lane n) possible = joins-end lane.from lane.to possible.0

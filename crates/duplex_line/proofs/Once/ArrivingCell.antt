@@ -32,12 +32,12 @@ use Rattle.duplex_line.specs.Acts.{LineEndState, LineState, after_cell, body_hea
 use Rattle.duplex_line.proofs.Once.IssueLimits.{byte-commands}
 use Rattle.each_once.specs.Exchanges.{exchanges}
 use Rattle.each_once.proofs.KeptCommands.{IsReplyOf, IsOfLost}
-use Rattle.each_once.proofs.Sublists.{IsWithin, within-has, within-filter, within-front, Differ, differ-within, get-last, filter-keeps, filter-drops}
+use Rattle.each_once.proofs.Sublists.{IsWithin, within-has, within-filter, Differ, differ-within, get-last, filter-keeps, filter-drops}
 use Rattle.each_once.proofs.OneDirection.{Lane, Way, way-leaves, way-accepts, way-within}
 use Rattle.duplex_line.proofs.Once.SentMessages.{accept-heard, sends-byte}
-use Rattle.each_once.proofs.HandedOut.{is_command, Hosts, handed-front}
+use Rattle.each_once.proofs.HandedOut.{is_command, Hosts}
 use Rattle.each_once.proofs.ToldLines.{IsTold, stays-both, told-stays, AreSilent, silent-none, told-silent, told-executes, told-answers, told-strays}
-use Rattle.each_once.proofs.AcceptedReplies.{found, is-answer, is-astray, numbers-differ}
+use Rattle.each_once.proofs.AcceptedReplies.{found, is-answer, is-astray, handed-differ}
 use Rattle.duplex_line.proofs.Once.EndSteps.{stays-act, stays-fate, heard_after, hosts-act, hosts-fate}
 use Rattle.duplex_line.proofs.Once.Invariant.{lane_of, AreTwo, Holds}
 
@@ -160,11 +160,7 @@ replies-act near far two first executed lines act.Nothing sender host body is t 
 executed-differ : (first far_first : StationState) (host far_host : NodeState) (sent heard far_sent far_heard : List (List ℕ)) → Hosts far_first far_host far_sent far_heard → IsWithin heard far_sent → length far_host.initiator.issued ≤ 65535
     → Differ (map tns_of (filter is_command heard))
 executed-differ first far_first host far_host sent heard far_sent far_heard far within few =
-    let issued = far_host.initiator.issued in
-    let front = handed-front issued (filter is_command far_sent) far.initiates.in_order in
-    let numbers : Differ (map tns_of (filter is_command far_sent ++ front.0)) = subst (λ (bodies : List (List ℕ)). Differ (map tns_of bodies)) front.1 (numbers-differ far_host.initiator.tns 0 issued (omega (arith, few)) far.initiates.numbered) in
-    differ-within tns_of (filter is_command heard) (filter is_command far_sent ++ front.0)
-    (within-front (filter is_command heard) (filter is_command far_sent) front.0 (within-filter is_command heard far_sent within)) numbers
+    differ-within tns_of (filter is_command heard) (filter is_command far_sent) (within-filter is_command heard far_sent within) (handed-differ far_host.initiator (filter is_command far_sent) far_heard far.initiates few)
 
 reply-told : (first far_first : StationState) (host far_host : NodeState) (sent heard far_sent far_heard : List (List ℕ)) (body : List ℕ) → Hosts first host sent heard → Hosts far_first far_host far_sent far_heard → IsWithin heard far_sent → length far_host.initiator.issued ≤ 65535
     → IsWithin (far_heard ++ body ∷ []) sent → is_reply body ≡ true → (place : Option ℕ) → answered_place far_host.initiator.issued body ≡ place

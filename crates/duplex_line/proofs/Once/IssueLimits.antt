@@ -63,7 +63,7 @@ told-commands node fate.Undelivered = told-of node.initiator node.last
 
 handed-out : (reply : Bool) (s : InitiatorState) → length (if reply then s else after_hand_out s).issued ≡ length s.issued
 handed-out true s = refl
-handed-out false s = restated-at s.issued (next_place s.issued) (Out s.reply_ticks)
+handed-out false s = restated-at s.issued (next_place s) (Out s.reply_ticks)
 
 next-commands : (node : NodeState) → commands (after_next node) ≡ commands node
 next-commands node = handed-out (is_some (slice_get node.replies 0)) node.initiator
@@ -114,7 +114,7 @@ take-commands e = ap (λ (x : EndState NodeState). commands x.host) (end-is node
 
 -- how many commands there are after a unit step, and after some
 abbrev pub counted : Deed → ℕ → ℕ
-counted (Issue dst payload) n = n + 1
+counted (Issue src dst payload) n = n + 1
 counted Take n = n
 counted Deliver n = n
 counted Lose n = n
@@ -127,7 +127,7 @@ counted_over [] n = n
 counted_over (deed ∷ deeds) n = counted_over deeds (counted deed n)
 
 near-commands : (s : LineEndState) (deed : Deed) → issued_by (near_after s deed) ≡ counted deed (issued_by s)
-near-commands s (Issue dst payload) = length-append s.end.host.initiator.issued _
+near-commands s (Issue src dst payload) = length-append s.end.host.initiator.issued _
 near-commands s Take = take-commands s.end
 near-commands s Deliver = refl
 near-commands s Lose = refl
@@ -181,10 +181,10 @@ plus-none : (m n : ℕ) → m ≡ n → m ≡ n + 0
 plus-none m n e = omega arith
 
 pub commands-of-a : (e : Event) (s : LineState) → IsPossible e → issued_by (after_event s e).a ≡ issued_by s.a + new_commands A e
-commands-of-a (event.Issue A dst payload) s h = commands-near (Issue dst payload ∷ []) s
-commands-of-a (event.Issue B dst payload) s h = plus-none _ _ (commands-far (Issue dst payload ∷ []) (swapped s))
-commands-of-a (event.Issue M dst payload) s h = let no = h.0 in absurd cc
-commands-of-a (event.Issue (S station) dst payload) s h = let no = h.0 in absurd cc
+commands-of-a (event.Issue A src dst payload) s h = commands-near (Issue src dst payload ∷ []) s
+commands-of-a (event.Issue B src dst payload) s h = plus-none _ _ (commands-far (Issue src dst payload ∷ []) (swapped s))
+commands-of-a (event.Issue M src dst payload) s h = let no = h.0 in absurd cc
+commands-of-a (event.Issue (S station) src dst payload) s h = let no = h.0 in absurd cc
 commands-of-a (event.Take who n) s h = plus-none _ _ (quiet-a who (replicate n Take) s (counted-same Take same n))
 commands-of-a (event.Deliver lane n) s h = plus-none _ _ (quiet-a lane.from (replicate n Deliver) s (counted-same Deliver same n))
 commands-of-a (event.Lose lane n) s h = plus-none _ _ (quiet-a lane.from (replicate n Lose) s (counted-same Lose same n))
@@ -193,10 +193,10 @@ commands-of-a (event.Foreign lane bytes) s h = plus-none _ _ (quiet-a lane.from 
 commands-of-a (event.Tick who n) s h = plus-none _ _ (quiet-a who (replicate n Tick) s (counted-same Tick same n))
 
 pub commands-of-b : (e : Event) (s : LineState) → IsPossible e → issued_by (after_event s e).b ≡ issued_by s.b + new_commands B e
-commands-of-b (event.Issue A dst payload) s h = plus-none _ _ (commands-far (Issue dst payload ∷ []) s)
-commands-of-b (event.Issue B dst payload) s h = commands-near (Issue dst payload ∷ []) (swapped s)
-commands-of-b (event.Issue M dst payload) s h = let no = h.0 in absurd cc
-commands-of-b (event.Issue (S station) dst payload) s h = let no = h.0 in absurd cc
+commands-of-b (event.Issue A src dst payload) s h = plus-none _ _ (commands-far (Issue src dst payload ∷ []) s)
+commands-of-b (event.Issue B src dst payload) s h = commands-near (Issue src dst payload ∷ []) (swapped s)
+commands-of-b (event.Issue M src dst payload) s h = let no = h.0 in absurd cc
+commands-of-b (event.Issue (S station) src dst payload) s h = let no = h.0 in absurd cc
 commands-of-b (event.Take who n) s h = plus-none _ _ (quiet-b who (replicate n Take) s (counted-same Take same n))
 commands-of-b (event.Deliver lane n) s h = plus-none _ _ (quiet-b lane.from (replicate n Deliver) s (counted-same Deliver same n))
 commands-of-b (event.Lose lane n) s h = plus-none _ _ (quiet-b lane.from (replicate n Lose) s (counted-same Lose same n))

@@ -1,6 +1,6 @@
 -- Each unit step at an end, or with its bytes, leaves what holds.
 use Rattle.std.proofs.Common.{◌≡◌, ◌∙◌, ℕ, ◌+◌, ◌<◌, Bool, true, false, List, [], ◌∷◌, ◌++◌, length, drop, Option, Some, None, eqb, not, refl, ap, sym, subst, arith, append-nil, length-append}
-use Rattle.std.specs.Prelude.{slice_index, IsTrue, option_to_list, ◌==◌, ◌&&◌, nat_le, bit_and}
+use Rattle.std.specs.Prelude.{slice_index, IsTrue, option_to_list, unwrap_or, ◌==◌, ◌&&◌, nat_le, bit_and}
 use Rattle.std.specs.Option.{option_map, option_map_or}
 use Rattle.std.specs.Int.{bit_at}
 use Rattle.std.specs.List.{filter}
@@ -50,19 +50,20 @@ pub payload-command : (payload : List ℕ) → IsTrue (is_payload payload) → e
 payload-command [] h = absurd cc
 payload-command (cmd ∷ rest) h = sym (and_64 cmd) ∙ ap not (and-parts (nat_le (length (cmd ∷ rest)) 245) (bit_and cmd 0x40 == 0) h)
 
-pub holds-issue : (near far : Who) (first far_first : StationState) (s : LineState) (dst : ℕ) (payload : List ℕ) (lines : List Line) → IsTrue (is_payload payload) → issued_by s.a < 65535
-    → Holds near far first far_first s lines → Holds near far first far_first (after_deed s (Issue dst payload)) lines
-holds-issue near far first far_first s dst payload lines may few h =
+pub holds-issue : (near far : Who) (first far_first : StationState) (s : LineState) (src : Option ℕ) (dst : ℕ) (payload : List ℕ) (lines : List Line) → IsTrue (is_payload payload) → issued_by s.a < 65535
+    → Holds near far first far_first s lines → Holds near far first far_first (after_deed s (Issue src dst payload)) lines
+holds-issue near far first far_first s src dst payload lines may few h =
     let issued = s.a.end.host.initiator.issued in
-    let new : Issued = record { body = next_issued s.a.end.host.initiator dst payload; standing = Waiting } in
+    let source = unwrap_or src s.a.end.host.initiator.node in
+    let new : Issued = record { body = next_issued s.a.end.host.initiator source dst payload; standing = Waiting } in
     record {
       sent = h.sent;
       heard = h.heard;
       far_sent = h.far_sent;
       far_heard = h.far_heard;
-      hosts = hosts-issue h.hosts dst payload (payload-command payload may) few;
+      hosts = hosts-issue h.hosts source dst payload (payload-command payload may) few;
       far_hosts = h.far_hosts;
-      sends = sends-host s.a.end (after_node_issue s.a.end.host dst payload) h.sends;
+      sends = sends-host s.a.end (after_node_issue s.a.end.host source dst payload) h.sends;
       far_sends = h.far_sends;
       way = h.way;
       back = h.back;

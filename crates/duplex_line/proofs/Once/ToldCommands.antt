@@ -1,6 +1,6 @@
 -- In every run, whatever is heard: each end's commands are those that the script issues, and the lines tell how each ended.
 use Rattle.std.proofs.Common.{◌≡◌, ◌∙◌, ℕ, zero, suc, true, false, List, [], ◌∷◌, ◌++◌, map, Option, Some, None, refl, ap, sym, subst, append-nil, append_assoc}
-use Rattle.std.specs.Prelude.{IsTrue, All, replicate}
+use Rattle.std.specs.Prelude.{IsTrue, All, replicate, unwrap_or}
 use Rattle.std.specs.Option.{option_map_or}
 use Rattle.std.proofs.lemmas.List.Elements.{All-head, All-tail, filter_map-append}
 use Rattle.df1_base.specs.declared.host.Did.{Did}
@@ -35,7 +35,7 @@ use Rattle.each_once.specs.Tells.{is_who}
 use Rattle.each_once.proofs.IssuedCommands.{SameCommands, same-itself, same-both, same-accept, same-told, same-tick, same-next, AreIssued, issued-same, issued-more}
 use Rattle.each_once.proofs.ToldOutcomes.{TellNone, none-both, outcomes-start, outcomes-silent, outcomes-issue, outcomes-accept, outcomes-told, outcomes-next, outcomes-tick}
 use Rattle.lane_cells.specs.Cells.{LaneCell}
-use Rattle.duplex_line.specs.Acts.{LineEndState, LineState, swapped, Deed, Issue, Take, Deliver, Lose, Alter, Foreign, Tick, near_after, arriving, after_cell, after_arrival, step_of, body_heard, after_deed, after_deeds, near_lines, cell_lines, arrival_lines, lines_at, lines_over, given_over}
+use Rattle.duplex_line.specs.Acts.{LineEndState, LineState, swapped, Deed, after_issue, Issue, Take, Deliver, Lose, Alter, Foreign, Tick, near_after, arriving, after_cell, after_arrival, step_of, body_heard, after_deed, after_deeds, near_lines, cell_lines, arrival_lines, lines_at, lines_over, given_over}
 use Rattle.duplex_line.specs.Issues.{request_at, requests_in}
 use Rattle.duplex_line.specs.Run.{plan_of_a, plan_of_b, start, seen_from, after_event, deed_lines, lines_of, state_after, lines_after, last_state}
 use Rattle.duplex_line.proofs.Once.Invariant.{AreTwo, two-swapped, a-and-b, joins-end}
@@ -85,7 +85,7 @@ other-arrival who by apart side None = λ n. refl
 other-arrival who by apart side (Some cell) = other-cell who by apart side cell
 
 other-near : (who by : Who) → is_who who by ≡ false → (side : LineEndState) (deed : Deed) → TellNone who (near_lines by side deed)
-other-near who by apart side (Issue dst payload) = λ n. refl
+other-near who by apart side (Issue src dst payload) = λ n. refl
 other-near who by apart side Take = λ n. refl
 other-near who by apart side Deliver = λ n. refl
 other-near who by apart side Lose = λ n. refl
@@ -163,15 +163,15 @@ recounts-arrival : (who : Who) → is_who who who ≡ true → (node tns : ℕ) 
 recounts-arrival who itself node tns requests side None lines r = recounts-silent who node tns requests side lines [] (λ n. refl) r
 recounts-arrival who itself node tns requests side (Some cell) lines r = recounts-cell who itself node tns requests side cell lines r
 
--- what is issued at a step
-abbrev requests_of : Deed → List Request
-requests_of (Issue dst payload) = record { dst = dst; payload = payload } ∷ []
-requests_of Take = []
-requests_of Deliver = []
-requests_of Lose = []
-requests_of (Alter mask) = []
-requests_of (Foreign byte) = []
-requests_of Tick = []
+-- what is issued at a step of an end of this address
+abbrev requests_of : ℕ → Deed → List Request
+requests_of node (Issue src dst payload) = record { src = unwrap_or src node; dst = dst; payload = payload } ∷ []
+requests_of node Take = []
+requests_of node Deliver = []
+requests_of node Lose = []
+requests_of node (Alter mask) = []
+requests_of node (Foreign byte) = []
+requests_of node Tick = []
 
 same-handed : (o : Option (List ℕ)) (host : NodeState) → SameCommands host.initiator (option_map_or (λ (body : List ℕ). after_next host) o host).initiator
 same-handed None host = same-itself host.initiator
@@ -210,10 +210,11 @@ recounts-still who node tns requests side next lines same r =
     })
 
 recounts-near : (who : Who) → is_who who who ≡ true → (node tns : ℕ) (requests : List Request) (deed : Deed) (side : LineEndState) (lines : List Line) → Recounts who node tns requests side lines
-    → Recounts who node tns (requests ++ requests_of deed) (near_after side deed) (lines ++ near_lines who side deed)
-recounts-near who itself node tns requests (Issue dst payload) side lines r =
+    → Recounts who node tns (requests ++ requests_of node deed) (near_after side deed) (lines ++ near_lines who side deed)
+recounts-near who itself node tns requests (Issue src dst payload) side lines r =
     rw (append-nil lines) (record {
-      issued = issued-more node tns requests side.end.host.initiator dst payload r.issued;
+      issued = subst (λ (own : ℕ). AreIssued node tns (requests ++ record { src = unwrap_or src own; dst = dst; payload = payload } ∷ []) (after_issue side src dst payload).end.host.initiator) r.issued.node_is
+          (issued-more node tns requests side.end.host.initiator (unwrap_or src side.end.host.initiator.node) dst payload r.issued);
       outcomes = outcomes-issue who side.end.host.initiator.issued _ lines refl r.outcomes;
     })
 recounts-near who itself node tns requests Take side lines r =
@@ -242,40 +243,40 @@ pub record BothRecount (near far : Who) (of_near of_far : Numbering) (requests f
   pub far_recounts : Recounts far of_far.node of_far.tns far_requests s.b lines
 
 both-deed : (near far : Who) → AreTwo near far → (of_near of_far : Numbering) (requests far_requests : List Request) (s : LineState) (deed : Deed) (lines : List Line) → BothRecount near far of_near of_far requests far_requests s lines
-    → BothRecount near far of_near of_far (requests ++ requests_of deed) far_requests (after_deed s deed) (lines ++ lines_at near far s deed)
+    → BothRecount near far of_near of_far (requests ++ requests_of of_near.node deed) far_requests (after_deed s deed) (lines ++ lines_at near far s deed)
 both-deed near far two of_near of_far requests far_requests s deed lines b =
     let first = near_lines near s.a deed in
     let second = arrival_lines far s.b (arriving s.a deed) in
-    subst (λ (all : List Line). BothRecount near far of_near of_far (requests ++ requests_of deed) far_requests (after_deed s deed) all) (append_assoc lines first second)
+    subst (λ (all : List Line). BothRecount near far of_near of_far (requests ++ requests_of of_near.node deed) far_requests (after_deed s deed) all) (append_assoc lines first second)
     (record {
-      recounts = recounts-silent near of_near.node of_near.tns (requests ++ requests_of deed) (near_after s.a deed) (lines ++ first) second (other-arrival near far two.other s.b (arriving s.a deed))
+      recounts = recounts-silent near of_near.node of_near.tns (requests ++ requests_of of_near.node deed) (near_after s.a deed) (lines ++ first) second (other-arrival near far two.other s.b (arriving s.a deed))
           (recounts-near near two.itself of_near.node of_near.tns requests deed s.a lines b.recounts);
       far_recounts = recounts-arrival far two.far_itself of_far.node of_far.tns far_requests s.b (arriving s.a deed) (lines ++ first)
           (recounts-silent far of_far.node of_far.tns far_requests s.b lines first (other-near far near two.far_other s.a deed) b.far_recounts);
     })
 
-abbrev requests_over : List Deed → List Request
-requests_over [] = []
-requests_over (deed ∷ deeds) = requests_of deed ++ requests_over deeds
+abbrev requests_over : ℕ → List Deed → List Request
+requests_over node [] = []
+requests_over node (deed ∷ deeds) = requests_of node deed ++ requests_over node deeds
 
 both-deeds : (near far : Who) → AreTwo near far → (of_near of_far : Numbering) (requests far_requests : List Request) (s : LineState) (deeds : List Deed) (lines : List Line) → BothRecount near far of_near of_far requests far_requests s lines
-    → BothRecount near far of_near of_far (requests ++ requests_over deeds) far_requests (after_deeds s deeds) (lines ++ lines_over near far s deeds)
+    → BothRecount near far of_near of_far (requests ++ requests_over of_near.node deeds) far_requests (after_deeds s deeds) (lines ++ lines_over near far s deeds)
 both-deeds near far two of_near of_far requests far_requests s [] lines b = rw (append-nil requests, append-nil lines) b
 both-deeds near far two of_near of_far requests far_requests s (deed ∷ deeds) lines b =
     let first = lines_at near far s deed in
     let rest = lines_over near far (after_deed s deed) deeds in
-    rw (sym (append_assoc requests (requests_of deed) (requests_over deeds)), sym (append_assoc lines first rest))
-    (both-deeds near far two of_near of_far (requests ++ requests_of deed) far_requests (after_deed s deed) deeds (lines ++ first)
+    rw (sym (append_assoc requests (requests_of of_near.node deed) (requests_over of_near.node deeds)), sym (append_assoc lines first rest))
+    (both-deeds near far two of_near of_far (requests ++ requests_of of_near.node deed) far_requests (after_deed s deed) deeds (lines ++ first)
     (both-deed near far two of_near of_far requests far_requests s deed lines b))
 
 -- the steps of an event at one of two ends, with its bytes
-both-event : (near far : Who) → AreTwo near far → (of_near of_far : Numbering) (requests far_requests more : List Request) (s : LineState) (deeds : List Deed) (bytes : List ℕ) (lines : List Line) → requests_over deeds ≡ more
+both-event : (near far : Who) → AreTwo near far → (of_near of_far : Numbering) (requests far_requests more : List Request) (s : LineState) (deeds : List Deed) (bytes : List ℕ) (lines : List Line) → requests_over of_near.node deeds ≡ more
     → BothRecount near far of_near of_far requests far_requests s lines → BothRecount near far of_near of_far (requests ++ more) far_requests (after_deeds s deeds) (lines ++ (lines_over near far s deeds ++ sent_lines near bytes))
 both-event near far two of_near of_far requests far_requests more s deeds bytes lines is b =
     let over = lines_over near far s deeds in
     let sent = sent_lines near bytes in
     let now = both-deeds near far two of_near of_far requests far_requests s deeds lines b in
-    let all = requests ++ requests_over deeds in
+    let all = requests ++ requests_over of_near.node deeds in
     subst (λ (rs : List Request). BothRecount near far of_near of_far (requests ++ rs) far_requests (after_deeds s deeds) (lines ++ (over ++ sent))) is
     (subst (λ (told : List Line). BothRecount near far of_near of_far all far_requests (after_deeds s deeds) told) (append_assoc lines over sent)
     (record {
@@ -294,66 +295,68 @@ issued_by A A more = more
 issued_by B B more = more
 issued_by who by more = []
 
-seen-event : (who : Who) → IsTrue (is_end who) → (of_a of_b : Numbering) (requests far_requests more : List Request) (s : LineState) (deeds : List Deed) (lines : List Line) → requests_over deeds ≡ more → BothRecount A B of_a of_b requests far_requests s lines
-    → BothRecount A B of_a of_b (requests ++ issued_by A who more) (far_requests ++ issued_by B who more) (seen_from who (after_deeds (seen_from who s) deeds)) (lines ++ deed_lines who (seen_from who s) deeds)
-seen-event A end of_a of_b requests far_requests more s deeds lines is b = rw (append-nil far_requests) (both-event A B a-and-b of_a of_b requests far_requests more s deeds (given_over s.a deeds) lines is b)
+seen-event : (who : Who) → IsTrue (is_end who) → (of_a of_b : Numbering) (requests far_requests : List Request) (more : ℕ → List Request) (s : LineState) (deeds : List Deed) (lines : List Line) → ((node : ℕ) → requests_over node deeds ≡ more node)
+    → BothRecount A B of_a of_b requests far_requests s lines
+    → BothRecount A B of_a of_b (requests ++ issued_by A who (more of_a.node)) (far_requests ++ issued_by B who (more of_b.node)) (seen_from who (after_deeds (seen_from who s) deeds)) (lines ++ deed_lines who (seen_from who s) deeds)
+seen-event A end of_a of_b requests far_requests more s deeds lines is b =
+    rw (append-nil far_requests) (both-event A B a-and-b of_a of_b requests far_requests (more of_a.node) s deeds (given_over s.a deeds) lines (is of_a.node) b)
 seen-event B end of_a of_b requests far_requests more s deeds lines is b =
     rw (append-nil requests)
-    (both-swapped B A of_b of_a (far_requests ++ more) requests (after_deeds (swapped s) deeds) _
-    (both-event B A (two-swapped A B a-and-b) of_b of_a far_requests requests more (swapped s) deeds (given_over s.b deeds) lines is (both-swapped A B of_a of_b requests far_requests s lines b)))
+    (both-swapped B A of_b of_a (far_requests ++ more of_b.node) requests (after_deeds (swapped s) deeds) _
+    (both-event B A (two-swapped A B a-and-b) of_b of_a far_requests requests (more of_b.node) (swapped s) deeds (given_over s.b deeds) lines (is of_b.node) (both-swapped A B of_a of_b requests far_requests s lines b)))
 seen-event M end of_a of_b requests far_requests more s deeds lines is b = absurd cc
 seen-event (S station) end of_a of_b requests far_requests more s deeds lines is b = absurd cc
 
-none-over : (deed : Deed) → requests_of deed ≡ [] → (n : ℕ) → requests_over (replicate n deed) ≡ []
-none-over deed none zero = refl
-none-over deed none (suc n) = ap (λ (rs : List Request). rs ++ requests_over (replicate n deed)) none ∙ none-over deed none n
+none-over : (deed : Deed) → ((node : ℕ) → requests_of node deed ≡ []) → (n node : ℕ) → requests_over node (replicate n deed) ≡ []
+none-over deed none zero node = refl
+none-over deed none (suc n) node = ap (λ (rs : List Request). rs ++ requests_over node (replicate n deed)) (none node) ∙ none-over deed none n node
 
-none-foreign : (bytes : List ℕ) → requests_over (map Foreign bytes) ≡ []
-none-foreign [] = refl
-none-foreign (byte ∷ bytes) = none-foreign bytes
+none-foreign : (bytes : List ℕ) (node : ℕ) → requests_over node (map Foreign bytes) ≡ []
+none-foreign [] node = refl
+none-foreign (byte ∷ bytes) node = none-foreign bytes node
 
 -- an event that issues nothing
 abbrev WithNone : Who → Numbering → Numbering → List Request → List Request → LineState → List Deed → List Line → Type 0
 WithNone who of_a of_b requests far_requests s deeds lines = BothRecount A B of_a of_b (requests ++ []) (far_requests ++ []) (seen_from who (after_deeds (seen_from who s) deeds)) (lines ++ deed_lines who (seen_from who s) deeds)
 
-plain-event : (who : Who) → IsTrue (is_end who) → (of_a of_b : Numbering) (requests far_requests : List Request) (s : LineState) (deeds : List Deed) (lines : List Line) → requests_over deeds ≡ [] → BothRecount A B of_a of_b requests far_requests s lines
+plain-event : (who : Who) → IsTrue (is_end who) → (of_a of_b : Numbering) (requests far_requests : List Request) (s : LineState) (deeds : List Deed) (lines : List Line) → ((node : ℕ) → requests_over node deeds ≡ []) → BothRecount A B of_a of_b requests far_requests s lines
     → WithNone who of_a of_b requests far_requests s deeds lines
-plain-event A end of_a of_b requests far_requests s deeds lines is b = seen-event A end of_a of_b requests far_requests [] s deeds lines is b
-plain-event B end of_a of_b requests far_requests s deeds lines is b = seen-event B end of_a of_b requests far_requests [] s deeds lines is b
+plain-event A end of_a of_b requests far_requests s deeds lines is b = seen-event A end of_a of_b requests far_requests (λ node. []) s deeds lines is b
+plain-event B end of_a of_b requests far_requests s deeds lines is b = seen-event B end of_a of_b requests far_requests (λ node. []) s deeds lines is b
 plain-event M end of_a of_b requests far_requests s deeds lines is b = absurd cc
 plain-event (S station) end of_a of_b requests far_requests s deeds lines is b = absurd cc
 
-issue-event : (who : Who) → IsTrue (is_end who) → (of_a of_b : Numbering) (requests far_requests : List Request) (s : LineState) (dst : ℕ) (payload : List ℕ) (lines : List Line) → BothRecount A B of_a of_b requests far_requests s lines
-    → BothRecount A B of_a of_b (requests ++ requests_in A (event.Issue who dst payload ∷ [])) (far_requests ++ requests_in B (event.Issue who dst payload ∷ [])) (after_event s (event.Issue who dst payload)) (lines ++ lines_of s (event.Issue who dst payload))
-issue-event A end of_a of_b requests far_requests s dst payload lines b = seen-event A end of_a of_b requests far_requests (record { dst = dst; payload = payload } ∷ []) s (Issue dst payload ∷ []) lines refl b
-issue-event B end of_a of_b requests far_requests s dst payload lines b = seen-event B end of_a of_b requests far_requests (record { dst = dst; payload = payload } ∷ []) s (Issue dst payload ∷ []) lines refl b
-issue-event M end of_a of_b requests far_requests s dst payload lines b = absurd cc
-issue-event (S station) end of_a of_b requests far_requests s dst payload lines b = absurd cc
+issue-event : (who : Who) → IsTrue (is_end who) → (of_a of_b : Numbering) (requests far_requests : List Request) (s : LineState) (src : Option ℕ) (dst : ℕ) (payload : List ℕ) (lines : List Line) → BothRecount A B of_a of_b requests far_requests s lines
+    → BothRecount A B of_a of_b (requests ++ requests_in A of_a.node (event.Issue who src dst payload ∷ [])) (far_requests ++ requests_in B of_b.node (event.Issue who src dst payload ∷ [])) (after_event s (event.Issue who src dst payload)) (lines ++ lines_of s (event.Issue who src dst payload))
+issue-event A end of_a of_b requests far_requests s src dst payload lines b = seen-event A end of_a of_b requests far_requests (λ node. record { src = unwrap_or src node; dst = dst; payload = payload } ∷ []) s (Issue src dst payload ∷ []) lines (λ node. refl) b
+issue-event B end of_a of_b requests far_requests s src dst payload lines b = seen-event B end of_a of_b requests far_requests (λ node. record { src = unwrap_or src node; dst = dst; payload = payload } ∷ []) s (Issue src dst payload ∷ []) lines (λ node. refl) b
+issue-event M end of_a of_b requests far_requests s src dst payload lines b = absurd cc
+issue-event (S station) end of_a of_b requests far_requests s src dst payload lines b = absurd cc
 
 recount-event : (of_a of_b : Numbering) (requests far_requests : List Request) (s : LineState) (e : Event) (lines : List Line) → IsPossible e → BothRecount A B of_a of_b requests far_requests s lines
-    → BothRecount A B of_a of_b (requests ++ requests_in A (e ∷ [])) (far_requests ++ requests_in B (e ∷ [])) (after_event s e) (lines ++ lines_of s e)
-recount-event of_a of_b requests far_requests s (event.Issue who dst payload) lines possible b = issue-event who possible.0 of_a of_b requests far_requests s dst payload lines b
-recount-event of_a of_b requests far_requests s (event.Take who n) lines possible b = plain-event who possible.0 of_a of_b requests far_requests s (replicate n Take) lines (none-over Take refl n) b
-recount-event of_a of_b requests far_requests s (event.Deliver lane n) lines possible b = plain-event lane.from (joins-end lane.from lane.to possible.0) of_a of_b requests far_requests s (replicate n Deliver) lines (none-over Deliver refl n) b
-recount-event of_a of_b requests far_requests s (event.Lose lane n) lines possible b = plain-event lane.from (joins-end lane.from lane.to possible.0) of_a of_b requests far_requests s (replicate n Lose) lines (none-over Lose refl n) b
-recount-event of_a of_b requests far_requests s (event.Alter lane mask) lines possible b = plain-event lane.from (joins-end lane.from lane.to possible.0) of_a of_b requests far_requests s (Alter mask ∷ []) lines refl b
+    → BothRecount A B of_a of_b (requests ++ requests_in A of_a.node (e ∷ [])) (far_requests ++ requests_in B of_b.node (e ∷ [])) (after_event s e) (lines ++ lines_of s e)
+recount-event of_a of_b requests far_requests s (event.Issue who src dst payload) lines possible b = issue-event who possible.0 of_a of_b requests far_requests s src dst payload lines b
+recount-event of_a of_b requests far_requests s (event.Take who n) lines possible b = plain-event who possible.0 of_a of_b requests far_requests s (replicate n Take) lines (none-over Take (λ node. refl) n) b
+recount-event of_a of_b requests far_requests s (event.Deliver lane n) lines possible b = plain-event lane.from (joins-end lane.from lane.to possible.0) of_a of_b requests far_requests s (replicate n Deliver) lines (none-over Deliver (λ node. refl) n) b
+recount-event of_a of_b requests far_requests s (event.Lose lane n) lines possible b = plain-event lane.from (joins-end lane.from lane.to possible.0) of_a of_b requests far_requests s (replicate n Lose) lines (none-over Lose (λ node. refl) n) b
+recount-event of_a of_b requests far_requests s (event.Alter lane mask) lines possible b = plain-event lane.from (joins-end lane.from lane.to possible.0) of_a of_b requests far_requests s (Alter mask ∷ []) lines (λ node. refl) b
 recount-event of_a of_b requests far_requests s (event.Foreign lane bytes) lines possible b = plain-event lane.from (joins-end lane.from lane.to possible.0) of_a of_b requests far_requests s (map Foreign bytes) lines (none-foreign bytes) b
-recount-event of_a of_b requests far_requests s (event.Tick who n) lines possible b = plain-event who possible.0 of_a of_b requests far_requests s (replicate n Tick) lines (none-over Tick refl n) b
+recount-event of_a of_b requests far_requests s (event.Tick who n) lines possible b = plain-event who possible.0 of_a of_b requests far_requests s (replicate n Tick) lines (none-over Tick (λ node. refl) n) b
 
 recount-events : (of_a of_b : Numbering) (events : List Event) (requests far_requests : List Request) (s : LineState) (lines : List Line) → All IsPossible events → BothRecount A B of_a of_b requests far_requests s lines
-    → BothRecount A B of_a of_b (requests ++ requests_in A events) (far_requests ++ requests_in B events) (state_after s events) (lines ++ lines_after s events)
+    → BothRecount A B of_a of_b (requests ++ requests_in A of_a.node events) (far_requests ++ requests_in B of_b.node events) (state_after s events) (lines ++ lines_after s events)
 recount-events of_a of_b [] requests far_requests s lines possible b = rw (append-nil requests, append-nil far_requests, append-nil lines) b
 recount-events of_a of_b (e ∷ events) requests far_requests s lines possible b =
     let now = recount-event of_a of_b requests far_requests s e lines (All-head IsPossible e events possible) b in
-    let more = recount-events of_a of_b events (requests ++ requests_in A (e ∷ [])) (far_requests ++ requests_in B (e ∷ [])) (after_event s e) (lines ++ lines_of s e) (All-tail IsPossible e events possible) now in
-    let at_a : (requests ++ requests_in A (e ∷ [])) ++ requests_in A events ≡ requests ++ requests_in A (e ∷ events) =
-    append_assoc requests (requests_in A (e ∷ [])) (requests_in A events) ∙ ap (λ (rs : List Request). requests ++ rs) (sym (filter_map-append (request_at A) (e ∷ []) events)) in
-    let at_b : (far_requests ++ requests_in B (e ∷ [])) ++ requests_in B events ≡ far_requests ++ requests_in B (e ∷ events) =
-    append_assoc far_requests (requests_in B (e ∷ [])) (requests_in B events) ∙ ap (λ (rs : List Request). far_requests ++ rs) (sym (filter_map-append (request_at B) (e ∷ []) events)) in
+    let more = recount-events of_a of_b events (requests ++ requests_in A of_a.node (e ∷ [])) (far_requests ++ requests_in B of_b.node (e ∷ [])) (after_event s e) (lines ++ lines_of s e) (All-tail IsPossible e events possible) now in
+    let at_a : (requests ++ requests_in A of_a.node (e ∷ [])) ++ requests_in A of_a.node events ≡ requests ++ requests_in A of_a.node (e ∷ events) =
+    append_assoc requests (requests_in A of_a.node (e ∷ [])) (requests_in A of_a.node events) ∙ ap (λ (rs : List Request). requests ++ rs) (sym (filter_map-append (request_at A of_a.node) (e ∷ []) events)) in
+    let at_b : (far_requests ++ requests_in B of_b.node (e ∷ [])) ++ requests_in B of_b.node events ≡ far_requests ++ requests_in B of_b.node (e ∷ events) =
+    append_assoc far_requests (requests_in B of_b.node (e ∷ [])) (requests_in B of_b.node events) ∙ ap (λ (rs : List Request). far_requests ++ rs) (sym (filter_map-append (request_at B of_b.node) (e ∷ []) events)) in
     let told : (lines ++ lines_of s e) ++ lines_after (after_event s e) events ≡ lines ++ lines_after s (e ∷ events) = append_assoc lines (lines_of s e) (lines_after (after_event s e) events) in
-    subst (λ (rs : List Request). BothRecount A B of_a of_b rs (far_requests ++ requests_in B (e ∷ events)) (state_after s (e ∷ events)) (lines ++ lines_after s (e ∷ events))) at_a
-    (subst (λ (rs : List Request). BothRecount A B of_a of_b ((requests ++ requests_in A (e ∷ [])) ++ requests_in A events) rs (state_after s (e ∷ events)) (lines ++ lines_after s (e ∷ events))) at_b
-    (subst (λ (all : List Line). BothRecount A B of_a of_b ((requests ++ requests_in A (e ∷ [])) ++ requests_in A events) ((far_requests ++ requests_in B (e ∷ [])) ++ requests_in B events) (state_after s (e ∷ events)) all) told more))
+    subst (λ (rs : List Request). BothRecount A B of_a of_b rs (far_requests ++ requests_in B of_b.node (e ∷ events)) (state_after s (e ∷ events)) (lines ++ lines_after s (e ∷ events))) at_a
+    (subst (λ (rs : List Request). BothRecount A B of_a of_b ((requests ++ requests_in A of_a.node (e ∷ [])) ++ requests_in A of_a.node events) rs (state_after s (e ∷ events)) (lines ++ lines_after s (e ∷ events))) at_b
+    (subst (λ (all : List Line). BothRecount A B of_a of_b ((requests ++ requests_in A of_a.node (e ∷ [])) ++ requests_in A of_a.node events) ((far_requests ++ requests_in B of_b.node (e ∷ [])) ++ requests_in B of_b.node events) (state_after s (e ∷ events)) all) told more))
 
 -- ---- a run
 
@@ -364,7 +367,7 @@ abbrev pub numbering_b : Script → Numbering
 numbering_b script = record { node = (plan_of_b script).node; tns = (plan_of_b script).tns }
 
 pub recounts-run : (script : Script) → IsPlayable script
-    → BothRecount A B (numbering_a script) (numbering_b script) (requests_in A script.events) (requests_in B script.events) (last_state script) (lines_after (start script) script.events)
+    → BothRecount A B (numbering_a script) (numbering_b script) (requests_in A (plan_of_a script).node script.events) (requests_in B (plan_of_b script).node script.events) (last_state script) (lines_after (start script) script.events)
 recounts-run script playable = recount-events (numbering_a script) (numbering_b script) script.events [] [] (start script) [] playable.events (record {
   recounts = record { issued = record { node_is = refl; tns_is = refl; bodies = refl }; outcomes = outcomes-start A };
   far_recounts = record { issued = record { node_is = refl; tns_is = refl; bodies = refl }; outcomes = outcomes-start B };

@@ -27,15 +27,15 @@ use Rattle.each_once.specs.Exchanges.{exchanges, station_after}
 use Rattle.each_once.specs.Tells.{executed_in, answers_in, strays_in, given_up_in}
 use Rattle.each_once.specs.Once.{Once, IsReplyTo, IsAstray}
 use Rattle.duplex_line.specs.Once.{EachOnce}
-use Rattle.each_once.proofs.Sublists.{IsWithin, within-filter, within-front}
+use Rattle.each_once.proofs.Sublists.{within-filter}
 use Rattle.each_once.proofs.OneDirection.{way-start, way-within}
 use Rattle.duplex_line.proofs.Once.SentMessages.{sends-start}
-use Rattle.each_once.proofs.HandedOut.{is_command, handed-front}
+use Rattle.each_once.proofs.HandedOut.{is_command, waits_of}
 use Rattle.each_once.proofs.NodeSteps.{hosts-start}
 use Rattle.each_once.proofs.ToldLines.{told-start, AreSilent, silent-none, told-silent}
 use Rattle.each_once.proofs.KeptCommands.{IsReplyOf, IsOfLost}
 use Rattle.each_once.proofs.ToldReplies.{reply-to, one-outcome, astray-told}
-use Rattle.each_once.proofs.RisingPlaces.{some-of, are-apart}
+use Rattle.each_once.proofs.RisingPlaces.{some-in-turn, are-apart}
 use Rattle.duplex_line.proofs.Once.Invariant.{lane_of, AreTwo, two-swapped, a-and-b, joins-end, Holds, holds-swapped}
 use Rattle.duplex_line.proofs.Once.ToldCommands.{recounts-run}
 use Rattle.duplex_line.proofs.Once.LineSteps.{holds-issue, holds-take, holds-deliver, holds-lose, holds-alter, holds-foreign, holds-tick}
@@ -56,7 +56,7 @@ earlier count b (Some cell) none = omega (arith, none)
 
 -- a step that isn't an issue
 abbrev pub IsPlain : Deed → Type 0
-IsPlain (Issue dst payload) = ⊥
+IsPlain (Issue src dst payload) = ⊥
 IsPlain Take = Unit {0}
 IsPlain Deliver = Unit {0}
 IsPlain Lose = Unit {0}
@@ -69,7 +69,7 @@ ArePlain [] = Unit {0}
 ArePlain (deed ∷ deeds) = IsPlain deed × ArePlain deeds
 
 kept-plain : (deed : Deed) → IsPlain deed → (s : LineState) (near far : Who) → AreTwo near far → (first far_first : StationState) (lines : List Line) → Kept near far first far_first s lines → Kept near far first far_first (after_deed s deed) (lines ++ lines_at near far s deed)
-kept-plain (Issue dst payload) plain s near far two first far_first lines k none = absurd plain
+kept-plain (Issue src dst payload) plain s near far two first far_first lines k none = absurd plain
 kept-plain Take plain s near far two first far_first lines k none = rw (append-nil lines) (holds-take near far first far_first s lines (k none))
 kept-plain Deliver plain s near far two first far_first lines k none = holds-deliver near far two first far_first s lines none (k (earlier s.deceived s.b (arriving s.a Deliver) none))
 kept-plain Lose plain s near far two first far_first lines k none = rw (append-nil lines) (holds-lose near far first far_first s lines (k none))
@@ -83,8 +83,8 @@ goes-plain (deed ∷ deeds) plain s near far two first far_first lines k =
     let more = goes-plain deeds plain.1 (after_deed s deed) near far two first far_first (lines ++ lines_at near far s deed) (kept-plain deed plain.0 s near far two first far_first lines k) in
     subst (λ (all : List Line). Kept near far first far_first (after_deeds (after_deed s deed) deeds) all) (append_assoc lines (lines_at near far s deed) (lines_over near far (after_deed s deed) deeds)) more
 
-goes-issue : (s : LineState) (dst : ℕ) (payload : List ℕ) → IsTrue (is_payload payload) → issued_by s.a < 65535 → Goes s (Issue dst payload ∷ [])
-goes-issue s dst payload may few near far two first far_first lines k none = rw (append-nil lines) (holds-issue near far first far_first s dst payload lines may few (k none))
+goes-issue : (s : LineState) (src : Option ℕ) (dst : ℕ) (payload : List ℕ) → IsTrue (is_payload payload) → issued_by s.a < 65535 → Goes s (Issue src dst payload ∷ [])
+goes-issue s src dst payload may few near far two first far_first lines k none = rw (append-nil lines) (holds-issue near far first far_first s src dst payload lines may few (k none))
 
 pub plain-again : (deed : Deed) → IsPlain deed → (n : ℕ) → ArePlain (replicate n deed)
 plain-again deed plain zero = tt
@@ -139,7 +139,7 @@ kept-seen (S station) end first_a first_b s deeds lines goes k none = absurd cc
 
 kept-event : (first_a first_b : StationState) (e : Event) (s : LineState) (lines : List Line) → IsPossible e → IsUnspent (seen_from (who_of e) s).a e → Kept A B first_a first_b s lines
     → Kept A B first_a first_b (after_event s e) (lines ++ lines_of s e)
-kept-event first_a first_b (event.Issue who dst payload) s lines possible few k = kept-seen who possible.0 first_a first_b s (Issue dst payload ∷ []) lines (goes-issue (seen_from who s) dst payload possible.1 few) k
+kept-event first_a first_b (event.Issue who src dst payload) s lines possible few k = kept-seen who possible.0 first_a first_b s (Issue src dst payload ∷ []) lines (goes-issue (seen_from who s) src dst payload possible.1 few) k
 kept-event first_a first_b (event.Take who n) s lines possible few k = kept-seen who possible.0 first_a first_b s (replicate n Take) lines (goes-plain (replicate n Take) (plain-again Take tt n) (seen_from who s)) k
 kept-event first_a first_b (event.Deliver lane n) s lines possible few k =
     kept-seen lane.from (joins-end lane.from lane.to possible.0) first_a first_b s (replicate n Deliver) lines (goes-plain (replicate n Deliver) (plain-again Deliver tt n) (seen_from lane.from s)) k
@@ -192,13 +192,12 @@ once-of near far first far_first s lines told h =
     let bodies = map (λ (c : Issued). c.body) issued in
     let executed = filter is_command h.far_heard in
     let answered = exchanges far_first executed in
-    let front = handed-front issued (filter is_command h.sent) h.hosts.initiates.in_order in
     let accepted = way-within h.sent (lane_of s.a.lane) s.b.end.receiver.kept h.far_heard h.way in
-    let within = within-front executed (filter is_command h.sent) front.0 (within-filter is_command h.far_heard h.sent accepted) in
+    let within = within-filter is_command h.far_heard h.sent accepted in
     let same : executed_in far lines ≡ executed = h.told.executes in
     record {
       apart = are-apart s.a.end.host.initiator.tns issued h.few h.hosts.initiates.numbered;
-      in_order = rw same (some-of executed bodies (subst (λ (all : List (List ℕ)). IsWithin executed all) (sym front.1) within));
+      in_order = rw same (some-in-turn executed (filter is_command h.sent) bodies (waits_of issued) within h.hosts.initiates.in_order);
       answers = rw same (all-as (λ a. IsReplyOf issued answered a.0 a.1) (λ a. IsReplyTo bodies answered a.0 a.1) (answers_in near lines) (λ a. reply-to issued answered a.0 a.1) h.told.answered);
       outcomes = one-outcome near issued lines told;
       strays = rw same (all-as (IsOfLost issued answered) (IsAstray bodies answered (given_up_in near lines)) (strays_in near lines) (λ reply. astray-told near issued lines answered reply told) h.told.astray);

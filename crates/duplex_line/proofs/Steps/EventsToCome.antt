@@ -27,10 +27,10 @@ room-of-b s e rest possible few =
 -- the next command is not the 65,536th of its end
 pub unspent : (s : LineState) (e : Event) (rest : List Event) → IsPossible e → issued_by s.a + count_by (issues A) (e ∷ rest) ≤ 65535 → issued_by s.b + count_by (issues B) (e ∷ rest) ≤ 65535
     → IsUnspent (seen_from (who_of e) s).a e
-unspent s (event.Issue A dst payload) rest possible few-a few-b = let more = sum_by-cons (λ (x : Event). cond (issues A x) 1 0) (event.Issue A dst payload) rest in omega (arith, more, few-a)
-unspent s (event.Issue B dst payload) rest possible few-a few-b = let more = sum_by-cons (λ (x : Event). cond (issues B x) 1 0) (event.Issue B dst payload) rest in omega (arith, more, few-b)
-unspent s (event.Issue M dst payload) rest possible few-a few-b = let no = possible.0 in absurd cc
-unspent s (event.Issue (S station) dst payload) rest possible few-a few-b = let no = possible.0 in absurd cc
+unspent s (event.Issue A src dst payload) rest possible few-a few-b = let more = sum_by-cons (λ (x : Event). cond (issues A x) 1 0) (event.Issue A src dst payload) rest in omega (arith, more, few-a)
+unspent s (event.Issue B src dst payload) rest possible few-a few-b = let more = sum_by-cons (λ (x : Event). cond (issues B x) 1 0) (event.Issue B src dst payload) rest in omega (arith, more, few-b)
+unspent s (event.Issue M src dst payload) rest possible few-a few-b = let no = possible.0 in absurd cc
+unspent s (event.Issue (S station) src dst payload) rest possible few-a few-b = let no = possible.0 in absurd cc
 unspent s (event.Take who n) rest possible few-a few-b = tt
 unspent s (event.Deliver lane n) rest possible few-a few-b = tt
 unspent s (event.Lose lane n) rest possible few-a few-b = tt

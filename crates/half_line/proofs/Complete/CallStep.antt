@@ -1,6 +1,6 @@
 -- A cell arrives at a station in an undisturbed run: it passes the station over, or it ends a call, which the station answers.
-use Rattle.std.proofs.Common.{◌≡◌, ◌∙◌, ℕ, Bool, true, false, List, [], ◌∷◌, ◌++◌, Some, None, refl, ap, sym, subst, inl, inr, append-nil}
-use Rattle.std.specs.Prelude.{◌⊎◌, slice_get, slice_set, ◌==◌}
+use Rattle.std.proofs.Common.{◌≡◌, ◌∙◌, ℕ, Bool, true, false, List, [], ◌∷◌, ◌++◌, Option, Some, None, refl, ap, sym, subst, inl, inr, append-nil}
+use Rattle.std.specs.Prelude.{◌⊎◌, nat_lt, slice_get, slice_set, ◌==◌, if◌then◌else◌}
 use Rattle.std.proofs.lemmas.Bool.{eqb-true, eqb-false}
 use Rattle.df1_base.specs.declared.host.Did.TheVariants as did
 use Rattle.df1_node.specs.Initiator.{InitiatorState}
@@ -151,7 +151,11 @@ receipt-step {setting = setting} {m = m} {stations = stations} {place = place} {
 
 -- it has no reply
 none-waits : (node : NodeState) → node.replies ≡ [] → node.initiator.issued ≡ [] → next_body node ≡ None
-none-waits node replies issued = rw (replies, issued) refl
+none-waits node replies issued = rw (replies, issued) (none-either (nat_lt 0 node.initiator.window) None refl)
+  where
+    none-either : (may : Bool) (o : Option (List ℕ)) → o ≡ None → (if may then o else None) ≡ None
+    none-either true o is = is
+    none-either false o is = refl
 
 one-waits : (node : NodeState) (reply : List ℕ) → node.replies ≡ reply ∷ [] → next_body node ≡ Some reply
 one-waits node reply replies = rw replies refl

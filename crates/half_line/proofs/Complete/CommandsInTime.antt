@@ -1,66 +1,36 @@
 -- How far the master's commands are in an undisturbed run: so many are answered, one may be out, and none is out for too many ticks.
-use Rattle.std.proofs.Common.{◌≡◌, ◌∙◌, ℕ, zero, suc, ◌+◌, ◌-◌, ◌<◌, ◌≤◌, Bool, true, false, cond, List, [], ◌∷◌, length, map, Option, Some, None, find, option_map, refl, ap, sym, arith}
-use Rattle.std.specs.Prelude.{slice_get, if◌then◌else◌}
-use Rattle.std.specs.List.{list_any}
+use Rattle.std.proofs.Common.{◌≡◌, ℕ, zero, suc, ◌+◌, ◌-◌, ◌<◌, ◌≤◌, false, List, [], ◌∷◌, map, Option, Some, None, refl, arith}
+use Rattle.std.specs.Prelude.{slice_get}
 use Rattle.std.proofs.lemmas.Bool.{lt-ltb}
-use Rattle.df1_node.specs.Initiator.{Issued, Standing, Waiting, Out, Answered, InitiatorState, is_waiting, is_out, is_last_tick, unanswered_from, all_ticked, next_command, after_hand_out, after_issue, next_issued}
-use Rattle.each_once.proofs.InitiatorProgress.{IsUnderWay, IsOutFor, Waits, IsDone, out_count, under-busy, under-issue, under-hand_out, under-tick-none, under-tick-out}
+use Rattle.df1_node.specs.Initiator.{Issued, Standing, Waiting, Out, Answered, InitiatorState, is_last_tick, unanswered_from, all_ticked, next_command, after_hand_out, after_issue, next_issued}
+use Rattle.each_once.proofs.InitiatorProgress.{IsUnderWay, IsSingle, IsOutFor, Waits, IsDone, under-issue, under-hand_out, under-tick-none, under-tick-out}
 
 -- of the ticks of a reply so many are left, or have passed at all
 abbrev pub IsInTime : ℕ → ℕ → Option ℕ → Type 0
 IsInTime most ticks None = Unit {0}
 IsInTime most ticks (Some left) = most ≤ left + ticks
 
+-- of an initiator that has one command out at a time
 pub record AreInTime (s : InitiatorState) (done : ℕ) (out : Option ℕ) (ticks : ℕ) : Type 0 where
+  pub single : IsSingle s
   pub under_way : IsUnderWay s.issued done out
   pub in_time : IsInTime s.reply_ticks ticks out
 
 -- a command is issued
-pub in-time-issue : (s : InitiatorState) (dst : ℕ) (payload : List ℕ) (done : ℕ) (out : Option ℕ) (ticks : ℕ) → AreInTime s done out ticks → AreInTime (after_issue s dst payload) done out ticks
-in-time-issue s dst payload done out ticks t = record { under_way = under-issue s.issued done out (record { body = next_issued s dst payload; standing = Waiting }) t.under_way tt; in_time = t.in_time }
+pub in-time-issue : (s : InitiatorState) (src dst : ℕ) (payload : List ℕ) (done : ℕ) (out : Option ℕ) (ticks : ℕ) → AreInTime s done out ticks → AreInTime (after_issue s src dst payload) done out ticks
+in-time-issue s src dst payload done out ticks t = record { single = t.single; under_way = under-issue s.issued done out (record { body = next_issued s src dst payload; standing = Waiting }) t.under_way tt; in_time = t.in_time }
 
 -- the next is handed out, while none is out
-pub in-time-hand_out : (s : InitiatorState) (body : List ℕ) (done : ℕ) (out : Option ℕ) (ticks : ℕ) → next_command s.issued ≡ Some body → AreInTime s done out ticks → (out ≡ None) × AreInTime (after_hand_out s) done (Some s.reply_ticks) ticks
+pub in-time-hand_out : (s : InitiatorState) (body : List ℕ) (done : ℕ) (out : Option ℕ) (ticks : ℕ) → next_command s ≡ Some body → AreInTime s done out ticks
+    → (out ≡ None) × AreInTime (after_hand_out s) done (Some s.reply_ticks) ticks × (slice_get (map (λ c. c.body) s.issued) done ≡ Some body)
 in-time-hand_out s body done out ticks next t =
-    let u = under-hand_out s done out body t.under_way next in
-    (u.0, record { under_way = u.1; in_time = omega arith })
+    let u = under-hand_out s done out body t.single t.under_way next in
+    (u.0, record { single = t.single; under_way = u.1; in_time = omega arith }, u.2)
 
 -- more ticks pass, of which the initiator isn't told
 pub in-time-later : (s : InitiatorState) (done : ℕ) (out : Option ℕ) (ticks : ℕ) → AreInTime s done out ticks → AreInTime s done out (ticks + 1)
-in-time-later s done None ticks t = record { under_way = t.under_way; in_time = tt }
-in-time-later s done (Some left) ticks t = record { under_way = t.under_way; in_time = omega (arith, t.in_time) }
-
--- ---- how many commands there are, and which is the next
-
-waits-waiting : (s : Standing) → Waits s → is_waiting s ≡ true
-waits-waiting Waiting w = refl
-waits-waiting other w = absurd w
-
-done-waiting : (s : Standing) → IsDone s → is_waiting s ≡ false
-done-waiting (Answered reply) d = refl
-done-waiting other d = absurd d
-
-pub under-few : (cs : List Issued) (n : ℕ) (out : Option ℕ) → IsUnderWay cs n out → n + out_count out ≤ length cs
-under-few [] zero None u = omega arith
-under-few [] zero (Some left) u = absurd u
-under-few [] (suc n) out u = absurd u
-under-few (c ∷ cs) zero None u = omega arith
-under-few (c ∷ cs) zero (Some left) u = omega arith
-under-few (c ∷ cs) (suc n) out u = let few = under-few cs n out u.1 in omega (arith, few)
-
-next-of : (cs : List Issued) (n : ℕ) (out : Option ℕ) (body : List ℕ) → IsUnderWay cs n out → out ≡ None → option_map (λ c. c.body) (find (λ c. is_waiting c.standing) cs) ≡ Some body → slice_get (map (λ c. c.body) cs) n ≡ Some body
-next-of [] n out body u none next = absurd cc
-next-of (c ∷ cs) zero None body u none next = sym (ap (λ (b : Bool). option_map (λ (x : Issued). x.body) (cond b (Some c) (find (λ x. is_waiting x.standing) cs))) (waits-waiting c.standing u.0)) ∙ next
-next-of (c ∷ cs) zero (Some left) body u none next = absurd cc
-next-of (c ∷ cs) (suc n) out body u none next = next-of cs n out body u.1 none (rw (done-waiting c.standing u.0) at next)
-
-unless-out : (out : Bool) (o : Option (List ℕ)) (body : List ℕ) → (if out then None else o) ≡ Some body → o ≡ Some body
-unless-out true o body is = absurd cc
-unless-out false o body is = is
-
-pub next-body : (cs : List Issued) (n : ℕ) (out : Option ℕ) (body : List ℕ) → IsUnderWay cs n out → next_command cs ≡ Some body → slice_get (map (λ c. c.body) cs) n ≡ Some body
-next-body cs n None body u next = next-of cs n None body u refl (unless-out (list_any (λ c. is_out c.standing) cs) (option_map (λ c. c.body) (find (λ c. is_waiting c.standing) cs)) body next)
-next-body cs n (Some left) body u next = absurd (let busy = under-busy cs n left u in cc)
+in-time-later s done None ticks t = record { single = t.single; under_way = t.under_way; in_time = tt }
+in-time-later s done (Some left) ticks t = record { single = t.single; under_way = t.under_way; in_time = omega (arith, t.in_time) }
 
 -- ---- a tick
 
@@ -97,7 +67,7 @@ ticked_all s = record s { issued = all_ticked s.issued }
 -- none is unanswered at it
 pub in-time-tick : (s : InitiatorState) (done : ℕ) (out : Option ℕ) (ticks : ℕ) → ticks + 1 < s.reply_ticks → AreInTime s done out ticks
     → (unanswered_from 1 s.issued ≡ []) × AreInTime (ticked_all s) done (less_one out) (ticks + 1)
-in-time-tick s done None ticks few t = (none-gone s.issued done 1 t.under_way, record { under_way = under-tick-none s.issued done t.under_way; in_time = tt })
+in-time-tick s done None ticks few t = (none-gone s.issued done 1 t.under_way, record { single = t.single; under_way = under-tick-none s.issued done t.under_way; in_time = tt })
 in-time-tick s done (Some left) ticks few t =
     let more : 1 < left = omega (arith, few, t.in_time) in
-    (out-gone s.issued done 1 left t.under_way more, record { under_way = under-tick-out s.issued done left t.under_way more; in_time = omega (arith, few, t.in_time) })
+    (out-gone s.issued done 1 left t.under_way more, record { single = t.single; under_way = under-tick-out s.issued done left t.under_way more; in_time = omega (arith, few, t.in_time) })

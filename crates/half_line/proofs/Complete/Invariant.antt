@@ -1,6 +1,6 @@
 -- What holds at each point of an undisturbed run: what is awaited, the books of all stations, where the command is that is out, and that no end was deceived; and that it holds at the start.
 use Rattle.std.proofs.Common.{◌≡◌, ℕ, zero, suc, ◌≤◌, true, List, [], ◌∷◌, length, Option, Some, None, refl, sym, subst}
-use Rattle.std.specs.Prelude.{All, slice_get}
+use Rattle.std.specs.Prelude.{All, slice_get, slice_index_or}
 use Rattle.std.proofs.lemmas.List.Elements.{All-head, All-tail}
 use Rattle.std.proofs.lemmas.Option.{get_or_from_slice_get}
 use Rattle.pccc_envelope.specs.declared.key.Key.{Key}
@@ -13,7 +13,7 @@ use Rattle.script_parts.specs.declared.script.EndPlan.{EndPlan}
 use Rattle.script_parts.specs.declared.script.Script.{Script}
 use Rattle.script_parts.specs.HalfPlayable.{AreHalfEnds, IsStationPlan, IsHalfPlayable, station_plans, numbers_of}
 use Rattle.script_parts.specs.Plans.{first_plan}
-use Rattle.end_settings.specs.declared.key.Key.TheVariants.{Room}
+use Rattle.end_settings.specs.declared.key.Key.TheVariants.{PerSource, Room}
 use Rattle.script_statement.specs.declared.who.Who.TheVariants.{M}
 use Rattle.replay_report.specs.declared.record.Line.{Line}
 use Rattle.outset.specs.Outset.{first_station}
@@ -21,6 +21,7 @@ use Rattle.each_once.proofs.Sublists.{same-some, from-map}
 use Rattle.half_line.specs.Acts.{LineStationState, HalfState}
 use Rattle.half_line.specs.Complete.{is_to}
 use Rattle.half_line.specs.Issues.{bodies_of}
+use Rattle.half_line.specs.Prompt.{IsOneAtATime}
 use Rattle.half_line.specs.Run.{first_side, plan_of_m, start}
 use Rattle.half_line.proofs.Once.EachStation.{plan_at, setting_of, listed-kept}
 use Rattle.half_line.proofs.Once.Invariant.{Setting}
@@ -118,8 +119,13 @@ first-books check plan has = record {
   answer = record { answers = refl; key = refl };
 }
 
-pub flow-start : (script : Script) (playable : IsHalfPlayable script) → Flow (setting_of script playable) (plan_of_m script).reply_ticks (start script) 0 0 []
-flow-start script playable =
+-- the master may have a command of each source out
+master-sends : (ends : List EndPlan) → AreHalfEnds ends → (other : EndPlan) → 1 ≤ (slice_index_or ends 0 other).per_source
+master-sends [] are other = absurd are
+master-sends (master ∷ stations) are other = (are.0.settings PerSource).0
+
+pub flow-start : (script : Script) (playable : IsHalfPlayable script) → IsOneAtATime script → Flow (setting_of script playable) (plan_of_m script).reply_ticks (start script) 0 0 []
+flow-start script playable single =
     let plans = station_plans script.ends in
     record {
       course = record {
@@ -136,7 +142,7 @@ flow-start script playable =
         tied = tt;
         ledger = record {
           out = None;
-          in_time = record { under_way = tt; in_time = tt };
+          in_time = record { single = (single, master-sends script.ends playable.ends (first_plan M 0)); under_way = tt; in_time = tt };
           is_out = refl;
           fits = tt;
           declared = λ k body at. absurd cc;

@@ -27,9 +27,9 @@ use Rattle.half_line.proofs.Once.LinesOfStation.{executed-same}
 use Rattle.half_line.proofs.Once.MasterOutcomes.{AreDeclared, declared-push}
 use Rattle.half_line.proofs.Once.QuietLines.{IsSilentOf, IsMute}
 use Rattle.half_line.proofs.Complete.AnswerBook.{AnswerBook, numbered-more, answer-issue, answer-same}
-use Rattle.half_line.proofs.Complete.CommandsInTime.{AreInTime, in-time-issue, in-time-hand_out, in-time-tick, in-time-later, under-few, next-body, less_one, ticked_all}
+use Rattle.half_line.proofs.Complete.CommandsInTime.{AreInTime, in-time-issue, in-time-hand_out, in-time-tick, in-time-later, less_one, ticked_all}
 use Rattle.half_line.proofs.Complete.StationBook.{StationBook, first_to, book-issue, book-same, same-node}
-use Rattle.each_once.proofs.InitiatorProgress.{out_count}
+use Rattle.each_once.proofs.InitiatorProgress.{out_count, under-inside}
 
 -- the command that is out: none is; it goes to its station; the station executed it and keeps its reply; or that is on its way to the master
 pub data Stay : Type 0 where
@@ -105,7 +105,7 @@ ran-few (Returning body) out bodies done o = let one = ap out_count o.1 in omega
 pub ledger-few : (setting : Setting) (i : InitiatorState) (listed : List Station) (stations : List LineStationState) (lines : List Line) (stay : Stay) (done ticks : ℕ) → Ledger setting i listed stations lines stay done ticks → done ≤ length (bodies_in i)
 ledger-few setting i listed stations lines stay done ticks l =
     let count = length-map i.issued (λ (c : Issued). c.body) in
-    let some = under-few i.issued done l.out l.in_time.under_way in
+    let some = under-inside i.issued done l.out l.in_time.under_way in
     omega (arith, count, some)
 
 -- ---- a command is issued
@@ -130,21 +130,21 @@ books-issue first number bodies more stay done kept s lines few ran b = record {
   answer = answer-issue first number bodies more done kept lines few b.answer;
 }
 
-pub ledger-issue : (setting : Setting) (i : InitiatorState) (dst : ℕ) (payload : List ℕ) (listed : List Station) (stations : List LineStationState) (lines : List Line) (stay : Stay) (done ticks : ℕ) → IsTrue (is_payload payload) → is_declared setting.numbers dst ≡ true
-    → Ledger setting i listed stations lines stay done ticks → Ledger setting (after_issue i dst payload) listed stations lines stay done ticks
-ledger-issue setting i dst payload listed stations lines stay done ticks may is l =
-    let new : Issued = record { body = next_issued i dst payload; standing = Waiting } in
+pub ledger-issue : (setting : Setting) (i : InitiatorState) (src dst : ℕ) (payload : List ℕ) (listed : List Station) (stations : List LineStationState) (lines : List Line) (stay : Stay) (done ticks : ℕ) → IsTrue (is_payload payload) → is_declared setting.numbers dst ≡ true
+    → Ledger setting i listed stations lines stay done ticks → Ledger setting (after_issue i src dst payload) listed stations lines stay done ticks
+ledger-issue setting i src dst payload listed stations lines stay done ticks may is l =
+    let new : Issued = record { body = next_issued i src dst payload; standing = Waiting } in
     let bodies = bodies_in i in
     let more = map-append (λ (c : Issued). c.body) i.issued (new ∷ []) in
     let count = length-map i.issued (λ (c : Issued). c.body) in
-    let some = under-few i.issued done l.out l.in_time.under_way in
+    let some = under-inside i.issued done l.out l.in_time.under_way in
     let ran = ran-few stay l.out bodies done l.is_out in
     let few : done ≤ length bodies = omega (arith, count, some) in
     record {
       out = l.out;
-      in_time = in-time-issue i dst payload done l.out ticks l.in_time;
+      in_time = in-time-issue i src dst payload done l.out ticks l.in_time;
       is_out = subst (λ (all : List (List ℕ)). IsOutAs stay l.out all done) (sym more) (out-more stay l.out bodies (new.body ∷ []) done l.is_out);
-      fits = issued-fits i dst payload l.fits may;
+      fits = issued-fits i src dst payload l.fits may;
       declared = subst (λ (all : List (List ℕ)). AreDeclared setting.numbers all) (sym more) (declared-push setting.numbers bodies new.body l.declared is);
       in_order = l.in_order ∙ ap numbers_in (sym (numbered-more bodies (new.body ∷ []) done few)) ∙ ap (λ (all : List (List ℕ)). numbers_in (take done (numbered all))) (sym more);
       sides = λ p side at.
@@ -201,14 +201,14 @@ is-nowhere (Going body) out bodies done o none = absurd (let no = sym none ∙ o
 is-nowhere (Kept body) out bodies done o none = absurd (let no = sym none ∙ o.1 in cc)
 is-nowhere (Returning body) out bodies done o none = absurd (let no = sym none ∙ o.1 in cc)
 
-pub ledger-hands : (setting : Setting) (i : InitiatorState) (body : List ℕ) (listed : List Station) (stations : List LineStationState) (lines : List Line) (stay : Stay) (done ticks : ℕ) → next_command i.issued ≡ Some body → Ledger setting i listed stations lines stay done ticks
+pub ledger-hands : (setting : Setting) (i : InitiatorState) (body : List ℕ) (listed : List Station) (stations : List LineStationState) (lines : List Line) (stay : Stay) (done ticks : ℕ) → next_command i ≡ Some body → Ledger setting i listed stations lines stay done ticks
     → (stay ≡ Nowhere) × Ledger setting (after_hand_out i) listed stations lines (Going body) done ticks × (slice_get (bodies_in i) done ≡ Some body)
 ledger-hands setting i body listed stations lines stay done ticks next l =
     let t = in-time-hand_out i body done l.out ticks next l.in_time in
     let nowhere = is-nowhere stay l.out (bodies_in i) done l.is_out t.0 in
     let now : Ledger setting i listed stations lines Nowhere done ticks = subst (λ (s : Stay). Ledger setting i listed stations lines s done ticks) nowhere l in
     let same = bodies-hand_out i in
-    let at = next-body i.issued done l.out body l.in_time.under_way next in (
+    let at = t.2 in (
       nowhere,
       record {
         out = Some i.reply_ticks;

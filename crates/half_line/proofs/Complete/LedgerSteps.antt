@@ -173,7 +173,7 @@ answer-place setting i listed stations lines body reply done ticks fits l =
     let under = subst (λ (o : Option ℕ). AreInTime i done o ticks) l.is_out.1 l.in_time in
     let c = from-map (λ (x : Issued). x.body) i.issued done body l.is_out.2 in
     let r = under-reply i done left c.0 reply under.under_way c.1 (ap (λ (b : List ℕ). is_reply_to b reply) c.2 ∙ fits) in
-    (r.0, record { under_way = r.1; in_time = tt })
+    (r.0, record { single = under.single; under_way = r.1; in_time = tt })
 
 pub ledger-answers : (setting : Setting) (i : InitiatorState) (listed : List Station) (stations : List LineStationState) (lines : List Line) (body : List ℕ) (done ticks : ℕ) (place : ℕ) (side now : LineStationState) (station : Station) → let reply = answer_to (setting.first place) side.number (bodies_in i) done body in
     slice_get stations place ≡ Some side → now.number ≡ side.number → now.slave ≡ side.slave → slice_get listed place ≡ Some station → is_to side.number body ≡ true → is_reply_to body reply ≡ true → is_from side.number reply ≡ true

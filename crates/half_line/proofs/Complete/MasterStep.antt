@@ -1,6 +1,6 @@
 -- What the master does in an undisturbed run: a command is issued, a byte is given to every station.
 use Rattle.std.proofs.Common.{◌≡◌, ◌∙◌, ℕ, zero, suc, ◌≤◌, Bool, true, false, List, [], ◌∷◌, ◌++◌, length, map, Option, Some, None, is_some, refl, ap, sym, subst, arith}
-use Rattle.std.specs.Prelude.{IsTrue, slice_get, slice_index, ◌==◌, ◌||◌, ◌&&◌, if◌then◌else◌}
+use Rattle.std.specs.Prelude.{IsTrue, slice_get, slice_index, unwrap_or, ◌==◌, ◌||◌, ◌&&◌, if◌then◌else◌}
 use Rattle.std.specs.Option.{option_or}
 use Rattle.std.specs.List.{filter}
 use Rattle.std.proofs.lemmas.Bool.{and_parts, eqb-true, eq-eqb}
@@ -53,19 +53,20 @@ tied-more setting bodies more done (Awaits place (Message reply)) stay few tied 
   is = tied.is ∙ ap (λ (all : List (List ℕ)). reply_to (station_after (setting.first place) (filter (is_to tied.here.number) all)) tied.body) (sym (take-append-le done bodies more few));
 }
 
-pub course-issue : (setting : Setting) (m : MasterState NodeState) (stations : List LineStationState) (late ticks : ℕ) (lines : List Line) (dst : ℕ) (payload : List ℕ) → IsTrue (is_payload payload) → is_declared setting.numbers dst ≡ true → Course setting m stations late ticks lines
-    → Course setting (after_issue m dst payload) stations late ticks lines
-course-issue setting m stations late ticks lines dst payload may is c =
+pub course-issue : (setting : Setting) (m : MasterState NodeState) (stations : List LineStationState) (late ticks : ℕ) (lines : List Line) (src : Option ℕ) (dst : ℕ) (payload : List ℕ) → IsTrue (is_payload payload) → is_declared setting.numbers dst ≡ true → Course setting m stations late ticks lines
+    → Course setting (after_issue m src dst payload) stations late ticks lines
+course-issue setting m stations late ticks lines src dst payload may is c =
     let i = m.host.initiator in
-    let new : Issued = record { body = next_issued i dst payload; standing = Waiting } in
+    let source = unwrap_or src i.node in
+    let new : Issued = record { body = next_issued i source dst payload; standing = Waiting } in
     let more = map-append (λ (x : Issued). x.body) i.issued (new ∷ []) in
     record {
       now = c.now;
       stay = c.stay;
       done = c.done;
-      stage = stage-alike late m (after_issue m dst payload) stations c.now (record { ear = refl; mouth = refl; sending = refl }) refl refl c.stage;
+      stage = stage-alike late m (after_issue m src dst payload) stations c.now (record { ear = refl; mouth = refl; sending = refl }) refl refl c.stage;
       tied = subst (λ (all : List (List ℕ)). IsTied setting all c.done c.now c.stay) (sym more) (tied-more setting (bodies_of m) (new.body ∷ []) c.done c.now c.stay (ledger-few setting i m.stations stations lines c.stay c.done ticks c.ledger) c.tied);
-      ledger = ledger-issue setting i dst payload m.stations stations lines c.stay c.done ticks may is c.ledger;
+      ledger = ledger-issue setting i source dst payload m.stations stations lines c.stay c.done ticks may is c.ledger;
     }
 
 -- ---- the next command is handed out
@@ -94,8 +95,8 @@ found setting m stations n k is =
     record { place = at.0; side = side.0; is_at = side.1; number_at = at.1; number = side.2 }
 
 -- of a master that keeps no reply
-next-command : (node : NodeState) (body : List ℕ) → node.replies ≡ [] → next_body node ≡ Some body → next_command node.initiator.issued ≡ Some body
-next-command node body none next = sym (ap (λ (replies : List (List ℕ)). option_or (slice_get replies 0) (next_command node.initiator.issued)) none) ∙ next
+next-command : (node : NodeState) (body : List ℕ) → node.replies ≡ [] → next_body node ≡ Some body → next_command node.initiator ≡ Some body
+next-command node body none next = sym (ap (λ (replies : List (List ℕ)). option_or (slice_get replies 0) (next_command node.initiator)) none) ∙ next
 
 handed-initiator : (node : NodeState) → node.replies ≡ [] → (after_next node).initiator ≡ after_hand_out node.initiator
 handed-initiator node none = ap (λ (replies : List (List ℕ)). if is_some (slice_get replies 0) then node.initiator else after_hand_out node.initiator) none

@@ -61,9 +61,9 @@ stepped setting wait s late ticks lines step none f =
 tick-ear : (m : MasterState NodeState) → (master_after_tick node_host m).ear ≡ m.ear
 tick-ear m = let what = effect_at_tick node_host m in performed-ear (with_host m (host_told node_host (fate_of what) (host_ticked node_host what m.host))) what
 
-flow-issue : (setting : Setting) (wait : ℕ) (s : HalfState) (late ticks : ℕ) (lines : List Line) (dst : ℕ) (payload : List ℕ) → IsTrue (is_payload payload) → is_declared setting.numbers dst ≡ true → Flow setting wait s late ticks lines → Flow setting wait (after_master_deed s (Issue dst payload)) late ticks lines
-flow-issue setting wait s late ticks lines dst payload may is f = record {
-  course = course-issue setting s.master s.stations late ticks lines dst payload may is f.course;
+flow-issue : (setting : Setting) (wait : ℕ) (s : HalfState) (late ticks : ℕ) (lines : List Line) (src : Option ℕ) (dst : ℕ) (payload : List ℕ) → IsTrue (is_payload payload) → is_declared setting.numbers dst ≡ true → Flow setting wait s late ticks lines → Flow setting wait (after_master_deed s (Issue src dst payload)) late ticks lines
+flow-issue setting wait s late ticks lines src dst payload may is f = record {
+  course = course-issue setting s.master s.stations late ticks lines src dst payload may is f.course;
   check = f.check;
   waits = f.waits;
   honest = f.honest;
@@ -99,7 +99,7 @@ flow-with setting wait s late ticks lines place deed (Some side) at gentle k f =
 
 flow-step : (setting : Setting) (wait : ℕ) (s : HalfState) (late ticks : ℕ) (lines : List Line) (step : UnitStep) → IsPlain step → Known setting s.master s.stations → IsGentle s step → late_after late s step < patience (after_step s step) → ticks + ticks_of step < wait → Flow setting wait s late ticks lines
     → Flow setting wait (after_step s step) (late_after late s step) (ticks + ticks_of step) (lines ++ lines_at s step)
-flow-step setting wait s late ticks lines (AtMaster (Issue dst payload)) plain k gentle patient few f = absurd plain
+flow-step setting wait s late ticks lines (AtMaster (Issue src dst payload)) plain k gentle patient few f = absurd plain
 flow-step setting wait s late ticks lines (AtMaster Give) plain k gentle patient few f =
     stepped setting wait s late ticks (lines ++ []) (AtMaster Give) refl (subst (λ (all : List Line). Flow setting wait (after_master_deed s Give) late ticks all) (sym (append-nil lines)) (flow-give setting wait s late ticks lines k f))
 flow-step setting wait s late ticks lines (AtMaster Tick) plain k gentle patient few f = flow-tick setting wait s late ticks lines k few patient f
@@ -137,9 +137,9 @@ along-steps setting wait count (step ∷ steps) plain few short s late ticks lin
     (subst (λ (all : List Line). Along setting wait count (after_steps now steps) (late_over (late_after late s step) now steps) (ticks + ticks_of step + ticks_over steps) all) (append_assoc lines (lines_at s step) (lines_over now steps)) more)
 
 -- a command is issued
-pub along-issue : (setting : Setting) (wait count : ℕ) (s : HalfState) (late ticks : ℕ) (lines : List Line) (dst : ℕ) (payload : List ℕ) → IsTrue (is_payload payload) → is_declared setting.numbers dst ≡ true → count < 65535 → Along setting wait count s late ticks lines
-    → Along setting wait (count + 1) (after_master_deed s (Issue dst payload)) (late_after late s (AtMaster (Issue dst payload))) (ticks + 0) lines
-along-issue setting wait count s late ticks lines dst payload may is few a = record {
-  kept = λ none. holds-issue setting count s dst payload lines may few (a.kept a.flow.honest);
-  flow = stepped setting wait s late ticks lines (AtMaster (Issue dst payload)) refl (flow-issue setting wait s late ticks lines dst payload may is a.flow);
+pub along-issue : (setting : Setting) (wait count : ℕ) (s : HalfState) (late ticks : ℕ) (lines : List Line) (src : Option ℕ) (dst : ℕ) (payload : List ℕ) → IsTrue (is_payload payload) → is_declared setting.numbers dst ≡ true → count < 65535 → Along setting wait count s late ticks lines
+    → Along setting wait (count + 1) (after_master_deed s (Issue src dst payload)) (late_after late s (AtMaster (Issue src dst payload))) (ticks + 0) lines
+along-issue setting wait count s late ticks lines src dst payload may is few a = record {
+  kept = λ none. holds-issue setting count s src dst payload lines may few (a.kept a.flow.honest);
+  flow = stepped setting wait s late ticks lines (AtMaster (Issue src dst payload)) refl (flow-issue setting wait s late ticks lines src dst payload may is a.flow);
 }

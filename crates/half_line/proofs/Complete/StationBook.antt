@@ -153,7 +153,7 @@ fetched node = record node { replies = []; last = handed.Reply }
 
 pub one-fetched : (node : NodeState) (reply : List ℕ) → node.replies ≡ reply ∷ [] → after_next node ≡ fetched node
 one-fetched node reply is =
-    ap (λ (replies : List (List ℕ)). let now : NodeState = record node { replies = drop 1 replies; initiator = if is_some (slice_get replies 0) then node.initiator else after_hand_out node.initiator; last = if is_some (slice_get replies 0) then handed.Reply else option_map_or handed.Command (next_place node.initiator.issued) node.last } in now) is
+    ap (λ (replies : List (List ℕ)). let now : NodeState = record node { replies = drop 1 replies; initiator = if is_some (slice_get replies 0) then node.initiator else after_hand_out node.initiator; last = if is_some (slice_get replies 0) then handed.Reply else option_map_or handed.Command (next_place node.initiator) node.last } in now) is
 
 pub book-fetched : (first : StationState) (number : ℕ) (bodies : List (List ℕ)) (ran : ℕ) (reply : List ℕ) (s after : SlaveState NodeState) (lines more : List Line) → after.host ≡ after_next s.host → after.kept ≡ s.kept → executed_in (S number) more ≡ []
     → StationBook first number bodies ran (reply ∷ []) s lines → StationBook first number bodies ran [] after (lines ++ more)

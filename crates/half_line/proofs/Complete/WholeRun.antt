@@ -41,7 +41,7 @@ use Rattle.half_line.proofs.Once.MasterCommands.{issued-run}
 use Rattle.half_line.proofs.Once.QuietLines.{sent-silent, sent-mute}
 use Rattle.half_line.proofs.Once.WholeRun.{ArePlain, plain-with, plain-master, plain-take, counted, counted-more, with-bytes}
 use Rattle.half_line.proofs.Complete.AnswerBook.{is_numbered_to}
-use Rattle.half_line.proofs.Complete.CommandsInTime.{next-body}
+use Rattle.half_line.proofs.Complete.CommandsInTime.{in-time-hand_out}
 use Rattle.half_line.proofs.Complete.Invariant.{Flow, IsTied, rooms, flow-start}
 use Rattle.half_line.proofs.Complete.Ledger.{Nowhere, Going, Kept, Returning, Stay, IsHome, due_if, numbers_in, answer_to, Ledger, ledger-lines}
 use Rattle.half_line.proofs.Complete.LineFacts.{AreShort, Known, known}
@@ -74,7 +74,7 @@ take-ticks stations who n None = gives-none n
 take-ticks stations who n (Some number) = ticks-with (place_of stations number) (replicate n StationGives)
 
 event-ticks : (s : HalfState) (e : Event) → ticks_over (steps_of s e) ≡ ticks_at e
-event-ticks s (event.Issue who dst payload) = refl
+event-ticks s (event.Issue who src dst payload) = refl
 event-ticks s (event.Take who n) = take-ticks s.stations who n (number_of who)
 event-ticks s (event.Deliver lane n) = ticks-with (place_of s.stations (station_between lane.from lane.to)) (link_deeds (event.Deliver lane n))
 event-ticks s (event.Lose lane n) = ticks-with (place_of s.stations (station_between lane.from lane.to)) (link_deeds (event.Lose lane n))
@@ -117,9 +117,9 @@ plain-along setting wait count s late ticks lines e plain few short prompt less 
 
 event-along : (setting : Setting) (wait count : ℕ) (s : HalfState) (late ticks : ℕ) (lines : List Line) (e : Event) → IsHalfPossible setting.numbers e → count ≤ 65535 → counted count e ≤ 65535 → AreShort setting → IsPromptOver late s (steps_of s e) → ticks + ticks_at e < wait
     → Along setting wait count s late ticks lines → Along setting wait (counted count e) (after_event s e) (late_event late s e) (ticks + ticks_at e) (lines ++ lines_of s e)
-event-along setting wait count s late ticks lines (event.Issue who dst payload) may few more short prompt less a =
-    subst (λ (told : List Line). Along setting wait (count + 1) (after_event s (event.Issue who dst payload)) (late_event late s (event.Issue who dst payload)) (ticks + 0) told) (sym (append-nil lines))
-    (along-issue setting wait count s late ticks lines dst payload may.2 may.1 (omega (arith, more)) a)
+event-along setting wait count s late ticks lines (event.Issue who src dst payload) may few more short prompt less a =
+    subst (λ (told : List Line). Along setting wait (count + 1) (after_event s (event.Issue who src dst payload)) (late_event late s (event.Issue who src dst payload)) (ticks + 0) told) (sym (append-nil lines))
+    (along-issue setting wait count s late ticks lines src dst payload may.2 may.1 (omega (arith, more)) a)
 event-along setting wait count s late ticks lines (event.Take who n) may few more short prompt less a = plain-along setting wait count s late ticks lines (event.Take who n) (plain-take s.stations who n (number_of who)) few short prompt less a
 event-along setting wait count s late ticks lines (event.Deliver lane n) may few more short prompt less a =
     plain-along setting wait count s late ticks lines (event.Deliver lane n) (plain-with (place_of s.stations (station_between lane.from lane.to)) (link_deeds (event.Deliver lane n))) few short prompt less a
@@ -174,14 +174,14 @@ none-kept setting s lines done ticks (Kept body) k fetched home l =
     absurd (let no : [] ≡ answer_to first f.side.number (bodies_of s.master) done body ∷ [] = sym none ∙ waits in cc)
 
 -- the master has none to hand out
-none-waits : (setting : Setting) (s : HalfState) (lines : List Line) (stay : Stay) (done ticks : ℕ) (o : Option (List ℕ)) → next_command s.master.host.initiator.issued ≡ o → Known setting s.master s.stations → ((body : List ℕ) → next_body s.master.host ≡ Some body → is_listed s.master.stations (slice_index body 0) ≡ true → ⊥) → Ledger setting s.master.host.initiator s.master.stations s.stations lines stay done ticks
-    → next_command s.master.host.initiator.issued ≡ None
+none-waits : (setting : Setting) (s : HalfState) (lines : List Line) (stay : Stay) (done ticks : ℕ) (o : Option (List ℕ)) → next_command s.master.host.initiator ≡ o → Known setting s.master s.stations → ((body : List ℕ) → next_body s.master.host ≡ Some body → is_listed s.master.stations (slice_index body 0) ≡ true → ⊥) → Ledger setting s.master.host.initiator s.master.stations s.stations lines stay done ticks
+    → next_command s.master.host.initiator ≡ None
 none-waits setting s lines stay done ticks None is k n l = is
 none-waits setting s lines stay done ticks (Some body) is k n l =
     let m = s.master in
-    let at = next-body m.host.initiator.issued done l.out body l.in_time.under_way is in
+    let at = (in-time-hand_out m.host.initiator body done l.out ticks is l.in_time).2 in
     let listed : is_listed m.stations (slice_index body 0) ≡ true = listed-number m.stations (slice_index body 0) ∙ ap (λ (ns : List ℕ). is_declared ns (slice_index body 0)) k.list_is ∙ l.declared done body at in
-    absurd (n body (ap (λ (replies : List (List ℕ)). option_or (slice_get replies 0) (next_command m.host.initiator.issued)) k.replies_none ∙ is) listed)
+    absurd (n body (ap (λ (replies : List (List ℕ)). option_or (slice_get replies 0) (next_command m.host.initiator)) k.replies_none ∙ is) listed)
 
 -- so all are answered
 record AllAnswered (setting : Setting) (s : HalfState) (lines : List Line) : Type 0 where
@@ -197,9 +197,9 @@ all-answered setting wait s late ticks lines k quiet fetched f =
     let home = quiet-home setting s late (bodies_of s.master) c.done c.now c.stay c.stage quiet c.tied in
     let nowhere = none-kept setting s lines c.done ticks c.stay k fetched home c.ledger in
     let l = subst (λ (stay : Stay). Ledger setting s.master.host.initiator s.master.stations s.stations lines stay c.done ticks) nowhere c.ledger in
-    let none = none-waits setting s lines Nowhere c.done ticks (next_command issued) refl k (λ body. nothing-ready late s c.now body c.stage quiet) l in
+    let none = none-waits setting s lines Nowhere c.done ticks (next_command s.master.host.initiator) refl k (λ body. nothing-ready late s c.now body c.stage quiet) l in
     let under : IsUnderWay issued c.done None = subst (λ (out : Option ℕ). IsUnderWay issued c.done out) l.is_out l.in_time.under_way in
-    record { done = c.done; ticks = ticks; count = length-map issued (λ (x : Issued). x.body) ∙ (under-all issued c.done under none).0; ledger = l }
+    record { done = c.done; ticks = ticks; count = length-map issued (λ (x : Issued). x.body) ∙ (under-all s.master.host.initiator c.done l.in_time.single under none).0; ledger = l }
 
 -- ---- what the record tells of one station
 
@@ -252,7 +252,7 @@ is-complete script playable undisturbed =
     let wait = (plan_of_m script).reply_ticks in
     let plans = station_plans script.ends in
     let short = are-short script playable in
-    let begins : Along setting wait 0 (start script) 0 0 [] = record { kept = λ none. holds-start script playable; flow = flow-start script playable } in
+    let begins : Along setting wait 0 (start script) 0 0 [] = record { kept = λ none. holds-start script playable; flow = flow-start script playable undisturbed.single } in
     let e = events-along setting wait 0 script.events (start script) 0 0 [] playable.events (omega (arith, playable.commands)) short undisturbed.prompt (omega (arith, undisturbed.few_ticks)) begins in
     let f = e.along.flow in
     let h = e.along.kept f.honest in

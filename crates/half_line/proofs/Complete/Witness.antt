@@ -158,6 +158,7 @@ polled_write-fetched = all KeepsNone (last_state polled_write).stations (record 
 
 pub polled_write-undisturbed : IsUndisturbed polled_write
 polled_write-undisturbed = record {
+  single = refl;
   prompt = prompt-after 0 (start polled_write) polled_write.events polled_write-checked;
   quiet = polled_write-quiet;
   few_ticks = omega arith;

@@ -25,12 +25,12 @@ use Rattle.each_once.specs.Exchanges.{exchanges, station_after}
 use Rattle.each_once.specs.OfStation.{lines_of}
 use Rattle.each_once.specs.Once.{Once, IsReplyTo, IsAstray}
 use Rattle.each_once.specs.Tells.{executed_in, answers_in, strays_in, given_up_in}
-use Rattle.each_once.proofs.HandedOut.{handed-front}
+use Rattle.each_once.proofs.HandedOut.{waits_of}
 use Rattle.each_once.proofs.IssuingNode.{issues-start}
 use Rattle.each_once.proofs.KeptCommands.{IsReplyOf, IsOfLost}
 use Rattle.each_once.proofs.OneDirection.{way-start, way-within}
-use Rattle.each_once.proofs.RisingPlaces.{some-of, are-apart}
-use Rattle.each_once.proofs.Sublists.{IsWithin, within-front, from-map, same-some}
+use Rattle.each_once.proofs.RisingPlaces.{some-in-turn, are-apart}
+use Rattle.each_once.proofs.Sublists.{from-map, same-some}
 use Rattle.each_once.proofs.ToldLines.{told-start}
 use Rattle.each_once.proofs.ToldReplies.{reply-to, one-outcome, astray-told}
 use Rattle.half_line.specs.Acts.{LineStationState, HalfState}
@@ -123,12 +123,11 @@ once-of setting count s lines p side few told h at =
     let executed = this.executed in
     let own = lines_of side.number lines in
     let answered = exchanges (setting.first p) executed in
-    let front = handed-front issued h.commands h.master.issues.initiates.in_order in
-    let within = within-front executed h.commands front.0 (way-within h.commands (marks side.to_it) side.slave.kept executed this.way) in
+    let within = way-within h.commands (marks side.to_it) side.slave.kept executed this.way in
     let same : executed_in (S side.number) own ≡ executed = this.told.executes in
     record {
       apart = are-apart s.master.host.initiator.tns issued (subst (λ n. n ≤ 65535) (sym h.master.count_is) few) h.master.issues.initiates.numbered;
-      in_order = rw same (some-of executed bodies (subst (λ (all : List (List ℕ)). IsWithin executed all) (sym front.1) within));
+      in_order = rw same (some-in-turn executed h.commands bodies (waits_of issued) within h.master.issues.initiates.in_order);
       answers = rw same (all-as (λ a. IsReplyOf issued answered a.0 a.1) (λ a. IsReplyTo bodies answered a.0 a.1) (answers_in M own) (λ a. reply-to issued answered a.0 a.1) this.told.answered);
       outcomes = λ n. outcomes-fewer side.number n lines (one-outcome M issued lines told n);
       strays = rw (same, given-up-same side.number lines) (all-as (IsOfLost issued answered) (IsAstray bodies answered (given_up_in M lines)) (strays_in M own) (λ reply. astray-told M issued lines answered reply told) this.told.astray);

@@ -91,7 +91,7 @@ master-deed check arrivals s (OnLane ToStation deed) h = rw (append-nil arrivals
 master-deed check arrivals s (OnLane ToMaster deed) h = master-arrival check arrivals s (lane_after s.side.from_it deed) (arriving s.side.from_it deed) h
 
 master-own : (check : Check) (arrivals : List master.Arrival) (m : MasterState NodeState) (deed : MasterDeed) → MasterHears check arrivals m → MasterHears check arrivals (master_after m deed)
-master-own check arrivals m (Issue dst payload) h = record { stands = h.stands; heard = h.heard }
+master-own check arrivals m (Issue src dst payload) h = record { stands = h.stands; heard = h.heard }
 master-own check arrivals m Give h = record { stands = master_ear.stands-take node_host m check (master.bytes_arrived arrivals) h.stands; heard = h.heard }
 master-own check arrivals m Tick h = record { stands = master_ear.stands-tick node_host m check (master.bytes_arrived arrivals) h.stands; heard = h.heard }
 
@@ -119,7 +119,7 @@ joined-stands check bytes cells (Some old) side is h = subst (λ (t : LineStatio
 
 stations-own : (check : Check) (at : ℕ → List slave.Arrival) (s : HalfState) (deed : MasterDeed) → ((place : ℕ) (side : LineStationState) → slice_get s.stations place ≡ Some side → slave.StandsFor check (slave.bytes_arrived (at place)) side.slave)
     → (place : ℕ) (side : LineStationState) → slice_get (after_step s (AtMaster deed)).stations place ≡ Some side → slave.StandsFor check (slave.bytes_arrived (at place)) side.slave
-stations-own check at s (Issue dst payload) h place side is = h place side is
+stations-own check at s (Issue src dst payload) h place side is = h place side is
 stations-own check at s Give h place side is =
     joined-stands check (slave.bytes_arrived (at place)) (cells_given s.master) (slice_get s.stations place) side (sym (slice_get-map (joined (cells_given s.master)) s.stations place) ∙ is) (h place)
 stations-own check at s Tick h place side is = h place side is

@@ -1,6 +1,6 @@
 -- In every run the master's commands are those that the script issues; and the stations keep their numbers.
 use Rattle.std.proofs.Common.{◌≡◌, ◌∙◌, ℕ, ◌+◌, zero, suc, List, [], ◌∷◌, ◌++◌, map, length, Option, Some, None, refl, ap, sym, subst, append-nil, append_assoc, length-append, arith}
-use Rattle.std.specs.Prelude.{replicate, slice_get}
+use Rattle.std.specs.Prelude.{replicate, slice_get, unwrap_or}
 use Rattle.std.proofs.lemmas.List.{length-map}
 use Rattle.std.proofs.lemmas.List.Elements.{filter_map-append}
 use Rattle.df1_node.specs.Initiator.{InitiatorState, Issued}
@@ -61,69 +61,71 @@ same-with : (s : HalfState) (place : ℕ) (deed : LinkDeed) (o : Option LineStat
 same-with s place deed None = same-itself (initiator_of s.master)
 same-with s place deed (Some side) = same-link (link_of s side) deed
 
--- what is issued at a unit step
-abbrev pub requests_of : UnitStep → List Request
-requests_of (AtMaster (Issue dst payload)) = record { dst = dst; payload = payload } ∷ []
-requests_of (AtMaster Give) = []
-requests_of (AtMaster Tick) = []
-requests_of (AtStation place deed) = []
+-- what is issued at a unit step of a master of this address
+abbrev pub requests_of : ℕ → UnitStep → List Request
+requests_of node (AtMaster (Issue src dst payload)) = record { src = unwrap_or src node; dst = dst; payload = payload } ∷ []
+requests_of node (AtMaster Give) = []
+requests_of node (AtMaster Tick) = []
+requests_of node (AtStation place deed) = []
 
-pub issued-step : (node tns : ℕ) (requests : List Request) (s : HalfState) (step : UnitStep) → AreIssued node tns requests (initiator_of s.master) → AreIssued node tns (requests ++ requests_of step) (initiator_of (after_step s step).master)
-issued-step node tns requests s (AtMaster (Issue dst payload)) i = issued-more node tns requests (initiator_of s.master) dst payload i
+pub issued-step : (node tns : ℕ) (requests : List Request) (s : HalfState) (step : UnitStep) → AreIssued node tns requests (initiator_of s.master) → AreIssued node tns (requests ++ requests_of node step) (initiator_of (after_step s step).master)
+issued-step node tns requests s (AtMaster (Issue src dst payload)) i =
+    subst (λ (own : ℕ). AreIssued node tns (requests ++ record { src = unwrap_or src own; dst = dst; payload = payload } ∷ []) (initiator_of (after_step s (AtMaster (Issue src dst payload))).master)) i.node_is
+    (issued-more node tns requests (initiator_of s.master) (unwrap_or src (initiator_of s.master).node) dst payload i)
 issued-step node tns requests s (AtMaster Give) i = rw (append-nil requests) (issued-same node tns requests (initiator_of s.master) _ (same-take s.master) i)
 issued-step node tns requests s (AtMaster Tick) i = rw (append-nil requests) (issued-same node tns requests (initiator_of s.master) _ (same-at-tick s.master) i)
 issued-step node tns requests s (AtStation place deed) i = rw (append-nil requests) (issued-same node tns requests (initiator_of s.master) _ (same-with s place deed (slice_get s.stations place)) i)
 
-abbrev pub requests_over : List UnitStep → List Request
-requests_over [] = []
-requests_over (step ∷ steps) = requests_of step ++ requests_over steps
+abbrev pub requests_over : ℕ → List UnitStep → List Request
+requests_over node [] = []
+requests_over node (step ∷ steps) = requests_of node step ++ requests_over node steps
 
-issued-steps : (node tns : ℕ) (steps : List UnitStep) (requests : List Request) (s : HalfState) → AreIssued node tns requests (initiator_of s.master) → AreIssued node tns (requests ++ requests_over steps) (initiator_of (after_steps s steps).master)
+issued-steps : (node tns : ℕ) (steps : List UnitStep) (requests : List Request) (s : HalfState) → AreIssued node tns requests (initiator_of s.master) → AreIssued node tns (requests ++ requests_over node steps) (initiator_of (after_steps s steps).master)
 issued-steps node tns [] requests s i = rw (append-nil requests) i
 issued-steps node tns (step ∷ steps) requests s i =
-    subst (λ (all : List Request). AreIssued node tns all (initiator_of (after_steps (after_step s step) steps).master)) (append_assoc requests (requests_of step) (requests_over steps))
-    (issued-steps node tns steps (requests ++ requests_of step) (after_step s step) (issued-step node tns requests s step i))
+    subst (λ (all : List Request). AreIssued node tns all (initiator_of (after_steps (after_step s step) steps).master)) (append_assoc requests (requests_of node step) (requests_over node steps))
+    (issued-steps node tns steps (requests ++ requests_of node step) (after_step s step) (issued-step node tns requests s step i))
 
 -- ---- events
 
-none-master : (deed : MasterDeed) → requests_of (AtMaster deed) ≡ [] → (n : ℕ) → requests_over (map AtMaster (replicate n deed)) ≡ []
-none-master deed none zero = refl
-none-master deed none (suc n) = ap (λ (rs : List Request). rs ++ requests_over (map AtMaster (replicate n deed))) none ∙ none-master deed none n
+none-master : (node : ℕ) (deed : MasterDeed) → requests_of node (AtMaster deed) ≡ [] → (n : ℕ) → requests_over node (map AtMaster (replicate n deed)) ≡ []
+none-master node deed none zero = refl
+none-master node deed none (suc n) = ap (λ (rs : List Request). rs ++ requests_over node (map AtMaster (replicate n deed))) none ∙ none-master node deed none n
 
-none-station : (place : ℕ) (deeds : List LinkDeed) → requests_over (map (AtStation place) deeds) ≡ []
-none-station place [] = refl
-none-station place (deed ∷ deeds) = none-station place deeds
+none-station : (node place : ℕ) (deeds : List LinkDeed) → requests_over node (map (AtStation place) deeds) ≡ []
+none-station node place [] = refl
+none-station node place (deed ∷ deeds) = none-station node place deeds
 
-none-with : (place : Option ℕ) (deeds : List LinkDeed) → requests_over (steps_with place deeds) ≡ []
-none-with None deeds = refl
-none-with (Some place) deeds = none-station place deeds
+none-with : (node : ℕ) (place : Option ℕ) (deeds : List LinkDeed) → requests_over node (steps_with place deeds) ≡ []
+none-with node None deeds = refl
+none-with node (Some place) deeds = none-station node place deeds
 
-none-take : (stations : List LineStationState) (e : Event) (n : ℕ) (number : Option ℕ) → master_deeds e ≡ replicate n Give → requests_over (steps_at stations number e) ≡ []
-none-take stations e n None is = ap (λ (deeds : List MasterDeed). requests_over (map AtMaster deeds)) is ∙ none-master Give refl n
-none-take stations e n (Some number) is = none-with (place_of stations number) (link_deeds e)
+none-take : (node : ℕ) (stations : List LineStationState) (e : Event) (n : ℕ) (number : Option ℕ) → master_deeds e ≡ replicate n Give → requests_over node (steps_at stations number e) ≡ []
+none-take node stations e n None is = ap (λ (deeds : List MasterDeed). requests_over node (map AtMaster deeds)) is ∙ none-master node Give refl n
+none-take node stations e n (Some number) is = none-with node (place_of stations number) (link_deeds e)
 
-pub requests-event : (s : HalfState) (e : Event) → requests_over (steps_of s e) ≡ requests_in (e ∷ [])
-requests-event s (event.Issue by dst payload) = refl
-requests-event s (event.Take who n) = none-take s.stations (event.Take who n) n (station_at (event.Take who n)) refl
-requests-event s (event.Deliver lane n) = none-take s.stations (event.Deliver lane n) 0 (station_at (event.Deliver lane n)) refl
-requests-event s (event.Lose lane n) = none-take s.stations (event.Lose lane n) 0 (station_at (event.Lose lane n)) refl
-requests-event s (event.Alter lane mask) = none-take s.stations (event.Alter lane mask) 0 (station_at (event.Alter lane mask)) refl
-requests-event s (event.Foreign lane bytes) = none-take s.stations (event.Foreign lane bytes) 0 (station_at (event.Foreign lane bytes)) refl
-requests-event s (event.Tick who n) = none-master Tick refl n
+pub requests-event : (node : ℕ) (s : HalfState) (e : Event) → requests_over node (steps_of s e) ≡ requests_in node (e ∷ [])
+requests-event node s (event.Issue by src dst payload) = refl
+requests-event node s (event.Take who n) = none-take node s.stations (event.Take who n) n (station_at (event.Take who n)) refl
+requests-event node s (event.Deliver lane n) = none-take node s.stations (event.Deliver lane n) 0 (station_at (event.Deliver lane n)) refl
+requests-event node s (event.Lose lane n) = none-take node s.stations (event.Lose lane n) 0 (station_at (event.Lose lane n)) refl
+requests-event node s (event.Alter lane mask) = none-take node s.stations (event.Alter lane mask) 0 (station_at (event.Alter lane mask)) refl
+requests-event node s (event.Foreign lane bytes) = none-take node s.stations (event.Foreign lane bytes) 0 (station_at (event.Foreign lane bytes)) refl
+requests-event node s (event.Tick who n) = none-master node Tick refl n
 
-pub issued-event : (node tns : ℕ) (requests : List Request) (s : HalfState) (e : Event) → AreIssued node tns requests (initiator_of s.master) → AreIssued node tns (requests ++ requests_in (e ∷ [])) (initiator_of (after_event s e).master)
+pub issued-event : (node tns : ℕ) (requests : List Request) (s : HalfState) (e : Event) → AreIssued node tns requests (initiator_of s.master) → AreIssued node tns (requests ++ requests_in node (e ∷ [])) (initiator_of (after_event s e).master)
 issued-event node tns requests s e i =
-    subst (λ (more : List Request). AreIssued node tns (requests ++ more) (initiator_of (after_event s e).master)) (requests-event s e) (issued-steps node tns (steps_of s e) requests s i)
+    subst (λ (more : List Request). AreIssued node tns (requests ++ more) (initiator_of (after_event s e).master)) (requests-event node s e) (issued-steps node tns (steps_of s e) requests s i)
 
-issued-events : (node tns : ℕ) (events : List Event) (requests : List Request) (s : HalfState) → AreIssued node tns requests (initiator_of s.master) → AreIssued node tns (requests ++ requests_in events) (initiator_of (state_after s events).master)
+issued-events : (node tns : ℕ) (events : List Event) (requests : List Request) (s : HalfState) → AreIssued node tns requests (initiator_of s.master) → AreIssued node tns (requests ++ requests_in node events) (initiator_of (state_after s events).master)
 issued-events node tns [] requests s i = rw (append-nil requests) i
 issued-events node tns (e ∷ events) requests s i =
-    let all : (requests ++ requests_in (e ∷ [])) ++ requests_in events ≡ requests ++ requests_in (e ∷ events) =
-    append_assoc requests (requests_in (e ∷ [])) (requests_in events) ∙ ap (λ (rs : List Request). requests ++ rs) (sym (filter_map-append request_at (e ∷ []) events)) in
+    let all : (requests ++ requests_in node (e ∷ [])) ++ requests_in node events ≡ requests ++ requests_in node (e ∷ events) =
+    append_assoc requests (requests_in node (e ∷ [])) (requests_in node events) ∙ ap (λ (rs : List Request). requests ++ rs) (sym (filter_map-append (request_at node) (e ∷ []) events)) in
     subst (λ (rs : List Request). AreIssued node tns rs (initiator_of (state_after (after_event s e) events).master)) all
-    (issued-events node tns events (requests ++ requests_in (e ∷ [])) (after_event s e) (issued-event node tns requests s e i))
+    (issued-events node tns events (requests ++ requests_in node (e ∷ [])) (after_event s e) (issued-event node tns requests s e i))
 
-pub issued-run : (script : Script) → AreIssued (plan_of_m script).node (plan_of_m script).tns (requests_in script.events) (initiator_of (last_state script).master)
+pub issued-run : (script : Script) → AreIssued (plan_of_m script).node (plan_of_m script).tns (requests_in (plan_of_m script).node script.events) (initiator_of (last_state script).master)
 issued-run script = issued-events (plan_of_m script).node (plan_of_m script).tns script.events [] (start script) (record { node_is = refl; tns_is = refl; bodies = refl })
 
 -- ---- how many commands there are
@@ -132,20 +134,20 @@ issued-run script = issued-events (plan_of_m script).node (plan_of_m script).tns
 count-same : (s t : InitiatorState) → SameCommands s t → length t.issued ≡ length s.issued
 count-same s t same = sym (length-map t.issued (λ (c : Issued). c.body)) ∙ ap length same.bodies ∙ length-map s.issued (λ (c : Issued). c.body)
 
-count-step : (s : HalfState) (step : UnitStep) → issued_by (after_step s step).master ≡ issued_by s.master + length (requests_of step)
-count-step s (AtMaster (Issue dst payload)) = length-append s.master.host.initiator.issued _
-count-step s (AtMaster Give) = let same = count-same (initiator_of s.master) _ (same-take s.master) in omega (arith, same)
-count-step s (AtMaster Tick) = let same = count-same (initiator_of s.master) _ (same-at-tick s.master) in omega (arith, same)
-count-step s (AtStation place deed) = let same = count-same (initiator_of s.master) _ (same-with s place deed (slice_get s.stations place)) in omega (arith, same)
+count-step : (node : ℕ) (s : HalfState) (step : UnitStep) → issued_by (after_step s step).master ≡ issued_by s.master + length (requests_of node step)
+count-step node s (AtMaster (Issue src dst payload)) = length-append s.master.host.initiator.issued _
+count-step node s (AtMaster Give) = let same = count-same (initiator_of s.master) _ (same-take s.master) in omega (arith, same)
+count-step node s (AtMaster Tick) = let same = count-same (initiator_of s.master) _ (same-at-tick s.master) in omega (arith, same)
+count-step node s (AtStation place deed) = let same = count-same (initiator_of s.master) _ (same-with s place deed (slice_get s.stations place)) in omega (arith, same)
 
-count-steps : (steps : List UnitStep) (s : HalfState) → issued_by (after_steps s steps).master ≡ issued_by s.master + length (requests_over steps)
-count-steps [] s = omega arith
-count-steps (step ∷ steps) s =
-    let rest = count-steps steps (after_step s step) in
-    let now = count-step s step in
-    let both = length-append (requests_of step) (requests_over steps) in
+count-steps : (node : ℕ) (steps : List UnitStep) (s : HalfState) → issued_by (after_steps s steps).master ≡ issued_by s.master + length (requests_over node steps)
+count-steps node [] s = omega arith
+count-steps node (step ∷ steps) s =
+    let rest = count-steps node steps (after_step s step) in
+    let now = count-step node s step in
+    let both = length-append (requests_of node step) (requests_over node steps) in
     omega (arith, rest, now, both)
 
 -- an event adds the commands that it issues
-pub commands-of-m : (e : Event) (s : HalfState) → issued_by (after_event s e).master ≡ issued_by s.master + length (requests_in (e ∷ []))
-commands-of-m e s = count-steps (steps_of s e) s ∙ ap (λ (rs : List Request). issued_by s.master + length rs) (requests-event s e)
+pub commands-of-m : (node : ℕ) (e : Event) (s : HalfState) → issued_by (after_event s e).master ≡ issued_by s.master + length (requests_in node (e ∷ []))
+commands-of-m node e s = count-steps node (steps_of s e) s ∙ ap (λ (rs : List Request). issued_by s.master + length rs) (requests-event node s e)

@@ -1,11 +1,11 @@
 -- In every run, whatever is heard: the lines tell of each command of the master how it ended, once, and of no other.
-use Rattle.std.proofs.Common.{◌≡◌, ◌∙◌, ℕ, zero, suc, find, Bool, true, false, List, [], ◌∷◌, ◌++◌, map, Option, Some, None, is_some, cond, refl, ap, ap₂, sym, subst, append-nil, append_assoc}
-use Rattle.std.specs.Prelude.{All, slice_get, slice_index, replicate, if◌then◌else◌}
+use Rattle.std.proofs.Common.{◌≡◌, ◌∙◌, ℕ, zero, suc, Bool, true, false, List, [], ◌∷◌, ◌++◌, map, Option, Some, None, is_some, refl, ap, ap₂, sym, subst, append-nil, append_assoc}
+use Rattle.std.specs.Prelude.{All, slice_get, slice_index, replicate, unwrap_or, if◌then◌else◌}
 use Rattle.std.specs.Option.{option_map, option_map_or, option_or}
-use Rattle.std.specs.List.{list_any}
 use Rattle.std.proofs.lemmas.Bool.{cond_both}
 use Rattle.std.proofs.lemmas.List.{map-append}
 use Rattle.std.proofs.lemmas.List.Elements.{All-head, All-tail}
+use Rattle.std.proofs.lemmas.Option.{slice_get-map}
 use Rattle.df1_base.specs.declared.host.Did.{Did}
 use Rattle.df1_base.specs.declared.host.Did.TheVariants as did
 use Rattle.df1_base.specs.declared.host.Fate.{Fate}
@@ -18,7 +18,7 @@ use Rattle.df1_base.specs.declared.link.Step.{Step}
 use Rattle.df1_base.specs.declared.link.Turn.{Turn}
 use Rattle.df1_base.specs.HostAnswers.{host_told, news_of}
 use Rattle.df1_node.specs.declared.handed.Handed.TheVariants as handed
-use Rattle.df1_node.specs.Initiator.{Issued, Waiting, InitiatorState, is_waiting, is_out, next_command, next_place, next_issued}
+use Rattle.df1_node.specs.Initiator.{Issued, Waiting, InitiatorState, next_command, next_place, next_issued}
 use Rattle.df1_node.specs.Node.{NodeState, did_accept, after_accept, after_next, after_told, after_tick, gone_unanswered, initiator_after}
 use Rattle.half_master.specs.Emission.{Byte, Tick as TickLetter, Take as TakeLetter}
 use Rattle.half_master.specs.Master.{MasterState, body_of, with_byte, with_host, begun_of, message_next, master_after_byte, master_after_tick, master_after_take, step_at_byte}
@@ -38,7 +38,7 @@ use Rattle.lane_cells.specs.Cells.{LaneCell}
 use Rattle.report_lines.specs.NodeLines.{did_lines, act_lines, news_lines, step_lines, turn_lines, gone_lines}
 use Rattle.each_once.specs.Commands.{AreOutcomesTold}
 use Rattle.each_once.specs.NodeHost.{node_host}
-use Rattle.each_once.proofs.CommandBodies.{bodies-accept, bodies-after_told, bodies-after_tick, bodies-next}
+use Rattle.each_once.proofs.CommandBodies.{bodies-accept, bodies-after_told, bodies-after_tick, bodies-next, next-first}
 use Rattle.each_once.proofs.Sublists.{Has, same-some}
 use Rattle.each_once.proofs.ToldOutcomes.{TellNone, none-both, outcomes-start, outcomes-silent, outcomes-issue, outcomes-accept, outcomes-told, outcomes-next, outcomes-tick}
 use Rattle.half_line.proofs.Once.EachStation.{listed-numbers}
@@ -183,29 +183,22 @@ recounts-tick numbers m lines r =
 -- ---- a take
 
 -- the command that is handed out next is one of them
-found-has : (cs : List Issued) (body : List ℕ) → option_map (λ c. c.body) (find (λ c. is_waiting c.standing) cs) ≡ Some body → Has (map (λ (c : Issued). c.body) cs) body
-found-has [] body is = absurd cc
-found-has (c ∷ cs) body is =
-    elim (is_waiting c.standing) as (λ b. option_map (λ x. x.body) (cond b (Some c) (find (λ x. is_waiting x.standing) cs)) ≡ Some body → Has (map (λ (x : Issued). x.body) (c ∷ cs)) body) [
-      | true ↦ λ f. (zero, f)
-      | false ↦ λ f. let later = found-has cs body f in (suc later.0, later.1)
-    ] is
-
-next-has : (out : Bool) (cs : List Issued) (body : List ℕ) → (if out then None else option_map (λ c. c.body) (find (λ c. is_waiting c.standing) cs)) ≡ Some body → Has (map (λ (c : Issued). c.body) cs) body
-next-has true cs body is = absurd cc
-next-has false cs body is = found-has cs body is
+next-has : (s : InitiatorState) (body : List ℕ) → next_command s ≡ Some body → Has (map (λ (c : Issued). c.body) s.issued) body
+next-has s body is =
+    let first = (next-first s body is).0 in
+    (first.place, slice_get-map (λ (c : Issued). c.body) s.issued first.place ∙ ap (option_map (λ (c : Issued). c.body)) first.is_at ∙ ap Some first.has_body)
 
 -- what beginning a message leaves
 abbrev Leaves : MasterState NodeState → List Line → MasterState NodeState → Type 0
 Leaves m lines after = AreOutcomesTold M (issued_of after) lines × (bodies_of after ≡ bodies_of m)
 
 -- a message for no station of the list is a reply, of which no line tells
-unlisted-reply : (m : MasterState NodeState) (lines : List Line) (body : List ℕ) (replies : List (List ℕ)) → m.host.replies ≡ replies → option_or (slice_get replies 0) (next_command m.host.initiator.issued) ≡ Some body
+unlisted-reply : (m : MasterState NodeState) (lines : List Line) (body : List ℕ) (replies : List (List ℕ)) → m.host.replies ≡ replies → option_or (slice_get replies 0) (next_command m.host.initiator) ≡ Some body
     → (Has (bodies_of m) body → ⊥) → AreOutcomesTold M (issued_of m) lines → Leaves m lines (with_host m (after_told (after_next m.host) fate.Undelivered))
-unlisted-reply m lines body [] waiting next not told = absurd (not (next-has (list_any (λ c. is_out c.standing) m.host.initiator.issued) m.host.initiator.issued body next))
+unlisted-reply m lines body [] waiting next not told = absurd (not (next-has m.host.initiator body next))
 unlisted-reply m lines body (r ∷ rs) waiting next not told =
     let node = after_next m.host in
-    let last : node.last ≡ handed.Reply = ap (λ (all : List (List ℕ)). if is_some (slice_get all 0) then handed.Reply else option_map_or handed.Command (next_place m.host.initiator.issued) m.host.last) waiting in
+    let last : node.last ≡ handed.Reply = ap (λ (all : List (List ℕ)). if is_some (slice_get all 0) then handed.Reply else option_map_or handed.Command (next_place m.host.initiator) m.host.last) waiting in
     let same : (after_told node fate.Undelivered).initiator ≡ node.initiator = ap (initiator_after node.initiator) last in (
       subst (λ (i : InitiatorState). AreOutcomesTold M i.issued lines) (sym same) (outcomes-next M m.host lines told),
       bodies-after_told node fate.Undelivered ∙ bodies-next m.host,
@@ -237,10 +230,10 @@ declared-push numbers [] body all is (suc k) other at = absurd cc
 declared-push numbers (b ∷ bodies) body all is zero other at = all zero other at
 declared-push numbers (b ∷ bodies) body all is (suc k) other at = declared-push numbers bodies body (λ j x y. all (suc j) x y) is k other at
 
-recounts-issue : (numbers : List ℕ) (m : MasterState NodeState) (dst : ℕ) (payload : List ℕ) (lines : List Line) → is_declared numbers dst ≡ true → Recounts numbers m lines → Recounts numbers (master_after m (Issue dst payload)) lines
-recounts-issue numbers m dst payload lines is r =
+recounts-issue : (numbers : List ℕ) (m : MasterState NodeState) (src : Option ℕ) (dst : ℕ) (payload : List ℕ) (lines : List Line) → is_declared numbers dst ≡ true → Recounts numbers m lines → Recounts numbers (master_after m (Issue src dst payload)) lines
+recounts-issue numbers m src dst payload lines is r =
     let issued = issued_of m in
-    let new : Issued = record { body = next_issued m.host.initiator dst payload; standing = Waiting } in
+    let new : Issued = record { body = next_issued m.host.initiator (unwrap_or src m.host.initiator.node) dst payload; standing = Waiting } in
     record {
       numbers_are = r.numbers_are;
       declared = subst (λ bodies. AreDeclared numbers bodies) (sym (map-append (λ (c : Issued). c.body) issued (new ∷ []))) (declared-push numbers (bodies_of m) new.body r.declared is);
@@ -266,7 +259,7 @@ recounts-with numbers s place deed None lines r = rw (append-nil lines) r
 recounts-with numbers s place deed (Some side) lines r = recounts-link numbers (link_of s side) deed lines r
 
 recounts-step : (numbers : List ℕ) (step : UnitStep) → IsPlain step → (s : HalfState) (lines : List Line) → Recounts numbers s.master lines → Recounts numbers (after_step s step).master (lines ++ lines_at s step)
-recounts-step numbers (AtMaster (Issue dst payload)) plain s lines r = absurd plain
+recounts-step numbers (AtMaster (Issue src dst payload)) plain s lines r = absurd plain
 recounts-step numbers (AtMaster Give) plain s lines r = rw (append-nil lines) (recounts-give numbers s.master lines r)
 recounts-step numbers (AtMaster Tick) plain s lines r = recounts-tick numbers s.master lines r
 recounts-step numbers (AtStation place deed) plain s lines r = recounts-with numbers s place deed (slice_get s.stations place) lines r
@@ -290,7 +283,7 @@ plain-event : (numbers : List ℕ) (s : HalfState) (e : Event) (lines : List Lin
 plain-event numbers s e lines plain r = with-bytes numbers s e lines (recounts-steps numbers (steps_of s e) plain s lines r)
 
 recounts-event : (numbers : List ℕ) (e : Event) (s : HalfState) (lines : List Line) → IsHalfPossible numbers e → Recounts numbers s.master lines → Recounts numbers (after_event s e).master (lines ++ lines_of s e)
-recounts-event numbers (event.Issue who dst payload) s lines may r = rw (append-nil lines) (recounts-issue numbers s.master dst payload lines may.1 r)
+recounts-event numbers (event.Issue who src dst payload) s lines may r = rw (append-nil lines) (recounts-issue numbers s.master src dst payload lines may.1 r)
 recounts-event numbers (event.Take who n) s lines may r = plain-event numbers s (event.Take who n) lines (plain-take s.stations who n (number_of who)) r
 recounts-event numbers (event.Deliver lane n) s lines may r =
     plain-event numbers s (event.Deliver lane n) lines (plain-with (place_of s.stations (station_between lane.from lane.to)) (replicate n (OnLane (way_from lane.from) Deliver))) r

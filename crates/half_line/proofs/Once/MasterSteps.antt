@@ -1,6 +1,6 @@
 -- What the master does leaves what holds: a command is issued, a byte is given to every station, a unit of time passes.
 use Rattle.std.proofs.Common.{◌≡◌, ◌∙◌, ℕ, ◌+◌, ◌<◌, Bool, true, false, List, [], ◌∷◌, ◌++◌, length, map, eqb, not, Option, Some, None, refl, ap, sym, subst, append-nil, length-append}
-use Rattle.std.specs.Prelude.{slice_get, slice_index, option_to_list, IsTrue, ◌&&◌, ◌==◌, bit_and, nat_le, if◌then◌else◌}
+use Rattle.std.specs.Prelude.{slice_get, slice_index, option_to_list, unwrap_or, IsTrue, ◌&&◌, ◌==◌, bit_and, nat_le, if◌then◌else◌}
 use Rattle.std.specs.Int.{bit_at}
 use Rattle.std.proofs.lemmas.Bool.{cond_both}
 use Rattle.df1_base.specs.declared.host.Fate.TheVariants as fate
@@ -43,18 +43,19 @@ payload-command : (payload : List ℕ) → IsTrue (is_payload payload) → eqb (
 payload-command [] h = absurd cc
 payload-command (cmd ∷ rest) h = sym (and_64 cmd) ∙ ap not (and-parts (nat_le (length (cmd ∷ rest)) 245) (bit_and cmd 0x40 == 0) h)
 
-pub holds-issue : (setting : Setting) (count : ℕ) (s : HalfState) (dst : ℕ) (payload : List ℕ) (lines : List Line) → IsTrue (is_payload payload) → count < 65535 → Holds setting count s lines
-    → Holds setting (count + 1) (after_master_deed s (Issue dst payload)) lines
-holds-issue setting count s dst payload lines may few h =
+pub holds-issue : (setting : Setting) (count : ℕ) (s : HalfState) (src : Option ℕ) (dst : ℕ) (payload : List ℕ) (lines : List Line) → IsTrue (is_payload payload) → count < 65535 → Holds setting count s lines
+    → Holds setting (count + 1) (after_master_deed s (Issue src dst payload)) lines
+holds-issue setting count s src dst payload lines may few h =
     let m = s.master in
-    let node = after_node_issue m.host dst payload in
+    let source = unwrap_or src m.host.initiator.node in
+    let node = after_node_issue m.host source dst payload in
     let issued = issued_of m in
-    let new : Issued = record { body = next_issued m.host.initiator dst payload; standing = Waiting } in
+    let new : Issued = record { body = next_issued m.host.initiator source dst payload; standing = Waiting } in
     record {
       commands = h.commands;
       heard = h.heard;
       master = record {
-        issues = issues-issue dst payload (payload-command payload may) (subst (λ n. n < 65535) (sym h.master.count_is) few) h.master.issues;
+        issues = issues-issue source dst payload (payload-command payload may) (subst (λ n. n < 65535) (sym h.master.count_is) few) h.master.issues;
         sends = sends-host m node h.master.sends;
         count_is = length-append issued (new ∷ []) ∙ ap (λ n. n + 1) h.master.count_is;
         numbers_are = h.master.numbers_are;

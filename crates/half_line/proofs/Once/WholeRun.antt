@@ -38,7 +38,7 @@ holds-lines setting count s lines more silent mute h = record {
 
 -- a step that isn't an issue
 abbrev pub IsPlain : UnitStep → Type 0
-IsPlain (AtMaster (Issue dst payload)) = ⊥
+IsPlain (AtMaster (Issue src dst payload)) = ⊥
 IsPlain (AtMaster Give) = Unit {0}
 IsPlain (AtMaster Tick) = Unit {0}
 IsPlain (AtStation place deed) = Unit {0}
@@ -55,7 +55,7 @@ kept-with setting count place deed s (Some side) lines few at k none =
     (link-deed setting count s.stations place deed (link_of s side) lines few none (entered setting count s lines place side at (k (earlier deed (link_of s side) none))))
 
 pub kept-plain : (setting : Setting) (count : ℕ) (step : UnitStep) → IsPlain step → (s : HalfState) (lines : List Line) → count ≤ 65535 → Kept setting count s lines → Kept setting count (after_step s step) (lines ++ lines_at s step)
-kept-plain setting count (AtMaster (Issue dst payload)) plain s lines few k none = absurd plain
+kept-plain setting count (AtMaster (Issue src dst payload)) plain s lines few k none = absurd plain
 kept-plain setting count (AtMaster Give) plain s lines few k none = rw (append-nil lines) (holds-give setting count s lines (k none))
 kept-plain setting count (AtMaster Tick) plain s lines few k none = holds-tick setting count s lines (k none)
 kept-plain setting count (AtStation place deed) plain s lines few k none = kept-with setting count place deed s (slice_get s.stations place) lines few refl k none
@@ -88,7 +88,7 @@ plain-take stations who n (Some number) = plain-with (place_of stations number) 
 
 -- how many commands were issued after an event
 abbrev pub counted : ℕ → Event → ℕ
-counted count (event.Issue who dst payload) = count + 1
+counted count (event.Issue who src dst payload) = count + 1
 counted count (event.Take who n) = count
 counted count (event.Deliver lane n) = count
 counted count (event.Lose lane n) = count
@@ -111,13 +111,13 @@ with-bytes setting count s e lines k none =
 plain-event : (setting : Setting) (count : ℕ) (s : HalfState) (e : Event) (lines : List Line) → ArePlain (steps_of s e) → count ≤ 65535 → Kept setting count s lines → Kept setting count (after_event s e) (lines ++ lines_of s e)
 plain-event setting count s e lines plain few k = with-bytes setting count s e lines (kept-steps setting count (steps_of s e) plain s lines few k)
 
-issue-event : (setting : Setting) (count : ℕ) (s : HalfState) (who : Who) (dst : ℕ) (payload : List ℕ) (lines : List Line) → IsTrue (is_payload payload) → count + 1 ≤ 65535 → Kept setting count s lines
-    → Kept setting (count + 1) (after_event s (event.Issue who dst payload)) (lines ++ lines_of s (event.Issue who dst payload))
-issue-event setting count s who dst payload lines may few k none = rw (append-nil lines) (holds-issue setting count s dst payload lines may (omega (arith, few)) (k none))
+issue-event : (setting : Setting) (count : ℕ) (s : HalfState) (who : Who) (src : Option ℕ) (dst : ℕ) (payload : List ℕ) (lines : List Line) → IsTrue (is_payload payload) → count + 1 ≤ 65535 → Kept setting count s lines
+    → Kept setting (count + 1) (after_event s (event.Issue who src dst payload)) (lines ++ lines_of s (event.Issue who src dst payload))
+issue-event setting count s who src dst payload lines may few k none = rw (append-nil lines) (holds-issue setting count s src dst payload lines may (omega (arith, few)) (k none))
 
 kept-event : (setting : Setting) (numbers : List ℕ) (count : ℕ) (e : Event) (s : HalfState) (lines : List Line) → IsHalfPossible numbers e → IsCounted count e → Kept setting count s lines
     → Kept setting (counted count e) (after_event s e) (lines ++ lines_of s e)
-kept-event setting numbers count (event.Issue who dst payload) s lines may few k = issue-event setting count s who dst payload lines may.2 few.1 k
+kept-event setting numbers count (event.Issue who src dst payload) s lines may few k = issue-event setting count s who src dst payload lines may.2 few.1 k
 kept-event setting numbers count (event.Take who n) s lines may few k = plain-event setting count s (event.Take who n) lines (plain-take s.stations who n (number_of who)) few.0 k
 kept-event setting numbers count (event.Deliver lane n) s lines may few k =
     plain-event setting count s (event.Deliver lane n) lines (plain-with (place_of s.stations (station_between lane.from lane.to)) (replicate n (OnLane (way_from lane.from) Deliver))) few.0 k
@@ -130,7 +130,7 @@ kept-event setting numbers count (event.Foreign lane bytes) s lines may few k =
 kept-event setting numbers count (event.Tick who n) s lines may few k = plain-event setting count s (event.Tick who n) lines (plain-master Tick tt n) few.0 k
 
 pub counted-more : (count : ℕ) (e : Event) (events : List Event) → count + count_by is_issue (e ∷ events) ≡ counted count e + count_by is_issue events
-counted-more count (event.Issue who dst payload) events = let more = sum_by-cons (λ (x : Event). cond (is_issue x) 1 0) (event.Issue who dst payload) events in omega (arith, more)
+counted-more count (event.Issue who src dst payload) events = let more = sum_by-cons (λ (x : Event). cond (is_issue x) 1 0) (event.Issue who src dst payload) events in omega (arith, more)
 counted-more count (event.Take who n) events = let more = sum_by-cons (λ (x : Event). cond (is_issue x) 1 0) (event.Take who n) events in omega (arith, more)
 counted-more count (event.Deliver lane n) events = let more = sum_by-cons (λ (x : Event). cond (is_issue x) 1 0) (event.Deliver lane n) events in omega (arith, more)
 counted-more count (event.Lose lane n) events = let more = sum_by-cons (λ (x : Event). cond (is_issue x) 1 0) (event.Lose lane n) events in omega (arith, more)

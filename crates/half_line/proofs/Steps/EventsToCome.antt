@@ -48,7 +48,7 @@ with-numbers s place deed None found = refl
 with-numbers s place deed (Some side) found = set-numbers s.stations place side (after_link_deed (link_of s side) deed).side found (link-number (link_of s side) deed)
 
 step-numbers : (s : HalfState) (step : UnitStep) → numbers_at (after_step s step).stations ≡ numbers_at s.stations
-step-numbers s (AtMaster (Issue dst payload)) = refl
+step-numbers s (AtMaster (Issue src dst payload)) = refl
 step-numbers s (AtMaster Give) = joined-numbers (cells_given s.master) s.stations
 step-numbers s (AtMaster Tick) = refl
 step-numbers s (AtStation place deed) = with-numbers s place deed (slice_get s.stations place) refl
@@ -71,26 +71,26 @@ start-numbers script = first-numbers script.check (station_plans script.ends)
 
 -- ---- room for what is to come
 
-issue-counts : (e : Event) → length (requests_in (e ∷ [])) ≡ cond (is_issue e) 1 0
-issue-counts (event.Issue by dst payload) = refl
-issue-counts (event.Take who n) = refl
-issue-counts (event.Deliver lane n) = refl
-issue-counts (event.Lose lane n) = refl
-issue-counts (event.Alter lane mask) = refl
-issue-counts (event.Foreign lane bytes) = refl
-issue-counts (event.Tick who n) = refl
+issue-counts : (node : ℕ) (e : Event) → length (requests_in node (e ∷ [])) ≡ cond (is_issue e) 1 0
+issue-counts node (event.Issue by src dst payload) = refl
+issue-counts node (event.Take who n) = refl
+issue-counts node (event.Deliver lane n) = refl
+issue-counts node (event.Lose lane n) = refl
+issue-counts node (event.Alter lane mask) = refl
+issue-counts node (event.Foreign lane bytes) = refl
+issue-counts node (event.Tick who n) = refl
 
 -- there is room for the commands that are still to come
 pub room-of-m : (s : HalfState) (e : Event) (rest : List Event) → issued_by s.master + count_by is_issue (e ∷ rest) ≤ 65535 → issued_by (after_event s e).master + count_by is_issue rest ≤ 65535
 room-of-m s e rest few =
     let more = sum_by-cons (λ (x : Event). cond (is_issue x) 1 0) e rest in
-    let new = commands-of-m e s in
-    let one = issue-counts e in
+    let new = commands-of-m s.master.host.initiator.node e s in
+    let one = issue-counts s.master.host.initiator.node e in
     omega (arith, more, new, one, few)
 
 -- the next command is not the master's 65,536th
 pub unspent : (s : HalfState) (e : Event) (rest : List Event) → issued_by s.master + count_by is_issue (e ∷ rest) ≤ 65535 → IsUnspent s.master e
-unspent s (event.Issue by dst payload) rest few = let more = sum_by-cons (λ (x : Event). cond (is_issue x) 1 0) (event.Issue by dst payload) rest in omega (arith, more, few)
+unspent s (event.Issue by src dst payload) rest few = let more = sum_by-cons (λ (x : Event). cond (is_issue x) 1 0) (event.Issue by src dst payload) rest in omega (arith, more, few)
 unspent s (event.Take who n) rest few = tt
 unspent s (event.Deliver lane n) rest few = tt
 unspent s (event.Lose lane n) rest few = tt

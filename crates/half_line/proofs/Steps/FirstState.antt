@@ -15,6 +15,7 @@ use Rattle.script_parts.specs.HalfPlayable.{AreHalfEnds, IsStationPlan, IsStatio
 use Rattle.outset.specs.Outset.{first_node}
 use Rattle.script_statement.specs.declared.who.Who.TheVariants.{M}
 use Rattle.replay_report.specs.declared.record.Line.{Line}
+use Rattle.half_master.specs.Stations.{IsNumber, AreStations}
 use Rattle.half_line.specs.Acts.{LineStationState, half_state}
 use Rattle.half_line.specs.Run.{master_setup, first_side, plan_of_m}
 use Rattle.half_line.specs.Plays.{begun}
@@ -30,6 +31,14 @@ half-stations (master ∷ stations) h = h.1
 
 unmapped : {X Y : Type 0} (P : Y → Type 0) (f : X → Y) (xs : List X) → All P (map f xs) → All (λ x. P (f x)) xs
 unmapped P f xs h k d lt = let within : k < length (map f xs) = rw (length-map xs f) lt in subst P (get_or-map f xs k d) (h k (f d) within)
+
+-- the numbers of the stations are such as a master may have
+pub half-listed : (ends : List EndPlan) → AreHalfEnds ends → AreStations (map (λ (plan : EndPlan). plan.node) (station_plans ends))
+half-listed [] h = absurd h
+half-listed (master ∷ stations) h = record { at_most = h.2.at_most; distinct = h.2.distinct; each = λ k d inside. number-of _ (h.2.each k d inside) }
+  where
+    number-of : (number : ℕ) → IsStationNumber number → IsNumber number
+    number-of number is = (is.0, λ same. omega (arith, same, is.1))
 
 pub half-numbers : (ends : List EndPlan) → AreHalfEnds ends → All (λ (plan : EndPlan). IsStationNumber plan.node) (station_plans ends)
 half-numbers [] h = absurd h

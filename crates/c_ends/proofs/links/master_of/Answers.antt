@@ -18,3 +18,8 @@ pub new-requires-clause-stations : goal.new-requires-clause-stations
 new-requires-clause-stations c =
     let none : master_fault c.args.link.now c.args.stations.now c.args.node.now c.args.files.now c.args.words.now c.args.block.now ≡ None = grind (arith, c.master_fault.ensures) in
     (master_in_range c.args.node.now c.args.files.now c.args.words.now c.args.block.now c.args.link.now c.args.stations.now none).are
+
+pub node_of-requires : goal.node_of-requires
+node_of-requires c =
+    let none : master_fault c.args.link.now c.args.stations.now c.args.node.now c.args.files.now c.args.words.now c.args.block.now ≡ None = grind (arith, c.master_fault.ensures) in
+    (master_in_range c.args.node.now c.args.files.now c.args.words.now c.args.block.now c.args.link.now c.args.stations.now none).behind_it

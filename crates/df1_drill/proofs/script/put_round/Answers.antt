@@ -1,4 +1,4 @@
-use Rattle.std.proofs.Common.{◌≡◌, ◌∙◌, [], ◌∷◌, map, ap, append_assoc}
+use Rattle.std.proofs.Common.{◌≡◌, ◌∙◌, None, [], ◌∷◌, map, ap, append_assoc}
 use Rattle.std.proofs.lemmas.Result.{on_ok_weaker}
 use Rattle.script_statement.specs.declared.who.Who.TheVariants.{A}
 use Rattle.script_parts.specs.declared.script.Event.TheVariants.{Issue}
@@ -11,4 +11,4 @@ returns c =
     let round = c.args.round in
     let course : map event_of c.course.result.now ≡ course_of (pattern_of seed round) = c.course.ensures ∙ ap course_of c.of.ensures in
     on_ok_weaker c.put_course.result
-    (λ put. put ∙ rw (course, c.in_ok-push.ensures.ok, c.in_ok-payload.ensures, c.requires) (append_assoc c.args.events.now (Issue A plan_of_b.node (payload_of seed round) ∷ []) (course_of (pattern_of seed round)))) c.put_course.ensures
+    (λ put. put ∙ rw (course, c.in_ok-push.ensures.ok, c.in_ok-payload.ensures, c.requires) (append_assoc c.args.events.now (Issue A None plan_of_b.node (payload_of seed round) ∷ []) (course_of (pattern_of seed round)))) c.put_course.ensures

@@ -1,5 +1,5 @@
 use Rattle.duplex_line.specs.Run.{record_of}
-use Rattle.duplex_line.proofs.Complete.Witness.{one_write-playable, one_write-prompt, one_write-quiet, one_write-honest, one_write-executed, one_write-answered}
+use Rattle.duplex_line.proofs.Complete.Witness.{one_write-playable, one_write-rooms, one_write-prompt, one_write-quiet, one_write-honest, one_write-executed, one_write-answered}
 use Rattle.duplex_line.proofs.laws.one_write_is_executed_and_answered.Goals as goal
 
 pub returns-clause-playable : goal.returns-clause-playable
@@ -22,3 +22,6 @@ returns-clause-prompt c = one_write-prompt
 
 pub returns-clause-quiet : goal.returns-clause-quiet
 returns-clause-quiet c = one_write-quiet
+
+pub returns-clause-rooms : goal.returns-clause-rooms
+returns-clause-rooms c = one_write-rooms

@@ -31,5 +31,5 @@ returns-else-ready-clause-fits c =
 pub returns-else-ready-clause-ready : goal.returns-else-ready-clause-ready
 returns-else-ready-clause-ready c =
     ap not c.is_empty.ensures
-    ∙ waits (λ r. r.items) c.self.inside.replies.items (next_command c.self.inside.initiator.issued) (sym c.ready.ensures.ready ∙ c.if-ready.false)
+    ∙ waits (λ r. r.items) c.self.inside.replies.items (next_command c.self.inside.initiator) (sym c.ready.ensures.ready ∙ c.if-ready.false)
     ∙ ap (λ n. is_some (next_body n)) c.self.view_is

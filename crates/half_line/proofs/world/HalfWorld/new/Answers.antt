@@ -1,7 +1,8 @@
 -- The first state of a script.
-use Rattle.std.proofs.Common.{◌∙◌}
+use Rattle.std.proofs.Common.{◌∙◌, subst, sym}
 use Rattle.end_settings.specs.declared.key.Key.TheVariants.{AckTicks, PollTicks}
-use Rattle.half_line.proofs.Steps.FirstState.{rest-is, half-master, half-stations, half-numbers, begins}
+use Rattle.half_master.specs.Stations.{AreStations}
+use Rattle.half_line.proofs.Steps.FirstState.{rest-is, half-master, half-stations, half-numbers, half-listed, begins}
 use Rattle.half_line.proofs.world.HalfWorld.new.Goals as goal
 
 pub new-requires-clause-ack_ticks : goal.new-requires-clause-ack_ticks
@@ -13,6 +14,12 @@ pub new-requires-clause-poll_ticks : goal.new-requires-clause-poll_ticks
 new-requires-clause-poll_ticks c =
     let first = rw c.as_slice.ensures at c.plan-item.is in
     rw c.master_setup.ensures ((half-master c.args.script.now.ends c.plan-item.result c.plan-item.result c.requires.ends first).settings PollTicks).0
+
+pub new-requires-clause-stations : goal.new-requires-clause-stations
+new-requires-clause-stations c =
+    let script = c.args.script.now in
+    let numbers = c.deref.ensures.0 ∙ (rw (c.as_slice.ensures, rest-is script.ends) at c.numbers_of.ensures) in
+    subst AreStations (sym numbers) (half-listed script.ends c.requires.ends)
 
 pub sides_of-requires-clause-plans : goal.sides_of-requires-clause-plans
 sides_of-requires-clause-plans c = rw (c.as_slice.ensures, rest-is c.args.script.now.ends) (half-stations c.args.script.now.ends c.requires.ends)
