@@ -10,6 +10,8 @@ run took:
 - steps: 16 MB of script, each step a line of its own;
 - ticks: 65,000 commands and 4,000,000 events, nearly all of them ticks;
 - lossless: 65,000 ordinary exchanges of an echo;
+- windowed: 65,000 exchanges of an echo, sixteen commands out at a time;
+- sources: 65,000 exchanges of an echo, of 200 sources in turn, of each of which a command waits;
 - words: the first values of 256,000 words, each a line of its own;
 - polled8, polled32: 20,000 polls over 8 stations, and 15,000 over 32, each byte of the master delivered to every station.
 """
@@ -63,12 +65,40 @@ def ticks(commands=65_000):
     return "\n".join(lines + [f"at {EVENTS - commands}", "end"]) + "\n"
 
 
+def doubled_of(number):
+    """How many bytes of a command's TNS are DLE, which a frame has twice."""
+    return (number % 256 == 0x10) + (number // 256 == 0x10)
+
+
 def lossless(commands=65_000):
     lines = []
     for i in range(1, commands + 1):
-        doubled = (i % 256 == 0x10) + (i // 256 == 0x10)
-        frame, answer = 12 + doubled, 14 + doubled
+        frame, answer = 12 + doubled_of(i), 14 + doubled_of(i)
         lines += ["ai 0600", f"ak {frame}", f"ad {frame}", f"bk {answer}", f"bd {answer}", "ak 2", "ad 2"]
+    return "\n".join(lines + ["end"]) + "\n"
+
+
+def windowed(commands=64_992, window=16):
+    """As many commands are given one after another as may be out, and then their replies."""
+    lines = ["set a.window 16", "set b.room 16"]
+    for first in range(1, commands, window):
+        lengths = [12 + doubled_of(number) for number in range(first, first + window)]
+        lines += ["ai 0600"] * window
+        for length in lengths:
+            lines += [f"ak {length}", f"ad {length}", "bk 2", "bd 2"]
+        for length in lengths:
+            lines += [f"bk {length}", f"bd {length}", "ak 2", "ad 2"]
+    return "\n".join(lines + ["end"]) + "\n"
+
+
+def sources(commands=65_000, count=200):
+    """Each source issues a command, and all wait but for one."""
+    lines = []
+    for first in range(1, commands, count):
+        lines += [f"ai {source} 0600" for source in range(count)]
+        for source in range(count):
+            length = 12 + doubled_of(first + source) + (source == 0x10)
+            lines += [f"ak {length}", f"ad {length}", f"bk {length + 2}", f"bd {length + 2}", "ak 2", "ad 2"]
     return "\n".join(lines + ["end"]) + "\n"
 
 
@@ -91,6 +121,8 @@ SCRIPTS = {
     "steps": steps,
     "ticks": ticks,
     "lossless": lossless,
+    "windowed": windowed,
+    "sources": sources,
     "words": words,
     "polled8": lambda: polled(8, 20_000),
     "polled32": lambda: polled(32, 15_000),

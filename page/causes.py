@@ -55,7 +55,8 @@ class Causes:
         if table is self.sentences and row:
             table[row[1]] = row[2]
         elif table is self.forms and form:
-            table.update({_word(spelled): {"form": spelled, "meaning": form[2]} for spelled in re.findall("`([^`]+)`", form[1])})
+            for spelled in re.findall("`([^`]+)`", form[1]):
+                table.setdefault(_word(spelled), []).append({"form": spelled, "meaning": form[2]})
         elif isinstance(table, list) and hint:
             table.append(Hint(*hint.groups()))
 
@@ -69,8 +70,14 @@ class Causes:
         line = lines[number - 1][:200].decode("utf-8", "replace").strip() if number <= len(lines) else ""
         hints = [] if cause == "open" else self._likely(cause, line, _mode(source))
         told = [{"written": hint.written, "right": hint.right, "why": hint.why} for hint in hints]
-        form = self.forms.get(_word(line)) if cause in ("form", "value", "missing") else None
+        form = self._form(line) if cause in ("form", "value", "missing") else None
         return {"line": number, "cause": cause, "sentence": self.sentences.get(cause, ""), "hints": told, "form": form}
+
+    def _form(self, line):
+        """The form that begins as a line does, of several the one with as many words, or else the first."""
+        forms = self.forms.get(_word(line), [None])
+        alike = [form for form in forms if form and len(form["form"].split()) == len(line.split())]
+        return (alike or forms)[0]
 
     def _likely(self, cause, line, mode):
         """The hints of a cause whose lines look most like this one, the likeliest first."""

@@ -64,6 +64,8 @@ class Faults(unittest.TestCase):
         fault = told("set mode half\nstation 12\n12k x\nend\n")["fault"]
         self.assertEqual((fault["line"], fault["form"]["form"]), (3, "Sk [n]"))
         self.assertIsNone(told("hello\n")["fault"]["form"])
+        for line, form in (("ai 060", "ai HEX"), ("ai 256 0603", "ai SRC HEX"), ("ai 9 0603 1", "ai HEX")):
+            self.assertEqual(told(f"{line}\n")["fault"]["form"]["form"], form)
 
     def test_an_open_script_is_drawn_and_its_fault_stands_behind_its_last_line(self):
         answer = told(EVENTS)

@@ -41,6 +41,10 @@ ARROWS = {
     "enqs-run-out": [
         WRITE, "b>a ACK; 2 of 2 bytes lost", "a>b ENQ", "b>a ACK; 2 of 2 bytes lost", "b>a reply, done, TNS 0001", "a>b ACK"
     ],
+    "fair-sources": [
+        named("echo 51"), "b>a ACK", named("echo 91", 4), "b>a ACK", named("reply, 51", 1, "b>a"), "a>b ACK",
+        named("echo 52", 2), "b>a ACK", named("reply, 91", 4, "b>a"),
+    ],
     "foreign-frame": ["foreign>b write N7:0 = 1234", *ACKS],
     "foreign-reset": [f"m>3 {ECHO}", "3>m ACK", "foreign>3 NAK, a reset", "m>3 poll 3", "3>m EOT"],
     "late-reply": exchange("echo 55", "55", 1),
@@ -94,14 +98,35 @@ ARROWS = {
         *exchange("write F8:0 = 1", "done", 3), *exchange("read F8:0", "F8:0 = 1", 4),
     ],
     "stations-in-their-order": [],
+    "starving-source": [
+        named("echo 51"), "b>a ACK", named("echo 52", 2), "b>a ACK", named("reply, 51", 1, "b>a"), "a>b ACK",
+        named("echo 53", 3), "b>a ACK", named("reply, 52", 2, "b>a"),
+    ],
     "tns-wraps": [*exchange("echo 55", "55", 0xFFFF), *exchange("echo 55", "55", 0)],
     "trace": [f"{WRITE}; byte 15: 34 → 74", "b>a NAK", WRITE, *ACKS, *exchange("read N7:0", "N7:0 = 1234", 2)],
+    "two-sources": [
+        WRITE, "b>a ACK", named("echo 55", 3), "b>a ACK", named("reply, done", 1, "b>a"), "a>b ACK",
+        named("write N7:1 = 5678", 2), "b>a ACK", named("reply, 55", 3, "b>a"), "a>b ACK", named("reply, done", 2, "b>a"), "a>b ACK",
+    ],
     "typed-read-of-floats": [
         *exchange("typed read F8:0, 2 elements", "F8:0 = 1 -3", 1),
         *exchange("typed read F8:1, 2 elements", "refused: past the end", 2),
     ],
     "unpolled-reply": [f"m>3 {ECHO}", "3>m ACK"],
     "untaken-command": [],
+    "window-of-two": [
+        WRITE, "b>a ACK", named("write N7:1 = 5678", 2), "b>a ACK",
+        named("reply, done", 1, "b>a"), "a>b ACK", named("reply, done", 2, "b>a"), "a>b ACK",
+    ],
+    "window-over-room": [
+        named("echo 51"), "b>a ACK", named("echo 52", 2), "b>a ACK", *(4 * [named("echo 53", 3), "b>a NAK"]),
+        named("reply, 51", 1, "b>a"), "a>b ACK", named("reply, 52", 2, "b>a"), "a>b ACK",
+    ],
+    "window-over-station-room": [
+        named("echo 51", 1, "m>5"), "5>m ACK", named("echo 52", 2, "m>5"), "5>m ACK", *(4 * [named("echo 53", 3, "m>5"), "5>m NAK"]),
+        "m>5 poll 5", named("reply, 51", 1, "5>m"), "m>5 ACK to 5", "m>5 poll 5", named("reply, 52", 2, "5>m"), "m>5 ACK to 5",
+        "m>5 poll 5", "5>m EOT",
+    ],
     "word-range": [
         *exchange("range read N7:0, 2 words", "N7:0 = 1234 5678", 1), *exchange("range read N7:2, 2 words", "N7:2 = 9ABC DEF0", 2),
         *exchange("range read N7:3, 2 words", "refused: past the end", 3),
@@ -129,6 +154,7 @@ SHOWN = {
     "lost-ack": ["exec write N7:0 = 1234", "answered 1, done"],
     "refused-writes": ["exec write N9:0 = 1234", "answered 1, refused: no such element", "answered 4, refused: not understood"],
     "late-reply": ["unanswered 1", "stray reply, 55"],
+    "two-sources": ["issue 1", "issue 3 for 9", "exec echo 55", "answered 3, 55"],
     "polled-write": ["issue 1 to 3", "exec write N7:0 = 1234", "answered 1 by 3, done"],
     "silent-station": ["undelivered 1 to 9"],
     "replies-of-one-tns": ["exec echo 77", "stray from 5: reply, 77"],

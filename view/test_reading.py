@@ -57,6 +57,7 @@ file 3 7 89 16
 word 03 007 1 00fF
 # Then
 mi 3 060055
+mi 005 009 060056
 mk
 3k 02
 mx 5 17\r
@@ -114,20 +115,21 @@ class Scripts(unittest.TestCase):
         script = read_script(SCRIPT)
         self.assertEqual((script.caption, script.mode, script.check_size), ("A title in two lines.", "half", 2))
         self.assertEqual((script.ends, script.words), (["m", "3", "5"], {("3", 7, 1): 0x00FF}))
-        self.assertEqual((script.letters, script.settings, script.lines), ({"3": {7: "N"}}, {"check": "crc"}, 17))
+        self.assertEqual((script.letters, script.settings, script.lines), ({"3": {7: "N"}}, {"check": "crc"}, 18))
         self.assertEqual(list(script.happenings()), [
             Comment(10, "Then"),
             Event(11, "m", "i", "3", "060055"),
-            Event(12, "m", "k", None, None),
-            Event(13, "3", "k", None, "02"),
-            Event(14, "m", "x", "5", "17"),
-            Event(15, "m", "c", "5", "0a"),
+            Event(12, "m", "i", "5", "060056", "9"),
+            Event(13, "m", "k", None, None),
+            Event(14, "3", "k", None, "02"),
+            Event(15, "m", "x", "5", "17"),
+            Event(16, "m", "c", "5", "0a"),
         ])
 
     def test_which_ends_bytes_go_between(self):
         script = read_script(SCRIPT)
         self.assertEqual([script.receivers(end) for end in ("m", "3")], [["3", "5"], ["m"]])
-        self.assertEqual([script.other(event) for event in script.happenings() if isinstance(event, Event)][2:], ["m", "5", "5"])
+        self.assertEqual([script.other(event) for event in script.happenings() if isinstance(event, Event)][3:], ["m", "5", "5"])
         self.assertEqual([read_script(b"end").receivers(end) for end in ("a", "b")], [["b"], ["a"]])
 
 

@@ -51,7 +51,7 @@ def _own(run, names, step):
     """The label of an event that no arrow shows, or of foreign bytes."""
     event = step.event
     if event.kind == "i":
-        text = f"issue {step.command}" + (f" to {event.station}" if event.station else "")
+        text = f"issue {step.command}" + (f" to {event.station}" if event.station else "") + (f" for {event.source}" if event.source else "")
         return Label(event.end, text, "rest", "", text, 0)
     if event.kind == "t":
         text = f"{event.count} tick{'s' if event.count > 1 else ''}"

@@ -16,13 +16,14 @@ NAMES_A_STATION = "idxcn"
 
 @dataclass(frozen=True)
 class Event:
-    """An event line: the end that it begins with, the letter of its kind, and what follows."""
+    """An event line: the end that it begins with, the letter of its kind, and what follows; the source that a command names."""
 
     line: int
     end: str
     kind: str
     station: str | None
     operand: str | None
+    source: str | None = None
 
     @property
     def count(self):
@@ -36,7 +37,7 @@ class Event:
 
     def text(self, operand=None):
         """The line, with another count or other bytes where they are given."""
-        words = [self.end + self.kind, self.station, operand or self.operand]
+        words = [self.end + self.kind, self.station, self.source, operand or self.operand]
         return " ".join(word for word in words if word)
 
 
@@ -134,9 +135,10 @@ def _event(number, words):
     if not match:
         return None
     end, kind = match.groups()
-    if end == "m" and kind in NAMES_A_STATION:
-        return Event(number, end, kind, _name(words[1]), words[2] if len(words) > 2 else None)
-    return Event(number, _name(end), kind, None, words[1] if len(words) > 1 else None)
+    rest = words[1:]
+    station = _name(rest.pop(0)) if end == "m" and kind in NAMES_A_STATION else None
+    source = _name(rest.pop(0)) if kind == "i" and len(rest) > 1 else None
+    return Event(number, _name(end), kind, station, rest[0] if rest else None, source)
 
 
 def _take_statement(script, words):
