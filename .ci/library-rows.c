@@ -160,7 +160,7 @@ static int texts(void)
     uint32_t code;
     size_t last;
 
-    for (code = 0; code <= DF1_BAD_MAX_RESENDS + 1; code++) {
+    for (code = 0; code <= DF1_NOT_RESERVED + 1; code++) {
         size_t length = 0, again = 0;
 
         ROW(df1_code_text(code, text, 0, &length) == DF1_NO_ROOM && length >= 2 && length <= 80);
@@ -168,7 +168,7 @@ static int texts(void)
         ROW(df1_code_text(code, text, length - 1, &again) == DF1_NO_ROOM && again == length && are_all(text, 'x', sizeof text));
         ROW(df1_code_text(code, text, length, &again) == DF1_DONE && again == length);
         ROW(strlen(text) + 1 == length && text[length] == 'x');
-        ROW((strcmp(text, "no code of df1") == 0) == (code > DF1_BAD_MAX_RESENDS));
+        ROW((strcmp(text, "no code of df1") == 0) == (code > DF1_NOT_RESERVED));
     }
     ROW(df1_code_text(0xFFFFFFFF, text, 80, &last) == DF1_DONE && strcmp(text, "no code of df1") == 0);
     return 0;
