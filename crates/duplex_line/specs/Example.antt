@@ -1,5 +1,5 @@
--- A script whose run deceives no end: a command is issued, crosses the line, is executed and answered.
-use Rattle.std.specs.Prelude.{ℕ, false, List, [], ◌∷◌, None}
+-- Scripts whose runs deceive no end: one command is issued, crosses the line, is executed and answered; and three of two sources.
+use Rattle.std.specs.Prelude.{ℕ, false, List, [], ◌∷◌, Some, None}
 use Rattle.df1_base.specs.declared.file_type.FileType.TheVariants.{Integer}
 use Rattle.df1_check.specs.declared.Check.TheVariants.{Bcc}
 use Rattle.script_statement.specs.declared.who.Who.TheVariants.{A, B}
@@ -27,3 +27,38 @@ the_command = 0x01 ∷ 0x00 ∷ 0x0F ∷ 0x00 ∷ 0x01 ∷ 0x00 ∷ 0xAA ∷ 0x0
 
 abbrev pub the_reply : List ℕ
 the_reply = 0x00 ∷ 0x01 ∷ 0x4F ∷ 0x00 ∷ 0x01 ∷ 0x00 ∷ []
+
+-- two may be out, one of each source: node 0 writes 1234 and 5678 to words 0 and 1, and source 9 asks for an echo of 55
+abbrev pub two_sources : Script
+two_sources = record {
+  half = false;
+  check = Bcc;
+  ends = record (first_plan A 0) { window = 2; per_source = 1 } ∷ record (first_plan B 1) { files = record { number = 7; kind = Integer; count = 16 } ∷ [] } ∷ [];
+  events =
+      Issue A None 1 (0x0F ∷ 0xAA ∷ 0x02 ∷ 0x07 ∷ 0x89 ∷ 0x00 ∷ 0x00 ∷ 0x34 ∷ 0x12 ∷ [])
+      ∷ Issue A None 1 (0x0F ∷ 0xAA ∷ 0x02 ∷ 0x07 ∷ 0x89 ∷ 0x01 ∷ 0x00 ∷ 0x78 ∷ 0x56 ∷ [])
+      ∷ Issue A (Some 9) 1 (0x06 ∷ 0x00 ∷ 0x55 ∷ [])
+      ∷ Take A 19 ∷ Deliver (record { from = A; to = B }) 19
+      ∷ Take B 2 ∷ Deliver (record { from = B; to = A }) 2
+      ∷ Take A 13 ∷ Deliver (record { from = A; to = B }) 13
+      ∷ Take B 13 ∷ Deliver (record { from = B; to = A }) 13
+      ∷ Take A 21 ∷ Deliver (record { from = A; to = B }) 21
+      ∷ Take B 14 ∷ Deliver (record { from = B; to = A }) 14
+      ∷ Take A 2 ∷ Deliver (record { from = A; to = B }) 2
+      ∷ Take B 11 ∷ Deliver (record { from = B; to = A }) 11
+      ∷ Take A 2 ∷ Deliver (record { from = A; to = B }) 2
+      ∷ [];
+}
+
+-- the bodies of its second and third command, and of their replies
+abbrev pub second_command : List ℕ
+second_command = 0x01 ∷ 0x00 ∷ 0x0F ∷ 0x00 ∷ 0x02 ∷ 0x00 ∷ 0xAA ∷ 0x02 ∷ 0x07 ∷ 0x89 ∷ 0x01 ∷ 0x00 ∷ 0x78 ∷ 0x56 ∷ []
+
+abbrev pub second_reply : List ℕ
+second_reply = 0x00 ∷ 0x01 ∷ 0x4F ∷ 0x00 ∷ 0x02 ∷ 0x00 ∷ []
+
+abbrev pub third_command : List ℕ
+third_command = 0x01 ∷ 0x09 ∷ 0x06 ∷ 0x00 ∷ 0x03 ∷ 0x00 ∷ 0x00 ∷ 0x55 ∷ []
+
+abbrev pub third_reply : List ℕ
+third_reply = 0x09 ∷ 0x01 ∷ 0x46 ∷ 0x00 ∷ 0x03 ∷ 0x00 ∷ 0x55 ∷ []

@@ -12,7 +12,7 @@ ghost use Rattle.duplex_line.specs.Once.{EachOnce};
 ghost use Rattle.duplex_line.specs.Prompt.{IsPrompt, EndsQuiet, HasRooms};
 ghost use Rattle.duplex_line.specs.Complete.{IsComplete};
 ghost use Rattle.each_once.specs.Tells.{executed_in, answers_in};
-ghost use Rattle.duplex_line.specs.Example.{one_write, the_command, the_reply};
+ghost use Rattle.duplex_line.specs.Example.{one_write, the_command, the_reply, two_sources, second_command, second_reply, third_command, third_reply};
 
 /// A law: at each byte that arrives at an end in a run, a whole frame is heard exactly where the grammar of the line, over
 /// all bytes that arrived at that end so far, hears one at its last: so a deception is a frame by the grammar, which
@@ -60,4 +60,17 @@ pub fn one_write_is_executed_and_answered()
     ensures honest { (record_of one_write).deceived ≡ 0 }
     ensures executed { executed_in B (record_of one_write).lines ≡ the_command ∷ [] }
     ensures answered { answers_in A (record_of one_write).lines ≡ (1, the_reply) ∷ [] }
+{}
+
+/// A law: so they are where two commands may be out, one of each source: a command of another source is executed and
+/// answered before the second of the first one.
+#[tactic(auto, unfolding(crate::specs::Run::record_of))]
+pub fn commands_of_two_sources_are_executed_and_answered()
+    ensures playable { IsPlayable two_sources }
+    ensures rooms { HasRooms two_sources }
+    ensures prompt { IsPrompt two_sources }
+    ensures quiet { EndsQuiet two_sources }
+    ensures honest { (record_of two_sources).deceived ≡ 0 }
+    ensures executed { executed_in B (record_of two_sources).lines ≡ the_command ∷ third_command ∷ second_command ∷ [] }
+    ensures answered { answers_in A (record_of two_sources).lines ≡ (1, the_reply) ∷ (3, third_reply) ∷ (2, second_reply) ∷ [] }
 {}

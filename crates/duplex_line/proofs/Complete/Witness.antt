@@ -1,4 +1,4 @@
--- The run of an undisturbed write.
+-- The runs of an undisturbed write, and of three commands of two sources.
 use Rattle.std.proofs.Common.{◌≡◌, List, [], ◌∷◌, refl, arith, Bool, true, false, is_none}
 use Rattle.std.proofs.lemmas.Bool.{ltb-true}
 use Rattle.std.specs.Prelude.{All, ◌&&◌, nat_lt, slice_get}
@@ -7,15 +7,20 @@ use Rattle.df1_check.specs.Checks.{with_byte}
 use Rattle.df1_frame.specs.Spelling.{check_bytes}
 use Rattle.logical_address.specs.Reading.{three_front}
 use Rattle.slc_commands.specs.Order.{fields, spelled_order}
+use Rattle.end_settings.specs.declared.key.Key.{Key}
+use Rattle.end_settings.specs.declared.key.Key.TheVariants.{AckTicks, Embed, MaxEnqs, MaxNaks, MaxResends, MaxSends, Node, PerSource, PollTicks, ReplyTicks, Room, Tns, Window}
+use Rattle.end_settings.specs.Rows.{Fits}
+use Rattle.end_settings.specs.Table.{row_of}
 use Rattle.script_statement.specs.declared.who.Who.TheVariants.{A, B}
 use Rattle.script_parts.specs.declared.script.Event.{Event}
+use Rattle.script_parts.specs.Plans.{first_plan, setting_in}
 use Rattle.script_parts.proofs.PlanSettings.{Fits-first_plan}
 use Rattle.script_parts.specs.Playable.{IsPossible, IsPlayable}
 use Rattle.duplex_line.specs.Acts.{LineEndState, LineState, Deed, Issue, Take, Deliver, Lose, Alter, Foreign, Tick, after_deed}
 use Rattle.duplex_line.specs.Run.{start, who_of, deeds_of, seen_from, after_event, last_state, lines_after}
 use Rattle.duplex_line.specs.Prompt.{Late, none_late, late_seen, late_after, late_event, patience, AreFew, IsGentle, IsPromptOver, IsPromptAfter, IsPrompt, EndsQuiet, HasRooms}
 use Rattle.each_once.specs.Tells.{executed_in, answers_in}
-use Rattle.duplex_line.specs.Example.{one_write, the_command, the_reply}
+use Rattle.duplex_line.specs.Example.{one_write, the_command, the_reply, two_sources, second_command, second_reply, third_command, third_reply}
 use Rattle.each_once.proofs.Sublists.{none-is}
 use Rattle.duplex_line.proofs.Complete.TickStep.{both}
 
@@ -113,3 +118,59 @@ one_write-prompt = prompt-after none_late (start one_write) one_write.events one
 pub one_write-quiet : EndsQuiet one_write
 unfolding check_bytes with_byte spelled_order fields three_front
 one_write-quiet = refl
+
+-- ---- three commands of two sources
+
+two-settings : (key : Key) → Fits (row_of key).values (setting_in (record (first_plan A 0) { window = 2; per_source = 1 }) key)
+two-settings Window = (omega arith, omega arith)
+two-settings PerSource = (omega arith, omega arith)
+two-settings AckTicks = Fits-first_plan A 0 (omega arith) AckTicks
+two-settings Embed = Fits-first_plan A 0 (omega arith) Embed
+two-settings MaxEnqs = Fits-first_plan A 0 (omega arith) MaxEnqs
+two-settings MaxNaks = Fits-first_plan A 0 (omega arith) MaxNaks
+two-settings MaxResends = Fits-first_plan A 0 (omega arith) MaxResends
+two-settings MaxSends = Fits-first_plan A 0 (omega arith) MaxSends
+two-settings Node = Fits-first_plan A 0 (omega arith) Node
+two-settings PollTicks = Fits-first_plan A 0 (omega arith) PollTicks
+two-settings ReplyTicks = Fits-first_plan A 0 (omega arith) ReplyTicks
+two-settings Room = Fits-first_plan A 0 (omega arith) Room
+two-settings Tns = Fits-first_plan A 0 (omega arith) Tns
+
+pub two_sources-playable : IsPlayable two_sources
+two_sources-playable = record {
+  mode = refl;
+  ends = (
+    record { end = refl; files = refl; words = All-nil _; settings = two-settings; compat = refl; block = omega arith },
+    record { end = refl; files = refl; words = All-nil _; settings = Fits-first_plan B 1 (omega arith); compat = refl; block = omega arith },
+  );
+  events = all-possible two_sources.events ((refl, refl), ((refl, refl), ((refl, refl), ((refl, (omega arith, omega arith)), ((refl, (omega arith, omega arith)), ((refl, (omega arith, omega arith)), ((refl, (omega arith, omega arith)), ((refl, (omega arith, omega arith)), ((refl, (omega arith, omega arith)), ((refl, (omega arith, omega arith)), ((refl, (omega arith, omega arith)), ((refl, (omega arith, omega arith)), ((refl, (omega arith, omega arith)), ((refl, (omega arith, omega arith)), ((refl, (omega arith, omega arith)), ((refl, (omega arith, omega arith)), ((refl, (omega arith, omega arith)), ((refl, (omega arith, omega arith)), ((refl, (omega arith, omega arith)), ((refl, (omega arith, omega arith)), ((refl, (omega arith, omega arith)), tt)))))))))))))))))))));
+  commands_of_a = omega arith;
+  commands_of_b = omega arith;
+  sum = omega arith;
+}
+
+pub two_sources-rooms : HasRooms two_sources
+two_sources-rooms = record { of_a = omega arith; of_b = omega arith }
+
+pub two_sources-honest : (last_state two_sources).deceived ≡ 0
+unfolding check_bytes with_byte spelled_order fields three_front
+two_sources-honest = refl
+
+pub two_sources-executed : executed_in B (lines_after (start two_sources) two_sources.events) ≡ the_command ∷ third_command ∷ second_command ∷ []
+unfolding check_bytes with_byte spelled_order fields three_front
+two_sources-executed = refl
+
+pub two_sources-answered : answers_in A (lines_after (start two_sources) two_sources.events) ≡ (1, the_reply) ∷ (3, third_reply) ∷ (2, second_reply) ∷ []
+unfolding check_bytes with_byte spelled_order fields three_front
+two_sources-answered = refl
+
+two_sources-checked : prompt_after none_late (start two_sources) two_sources.events ≡ true
+unfolding check_bytes with_byte spelled_order fields three_front is_gentle
+two_sources-checked = refl
+
+pub two_sources-prompt : IsPrompt two_sources
+two_sources-prompt = prompt-after none_late (start two_sources) two_sources.events two_sources-checked
+
+pub two_sources-quiet : EndsQuiet two_sources
+unfolding check_bytes with_byte spelled_order fields three_front
+two_sources-quiet = refl
