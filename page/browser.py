@@ -2,6 +2,7 @@
 from __future__ import annotations
 
 import base64
+import functools
 import json
 import os
 import shutil
@@ -24,6 +25,18 @@ def found():
     return (driver, browser) if driver and browser else None
 
 
+@functools.lru_cache(maxsize=None)
+def starts():
+    """Whether they are there, and a browser starts here."""
+    if not found():
+        return False
+    try:
+        Browser().close()
+    except (AssertionError, OSError):
+        return False
+    return True
+
+
 class Browser:
     """A headless browser of its own, in light or dark colours."""
 
@@ -32,6 +45,15 @@ class Browser:
         self._folder = tempfile.TemporaryDirectory()
         self._log = open(os.path.join(self._folder.name, "log"), "w+b")
         self._driver = subprocess.Popen([driver, "--port=0"], stdout=self._log, stderr=subprocess.STDOUT)
+        try:
+            self._begin(browser, is_dark, size)
+        except (AssertionError, OSError):
+            self._driver.kill()
+            self._driver.wait()
+            raise
+
+    def _begin(self, browser, is_dark, size):
+        """Begins a session."""
         self._root = f"http://127.0.0.1:{self._port()}"
         words = ["--headless=new", "--no-sandbox", "--disable-gpu", "--disable-dev-shm-usage", "--host-resolver-rules=MAP * ~NOTFOUND, EXCLUDE 127.0.0.1"]
         words += [f"--window-size={size[0]},{size[1]}", f"--user-data-dir={self._folder.name}/profile"]

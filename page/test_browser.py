@@ -28,7 +28,7 @@ EVENTS = "file b 7 89 16\nai 0FAA02078900003412\nak 19\nad 19\nbk 13\nbd 13\nak 
 EXCHANGE = f"{EVENTS}end\n"
 
 
-@unittest.skipUnless(browser.found(), "there is no Chromium with its chromedriver")
+@unittest.skipUnless(browser.starts(), "there is no Chromium with its chromedriver that starts")
 class Page(unittest.TestCase):
     """A browser before a page."""
 
@@ -343,7 +343,7 @@ class Looks(Page):
         self.assertEqual(papers, ["rgb(255, 255, 255)" * 2, "rgb(13, 17, 23)" * 2])
 
 
-@unittest.skipUnless(browser.found(), "there is no Chromium with its chromedriver")
+@unittest.skipUnless(browser.starts(), "there is no Chromium with its chromedriver that starts")
 class Ended(unittest.TestCase):
     def test_where_the_server_is_ended_the_page_says_so(self):
         server = serving.Server(Program([DF1], seconds=60))
