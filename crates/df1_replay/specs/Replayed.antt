@@ -11,9 +11,10 @@ use Rattle.line_world.specs.Once.{EachCommandOnce}
 use Rattle.line_world.specs.Runs.{record_of}
 
 -- The input was read to its end and is a script. The report of its run is written, and nothing else. Where no end was
--- deceived, each station executed commands that were issued to it, in their order, each once, and each accepted reply is
--- what it answered to that very command. Where nothing disturbs the line and nothing is under way in the end, and on a
--- half-duplex line no reply is left at a station either, no end was deceived, and all commands were executed and answered.
+-- deceived, each station executed commands that were issued to it, each once, those of each source in their order, and each
+-- accepted reply is what it answered to that very command. Where nothing disturbs the line and nothing is under way in the end,
+-- where on a full-duplex line each end has room for what the other may have out, and on a half-duplex line one command is out at
+-- a time and no reply is left at a station, no end was deceived, and all commands were executed and answered.
 pub record Replayed (left left' held held' : Option (List ℕ)) : Type 0 where
   pub input : List ℕ
   pub script : Script

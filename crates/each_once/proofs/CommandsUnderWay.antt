@@ -15,7 +15,7 @@ use Rattle.each_once.proofs.Sublists.{Has, IsOther, Differ, get-more, from-map}
 use Rattle.each_once.proofs.HandedOrder.{AreAt, at-more, at-push}
 use Rattle.each_once.proofs.HandedOut.{AreNumbered, numbered-at, numbered-apart, bodies_of}
 use Rattle.each_once.proofs.CommandBodies.{next-first, position-cons, bodies-restated, bodies-tick}
-use Rattle.each_once.proofs.InitiatorProgress.{IsDone}
+use Rattle.each_once.proofs.InitiatorProgress.{IsDone, done-waits, done-ticked}
 
 -- how many commands wait
 abbrev pub count_waiting : List Issued → ℕ
@@ -51,18 +51,6 @@ pub record AreUnderWay (s : InitiatorState) (handed : List (List ℕ)) (done lat
   pub others : length order + count_waiting s.issued ≡ length s.issued
 
 -- ---- how a command stands that is answered, or out
-
-done-out : (s : Standing) → IsDone s → is_out s ≡ false
-done-out (Answered reply) d = refl
-done-out other d = absurd d
-
-done-waits : (s : Standing) → IsDone s → is_waiting s ≡ false
-done-waits (Answered reply) d = refl
-done-waits other d = absurd d
-
-done-ticked : (s : Standing) → IsDone s → IsDone (ticked s)
-done-ticked (Answered reply) d = tt
-done-ticked other d = absurd d
 
 out-out : (ticks late : ℕ) (s : Standing) → IsOutIn ticks late s → is_out s ≡ true
 out-out ticks late (Out left) o = refl
@@ -107,10 +95,10 @@ get-push (e ∷ cs) c (suc k) d is = get-push cs c k d is
 
 -- ---- one command stands otherwise
 
-restated-here : (cs : List Issued) (p : ℕ) (c : Issued) (s : Standing) → slice_get cs p ≡ Some c → slice_get (restated cs p s) p ≡ Some (record c { standing = s })
-restated-here [] p c s at = absurd cc
-restated-here (d ∷ cs) zero c s at = ap (λ (x : Issued). let y : Issued = record x { standing = s } in Some y) (same_Some d c at)
-restated-here (d ∷ cs) (suc p) c s at = restated-here cs p c s at
+restated-at : (cs : List Issued) (p : ℕ) (c : Issued) (s : Standing) → slice_get cs p ≡ Some c → slice_get (restated cs p s) p ≡ Some (record c { standing = s })
+restated-at [] p c s at = absurd cc
+restated-at (d ∷ cs) zero c s at = ap (λ (x : Issued). let y : Issued = record x { standing = s } in Some y) (same_Some d c at)
+restated-at (d ∷ cs) (suc p) c s at = restated-at cs p c s at
 
 stands-there : (cs : List Issued) (q : ℕ) (s : Standing) (P : Standing → Type 0) (p : ℕ) → (p ≡ q → ⊥) → StandsAs cs P p → StandsAs (restated cs q s) P p
 stands-there cs q s P p apart h = record { command = h.command; is_at = get-restated cs q p s (λ same. apart (sym same)) ∙ h.is_at; stands = h.stands }
@@ -253,7 +241,7 @@ handed-to : (s : InitiatorState) (q : ℕ) (handed : List (List ℕ)) (body : Li
     → AreUnderWay (record s { issued = restated s.issued q (Out s.reply_ticks) }) (handed ++ body ∷ []) done late
 handed-to s q handed body done late c at waits is room u =
     let out : Standing = Out s.reply_ticks in
-    let here : StandsAs (restated s.issued q out) (IsOutIn s.reply_ticks late) q = record { command = record c { standing = out }; is_at = restated-here s.issued q c out at; stands = omega arith } in
+    let here : StandsAs (restated s.issued q out) (IsOutIn s.reply_ticks late) q = record { command = record c { standing = out }; is_at = restated-at s.issued q c out at; stands = omega arith } in
     let now = count-restated is_out s.issued q c out at in
     let was : one_if (is_out c.standing) ≡ 0 = ap one_if (waits-out c.standing waits) in
     let fewer = count-restated is_waiting s.issued q c out at in
@@ -322,7 +310,7 @@ stand-answered : (cs : List Issued) (ticks late : ℕ) (r : List ℕ) (ps : List
 stand-answered cs ticks late r [] done p c at differ is h = absurd cc
 stand-answered cs ticks late r (q ∷ ps) zero p c at differ is h =
     let same : q ≡ p = same_Some q p is in
-    let here : StandsAs (restated cs p (Answered r)) IsDone p = record { command = record c { standing = Answered r }; is_at = restated-here cs p c (Answered r) at; stands = tt } in
+    let here : StandsAs (restated cs p (Answered r)) IsDone p = record { command = record c { standing = Answered r }; is_at = restated-at cs p c (Answered r) at; stands = tt } in
     (subst (StandsAs (restated cs p (Answered r)) IsDone) (sym same) here, stand-there cs ticks late p (Answered r) ps zero (λ k x found equal. other-at q ps k x differ.0 found (same ∙ sym equal)) h.1)
 stand-answered cs ticks late r (q ∷ ps) (suc done) p c at differ is h =
     (stands-there cs p (Answered r) IsDone q (λ same. other-at q ps done p differ.0 is same) h.0, stand-answered cs ticks late r ps done p c at differ.1 is h.1)

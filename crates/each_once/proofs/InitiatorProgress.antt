@@ -39,15 +39,15 @@ out_count (Some left) = 1
 
 -- ---- how a command stands that is answered, is out, or waits
 
-done-waits : (s : Standing) → IsDone s → is_waiting s ≡ false
+pub done-waits : (s : Standing) → IsDone s → is_waiting s ≡ false
 done-waits (Answered reply) d = refl
 done-waits other d = absurd d
 
-done-out : (s : Standing) → IsDone s → is_out s ≡ false
+pub done-out : (s : Standing) → IsDone s → is_out s ≡ false
 done-out (Answered reply) d = refl
 done-out other d = absurd d
 
-done-ticked : (s : Standing) → IsDone s → IsDone (ticked s)
+pub done-ticked : (s : Standing) → IsDone s → IsDone (ticked s)
 done-ticked (Answered reply) d = tt
 done-ticked other d = absurd d
 

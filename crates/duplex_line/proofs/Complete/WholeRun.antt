@@ -31,7 +31,7 @@ use Rattle.duplex_line.specs.Plays.{issued_by, IsUnspent}
 use Rattle.each_once.specs.Commands.{AreOutcomesTold, told_of}
 use Rattle.each_once.specs.Exchanges.{exchanges}
 use Rattle.each_once.specs.Once.{Once, IsReplyTo}
-use Rattle.each_once.specs.Tells.{is_who, executed_in, answers_in, outcomes_in}
+use Rattle.each_once.specs.Tells.{is_who, where_of_command, executed_in, answers_in, outcome_at, outcomes_in}
 use Rattle.duplex_line.proofs.Steps.EventsToCome.{room-of-a, room-of-b, unspent}
 use Rattle.duplex_line.proofs.Steps.NothingToGive.{leave-none}
 use Rattle.duplex_line.proofs.Once.SentMessages.{sends-start}
@@ -271,39 +271,29 @@ answered-first who by n number reply body lines false same is at first later =
     let told : answers_in who (line.Answered by number body ∷ lines) ≡ answers_in who lines = rw is refl in
     (among.0, ap (λ (all : List (ℕ × List ℕ)). slice_get all among.0) told ∙ among.1)
 
-undelivered-first : (who by : Who) (n number : ℕ) (reply : List ℕ) (lines : List Line) (own same : Bool) → is_who who by ≡ own → (number == n) ≡ same → slice_get (outcomes_in who n (line.Undelivered by number ∷ lines)) 0 ≡ Some (Answered reply)
-    → slice_get (outcomes_in who n lines) 0 ≡ Some (Answered reply)
-undelivered-first who by n number reply lines true true is at first =
-    let here : outcomes_in who n (line.Undelivered by number ∷ lines) ≡ Undelivered ∷ outcomes_in who n lines = rw (is, at) refl in
-    let no : Some Undelivered ≡ Some (Answered reply) = ap (λ (os : List Standing). slice_get os 0) (sym here) ∙ first in
-    absurd cc
-undelivered-first who by n number reply lines true false is at first =
-    let here : outcomes_in who n (line.Undelivered by number ∷ lines) ≡ outcomes_in who n lines = rw (is, at) refl in
-    ap (λ (os : List Standing). slice_get os 0) (sym here) ∙ first
-undelivered-first who by n number reply lines false same is at first =
-    let here : outcomes_in who n (line.Undelivered by number ∷ lines) ≡ outcomes_in who n lines = rw is refl in
-    ap (λ (os : List Standing). slice_get os 0) (sym here) ∙ first
+-- a command that was given up has no answer as its outcome
+not-answered : (who by : Who) (n number : ℕ) (reply : List ℕ) (outcome : Standing) → (Some outcome ≡ Some (Answered reply) → ⊥) → (own same : Bool) → is_who who by ≡ own → (number == n) ≡ same → where_of_command who n by number outcome ≡ Some (Answered reply) → ⊥
+not-answered who by n number reply outcome other true true is at told = let here : where_of_command who n by number outcome ≡ Some outcome = rw (is, at) refl in other (sym here ∙ told)
+not-answered who by n number reply outcome other true false is at told = let here : where_of_command who n by number outcome ≡ None = rw (is, at) refl in let no : None ≡ Some (Answered reply) = sym here ∙ told in absurd cc
+not-answered who by n number reply outcome other false same is at told = let here : where_of_command who n by number outcome ≡ None = rw is refl in let no : None ≡ Some (Answered reply) = sym here ∙ told in absurd cc
 
-unanswered-first : (who by : Who) (n number : ℕ) (reply : List ℕ) (lines : List Line) (own same : Bool) → is_who who by ≡ own → (number == n) ≡ same → slice_get (outcomes_in who n (line.Unanswered by number ∷ lines)) 0 ≡ Some (Answered reply)
+-- so where its line is the first, the first answer is told behind it
+later-first : (who : Who) (n : ℕ) (reply : List ℕ) (told : Line) (lines : List Line) (outcome : Option Standing) → outcome_at who n told ≡ outcome → (outcome ≡ Some (Answered reply) → ⊥) → slice_get (outcomes_in who n (told ∷ lines)) 0 ≡ Some (Answered reply)
     → slice_get (outcomes_in who n lines) 0 ≡ Some (Answered reply)
-unanswered-first who by n number reply lines true true is at first =
-    let here : outcomes_in who n (line.Unanswered by number ∷ lines) ≡ Unanswered ∷ outcomes_in who n lines = rw (is, at) refl in
-    let no : Some Unanswered ≡ Some (Answered reply) = ap (λ (os : List Standing). slice_get os 0) (sym here) ∙ first in
-    absurd cc
-unanswered-first who by n number reply lines true false is at first =
-    let here : outcomes_in who n (line.Unanswered by number ∷ lines) ≡ outcomes_in who n lines = rw (is, at) refl in
+later-first who n reply told lines None is other first =
+    let here : outcomes_in who n (told ∷ lines) ≡ outcomes_in who n lines = rw is refl in
     ap (λ (os : List Standing). slice_get os 0) (sym here) ∙ first
-unanswered-first who by n number reply lines false same is at first =
-    let here : outcomes_in who n (line.Unanswered by number ∷ lines) ≡ outcomes_in who n lines = rw is refl in
-    ap (λ (os : List Standing). slice_get os 0) (sym here) ∙ first
+later-first who n reply told lines (Some outcome) is other first =
+    let here : outcomes_in who n (told ∷ lines) ≡ outcome ∷ outcomes_in who n lines = rw is refl in
+    absurd (other (ap (λ (os : List Standing). slice_get os 0) (sym here) ∙ first))
 
 first-answer : (who : Who) (n : ℕ) (reply : List ℕ) (lines : List Line) → slice_get (outcomes_in who n lines) 0 ≡ Some (Answered reply) → IsAmong n reply (answers_in who lines)
 first-answer who n reply [] is = absurd cc
 first-answer who n reply (line.Sent by bytes ∷ lines) is = first-answer who n reply lines is
 first-answer who n reply (line.Exec by body ∷ lines) is = first-answer who n reply lines is
 first-answer who n reply (line.Answered by number body ∷ lines) is = answered-first who by n number reply body lines (is_who who by) (number == n) refl refl is (first-answer who n reply lines)
-first-answer who n reply (line.Undelivered by number ∷ lines) is = first-answer who n reply lines (undelivered-first who by n number reply lines (is_who who by) (number == n) refl refl is)
-first-answer who n reply (line.Unanswered by number ∷ lines) is = first-answer who n reply lines (unanswered-first who by n number reply lines (is_who who by) (number == n) refl refl is)
+first-answer who n reply (line.Undelivered by number ∷ lines) is = first-answer who n reply lines (later-first who n reply (line.Undelivered by number) lines _ refl (not-answered who by n number reply Undelivered (λ e. absurd cc) (is_who who by) (number == n) refl refl) is)
+first-answer who n reply (line.Unanswered by number ∷ lines) is = first-answer who n reply lines (later-first who n reply (line.Unanswered by number) lines _ refl (not-answered who by n number reply Unanswered (λ e. absurd cc) (is_who who by) (number == n) refl refl) is)
 first-answer who n reply (line.Stray by body ∷ lines) is = first-answer who n reply lines is
 first-answer who n reply (line.Repeat by ∷ lines) is = first-answer who n reply lines is
 first-answer who n reply (line.Full by ∷ lines) is = first-answer who n reply lines is
