@@ -8,7 +8,7 @@ use Rattle.std.proofs.lemmas.Bool.Decides.{nat_tests}
 use Rattle.df1_node.specs.declared.queue.Queue.{Queue}
 use Rattle.df1_node.specs.Initiator.{InitiatorState, Issued, is_waiting, is_out, source_of, count_out, count_out_of, is_due, next_place, next_command, after_hand_out, restated, Out}
 use Rattle.df1_node.specs.Queue.{places, out_now, waits_of, waiting_at, out_at, is_listed, lower, first_due, lowest_due, IsQueue}
-use Rattle.df1_node.specs.HostLaws.{position-cons, place-command, is_some-none}
+use Rattle.df1_node.specs.HostLaws.{position-cons, command-found, place-command, is_some-none}
 use Rattle.df1_node.proofs.Places.{some-suc, no-zero, position-first, At-known, within-at, position-alike, position-narrower, count-places, count-gains, length-restated, sucs-length}
 use Rattle.df1_node.proofs.Ordered.{waiting_not_out}
 
@@ -266,7 +266,8 @@ next-is s q p r is e at =
       waits = waiting;
       few = omega arith;
       command =
-          ap (λ (b : Bool). cond b (option_map (λ (c : Issued). c.body) (find (is_due s) s.issued)) None) parts.0
+          command-found s
+          ∙ ap (λ (b : Bool). cond b (option_map (λ (c : Issued). c.body) (find (is_due s) s.issued)) None) parts.0
           ∙ ap (option_map (λ (c : Issued). c.body)) got.3
           ∙ ap (λ (c : Issued). Some c.body) same;
     }

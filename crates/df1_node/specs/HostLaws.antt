@@ -1,7 +1,7 @@
 -- The laws of a host, of nodes: a fate is told once, nothing waits after a clearing, what is unanswered rises, and what is handed out is a body.
 use Rattle.std.proofs.Common.{◌≡◌, ℕ, suc, zero, ◌+◌, ◌<◌, ◌≤◌, Bool, true, false, ◌&&◌, cond, List, [], ◌∷◌, ◌++◌, length, drop, find, position, slice_get, slice_index, Option, Some, None, IsSome, IfSome, is_some, refl, sym, ap, subst, ◌∙◌, arith, length-append, length-drop}
 use Rattle.std.specs.Prelude.{nat_lt, not, IsTrue, Result, Ok, Err}
-use Rattle.std.specs.Option.{option_map, option_map_or, option_or}
+use Rattle.std.specs.Option.{option_and_then, option_map, option_map_or, option_or}
 use Rattle.std.specs.List.{All, prefix_len}
 use Rattle.std.proofs.lemmas.Bool.Decides.{nat_tests}
 use Rattle.std.specs.List.Sorted.{IsStrictlyIncreasing}
@@ -24,7 +24,7 @@ use Rattle.plc_commands.specs.Order as plc
 use Rattle.plc_commands.specs.Reading.{order_of as plc_order_of}
 use Rattle.plc_commands.proofs.Replies.{IfShortEcho, echo-fits, reply-fits as plc-fits}
 use Rattle.df1_node.specs.Answer.{StationState, logical_order, asked_by, asked_of, effect_of, extension_of, status_of, done, after_answer, reply_to}
-use Rattle.df1_node.specs.Initiator.{InitiatorState, Standing, Waiting, Out, Answered, Undelivered, Unanswered, Issued, is_waiting, is_last_tick, cleared, restated, source_of, count_out, count_out_of, is_due, next_place, next_command, answered_place, is_out_at, after_reply, after_hand_out, ticked, unanswered_from, all_cleared}
+use Rattle.df1_node.specs.Initiator.{InitiatorState, Standing, Waiting, Out, Answered, Undelivered, Unanswered, Issued, is_waiting, is_last_tick, cleared, restated, source_of, count_out, count_out_of, is_due, next_place, body_at, next_command, answered_place, is_out_at, after_reply, after_hand_out, ticked, unanswered_from, all_cleared}
 use Rattle.df1_node.specs.Node.{NodeState, after_accept, next_body, after_next, is_handed, is_out as awaits, gone_unanswered, news_told, initiator_after, after_told, after_tick, after_clear, holds_bodies, has_room}
 
 -- ---- the first place that passes
@@ -70,13 +70,31 @@ found-both : (t : Issued → Bool) (cs : List Issued) → is_some (position t cs
 found-both t [] = refl
 found-both t (c ∷ cs) = ap is_some (position-cons t c cs) ∙ found-either (t c) c (position t cs) (find t cs) (found-both t cs)
 
+at-either : (b : Bool) (c : Issued) (cs : List Issued) (place : Option ℕ) (rest : Option Issued) → option_and_then (body_at cs) place ≡ option_map (λ (i : Issued). i.body) rest
+    → option_and_then (body_at (c ∷ cs)) (cond b (Some 0) (option_map suc place)) ≡ option_map (λ (i : Issued). i.body) (cond b (Some c) rest)
+at-either true c cs place rest e = refl
+at-either false c cs None rest e = e
+at-either false c cs (Some n) rest e = e
+
+at-found : (t : Issued → Bool) (cs : List Issued) → option_and_then (body_at cs) (position t cs) ≡ option_map (λ (i : Issued). i.body) (find t cs)
+at-found t [] = refl
+at-found t (c ∷ cs) = ap (option_and_then (body_at (c ∷ cs))) (position-cons t c cs) ∙ at-either (t c) c cs (position t cs) (find t cs) (at-found t cs)
+
+at-room : (room : Bool) (cs : List Issued) (place : Option ℕ) (body : Option (List ℕ)) → option_and_then (body_at cs) place ≡ body → option_and_then (body_at cs) (cond room place None) ≡ cond room body None
+at-room true cs place body e = e
+at-room false cs place body e = refl
+
+-- the body of the command to be handed out is that of the first command that is due, where fewer are out than may be
+pub command-found : (s : InitiatorState) → next_command s ≡ cond (nat_lt (count_out s.issued) s.window) (option_map (λ (i : Issued). i.body) (find (is_due s) s.issued)) None
+command-found s = at-room (nat_lt (count_out s.issued) s.window) s.issued (position (is_due s) s.issued) _ (at-found (is_due s) s.issued)
+
 next-either : (room : Bool) (place : Option ℕ) (c : Option Issued) → is_some place ≡ is_some c → is_some (cond room place None) ≡ is_some (cond room (option_map (λ (i : Issued). i.body) c) None)
 next-either true place c e = e ∙ sym (some-body c)
 next-either false place c e = refl
 
 -- there is a place to hand out from exactly where there is a command to hand out
 pub place-command : (s : InitiatorState) → is_some (next_place s) ≡ is_some (next_command s)
-place-command s = next-either (nat_lt (count_out s.issued) s.window) (position (is_due s) s.issued) (find (is_due s) s.issued) (found-both (is_due s) s.issued)
+place-command s = next-either (nat_lt (count_out s.issued) s.window) (position (is_due s) s.issued) (find (is_due s) s.issued) (found-both (is_due s) s.issued) ∙ sym (ap is_some (command-found s))
 
 pub is_some-none : {A : Type 0} (o : Option A) → is_some o ≡ false → o ≡ None
 is_some-none None e = refl
@@ -174,7 +192,7 @@ none-either false c e = refl
 pub none_at_clear : (node : NodeState) → next_body (after_clear node) ≡ None
 none_at_clear node =
     let s : InitiatorState = (after_clear node).initiator in
-    none-either (nat_lt (count_out s.issued) s.window) (find (is_due s) s.issued) (none-found (λ (c : Issued). nat_lt (count_out_of (source_of c) s.issued) s.per_source) node.initiator.issued)
+    command-found s ∙ none-either (nat_lt (count_out s.issued) s.window) (find (is_due s) s.issued) (none-found (λ (c : Issued). nat_lt (count_out_of (source_of c) s.issued) s.per_source) node.initiator.issued)
 
 -- ---- bodies
 
@@ -195,7 +213,7 @@ free-body true c body = body
 free-body false c body = tt
 
 pub command-body : (s : InitiatorState) → AreBodies s.issued → IfSome (next_command s) IsBody
-command-body s all = free-body (nat_lt (count_out s.issued) s.window) (find (is_due s) s.issued) (found-body (is_due s) s.issued all)
+command-body s all = subst (λ (o : Option (List ℕ)). IfSome o IsBody) (sym (command-found s)) (free-body (nat_lt (count_out s.issued) s.window) (find (is_due s) s.issued) (found-body (is_due s) s.issued all))
 
 next-parts : (replies : List (List ℕ)) (s : InitiatorState) → All IsBody replies → AreBodies s.issued → IfSome (option_or (slice_get replies 0) (next_command s)) IsBody
 next-parts [] s waits all = command-body s all

@@ -1,7 +1,7 @@
 -- The commands that a node issues, and what becomes of each. Places in the list of commands are counted from 0; command n is
 -- at place n - 1.
-use Rattle.std.specs.Prelude.{ℕ, suc, zero, ◌+◌, ◌-◌, ◌%◌, Bool, false, true, ◌&&◌, List, [], ◌∷◌, ◌++◌, map, length, drop, find, count_by, nat_lt, nat_le, ◌==◌, position, slice_get, slice_index, bit_or, if◌then◌else◌, Option, None, Some}
-use Rattle.std.specs.Option.{option_map, option_map_or}
+use Rattle.std.specs.Prelude.{ℕ, suc, zero, ◌+◌, ◌-◌, ◌%◌, Bool, false, true, ◌&&◌, List, [], ◌∷◌, ◌++◌, map, length, drop, count_by, nat_lt, nat_le, ◌==◌, position, slice_get, slice_index, bit_or, if◌then◌else◌, Option, None, Some}
+use Rattle.std.specs.Option.{option_and_then, option_map, option_map_or}
 use Rattle.std.specs.Int.{bit_at}
 use Rattle.pccc_envelope.specs.Envelope.{spelling, envelope_of}
 use Rattle.df1_node.specs.declared.outcome.Outcome.{Outcome}
@@ -130,9 +130,13 @@ is_due s c = is_waiting c.standing && nat_lt (count_out_of (source_of c) s.issue
 abbrev pub next_place : InitiatorState → Option ℕ
 next_place s = if nat_lt (count_out s.issued) s.window then position (is_due s) s.issued else None
 
--- the body of that command
+-- the body of the command at a place
+abbrev pub body_at : List Issued → ℕ → Option (List ℕ)
+body_at issued place = option_map (λ c. c.body) (slice_get issued place)
+
+-- the body of the command to be handed out
 abbrev pub next_command : InitiatorState → Option (List ℕ)
-next_command s = if nat_lt (count_out s.issued) s.window then option_map (λ c. c.body) (find (is_due s) s.issued) else None
+next_command s = option_and_then (body_at s.issued) (next_place s)
 
 -- the initiator after that command was handed out
 abbrev pub after_hand_out : InitiatorState → InitiatorState

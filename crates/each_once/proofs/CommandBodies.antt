@@ -13,6 +13,7 @@ use Rattle.df1_node.specs.declared.handed.Handed.{Handed}
 use Rattle.df1_node.specs.declared.handed.Handed.TheVariants as handed
 use Rattle.df1_node.specs.Initiator.{Issued, Standing, Waiting, Out, Answered, Undelivered, InitiatorState, is_out, is_waiting, is_reply_to, restated, answered_place, after_reply, is_out_at, after_hand_out, count_out, is_due, next_place, next_command, all_ticked}
 use Rattle.df1_node.specs.Node.{NodeState, after_accept, after_next, after_told, after_tick, initiator_after}
+use Rattle.df1_node.specs.HostLaws.{command-found}
 
 -- ---- the first place that passes a test
 
@@ -104,7 +105,7 @@ where-may false o x e = absurd cc
 -- the next command is the first that is due
 pub next-first : (s : InitiatorState) (body : List ℕ) → next_command s ≡ Some body → (first : IsFirst (is_due s) s.issued body) × (next_place s ≡ Some first.place)
 next-first s body e =
-    let found = where-may (nat_lt (count_out s.issued) s.window) (option_map (λ c. c.body) (find (is_due s) s.issued)) body e in
+    let found = where-may (nat_lt (count_out s.issued) s.window) (option_map (λ c. c.body) (find (is_due s) s.issued)) body (sym (command-found s) ∙ e) in
     let first = first-of (is_due s) s.issued body found.1 in
     (first, ap (λ may. cond may (position (is_due s) s.issued) None) found.0 ∙ first.is_position)
 

@@ -10,6 +10,7 @@ use Rattle.std.proofs.lemmas.List.Sums.{sum_by-cons, sum_by-append}
 use Rattle.std.proofs.lemmas.Option.{same_Some, slice_get_within, slice_get-map}
 use Rattle.pccc_envelope.specs.Envelope.{tns_of}
 use Rattle.df1_node.specs.Initiator.{Issued, Standing, Waiting, Out, Answered, Undelivered, Unanswered, InitiatorState, is_waiting, is_out, is_reply_to, is_due, restated, ticked, all_ticked, source_of, count_out, count_out_of, next_issued, next_command, answered_place, after_issue, after_reply, after_hand_out}
+use Rattle.df1_node.specs.HostLaws.{command-found}
 use Rattle.df1_node.proofs.Final.{get-restated}
 use Rattle.each_once.proofs.Sublists.{Has, IsOther, Differ, get-more, from-map}
 use Rattle.each_once.proofs.HandedOrder.{AreAt, at-more, at-push}
@@ -269,7 +270,7 @@ pub under-way-hand_out : (s : InitiatorState) (body : List ℕ) (handed : List (
 under-way-hand_out s body handed done late next u =
     let n = next-first s body next in
     let first = n.0 in
-    let may = some-next (nat_lt (count_out s.issued) s.window) (option_map (λ c. c.body) (find (is_due s) s.issued)) body next in
+    let may = some-next (nat_lt (count_out s.issued) s.window) (option_map (λ c. c.body) (find (is_due s) s.issued)) body (sym (command-found s) ∙ next) in
     let due = and_parts (is_waiting first.command.standing) (nat_lt (count_out_of (source_of first.command) s.issued) s.per_source) first.passes in
     subst (λ (place : Option ℕ). AreUnderWay (record s { issued = option_map_or (λ p. restated s.issued p (Out s.reply_ticks)) place s.issued }) (handed ++ body ∷ []) done late) (sym n.1)
     (handed-to s first.place handed body done late first.command first.is_at due.0 first.has_body (ltb-true (count_out s.issued) s.window may) u)
@@ -540,7 +541,7 @@ under-way-all s handed done late some some-of all none u k c at =
     let count = at-count (bodies_of s.issued) u.order handed u.are_at in
     let no-out : count_out s.issued ≡ 0 = omega (arith, u.counted, count, all) in
     let may : nat_lt (count_out s.issued) s.window ≡ true = lt-ltb (count_out s.issued) s.window (omega (arith, no-out, some)) in
-    let nothing : option_map (λ x. x.body) (find (is_due s) s.issued) ≡ None = rw may at none in
+    let nothing : option_map (λ x. x.body) (find (is_due s) s.issued) ≡ None = rw may at (sym (command-found s) ∙ none) in
     let fails = none-found (is_due s) s.issued k c nothing at in
     let fewer = none-of s.issued (source_of c) in
     let due : nat_lt (count_out_of (source_of c) s.issued) s.per_source ≡ true = lt-ltb _ s.per_source (omega (arith, fewer, no-out, some-of)) in

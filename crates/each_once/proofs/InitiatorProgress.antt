@@ -7,6 +7,7 @@ use Rattle.std.proofs.lemmas.List.{map-append, length-map, length-take-le, take-
 use Rattle.std.proofs.lemmas.List.Sums.{sum_by-cons}
 use Rattle.std.proofs.lemmas.Option.{same_Some}
 use Rattle.df1_node.specs.Initiator.{Issued, Standing, Waiting, Out, Answered, InitiatorState, is_waiting, is_out, is_reply_to, restated, ticked, all_ticked, count_out, count_out_of, source_of, is_due, next_command, answered_place, after_hand_out, after_reply}
+use Rattle.df1_node.specs.HostLaws.{command-found}
 use Rattle.each_once.proofs.Sublists.{get-more, from-map}
 use Rattle.each_once.proofs.CommandBodies.{position-cons}
 
@@ -111,7 +112,7 @@ IsSingle s = (s.window ≡ 1) × (1 ≤ s.per_source)
 
 -- while one is out, none is handed out
 pub under-busy : (s : InitiatorState) (n left : ℕ) → IsSingle s → IsUnderWay s.issued n (Some left) → next_command s ≡ None
-under-busy s n left single u = rw (some-out s.issued n left u, single.0) refl
+under-busy s n left single u = command-found s ∙ rw (some-out s.issued n left u, single.0) refl
 
 -- while none is out, each that waits is due
 and-yes : (a b : Bool) → b ≡ true → (a && b) ≡ a
@@ -144,7 +145,7 @@ pub under-hand_out : (s : InitiatorState) (n : ℕ) (out : Option ℕ) (body : L
 under-hand_out s n (Some left) body single u e = absurd (let busy = under-busy s n left single u in cc)
 under-hand_out s n None body single u e =
     let may = may-hand-out s n single u in
-    let next = next-out s.reply_ticks (is_due s) s.issued n body (due-waits s n single u) u (rw may at e) in
+    let next = next-out s.reply_ticks (is_due s) s.issued n body (due-waits s n single u) u (rw may at (sym (command-found s) ∙ e)) in
     (refl, rw (may, next.0) next.2, next.1)
 
 -- ---- a tick
@@ -251,4 +252,4 @@ all-done t (c ∷ cs) (suc n) same u e =
 
 pub under-all : (s : InitiatorState) (n : ℕ) → IsSingle s → IsUnderWay s.issued n None → next_command s ≡ None →
     (length s.issued ≡ n) × ((k : ℕ) (c : Issued) → slice_get s.issued k ≡ Some c → IsDone c.standing)
-under-all s n single u e = all-done (is_due s) s.issued n (due-waits s n single u) u (rw (may-hand-out s n single u) at e)
+under-all s n single u e = all-done (is_due s) s.issued n (due-waits s n single u) u (rw (may-hand-out s n single u) at (sym (command-found s) ∙ e))
