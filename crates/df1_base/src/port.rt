@@ -8,7 +8,7 @@ use crate::{Failed, Signal};
 pub trait Port {
     ghost use Rattle.std.specs.Prelude.{◌≡◌, ◌+◌, ◌≤◌, List, ℕ, [], ◌∷◌, ◌++◌, Option, IfOk, OnOk, OnErr, true};
     ghost use Rattle.std.specs.Io.KnownBytes.{Keeps};
-    ghost use Rattle.df1_base.specs.Outside.{Rose, Put, WrotePart};
+    ghost use Rattle.df1_base.specs.Outside.{Rose, Put, WroteLess, WrotePart};
     ghost use Rattle.df1_base.specs.declared.signal.Signal.{Signal as OneSignal};
     ghost use Rattle.df1_base.specs.Signals.{Gave, goes_on};
 
@@ -59,9 +59,10 @@ pub trait Port {
         ensures cause { OnErr result (Rose (put_faults self.old) (put_faults self.new)) }
         ensures other { next_faults self.new ≡ next_faults self.old };
 
-    /// Puts all these bytes. Where one can't be put, those before it were.
+    /// Puts all these bytes. Where one can't be put, those before it were, and not all.
     fn put_all(&mut self, bytes: &[u8]) -> Result<(), Failed>
         ensures put { OnOk result (Put (sent self.old) (sent self.new) bytes.now) }
+        ensures missing { OnErr result (WroteLess (sent self.old) (sent self.new) bytes.now) }
         ensures part { WrotePart (sent self.old) (sent self.new) bytes.now }
         ensures none_came { came self.old [] self.new }
         ensures no_more { most self.new ≤ most self.old }

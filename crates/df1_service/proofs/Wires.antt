@@ -186,7 +186,7 @@ or-none : (a b : Bool) → (a || b) ≡ false → (a ≡ false) × (b ≡ false)
 or-none false b none = (refl, none)
 or-none true b none = absurd cc
 
-few-by : (timed within : Bool) (n : ℕ) → nat_lt (if timed && within then 1 else 0) n ≡ false → n ≤ (if timed then 1 else 0)
+few-by : (timed within : Bool) (n : ℕ) → nat_lt (if timed && within then 1 else 0) n ≡ false → n ≤ (if timed && within then 1 else 0)
 few-by true true n none = grind (arith, nat_tests)
 few-by true false n none = grind (arith, nat_tests)
 few-by false within n none = grind (arith, nat_tests)
@@ -205,7 +205,8 @@ broken-off left input out timed f signals before after held held' came dry serve
         bytes_are = came.goes;
         gives = λ later. came.gives later ∙ came-is signals timed f.timed f.used (length came.gone) f.drains false f.waiting later came.timed_is (omega (arith, came.count)) none.0;
       };
-      few = subst (λ (t : Bool). length f.waiting ≤ (if t then 1 else 0)) came.timed_is (few-by f.timed (nat_lt f.used input_limit) (length f.waiting) none.1);
+      few = subst (λ (t : Bool). length f.waiting ≤ (if t && nat_lt (length came.gone) input_limit then 1 else 0)) came.timed_is
+          (subst (λ (n : ℕ). length f.waiting ≤ (if f.timed && nat_lt n input_limit then 1 else 0)) (omega (arith, came.count)) (few-by f.timed (nat_lt f.used input_limit) (length f.waiting) none.1));
       after = after;
       served = served;
     }

@@ -1,9 +1,9 @@
 -- What a plan's end gives over the signals of an input.
-use Rattle.std.specs.Prelude.{◌≡◌, ◌≤◌, ◌+◌, ℕ, Bool, false, List, [], ◌∷◌, ◌++◌, length, Option, if◌then◌else◌}
+use Rattle.std.specs.Prelude.{◌≡◌, ◌≤◌, ◌+◌, ℕ, Bool, false, List, [], ◌∷◌, ◌++◌, length, nat_lt, ◌&&◌, Option, if◌then◌else◌}
 use Rattle.std.specs.Io.KnownBytes.{IsAtEnd}
 use Rattle.df1_base.specs.Outside.{Took}
 use Rattle.df1_base.specs.Feed.{due}
-use Rattle.df1_base.specs.Signals.{input_signals}
+use Rattle.df1_base.specs.Signals.{input_limit, input_signals}
 use Rattle.df1_base.specs.declared.signal.Signal.{Signal}
 use Rattle.df1_base.specs.declared.signal.Signal.TheVariants.{End, Bad}
 use Rattle.df1_shelf.specs.Shelves.{Filed}
@@ -58,20 +58,20 @@ HasNoForm timed before at left left' held held' = (reached : Reached timed befor
 abbrev pub IsCut : Bool → EndState NodeState → ℕ → Option (List ℕ) → Option (List ℕ) → Option (List ℕ) → Option (List ℕ) → Type 0
 IsCut timed before at left left' held held' = (reached : Reached timed before (Bad at) left left' held held') × (length reached.bytes ≡ at + 1) × IsAtEnd left'
 
--- A read has failed: all signals of the bytes that were taken were served, and the last of these bytes, fewer than a record has,
--- make none.
+-- A read has failed: all signals of the bytes that were taken were served, and the last of these bytes make none. It is one at
+-- most, the first of a record that is still within the limit.
 pub record StoppedByInput (timed : Bool) (before : EndState NodeState) (left left' held held' : Option (List ℕ)) : Type 0 where
   pub bytes : List ℕ
   pub took : Took left left' bytes
   pub signals : List Signal
   pub rest : List ℕ
   pub gives : Gives timed bytes signals false rest
-  pub few : length rest ≤ (if timed then 1 else 0)
+  pub few : length rest ≤ (if timed && nat_lt (length gives.gone) input_limit then 1 else 0)
   pub after : EndState NodeState
   pub served : Serves node_host before signals after held held'
 
 -- The output has failed: at most 4,096 bytes were taken beyond those whose signals were served, and of what the end gave at the
--- last of these a part is put.
+-- last of these a part is put, and not all.
 pub record StoppedByOutput (timed : Bool) (before : EndState NodeState) (left left' held held' : Option (List ℕ)) : Type 0 where
   pub bytes : List ℕ
   pub took : Took left left' bytes

@@ -4,7 +4,7 @@ use Rattle.std.specs.Prelude.{option_to_list}
 use Rattle.std.proofs.lemmas.List.{map-append}
 use Rattle.std.specs.Io.KnownBytes.{Keeps}
 use Rattle.std.proofs.KnownBytes.{Appends-nil, Appends-kept, Appends-trans}
-use Rattle.df1_base.specs.Outside.{Put, WrotePart}
+use Rattle.df1_base.specs.Outside.{Put, WroteLess}
 use Rattle.df1_base.specs.Signals.{Gave, GaveOne, goes_on}
 use Rattle.df1_base.specs.declared.host.Host.{Ghosts}
 use Rattle.df1_base.specs.declared.link.Out.{Out}
@@ -70,14 +70,15 @@ serves-more {H} m a b c xs ys old mid new first heard put =
       put = subst (λ (bytes : List ℕ). Put old new bytes) same (Appends-trans old mid new (bytes_given m a at) (bytes_given m b heard.letters) first.put put);
     }
 
--- of what is given at the last signal a part is put
-breaks-off : {H : Type 0} (m : Ghosts H) (a b c : EndState H) (xs : List Signal) (last : Signal) (old mid new : Option (List ℕ)) → Serves m a xs b old mid → (heard : Hears m b (last ∷ []) c) → WrotePart mid new (bytes_given m b heard.letters) → BreaksOff m a xs last c old new
-breaks-off m a b c xs last old mid new first heard (rest, wrote) = record {
+-- of what is given at the last signal a part is put, and not all
+breaks-off : {H : Type 0} (m : Ghosts H) (a b c : EndState H) (xs : List Signal) (last : Signal) (old mid new : Option (List ℕ)) → Serves m a xs b old mid → (heard : Hears m b (last ∷ []) c) → WroteLess mid new (bytes_given m b heard.letters) → BreaksOff m a xs last c old new
+breaks-off m a b c xs last old mid new first heard (rest, some, wrote) = record {
   middle = b;
   heard = first.heard;
   then = heard;
   part = wrote.part;
   rest = rest;
+  some = some;
   given_last = wrote.text_is;
   put = Appends-trans old mid new (bytes_given m a first.heard.letters) wrote.part first.put wrote.put;
 }
@@ -171,16 +172,16 @@ served-more came sent m joins p q r s a b c signal bytes served one keeps gives 
       (subst (λ (given : List ℕ). Put (sent r) (sent s) given) gives.1 put),
 )
 
--- one signal more came, and a part of what the end gave at it was put
+-- one signal more came, and a part of what the end gave at it was put, and not all
 pub served-part : {P H : Type 0} (came : P → List Signal → P → Type 0) (sent : P → Option (List ℕ)) (m : Ghosts H) (joins : Joins came) (p q r s : P) (a b c : EndState H) (signal : Signal) (bytes : List ℕ)
-    → ServedSoFar came sent m p a q b → came q (signal ∷ []) r → Keeps (sent q) (sent r) → Gives m b (signal ∷ []) c bytes → came r [] s → WrotePart (sent r) (sent s) bytes
+    → ServedSoFar came sent m p a q b → came q (signal ∷ []) r → Keeps (sent q) (sent r) → Gives m b (signal ∷ []) c bytes → came r [] s → WroteLess (sent r) (sent s) bytes
     → (signals : List Signal) × (last : Signal) × came p (signals ++ last ∷ []) s × BreaksOff m a signals last c (sent p) (sent s)
 served-part came sent m joins p q r s a b c signal bytes served one keeps gives none wrote = (
   served.0,
   signal,
   came-still came joins p r s (served.0 ++ signal ∷ []) (joins p q r served.0 (signal ∷ []) served.1 one) none,
   breaks-off m a b c served.0 signal (sent p) (sent r) (sent s) (serves-kept m a b served.0 (sent p) (sent q) (sent r) served.2 keeps) gives.0
-      (subst (λ (given : List ℕ). WrotePart (sent r) (sent s) given) gives.1 wrote),
+      (subst (λ (given : List ℕ). WroteLess (sent r) (sent s) given) gives.1 wrote),
 )
 
 -- a signal that others may follow came

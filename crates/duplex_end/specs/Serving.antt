@@ -1,5 +1,5 @@
 -- An end over the signals of a port.
-use Rattle.std.specs.Prelude.{◌≡◌, ℕ, List, [], ◌∷◌, ◌++◌, map, Option, Some, None}
+use Rattle.std.specs.Prelude.{◌≡◌, ◌≢◌, ℕ, List, [], ◌∷◌, ◌++◌, map, Option, Some, None}
 use Rattle.df1_base.specs.Outside.{Put}
 use Rattle.df1_base.specs.declared.host.Host.{Ghosts}
 use Rattle.df1_base.specs.declared.signal.Signal.{Signal}
@@ -33,13 +33,14 @@ pub record Serves {H : Type 0} (m : Ghosts H) (before : EndState H) (signals : L
   pub heard : Hears m before signals after
   pub put : Put old new (bytes_given m before heard.letters)
 
--- those that it gave over these signals were put, and a part of those at the last one
+-- those that it gave over these signals were put, and a part of those at the last one, but not all
 pub record BreaksOff {H : Type 0} (m : Ghosts H) (before : EndState H) (signals : List Signal) (last : Signal) (after : EndState H) (old new : Option (List ℕ)) : Type 0 where
   pub middle : EndState H
   pub heard : Hears m before signals middle
   pub then : Hears m middle (last ∷ []) after
   pub part : List ℕ
   pub rest : List ℕ
+  pub some : rest ≢ []
   pub given_last : bytes_given m middle then.letters ≡ part ++ rest
   pub put : Put old new (bytes_given m before heard.letters ++ part)
 

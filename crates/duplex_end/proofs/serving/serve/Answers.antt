@@ -47,8 +47,9 @@ returns-then-is_err-clause-served g c = λ other. absurd (other refl)
 pub returns-then-is_err-clause-breaks_off : goal.returns-then-is_err-clause-breaks_off
 returns-then-is_err-clause-breaks_off g c = λ _.
     let goes : goes_on c.in-Ok.signal ≡ true = first_of (search rules, grind (arith, common_steps)) in
+    let less = on-err c.put_all.result _ (sym c.is_err.ensures.value ∙ c.if-is_err.true) c.put_all.ensures.missing in
     served-part g.P.Port.came g.P.Port.sent g.H.Host g.met.P.Port.more_came c.args.port.now c.loop-at.port c.next.new.self c.put_all.new.self c.args.end.now c.loop-at.end c.hear.new.end c.in-Ok.signal c.deref.result.now c.loop-at.invariant.served
-    (gave-one g.P.Port.came g.P.Port.ends_with c.loop-at.port c.next.new.self c.in-Ok.signal c.in-Ok.ensures.gave goes) c.next.ensures.sent (c.hear.ensures.0, c.deref.ensures.0 ∙ c.hear.ensures.1) c.put_all.ensures.none_came c.put_all.ensures.part
+    (gave-one g.P.Port.came g.P.Port.ends_with c.loop-at.port c.next.new.self c.in-Ok.signal c.in-Ok.ensures.gave goes) c.next.ensures.sent (c.hear.ensures.0, c.deref.ensures.0 ∙ c.hear.ensures.1) c.put_all.ensures.none_came less
 
 pub returns-then-is_err-clause-out_failed : goal.returns-then-is_err-clause-out_failed
 returns-then-is_err-clause-out_failed g c = λ _.
