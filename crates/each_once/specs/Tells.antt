@@ -1,24 +1,12 @@
 -- What the lines of a report tell of an end: the commands that it executed, the replies that it accepted, and what became of
 -- its own commands.
-use Rattle.std.specs.Prelude.{ℕ, Bool, true, false, List, Option, Some, None, ◌==◌, if◌then◌else◌}
+use Rattle.std.specs.Prelude.{ℕ, List, Option, Some, None, ◌==◌, if◌then◌else◌}
 use Rattle.std.specs.List.{filter_map}
 use Rattle.df1_node.specs.Initiator.{Standing, Answered, Undelivered, Unanswered}
 use Rattle.script_statement.specs.declared.who.Who.{Who}
-use Rattle.script_statement.specs.declared.who.Who.TheVariants.{A, B, M, S}
 use Rattle.replay_report.specs.declared.record.Line.{Line}
 use Rattle.replay_report.specs.declared.record.Line.TheVariants as line
-
--- these are one end
-abbrev pub is_who : Who → Who → Bool
-is_who A A = true
-is_who B B = true
-is_who M M = true
-is_who (S station) (S other) = station == other
-is_who who other = false
-
--- what a line tells, where it tells of this end
-abbrev pub where_of : {X : Type 0} → Who → Who → X → Option X
-where_of who by told = if is_who who by then Some told else None
+pub use Rattle.report_lines.specs.Whose.{is_who, where_of}
 
 -- the body of a command that the end executed
 abbrev pub executed_at : Who → Line → Option (List ℕ)

@@ -1,2 +1,4 @@
 pub mod NodeLines
+pub mod SentBytes
+pub mod Whose
 pub mod Words
