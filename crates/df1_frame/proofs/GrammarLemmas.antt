@@ -27,7 +27,7 @@ respond pieces b None = (Broken pieces b ∷ [], Nothing)
 respond pieces b (Some h) = ([], Opened (pieces ++ Response b ∷ []))
 
 -- what a front becomes by one byte: items that are whole now, and a front
-abbrev advance : Check → Front → ℕ → To
+abbrev pub advance : Check → Front → ℕ → To
 advance kind Nothing b = cond (eqb b 16) ([], Dle) (Stray b ∷ [], Nothing)
 advance kind Dle b = cond (eqb b 2) ([], Opened []) (Pair b ∷ [], Nothing)
 advance kind (Opened pieces) b = cond (eqb b 16) ([], OpenedDle pieces) ([], Opened (pieces ++ Plain b ∷ []))

@@ -5,3 +5,4 @@ pub mod GrammarLemmas
 pub mod FrameLemmas
 pub mod RunLemmas
 pub mod DecoderRuns
+pub mod Sendings

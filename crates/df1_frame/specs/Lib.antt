@@ -8,3 +8,4 @@ pub mod Step
 pub mod View
 pub mod Framing
 pub mod Runs
+pub mod Wire

@@ -1,1 +1,2 @@
 pub mod GivingLemmas
+pub mod GivenOnWire
