@@ -9,3 +9,4 @@ pub mod Fates
 pub mod Responses
 pub mod Reaching
 pub mod Signals
+pub mod OnWire

@@ -20,9 +20,10 @@ use Rattle.duplex_receiver.specs.Hearing.{Stands}
 use Rattle.duplex_receiver.proofs.Keeping.{stands-more, stands-start as receiver-start}
 use Rattle.df1_frame.specs.Standing.{Outside}
 use Rattle.embedded_response.specs.Giving.{Giving, chosen, offer, forget, answer_enq, unask}
-use Rattle.duplex_end.specs.End.{EndState, end_after_take, begun_at, begun_next, prepared, new_end, sender_after, responded, asked, is_waiting, act_of_byte}
+use Rattle.duplex_end.specs.End.{EndState, end_after_take, begun_at, begun_next, prepared, new_end, with_host, sender_after, responded, asked, is_waiting, act_of_byte}
 use Rattle.duplex_end.specs.Joined.{Joined}
 use Rattle.duplex_end.specs.Emission.{Letter, Byte, Tick, Take, end_after, given_at, end_after_all, emission, bytes_among, hearings}
+use Rattle.duplex_end.specs.Moves.{Move, Signal, Change, end_after_moves, bytes_come, hearings_over}
 use Rattle.duplex_end.specs.Reached.{BodiesFit}
 use Rattle.duplex_end.specs.declared.Setup.{Setup}
 use Rattle.duplex_end.proofs.Joining.{begin-joined, take-joined}
@@ -161,3 +162,17 @@ start-stands check N = receiver-start check N (record { check = check; standing 
 pub new-stands : {H : Type 0} (m : Ghosts H) (setup : Setup) (host : H) (signals : List Letter)
     → Stands setup.check 250 (bytes_among signals) (hearings m (new_end setup host) signals) (end_after_all m (new_end setup host) signals).receiver
 new-stands m setup host signals = signals-stand m setup.check (new_end setup host) [] [] signals (start-stands setup.check 250)
+
+-- however the host is changed
+moves-stand : {H : Type 0} (m : Ghosts H) (check : Check) (e : EndState H) (bytes : List ℕ) (before : List Hearing) (moves : List (Move H))
+    → Stands check 250 bytes before e.receiver → Stands check 250 (bytes ++ bytes_come moves) (before ++ hearings_over m e moves) (end_after_moves m e moves).receiver
+moves-stand m check e bytes before [] stands = rw (append-nil bytes, append-nil before) stands
+moves-stand m check e bytes before (Signal signal ∷ moves) stands =
+    let one = signal ∷ [] in
+    rw (← append_assoc bytes (bytes_among one) (bytes_come moves), ← append_assoc before (hearings m e one) (hearings_over m (end_after m e signal) moves))
+    (moves-stand m check (end_after m e signal) (bytes ++ bytes_among one) (before ++ hearings m e one) moves (signals-stand m check e bytes before one stands))
+moves-stand m check e bytes before (Change host ∷ moves) stands = moves-stand m check (with_host e host) bytes before moves stands
+
+pub moved-stands : {H : Type 0} (m : Ghosts H) (setup : Setup) (host : H) (moves : List (Move H))
+    → Stands setup.check 250 (bytes_come moves) (hearings_over m (new_end setup host) moves) (end_after_moves m (new_end setup host) moves).receiver
+moved-stands m setup host moves = moves-stand m setup.check (new_end setup host) [] [] moves (start-stands setup.check 250)

@@ -5,3 +5,4 @@ pub mod Reached
 pub mod Fates
 pub mod Arrived
 pub mod Serving
+pub mod Moves

@@ -4,6 +4,7 @@ ghost use Rattle.std.specs.Prelude.{◌≡◌, ◌≤◌, ◌+◌, ◌∷◌, �
 ghost use Rattle.std.specs.List.{fold};
 ghost use Rattle.df1_base.specs.declared.link.Out.{Out as Given};
 ghost use Rattle.df1_check.specs.declared.Check.{Check as CheckKind};
+ghost use Rattle.df1_frame.specs.Wire.{IsDf1};
 ghost use Rattle.duplex_receiver.specs.Hearing.{Stands};
 ghost use Rattle.duplex_receiver.specs.Receiver.{response_after, last_response};
 ghost use Rattle.duplex_end.specs.declared.Setup.{Setup as Settings};
@@ -12,6 +13,7 @@ ghost use Rattle.duplex_end.specs.Joined.{Joined, IsShort, most_left};
 ghost use Rattle.duplex_end.specs.Reached.{Reached, BodiesFit};
 ghost use Rattle.duplex_end.specs.Fates.{InTurn, events, has_message};
 ghost use Rattle.duplex_end.specs.Arrived.{Arrival, StandsFor, HeardByGrammar, bytes_arrived};
+ghost use Rattle.duplex_end.specs.Moves.{Move, end_after_moves, HoldBodies, bytes_come, hearings_over, bytes_given, messages_over};
 ghost use Rattle.duplex_end.specs.Emission.{Letter, Take, end_after, given_at, end_after_all, emission, bytes_among, hearings, acts, takes, Drains};
 
 use df1_base::Host;
@@ -22,10 +24,21 @@ pub fn signals_go_on<H: Host>()
     ensures given { (e : EndState H) (before : List Letter) (signal : Letter) → emission H.Host e (before ++ signal ∷ []) ≡ emission H.Host e before ++ given_at H.Host (end_after_all H.Host e before) signal }
 {}
 
-/// What an end has heard is what the grammar of the line hears in all its bytes, whatever ticks and takes came between.
+/// What an end has heard is what the grammar of the line hears in all its bytes, whatever ticks and takes came between, and
+/// however its host was changed.
 pub fn hears_what_the_grammar_hears<H: Host>()
-    ensures { (setup : Settings) (host : H) (signals : List Letter)
+    ensures signals { (setup : Settings) (host : H) (signals : List Letter)
         → Stands setup.check 250 (bytes_among signals) (hearings H.Host (new_end setup host) signals) (end_after_all H.Host (new_end setup host) signals).receiver }
+    ensures moves { (setup : Settings) (host : H) (moves : List (Move H))
+        → Stands setup.check 250 (bytes_come moves) (hearings_over H.Host (new_end setup host) moves) (end_after_moves H.Host (new_end setup host) moves).receiver }
+{}
+
+/// What an end gives, over signals and changes of its host, is whole frames, responses and ENQs, with at the end perhaps the
+/// begin of one more, and nothing else; its frames carry the messages that the host handed out, in their order, each perhaps
+/// several times running (manual topic: full-duplex protocol).
+pub fn what_is_given_is_df1<H: Host>()
+    ensures { (setup : Settings) (host : H) (moves : List (Move H)) → H.Host.holds_bodies host → HoldBodies H.Host moves
+        → IsDf1 setup.check (messages_over H.Host (new_end setup host) moves) (bytes_given H.Host (new_end setup host) moves) }
 {}
 
 /// At each byte that arrives at an end a whole frame is heard exactly where the grammar of the line, over all bytes that
