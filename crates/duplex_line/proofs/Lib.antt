@@ -2,3 +2,4 @@ pub mod Complete
 pub mod Once
 pub mod Steps
 pub mod Told
+pub mod Wire

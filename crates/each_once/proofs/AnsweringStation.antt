@@ -13,6 +13,7 @@ use Rattle.df1_node.specs.Answer.{StationState, after_answer, reply_to}
 use Rattle.df1_node.specs.Initiator.{Issued, InitiatorState, is_reply_to, next_command, after_reply, after_hand_out, all_cleared}
 use Rattle.df1_node.specs.Node.{NodeState, next_body, next_handed, after_accept, after_next, after_told, after_clear}
 use Rattle.each_once.specs.Exchanges.{exchanges, station_after}
+pub use Rattle.each_once.specs.Exchanges.{replies_to}
 use Rattle.each_once.proofs.StationReplies.{exchanges-push, exchanges-bodies, exchange-fits}
 use Rattle.each_once.proofs.CommandBodies.{bodies-told, next-first}
 use Rattle.each_once.proofs.Sublists.{IsWithin, nothing, skips, keeps, within-front, within-has, Has, from-map}
@@ -36,10 +37,6 @@ within-both x _ _ (skips y xs ys h) = skips y (xs ++ x ∷ []) (ys ++ x ∷ []) 
 within-both x _ _ (keeps y xs ys h) = keeps y (xs ++ x ∷ []) (ys ++ x ∷ []) (within-both x xs ys h)
 
 -- ---- what such a node keeps to
-
--- the replies that a station makes to these commands
-abbrev pub replies_to : StationState → List (List ℕ) → List (List ℕ)
-replies_to first executed = map (λ e. e.1) (exchanges first executed)
 
 pub record Serves (first : StationState) (node : NodeState) (executed sent : List (List ℕ)) : Type 0 where
   pub station : node.station ≡ station_after first executed

@@ -7,13 +7,10 @@ use Rattle.pccc_envelope.specs.Envelope.{is_reply, tns_of}
 use Rattle.df1_node.specs.Answer.{StationState, after_answer}
 use Rattle.df1_node.specs.Initiator.{Issued, Standing, Waiting, Out, Answered, Undelivered, Unanswered, InitiatorState, is_waiting, is_reply_to}
 use Rattle.df1_node.specs.Node.{NodeState}
+pub use Rattle.each_once.specs.Commands.{is_command}
 use Rattle.each_once.specs.Exchanges.{exchanges}
 use Rattle.each_once.proofs.HandedOrder.{AreInTurn, place-of}
 use Rattle.each_once.proofs.Sublists.{Has, from-map}
-
--- a message is a command, or else a reply
-abbrev pub is_command : List ℕ → Bool
-is_command body = not (is_reply body)
 
 -- the bodies of commands, and which of them wait
 abbrev pub bodies_of : List Issued → List (List ℕ)

@@ -72,7 +72,7 @@ and-left : (a b : Bool) → IsTrue (a && b) → a ≡ true
 and-left true b h = refl
 and-left false b h = absurd cc
 
-payload-fits : (s : InitiatorState) (src dst : ℕ) (payload : List ℕ) → IsTrue (is_payload payload) → IsBody (next_issued s src dst payload)
+pub payload-fits : (s : InitiatorState) (src dst : ℕ) (payload : List ℕ) → IsTrue (is_payload payload) → IsBody (next_issued s src dst payload)
 payload-fits s src dst [] h = absurd cc
 payload-fits s src dst (cmd ∷ rest) h =
     let few = leb-true (length (cmd ∷ rest)) 245 (and-left (nat_le (length (cmd ∷ rest)) 245) (bit_and cmd 0x40 == 0) h) in

@@ -1,6 +1,6 @@
 -- The commands of an initiator: the bodies of what a script issues, and what became of each.
-use Rattle.std.specs.Prelude.{◌≡◌, ℕ, zero, suc, ◌+◌, ◌%◌, List, [], ◌∷◌, ◌++◌, drop, slice_get, slice_index, Option, Some, None}
-use Rattle.pccc_envelope.specs.Envelope.{spelling}
+use Rattle.std.specs.Prelude.{◌≡◌, ℕ, zero, suc, ◌+◌, ◌%◌, Bool, not, List, [], ◌∷◌, ◌++◌, drop, slice_get, slice_index, Option, Some, None}
+use Rattle.pccc_envelope.specs.Envelope.{spelling, is_reply}
 use Rattle.df1_node.specs.Initiator.{Standing, Waiting, Out, Answered, Undelivered, Unanswered, Issued}
 use Rattle.script_statement.specs.declared.who.Who.{Who}
 use Rattle.replay_report.specs.declared.record.Line.{Line}
@@ -42,3 +42,7 @@ told_of_command (Some c) = told_of c.standing
 -- the lines tell of each command how it ended, once, and of no other
 abbrev pub AreOutcomesTold : Who → List Issued → List Line → Type 0
 AreOutcomesTold who issued lines = (n : ℕ) → outcomes_in who n lines ≡ told_of_command (command_at issued n)
+
+-- a message is a command, or else a reply
+abbrev pub is_command : List ℕ → Bool
+is_command body = not (is_reply body)

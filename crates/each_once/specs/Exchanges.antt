@@ -1,5 +1,5 @@
 -- Commands that a station answers, one after another.
-use Rattle.std.specs.Prelude.{ℕ, List, [], ◌∷◌}
+use Rattle.std.specs.Prelude.{ℕ, List, [], ◌∷◌, map}
 use Rattle.std.specs.List.{fold}
 use Rattle.df1_node.specs.Answer.{StationState, after_answer, reply_to}
 
@@ -11,3 +11,7 @@ exchanges station (body ∷ bodies) = (body, reply_to station body) ∷ exchange
 -- the station after these commands
 abbrev pub station_after : StationState → List (List ℕ) → StationState
 station_after = fold after_answer
+
+-- the replies that a station makes to these commands
+abbrev pub replies_to : StationState → List (List ℕ) → List (List ℕ)
+replies_to first executed = map (λ e. e.1) (exchanges first executed)
