@@ -2,3 +2,9 @@
 pub mod SilentLines
 -- At each point of a run, of one end: what it gave is DF1, and its messages are its own.
 pub mod OneEnd
+-- Over a whole run: what each end sent is DF1, and its messages are its own.
+pub mod WholeRun
+-- In every run: all that an end hears is what the grammar hears in the bytes that arrived at it.
+pub mod AllHeard
+-- Before the first event nothing is under way.
+pub mod FirstState

@@ -1,15 +1,17 @@
 //! Laws of the run of a script. The functions do nothing.
-ghost use Rattle.std.specs.Prelude.{◌≡◌, ◌∷◌, []};
+ghost use Rattle.std.specs.Prelude.{◌≡◌, ◌∷◌, [], IsTrue};
 ghost use Rattle.script_parts.specs.declared.script.Script.{Script};
 ghost use Rattle.script_statement.specs.declared.who.Who.TheVariants.{A, B};
 ghost use Rattle.script_parts.specs.Playable.{IsPlayable};
 ghost use Rattle.each_once.specs.Commands.{AreOutcomesTold};
-ghost use Rattle.duplex_end.specs.Arrived.{HeardByGrammar};
-ghost use Rattle.duplex_line.specs.Arrivals.{arrivals_in};
+ghost use Rattle.duplex_end.specs.Arrived.{HeardByGrammar, bytes_arrived};
+ghost use Rattle.duplex_receiver.specs.Hearing.{Stands};
+ghost use Rattle.duplex_line.specs.Arrivals.{arrivals_in, heard_in};
 ghost use Rattle.duplex_line.specs.Issues.{commands_of_a, commands_of_b, issued_of, bodies_of};
 ghost use Rattle.duplex_line.specs.Run.{start, last_state, lines_after, record_of};
 ghost use Rattle.duplex_line.specs.Once.{EachOnce};
-ghost use Rattle.duplex_line.specs.Prompt.{IsPrompt, EndsQuiet, HasRooms};
+ghost use Rattle.duplex_line.specs.Wire.{AreDf1Wires};
+ghost use Rattle.duplex_line.specs.Prompt.{IsPrompt, EndsQuiet, HasRooms, is_quiet};
 ghost use Rattle.duplex_line.specs.Complete.{IsComplete};
 ghost use Rattle.each_once.specs.Tells.{executed_in, answers_in};
 ghost use Rattle.duplex_line.specs.Example.{one_write, the_command, the_reply, two_sources, second_command, second_reply, third_command, third_reply};
@@ -20,6 +22,19 @@ ghost use Rattle.duplex_line.specs.Example.{one_write, the_command, the_reply, t
 pub fn whole_frames_are_heard_by_the_grammar()
     ensures at_a { (script : Script) → IsPlayable script → HeardByGrammar script.check (arrivals_in A (start script) script.events) }
     ensures at_b { (script : Script) → IsPlayable script → HeardByGrammar script.check (arrivals_in B (start script) script.events) }
+{}
+
+/// A law: all that is heard at the bytes that arrive at an end in a run, whole frames, ACK, NAK, ENQ, damage and the rest, and
+/// the body that is lent there, is what the grammar of the line hears and lends, over all bytes that arrived at that end so
+/// far; and the key that is kept is that of the last message that was accepted (manual topic: full-duplex protocol).
+pub fn all_is_heard_by_the_grammar()
+    ensures at_a { (script : Script) → IsPlayable script → Stands script.check 250 (bytes_arrived (arrivals_in A (start script) script.events)) (heard_in A (start script) script.events) (last_state script).a.end.receiver }
+    ensures at_b { (script : Script) → IsPlayable script → Stands script.check 250 (bytes_arrived (arrivals_in B (start script) script.events)) (heard_in B (start script) script.events) (last_state script).b.end.receiver }
+{}
+
+/// A law: before the first event of a script nothing is under way.
+pub fn the_first_state_is_quiet()
+    ensures { (script : Script) → IsTrue (is_quiet (start script)) }
 {}
 
 /// A law: in every run, whatever is heard, the commands that an end has issued are those of the script, and the lines tell of
@@ -47,6 +62,14 @@ pub fn each_command_once()
 #[tactic(auto, unfolding(crate::specs::Run::record_of))]
 pub fn an_undisturbed_run_is_complete()
     ensures { (script : Script) → IsPlayable script → HasRooms script → IsPrompt script → EndsQuiet script → IsComplete script (record_of script) }
+{}
+
+/// A law: in every run, whatever is heard, what each end sent by the report is whole frames, responses and ENQs, with at the
+/// end perhaps the begin of one more, and nothing else; and its frames carry, in their order, each perhaps several times
+/// running, commands that the script issues there and replies that its station made (manual topic: full-duplex protocol).
+#[tactic(auto, unfolding(crate::specs::Run::record_of))]
+pub fn what_is_on_the_wire_is_df1()
+    ensures { (script : Script) → IsPlayable script → AreDf1Wires script (record_of script) }
 {}
 
 /// A law: the premises of `each_command_once` and of `an_undisturbed_run_is_complete` are met, and their conclusions aren't

@@ -66,7 +66,7 @@ hear-seen B end check at_a at_b s e is h =
 hear-seen M end check at_a at_b s e is h = absurd cc
 hear-seen (S station) end check at_a at_b s e is h = absurd cc
 
-end-of : (e : Event) → IsPossible e → IsTrue (is_end (who_of e))
+pub end-of : (e : Event) → IsPossible e → IsTrue (is_end (who_of e))
 end-of (event.Issue who src dst payload) possible = possible.0
 end-of (event.Take who n) possible = possible.0
 end-of (event.Deliver lane n) possible = joins-end lane.from lane.to possible.0
