@@ -53,14 +53,14 @@ pub fn pull_order(file: u16, words: u16, j: u16, into: &mut ArrayVec<u8, 245>) -
 
 /// Replaces `into` by order `j`, from 1, of a transfer that writes these data, 1 to 3,000 words with their low bytes first, to a
 /// file, 0 to 999. False, with `into` empty, comes exactly where `j` is 0 or over the number of orders.
-pub fn push_order(file: u16, data: &[u8], j: u16, into: &mut ArrayVec<u8, 245>) -> bool
+pub fn push_order(file: u16, bytes: &[u8], j: u16, into: &mut ArrayVec<u8, 245>) -> bool
     requires file { file ≤ 999 }
-    requires words { (2 ≤ length data.now) × (length data.now ≤ 6000) }
-    requires whole { length data.now ≡ 2 * (length data.now / 2) }
-    ensures known { result ≡ is_order (length data.now / 2) j }
-    ensures order { into.new.items ≡ (if is_order (length data.now / 2) j then push_payload file data.now j else []) }
+    requires words { (2 ≤ length bytes.now) × (length bytes.now ≤ 6000) }
+    requires whole { length bytes.now ≡ 2 * (length bytes.now / 2) }
+    ensures known { result ≡ is_order (length bytes.now / 2) j }
+    ensures order { into.new.items ≡ (if is_order (length bytes.now / 2) j then push_payload file bytes.now j else []) }
 {
-    let words = (data.len() / 2) as u16;
+    let words = (bytes.len() / 2) as u16;
     into.clear();
     if !is_order(words, j) {
         return false;
@@ -68,7 +68,7 @@ pub fn push_order(file: u16, data: &[u8], j: u16, into: &mut ArrayVec<u8, 245>) 
     begin(RANGE_WRITE, file, words, j, into);
     let first = 2 * usize::from(ORDER_WORDS * (j - 1));
     let count = 2 * usize::from(word_count(words, j));
-    into.try_extend_from_slice(&data[first..first + count])
+    into.try_extend_from_slice(&bytes[first..first + count])
         .unwrap();
     true
 }

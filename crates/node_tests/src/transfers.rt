@@ -34,13 +34,13 @@ fn orders_that_read_have_their_offset_the_total_and_a_size(rt: HostRuntime) {
 }
 
 // Compares an order that writes, or that there is none.
-fn writes(rt: &impl Abort, data: &[u8], j: u16, wanted: Option<&[u8]>)
-    requires size { (2 ≤ length data.now) × (length data.now ≤ 6000) }
-    requires whole { length data.now ≡ 2 * (length data.now / 2) }
+fn writes(rt: &impl Abort, bytes: &[u8], j: u16, wanted: Option<&[u8]>)
+    requires size { (2 ≤ length bytes.now) × (length bytes.now ≤ 6000) }
+    requires whole { length bytes.now ≡ 2 * (length bytes.now / 2) }
 {
     let mut order = ArrayVec::new();
     order.push(0xEE);
-    assert_eq!(rt; push_order(7, data, j, &mut order), wanted.is_some());
+    assert_eq!(rt; push_order(7, bytes, j, &mut order), wanted.is_some());
     assert_eq!(rt; order.as_slice(), wanted.unwrap_or(&[]));
 }
 
