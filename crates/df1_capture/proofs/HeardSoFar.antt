@@ -3,7 +3,7 @@ use Rattle.std.proofs.Common.{◌≡◌, ◌∙◌, ◌≤◌, ◌<◌, ℕ, ◌
 use Rattle.std.specs.Prelude.{OnOk, OnErr}
 use Rattle.std.specs.Io.KnownBytes.{IsAtEnd, Keeps}
 use Rattle.std.proofs.KnownBytes.{Appends-nil, Appends-trans, Consumes-nil, Consumes-trans, Consumes-kept}
-use Rattle.df1_base.specs.Outside.{Put, Rose, Took, WrotePart}
+use Rattle.df1_base.specs.Outside.{Put, Rose, Took, WroteLess}
 use Rattle.df1_base.specs.Signals.{input_limit}
 use Rattle.df1_base.specs.declared.outside.Failed.{Failed}
 use Rattle.df1_base.proofs.Laws.{put_wrote}
@@ -84,12 +84,12 @@ all-put of check bytes text d held held' held'' waiting w put = record {
   put = Appends-trans held held' held'' w.written waiting w.put put;
 }
 
--- or a first part of it is
+-- or a first part of it is, and not all
 pub part-put : (of : Side) (check : Check) (before piece front unheard text : List ℕ) (d : Reading) (held held' held'' : Option (List ℕ)) (waiting : List ℕ) → Waiting of check (before ++ front) text d held held' waiting
-    → d.fed ≤ 268435456 → piece ≡ front ++ unheard → WrotePart held' held'' waiting → HasPutPart of check before piece text held held''
+    → d.fed ≤ 268435456 → piece ≡ front ++ unheard → WroteLess held' held'' waiting → HasPutPart of check before piece text held held''
 part-put of check before piece front unheard text d held held' held'' waiting w few split part =
     let fed = fed-length of check (before ++ front) d w.heard.stands in
-    let both = put_wrote held held' held'' w.written waiting part.0 w.put part.1 in
+    let both = put_wrote held held' held'' w.written waiting part.0 w.put part.2 in
     record {
       front = front;
       unheard = unheard;
@@ -97,7 +97,7 @@ part-put of check before piece front unheard text d held held' held'' waiting w 
       within = omega (arith, few, fed);
       due = w.written ++ waiting;
       lines = w.heard.lines;
-      part = (part.0, both);
+      part = (part.0, part.1, both);
     }
 
 -- ---- a piece
@@ -145,7 +145,7 @@ piece-front of check before piece front unheard text d d' held held' faults faul
 
 -- what hearing bytes comes to, where what waits goes to the output in the end
 pub put-ended : (of : Side) (check : Check) (before heard text : List ℕ) (d : Reading) (held held' held'' : Option (List ℕ)) (out out' out'' : ℕ) (waiting : List ℕ) (result : Result (Unit {0}) Failed)
-    → Waiting of check (before ++ heard) text d held held' waiting → d.fed ≤ 268435456 → out' ≡ out → OnOk result (Put held' held'' waiting) → OnErr result (WrotePart held' held'' waiting) → OnOk result (out'' ≡ out') → OnErr result (Rose out' out'')
+    → Waiting of check (before ++ heard) text d held held' waiting → d.fed ≤ 268435456 → out' ≡ out → OnOk result (Put held' held'' waiting) → OnErr result (WroteLess held' held'' waiting) → OnOk result (out'' ≡ out') → OnErr result (Rose out' out'')
     → PutEnd of check before heard text d held held'' out out'' result
 put-ended of check before heard text d held held' held'' out out' out'' waiting (Ok done) w few steady put part calm rose = (all-put of check (before ++ heard) text d held held' held'' waiting w put, calm ∙ steady)
 put-ended of check before heard text d held held' held'' out out' out'' waiting (Err failed) w few steady put part calm rose =
@@ -185,9 +185,9 @@ piece-so-far of check left left' left'' held held' held'' faults faults' d d' pi
   put = Appends-trans held held' held'' s.text put.0.more s.put put.0.put;
 }
 
--- a first part of what is due is written
+-- a first part of what is due is written, and not all
 cut-short : (of : Side) (check : Check) (left left'' held held' held'' : Option (List ℕ)) (before front unheard text due : List ℕ) → Took left left'' (before ++ (front ++ unheard)) → length (front ++ unheard) ≤ 4096
-    → length (before ++ front) ≤ input_limit → HasLines of check before text → Put held held' text → IsDue of check left'' (before ++ front) unheard (text ++ due) → WrotePart held' held'' due
+    → length (before ++ front) ≤ input_limit → HasLines of check before text → Put held held' text → IsDue of check left'' (before ++ front) unheard (text ++ due) → WroteLess held' held'' due
     → IsCutShort of check left left'' held held''
 cut-short of check left left'' held held' held'' before front unheard text due took few within lines put all part = record {
   before = before;
@@ -201,9 +201,10 @@ cut-short of check left left'' held held' held'' before front unheard text due t
   lines = lines;
   whole = all;
   rest = part.0;
-  part = part.1.part;
-  due_is = part.1.text_is;
-  put = Appends-trans held held' held'' text part.1.part put part.1.put;
+  some = part.1;
+  part = part.2.part;
+  due_is = part.2.text_is;
+  put = Appends-trans held held' held'' text part.2.part put part.2.put;
 }
 
 -- a piece at which it ended

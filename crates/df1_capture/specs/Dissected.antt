@@ -1,7 +1,7 @@
 -- How dissecting a capture ends.
-use Rattle.std.specs.Prelude.{◌≡◌, ◌⊎◌, ◌≤◌, ℕ, List, [], ◌++◌, length, Option, Result, Ok, Err}
+use Rattle.std.specs.Prelude.{◌≡◌, ◌≢◌, ◌⊎◌, ◌≤◌, ℕ, List, [], ◌++◌, length, Option, Result, Ok, Err}
 use Rattle.std.specs.Io.KnownBytes.{IsAtEnd}
-use Rattle.df1_base.specs.Outside.{Rose, Took, Put, WrotePart}
+use Rattle.df1_base.specs.Outside.{Rose, Took, Put, WroteLess}
 use Rattle.df1_base.specs.Signals.{input_limit}
 use Rattle.df1_base.specs.declared.outside.Failed.{Failed}
 use Rattle.df1_check.specs.declared.Check.{Check}
@@ -33,7 +33,7 @@ abbrev pub IsDue : (of : Side) (check : Check) (left' : Option (List ℕ)) (byte
 IsDue of check left' bytes unheard text = HasLines of check bytes text ⊎ (IsAtEnd left' × (unheard ≡ []) × Dissects of check bytes text)
 
 -- The lines of all that is heard in the bytes before are written, and of what is due after them, with the next ones, a first
--- part. At most 4,096 bytes were taken after those before. What is beyond the limit isn't heard.
+-- part, and not all. At most 4,096 bytes were taken after those before. What is beyond the limit isn't heard.
 pub record IsCutShort (of : Side) (check : Check) (left left' held held' : Option (List ℕ)) : Type 0 where
   pub before : List ℕ
   pub next : List ℕ
@@ -46,6 +46,7 @@ pub record IsCutShort (of : Side) (check : Check) (left left' held held' : Optio
   pub lines : HasLines of check before text
   pub whole : IsDue of check left' (before ++ next) unheard (text ++ due)
   pub rest : List ℕ
+  pub some : rest ≢ []
   pub part : List ℕ
   pub due_is : due ≡ part ++ rest
   pub put : Put held held' (text ++ part)
@@ -88,7 +89,7 @@ pub record HasPutFront (of : Side) (check : Check) (before piece text : List ℕ
   pub lines : HasLines of check (before ++ front) (text ++ more)
   pub put : Put held held' more
 
--- of what the lines of the bytes before and of a front of a piece have more than before, a first part is written
+-- of what the lines of the bytes before and of a front of a piece have more than before, a first part is written, and not all
 pub record HasPutPart (of : Side) (check : Check) (before piece text : List ℕ) (held held' : Option (List ℕ)) : Type 0 where
   pub front : List ℕ
   pub unheard : List ℕ
@@ -96,7 +97,7 @@ pub record HasPutPart (of : Side) (check : Check) (before piece text : List ℕ)
   pub within : length (before ++ front) ≤ input_limit
   pub due : List ℕ
   pub lines : HasLines of check (before ++ front) (text ++ due)
-  pub part : WrotePart held held' due
+  pub part : WroteLess held held' due
 
 -- what hearing bytes comes to, and writing their lines
 abbrev pub PutEnd : (of : Side) (check : Check) (before piece text : List ℕ) (d : Reading) (held held' : Option (List ℕ)) (faults faults' : ℕ) → Result (Unit {0}) Failed → Type 0
@@ -114,5 +115,5 @@ PieceEnd of check before piece text d held held' faults faults' (Err fault.TooLo
 abbrev pub CloseEnd : (of : Side) (check : Check) (bytes text : List ℕ) (held held' : Option (List ℕ)) (faults faults' : ℕ) → Result (Unit {0}) CaptureFault → Type 0
 CloseEnd of check bytes text held held' faults faults' (Ok done) = ((more : List ℕ) × Dissects of check bytes (text ++ more) × Put held held' more) × (faults' ≡ faults)
 CloseEnd of check bytes text held held' faults faults' (Err fault.Input) = ⊥
-CloseEnd of check bytes text held held' faults faults' (Err fault.Output) = ((due : List ℕ) × Dissects of check bytes (text ++ due) × WrotePart held held' due) × Rose faults faults'
+CloseEnd of check bytes text held held' faults faults' (Err fault.Output) = ((due : List ℕ) × Dissects of check bytes (text ++ due) × WroteLess held held' due) × Rose faults faults'
 CloseEnd of check bytes text held held' faults faults' (Err fault.TooLong) = ⊥

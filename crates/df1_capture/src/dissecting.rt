@@ -2,7 +2,7 @@
 //! next piece is read.
 ghost use Rattle.std.specs.Prelude.{◌≡◌, ◌≤◌, ◌+◌, [], ℕ, List, length, OnOk, OnErr};
 ghost use Rattle.arrayvec.specs.ArrayVec.{array_vec_len};
-ghost use Rattle.df1_base.specs.Outside.{Rose, Put, WrotePart};
+ghost use Rattle.df1_base.specs.Outside.{Rose, Put, WroteLess};
 ghost use Rattle.df1_check.specs.declared.Check.{Check as CheckKind};
 ghost use Rattle.df1_dissect.specs.declared.ear.Side.{Side as Captured};
 ghost use Rattle.df1_dissect.specs.Reading.{StandsFor};
@@ -14,7 +14,7 @@ use df1_dissect::{CollectedLines, Dissector, LINE};
 
 /// Writes to the output the lines of all that is heard in the input, at most 268,435,456 bytes, and that of an unfinished item.
 /// `Input` and `Output` come only where the count of faults of the input or of the output rose, and `TooLong` where a byte is left
-/// behind so many; the lines of the bytes taken are written then, with `Output` a first part.
+/// behind so many; the lines of the bytes taken are written then, with `Output` a first part, and not all.
 pub fn dissect<S: Source, K: Sink>(
     capture: Capture,
     input: &mut S,
@@ -117,7 +117,7 @@ fn put_lines<K: Sink>(
 fn make_room<K: Sink>(lines: &mut CollectedLines, out: &mut K) -> Result<(), Failed>
     ensures room { OnOk result (array_vec_len lines.new + 700 ≤ 8192) }
     ensures moved { OnOk result (IsMoved (K.held out.old) (K.held out.new) lines.old.items lines.new.items) }
-    ensures part { OnErr result (WrotePart (K.held out.old) (K.held out.new) lines.old.items) }
+    ensures missing { OnErr result (WroteLess (K.held out.old) (K.held out.new) lines.old.items) }
     ensures calm { OnOk result (K.faults out.new ≡ K.faults out.old) }
     ensures cause { OnErr result (Rose (K.faults out.old) (K.faults out.new)) }
 {
@@ -132,7 +132,7 @@ fn make_room<K: Sink>(lines: &mut CollectedLines, out: &mut K) -> Result<(), Fai
 fn hand_on<K: Sink>(lines: &mut CollectedLines, out: &mut K) -> Result<(), Failed>
     ensures none { OnOk result (lines.new.items ≡ []) }
     ensures ok { OnOk result (Put (K.held out.old) (K.held out.new) lines.old.items) }
-    ensures part { OnErr result (WrotePart (K.held out.old) (K.held out.new) lines.old.items) }
+    ensures missing { OnErr result (WroteLess (K.held out.old) (K.held out.new) lines.old.items) }
     ensures calm { OnOk result (K.faults out.new ≡ K.faults out.old) }
     ensures cause { OnErr result (Rose (K.faults out.old) (K.faults out.new)) }
 {

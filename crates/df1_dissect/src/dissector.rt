@@ -2,7 +2,7 @@
 ghost use Rattle.std.specs.Prelude.{◌≡◌, ◌≤◌, ◌<◌, ◌+◌, ◌-◌, ◌++◌, ◌∷◌, [], ℕ, List, length, OnOk, OnErr};
 ghost use Rattle.std.specs.List.{flat_map};
 ghost use Rattle.arrayvec.specs.ArrayVec.{array_vec_len};
-ghost use Rattle.df1_base.specs.Outside.{Rose, Put, WrotePart, Later};
+ghost use Rattle.df1_base.specs.Outside.{Rose, Put, WroteLess, WrotePart, Later};
 ghost use Rattle.df1_check.specs.declared.Check.{Check as CheckKind};
 ghost use Rattle.df1_frame.specs.Line.{ReadOff};
 ghost use Rattle.df1_dissect.specs.declared.ear.Side.{Side as Captured};
@@ -56,7 +56,7 @@ impl Dissector {
     }
 
     /// Takes a byte, after fewer than 268,435,456, and writes the lines that it completes. `Failed` comes where the sink
-    /// failed; then it holds a first part of them.
+    /// failed; then it holds a first part of them, and not all.
     pub fn feed<K: Sink>(&mut self, b: u8, sink: &mut K) -> Result<(), Failed>
         requires { self.old.fed < 268435456 }
         ensures stands { (side : Captured) (check : CheckKind) (bytes : List ℕ) → StandsFor side check bytes self.old
@@ -65,6 +65,7 @@ impl Dissector {
             → HasLines side check bytes so_far → HasLines side check (bytes ++ b ∷ []) (so_far ++ lines_at self.old b) }
         ensures fed { self.new.fed ≡ self.old.fed + 1 }
         ensures ok { OnOk result (Put (K.held sink.old) (K.held sink.new) (lines_at self.old b)) }
+        ensures missing { OnErr result (WroteLess (K.held sink.old) (K.held sink.new) (lines_at self.old b)) }
         ensures part { WrotePart (K.held sink.old) (K.held sink.new) (lines_at self.old b) }
         ensures calm { OnOk result (K.faults sink.new ≡ K.faults sink.old) }
         ensures later { Later (K.mark sink.old) (K.mark sink.new) (K.faults sink.old) (K.faults sink.new) }
@@ -95,12 +96,13 @@ impl Dissector {
     }
 
     /// Writes the line of the unfinished item, if there is one. `Failed` comes where the sink failed; then it holds a first
-    /// part of the line.
+    /// part of the line, and not all.
     pub fn finish<K: Sink>(&mut self, sink: &mut K) -> Result<(), Failed>
         ensures same { self.new ≡ self.old }
         ensures whole { (side : Captured) (check : CheckKind) (bytes so_far : List ℕ) → StandsFor side check bytes self.old
             → HasLines side check bytes so_far → Dissects side check bytes (so_far ++ open_text self.old.start self.old.fed) }
         ensures ok { OnOk result (Put (K.held sink.old) (K.held sink.new) (open_text self.old.start self.old.fed)) }
+        ensures missing { OnErr result (WroteLess (K.held sink.old) (K.held sink.new) (open_text self.old.start self.old.fed)) }
         ensures part { WrotePart (K.held sink.old) (K.held sink.new) (open_text self.old.start self.old.fed) }
         ensures calm { OnOk result (K.faults sink.new ≡ K.faults sink.old) }
         ensures later { Later (K.mark sink.old) (K.mark sink.new) (K.faults sink.old) (K.faults sink.new) }
@@ -155,6 +157,7 @@ impl Dissector {
 fn put_thing<K: Sink>(sink: &mut K, thing: Thing, body: &[u8]) -> Result<(), Failed>
     requires { length body.now ≤ MAX_BODY }
     ensures ok { OnOk result (Put (K.held sink.old) (K.held sink.new) (line_text (with_body thing body.now))) }
+    ensures missing { OnErr result (WroteLess (K.held sink.old) (K.held sink.new) (line_text (with_body thing body.now))) }
     ensures part { WrotePart (K.held sink.old) (K.held sink.new) (line_text (with_body thing body.now)) }
     ensures calm { OnOk result (K.faults sink.new ≡ K.faults sink.old) }
     ensures later { Later (K.mark sink.old) (K.mark sink.new) (K.faults sink.old) (K.faults sink.new) }
@@ -169,6 +172,7 @@ fn put_thing<K: Sink>(sink: &mut K, thing: Thing, body: &[u8]) -> Result<(), Fai
 #[inline(never)]
 fn put_open<K: Sink>(sink: &mut K, first: u64, last: u64) -> Result<(), Failed>
     ensures ok { OnOk result (Put (K.held sink.old) (K.held sink.new) (open_line first last)) }
+    ensures missing { OnErr result (WroteLess (K.held sink.old) (K.held sink.new) (open_line first last)) }
     ensures part { WrotePart (K.held sink.old) (K.held sink.new) (open_line first last) }
     ensures calm { OnOk result (K.faults sink.new ≡ K.faults sink.old) }
     ensures later { Later (K.mark sink.old) (K.mark sink.new) (K.faults sink.old) (K.faults sink.new) }

@@ -10,4 +10,4 @@ returns-in-Ok g c = λ side check bytes text h.
 pub returns-in-Err : goal.returns-in-Err
 returns-in-Err g c = λ side check bytes text h.
     let v = c.args.dissector.now in
-    ((open_text v.start v.fed, c.finish.ensures.whole side check bytes text h.stands h.lines, c.finish.ensures.part), c.in-Err.ensures.cause)
+    ((open_text v.start v.fed, c.finish.ensures.whole side check bytes text h.stands h.lines, c.in-Err.ensures.missing), c.in-Err.ensures.cause)

@@ -18,7 +18,7 @@ returns-in-Err-clause-ends g c = λ side check bytes text h.
     let i = l.byte-index in
     let few : l.dissector.fed ≤ 268435456 = omega (arith, l.invariant.fed, c.requires.few) in (
       part-put side check bytes all (take i all) (drop i all) text l.dissector (g.K.Sink.held c.args.out.now) (g.K.Sink.held l.out) (g.K.Sink.held c.make_room.new.out) l.lines.items
-          (l.invariant.waits side check bytes text h) few (sym (take-append-drop i all)) c.in-Err.ensures.part,
+          (l.invariant.waits side check bytes text h) few (sym (take-append-drop i all)) c.in-Err.ensures.missing,
       same-rose (g.K.Sink.faults c.args.out.now) (g.K.Sink.faults l.out) (g.K.Sink.faults c.make_room.new.out) l.invariant.calm c.in-Err.ensures.cause,
     )
 
@@ -48,4 +48,4 @@ returns-clause-ends g c = λ side check bytes text h.
     let few : l.dissector.fed ≤ 268435456 = omega (arith, l.invariant.fed, c.requires.few) in
     let waits = subst (λ l. Waiting side check (bytes ++ l) text c.loop-byte.dissector (g.K.Sink.held c.args.out.now) (g.K.Sink.held c.loop-byte.out) c.loop-byte.lines.items) is (l.invariant.waits side check bytes text h) in
     put-ended side check bytes all text l.dissector (g.K.Sink.held c.args.out.now) (g.K.Sink.held l.out) (g.K.Sink.held c.hand_on.new.out) (g.K.Sink.faults c.args.out.now) (g.K.Sink.faults l.out) (g.K.Sink.faults c.hand_on.new.out)
-    l.lines.items c.hand_on.result waits few l.invariant.calm c.hand_on.ensures.ok c.hand_on.ensures.part c.hand_on.ensures.calm c.hand_on.ensures.cause
+    l.lines.items c.hand_on.result waits few l.invariant.calm c.hand_on.ensures.ok c.hand_on.ensures.missing c.hand_on.ensures.calm c.hand_on.ensures.cause
