@@ -4,7 +4,7 @@ use Rattle.std.proofs.lemmas.List.{append-nil, length_push}
 use Rattle.df1_frame.specs.Line.{Grammar, Splits, ReadOff, answers, last_of, last_heard}
 use Rattle.df1_frame.proofs.LineLemmas.{Machine, Works, Splits-join, heard-join, one-exists, one-answered, answers-length, answered-on, AnsweredOn}
 
-splits-one : (G : Grammar) (M : Machine G) (w : Works G M) (item : G.Item) → G.IsItem item [] → Splits G (G.item_bytes item) (item ∷ []) M.start
+pub splits-one : (G : Grammar) (M : Machine G) (w : Works G M) (item : G.Item) → G.IsItem item [] → Splits G (G.item_bytes item) (item ∷ []) M.start
 splits-one G M w item is = record {
   whole = sym (ap (λ (l : List ℕ). G.item_bytes item ++ l) w.start_bytes ∙ append-nil (G.item_bytes item));
   each = (subst (G.IsItem item) (sym w.start_bytes) is, w.start_is);

@@ -11,3 +11,6 @@ pub mod MasterStanding
 pub mod MasterStep
 pub mod MasterView
 pub mod Runs
+pub mod Wire
+pub mod SlaveGives
+pub mod MasterGives

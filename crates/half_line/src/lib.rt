@@ -29,4 +29,5 @@ mod setup;
 mod way;
 mod world;
 
+pub use way::Way;
 pub use world::HalfWorld;

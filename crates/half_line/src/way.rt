@@ -7,8 +7,10 @@ use script_statement::Who;
 
 /// Which way bytes go between the master and a station.
 #[derive(Clone, Copy)]
-pub(crate) enum Way {
+pub enum Way {
+    /// From the master to the station.
     ToStation,
+    /// From the station to the master.
     ToMaster,
 }
 

@@ -191,7 +191,7 @@ tick-keeps stations body place false setup ready at = refl
 
 -- ---- over signals
 
-signal-keys : {H : Type 0} (m : Ghosts H) (e : MasterState H) (place : ℕ) (signal : Letter) → kept_at (master_after m e signal).stations place ≡ fold kept_after (kept_at e.stations place) (offers_at m e place signal)
+pub signal-keys : {H : Type 0} (m : Ghosts H) (e : MasterState H) (place : ℕ) (signal : Letter) → kept_at (master_after m e signal).stations place ≡ fold kept_after (kept_at e.stations place) (offers_at m e place signal)
 signal-keys m e place (Byte b) =
     let what = effect_of_byte m e b in
     let told = with_host (with_byte e b) (host_told m (fate_of what) (host_accepted m what e.host (body_of (with_byte e b)))) in

@@ -79,7 +79,7 @@ sends-host e host s = record { current = s.current; begun = s.begun }
 -- ---- an effect
 
 -- a message is given again only in a wait for its ACK
-abbrev OnlyThen : Bool → Effect → Type 0
+abbrev pub OnlyThen : Bool → Effect → Type 0
 OnlyThen waits (effect.Again resent) = waits ≡ true
 OnlyThen waits _ = Unit {0}
 
@@ -120,7 +120,7 @@ in-then m e what phase.Idle = tt
 in-then m e what (phase.WaitsForAck left resent) = message-then e.setup resent what
 in-then m e what (phase.WaitsAfterPoll left place) = poll-then _ what (answered-then (m.room_for e.host) place (slice_get e.stations place) (body_of e))
 
-heard-then : {H : Type 0} (m : Ghosts H) (e : MasterState H) (what : Option MasterHeard) → OnlyThen (awaits e.phase) (effect_heard m e what)
+pub heard-then : {H : Type 0} (m : Ghosts H) (e : MasterState H) (what : Option MasterHeard) → OnlyThen (awaits e.phase) (effect_heard m e what)
 heard-then m e what = cond_both (is_done e.mouth) _ _ (OnlyThen (awaits e.phase)) (λ is. in-then m e what e.phase) (λ is. tt)
 
 tick-in-then : (setup : MasterSetup) (ready : Bool) (at : Phase) → OnlyThen (awaits at) (effect_of_tick setup ready at)
@@ -128,10 +128,10 @@ tick-in-then setup ready phase.Idle = cond_both ready _ _ (OnlyThen false) (λ i
 tick-in-then setup ready (phase.WaitsForAck left resent) = cond_both (nat_lt 1 left) _ _ (OnlyThen true) (λ is. tt) (λ is. unacknowledged-then setup resent)
 tick-in-then setup ready (phase.WaitsAfterPoll left place) = cond_both (nat_lt 1 left) _ _ (OnlyThen false) (λ is. tt) (λ is. tt)
 
-tick-then : {H : Type 0} (m : Ghosts H) (e : MasterState H) → OnlyThen (awaits e.phase) (effect_at_tick m e)
+pub tick-then : {H : Type 0} (m : Ghosts H) (e : MasterState H) → OnlyThen (awaits e.phase) (effect_at_tick m e)
 tick-then m e = cond_both (is_done e.mouth) _ _ (OnlyThen (awaits e.phase)) (λ is. tick-in-then e.setup _ e.phase) (λ is. tt)
 
-left-awaits : (left : ℕ) (at : Phase) → awaits (with_left left at) ≡ awaits at
+pub left-awaits : (left : ℕ) (at : Phase) → awaits (with_left left at) ≡ awaits at
 left-awaits left phase.Idle = refl
 left-awaits left (phase.WaitsForAck was resent) = refl
 left-awaits left (phase.WaitsAfterPoll was place) = refl

@@ -15,3 +15,6 @@ pub mod HostSteps
 pub mod LastMessage
 pub mod Seen
 pub mod Changes
+pub mod CourseLemmas
+pub mod Giving
+pub mod AcceptedOnce

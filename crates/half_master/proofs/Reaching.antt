@@ -191,7 +191,7 @@ carried-tick {H} m laws e c =
 
 -- ---- a take
 
-next-is : {H : Type 0} (m : Ghosts H) (laws : KeepsBodies m) (host : H) (body : List ℕ) → m.holds_bodies host → m.next_body host ≡ Some body → IsBody body
+pub next-is : {H : Type 0} (m : Ghosts H) (laws : KeepsBodies m) (host : H) (body : List ℕ) → m.holds_bodies host → m.next_body host ≡ Some body → IsBody body
 next-is m laws host body holds is = subst (λ (o : Option (List ℕ)). IfSome o IsBody) is (laws.next_is host holds)
 
 begun-fits : {H : Type 0} (m : Ghosts H) (laws : KeepsBodies m) (e : MasterState H) (o : Option (List ℕ)) → message_next m e ≡ o → AllFits e → m.holds_bodies e.host

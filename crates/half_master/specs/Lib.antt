@@ -8,3 +8,5 @@ pub mod Keys
 pub mod Arrived
 pub mod Waits
 pub mod Transmissions
+pub mod Course
+pub mod Past

@@ -1,20 +1,26 @@
 //! What holds of a master over every list of signals. The functions do nothing.
 
-ghost use Rattle.std.specs.Prelude.{◌≡◌, ◌≤◌, ◌<◌, ◌+◌, ◌∷◌, ◌++◌, [], ℕ, List, length, true, false, None, is_some, IsNone, IsSome};
+ghost use Rattle.std.specs.Prelude.{◌≡◌, ◌≤◌, ◌<◌, ◌+◌, ◌^◌, ◌↔◌, ◌⊎◌, ◌∷◌, ◌++◌, [], ℕ, List, length, true, false, Some, None, is_some, option_to_list, IsNone, IsSome};
 ghost use Rattle.std.specs.List.{fold};
+ghost use Rattle.df1_base.specs.declared.host.Fate.TheVariants.{Delivered, Undelivered};
 ghost use Rattle.df1_base.specs.declared.link.Out.{Out as Given};
 ghost use Rattle.df1_check.specs.declared.Check.{Check as CheckKind};
+ghost use Rattle.half_frame.specs.MasterGives.{IsGivenByMaster};
 ghost use Rattle.half_mouth.specs.Giving.{is_done};
-ghost use Rattle.pccc_envelope.specs.Accepted.{kept_after};
+ghost use Rattle.df1_frame.specs.Wire.{AreSendingsOf};
+ghost use Rattle.half_mouth.specs.Transmissions.{bytes_given, count_of, last_body, transmission_at};
+ghost use Rattle.pccc_envelope.specs.Accepted.{kept_after, last_key, with_offer};
 ghost use Rattle.half_master.specs.declared.MasterSetup.{MasterSetup as Settings};
-ghost use Rattle.half_master.specs.Stations.{numbers_of};
+ghost use Rattle.half_master.specs.Stations.{AreStations, numbers_of};
 ghost use Rattle.half_master.specs.Master.{MasterState, new_master, with_host, heard_at, step_at_byte, master_after_take, out_at_take};
 ghost use Rattle.half_master.specs.Fitting.{Fits, most_left};
 ghost use Rattle.half_master.specs.Reached.{Reached};
-ghost use Rattle.half_master.specs.Fates.{InTurn, events, out_of, IsWithin};
+ghost use Rattle.half_master.specs.Fates.{InTurn, events, events_at, out_of, IsWithin};
+ghost use Rattle.half_master.specs.Course.{fate_at, fates_in, IsDelivered, IsGivenUp};
+ghost use Rattle.half_master.specs.Past.{Past, HasTicks, Came, with_signal, handed_out, transmissions};
 ghost use Rattle.half_master.specs.Transmissions.{begun_after, sending_after};
 ghost use Rattle.half_master.specs.Waits.{HasAllTicks};
-ghost use Rattle.half_master.specs.Keys.{kept_at, offers};
+ghost use Rattle.half_master.specs.Keys.{kept_at, is_polled, offers, handed_over};
 ghost use Rattle.half_master.specs.Arrived.{Arrival, StandsFor, Hears, HeardByGrammar, bytes_arrived};
 ghost use Rattle.half_master.specs.Emission.{Letter, Take, master_after, given_at, master_after_all, emission, bytes_among, takes, Drains};
 
@@ -51,17 +57,53 @@ pub fn a_fate_is_told_once<H: Host>()
         → H.Host.is_out (master_after_all H.Host e signals).host ≡ is_some (out_of (master_after_all H.Host e signals).phase) }
 {}
 
+/// A fate is told exactly so: Delivered at an ACK, while the message that is out waits for one; and Undelivered at a NAK
+/// while it waits, and at the last tick of the wait, where it was given once and `max_resends` times again; and where a
+/// message is handed out for no station of the list. Whether it waits, and how often it was given, is read off what was
+/// heard, the ticks and the last bytes of transmissions since the fate that was told before, also where the host was
+/// changed.
+pub fn fates_are_told_exactly_so<H: Host>()
+    ensures delivered { (past : Past) (e : MasterState H) (signal : Letter) → Came H.Host past e → (fate_at H.Host e signal ≡ Some Delivered) ↔ IsDelivered e past.course signal }
+    ensures given_up { (past : Past) (e : MasterState H) (signal : Letter) → Came H.Host past e → (fate_at H.Host e signal ≡ Some Undelivered) ↔ IsGivenUp H.Host e past.course signal }
+    ensures told { (e : MasterState H) (signal : Letter) → fates_in (events_at H.Host e signal) ≡ option_to_list (fate_at H.Host e signal) }
+{}
+
 /// A message that is given, for the first time or again, is one transmission more, and nothing else is: no poll and no
-/// ACK. What is sent is the body of the transmission that was begun last.
+/// ACK. What is sent is the body of the transmission that was begun last. While the count of transmissions hasn't stopped at
+/// the last value of u64, a byte that is marked with a number, as the last byte of a transmission or one of its body, is
+/// given while the body of the transmission of that number is sent. Each message to a station that the host handed out is
+/// transmitted, in order, once or several times running.
 pub fn transmissions_are_counted<H: Host>()
     ensures begun { (e : MasterState H) (signals : List Letter) → (master_after_all H.Host e signals).mouth.begun ≡ begun_after e.mouth.begun (events H.Host e signals) }
     ensures sending { (e : MasterState H) (signals : List Letter) → (master_after_all H.Host e signals).sending ≡ sending_after e.sending (events H.Host e signals) }
+    ensures count { (past : Past) (e : MasterState H) → Came H.Host past e → e.mouth.begun ≡ count_of (transmissions past.events) }
+    ensures last { (past : Past) (e : MasterState H) → Came H.Host past e → e.sending ≡ last_body (transmissions past.events) }
+    ensures numbered { (past : Past) (e : MasterState H) (out : Given) (n : ℕ) → Came H.Host past e → out_at_take H.Host e ≡ Some out → (out.last_of ≡ Some n) ⊎ (out.body_of ≡ Some n)
+        → length (transmissions (with_signal H.Host past e Take).events) < 2 ^ 64 → transmission_at (transmissions (with_signal H.Host past e Take).events) n ≡ Some (master_after_take H.Host e).sending }
+    ensures running { (past : Past) (e : MasterState H) → Came H.Host past e → AreSendingsOf (transmissions past.events) (handed_out past.events) }
+{}
+
+/// What a master gave, whatever it heard and also where its host was changed, is whole messages of its transmissions, in
+/// order, each with a right check and to the station that its first byte names, polls with a right check, and ACKs, and at
+/// the end perhaps a part of one of these: a slave hears nothing else in it. What happened and was given over the signals of a
+/// new master is such a past.
+pub fn what_is_given_is_df1<H: Host>()
+    ensures wire { (past : Past) (e : MasterState H) → Came H.Host past e → IsGivenByMaster e.setup.check (handed_out past.events) (bytes_given past.gave) }
+    ensures signals { (setup : Settings) (numbers : List ℕ) (host : H) (signals : List Letter) → HasTicks setup → AreStations numbers → H.Host.holds_bodies host
+        → (past : Past) × (past.events ≡ events H.Host (new_master setup numbers host) signals) × (past.gave ≡ emission H.Host (new_master setup numbers host) signals) × Came H.Host past (master_after_all H.Host (new_master setup numbers host) signals) }
 {}
 
 /// Each station has its own filter: the key that is kept for the station at a place is the one that a filter keeps over
-/// the messages of this station alone, each heard after a poll of it. The numbers of the list stay.
+/// the messages of this station alone, each heard after a poll of it. Of these messages the host is handed those that are
+/// accepted, each once: a repeat of the last accepted one is passed over, and one that was refused is not remembered; and a
+/// message is accepted from a polled station alone. The numbers of the list stay.
 pub fn each_station_has_its_own_key<H: Host>()
     ensures kept { (e : MasterState H) (place : ℕ) (signals : List Letter) → kept_at (master_after_all H.Host e signals).stations place ≡ fold kept_after (kept_at e.stations place) (offers H.Host e place signals) }
+    ensures start { (setup : Settings) (numbers : List ℕ) (host : H) (place : ℕ) → kept_at (new_master setup numbers host).stations place ≡ last_key [] }
+    ensures handed { (e : MasterState H) (place : ℕ) (before : List (List ℕ)) (signals : List Letter) → kept_at e.stations place ≡ last_key before → before ++ handed_over H.Host e place signals ≡ fold with_offer before (offers H.Host e place signals) }
+    ensures key { (e : MasterState H) (place : ℕ) (before : List (List ℕ)) (signals : List Letter) → kept_at e.stations place ≡ last_key before
+        → kept_at (master_after_all H.Host e signals).stations place ≡ last_key (before ++ handed_over H.Host e place signals) }
+    ensures polled { (e : MasterState H) (b : ℕ) → IsSome (step_at_byte H.Host e b).did → (place : ℕ) × (is_polled e.phase place ≡ true) }
     ensures numbers { (e : MasterState H) (signal : Letter) → numbers_of (master_after H.Host e signal).stations ≡ numbers_of e.stations }
 {}
 

@@ -49,12 +49,15 @@ use half_frame::{HalfFramer, MasterEar, MasterHeard};
 use half_mouth::HalfMouth;
 pub use laws::{
     a_drain_ends, a_fate_is_told_once, a_wait_begins_with_all_ticks, arrivals_are_heard,
-    each_station_has_its_own_key, parts_fit, signals_go_on, transmissions_are_counted,
+    each_station_has_its_own_key, fates_are_told_exactly_so, parts_fit, signals_go_on,
+    transmissions_are_counted, what_is_given_is_df1,
 };
 use parts::{act_of, hand_out, is_whole, take_in, tell, tick_host, turn_of};
-use stations::{Station, is_listed, keep, listed, place_after};
+pub use stations::Station;
+use stations::{is_listed, keep, listed, place_after};
 use std::marker::Model;
-use table::{Effect, Phase, heard_after_poll, heard_of_message, on_tick, with_left};
+pub use table::{Effect, Phase};
+use table::{heard_after_poll, heard_of_message, on_tick, with_left};
 
 /// How a master is set up.
 #[derive(Clone, Copy, Debug, PartialEq, Eq)]

@@ -10,11 +10,11 @@ use pccc_envelope::key_of;
 
 /// A station: its number, and the key of the last message that was accepted from it.
 #[derive(Clone, Copy)]
-pub(crate) struct Station {
+pub struct Station {
     /// Its number.
-    pub(crate) number: u8,
+    pub number: u8,
     /// Its filter.
-    pub(crate) kept: Filter,
+    pub kept: Filter,
 }
 
 impl Default for Station {

@@ -12,7 +12,7 @@ use pccc_envelope::key_of;
 
 /// What a master does once no byte is left to be given.
 #[derive(Clone, Copy)]
-pub(crate) enum Phase {
+pub enum Phase {
     /// Nothing: a message or a poll may be begun.
     Idle,
     /// It waits for the ACK of its message.
@@ -33,7 +33,7 @@ pub(crate) enum Phase {
 
 /// What a master does about a thing that is heard, or about a tick.
 #[derive(Clone, Copy)]
-pub(crate) enum Effect {
+pub enum Effect {
     /// Nothing.
     Nothing,
     /// It waits on, with so many ticks left.

@@ -10,3 +10,4 @@ pub mod Draining
 pub mod Sizes
 pub mod Reaching
 pub mod GivingUp
+pub mod Giving

@@ -34,7 +34,7 @@ pub record KeepsBodies {H : Type 0} (m : Ghosts H) : Type 0 where
 
 -- ---- the rows
 
-told-fits : {H : Type 0} (m : Ghosts H) (laws : KeepsBodies m) (s : SlaveState H) (what : Option Fate) → Fits m s → Fits m (told m s what)
+pub told-fits : {H : Type 0} (m : Ghosts H) (laws : KeepsBodies m) (s : SlaveState H) (what : Option Fate) → Fits m s → Fits m (told m s what)
 told-fits m laws s None fits = fits
 told-fits m laws s (Some what) fits = record { is_short = fits.is_short; held_fits = tt; host_holds = laws.at_told s.host what fits.host_holds }
 
@@ -89,7 +89,7 @@ heard-fits m laws s (Some heard.Reset) means fits = reset-fits m laws s fits
 heard-fits m laws s (Some (heard.Stray b)) means fits = fits
 heard-fits m laws s (Some (heard.StrayPair code)) means fits = fits
 
-listened-body : (what : Option SlaveHeard) (held : Option Held) (body : List ℕ) → HoldsBody held body → HoldsBody (option_map (after_heard what) held) body
+pub listened-body : (what : Option SlaveHeard) (held : Option Held) (body : List ℕ) → HoldsBody held body → HoldsBody (option_map (after_heard what) held) body
 listened-body what None body fits = tt
 listened-body what (Some message) body fits = fits
 

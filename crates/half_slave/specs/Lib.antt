@@ -5,3 +5,4 @@ pub mod Fates
 pub mod Wait
 pub mod Received
 pub mod Reached
+pub mod Past

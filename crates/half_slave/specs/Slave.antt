@@ -20,6 +20,7 @@ use Rattle.half_frame.specs.Spelling.{reply_sent, pair_bytes, unmarked}
 use Rattle.half_frame.specs.SlaveStanding.{Listening, Outside, lent_at}
 use Rattle.half_frame.specs.SlaveStep.{next}
 use Rattle.half_mouth.specs.Giving.{Giving, nothing, transmit, give, is_done, bytes_left, take}
+pub use Rattle.half_mouth.specs.Transmissions.{ends_here}
 use Rattle.pccc_envelope.specs.declared.key.Key.{Key}
 use Rattle.pccc_envelope.specs.Envelope.{key_of}
 use Rattle.pccc_envelope.specs.Accepted.{Verdict, Repeated, Accepted, Refused, judged}
@@ -82,11 +83,6 @@ after_heard what message = record { sent = message.sent; wait_open = if closes_w
 -- one sending more came to its end, of a count that stops at the last value of u32, and the wait opens
 abbrev pub after_sending : Held → Held
 after_sending message = record { sent = min (message.sent + 1) (2 ^ 32 - 1); wait_open = true }
-
--- the byte is the last of a transmission
-abbrev pub ends_here : Option Out → Bool
-ends_here None = false
-ends_here (Some out) = is_some out.last_of
 
 -- the last byte of a transmission ends a sending of the message, where one is held
 abbrev pub after_out : Option Out → Option Held → Option Held

@@ -9,11 +9,11 @@ use half_frame::SlaveHeard;
 
 /// A message of the host that a slave holds.
 #[derive(Clone, Copy)]
-pub(crate) struct Held {
+pub struct Held {
     /// How often it was sent to its last byte.
-    pub(crate) sent: u32,
+    pub sent: u32,
     /// The last byte of its last sending was taken, and no header and no poll was heard since.
-    pub(crate) wait_open: bool,
+    pub wait_open: bool,
 }
 
 impl Held {

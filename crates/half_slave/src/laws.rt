@@ -1,6 +1,6 @@
 //! What holds of a slave over every list of signals. The functions do nothing.
 
-ghost use Rattle.std.specs.Prelude.{◌≡◌, ◌≤◌, ◌<◌, ◌+◌, ◌^◌, ◌↔◌, ◌∷◌, ◌++◌, [], ℕ, List, Bool, length, true, false, is_some, ◌&&◌, Some, IsNone, IsSome};
+ghost use Rattle.std.specs.Prelude.{◌≡◌, ◌≤◌, ◌<◌, ◌+◌, ◌^◌, ◌↔◌, ◌⊎◌, ◌∷◌, ◌++◌, [], ℕ, List, Bool, length, true, false, is_some, ◌&&◌, Some, IsNone, IsSome};
 ghost use Rattle.std.specs.List.{fold};
 ghost use Rattle.df1_base.specs.declared.host.Fate.TheVariants.{Delivered, Undelivered};
 ghost use Rattle.df1_base.specs.declared.link.Out.{Out as Given};
@@ -15,6 +15,10 @@ ghost use Rattle.half_slave.specs.Fates.{Counted, InTurn, IsGivenUp, events, sen
 ghost use Rattle.half_slave.specs.Wait.{since_sending, is_waiting};
 ghost use Rattle.half_slave.specs.Received.{offers, handed_over};
 ghost use Rattle.half_slave.specs.Reached.{Reached, Fits};
+ghost use Rattle.half_slave.specs.Past.{Past, Came, handed_out, transmissions};
+ghost use Rattle.df1_frame.specs.Wire.{AreSendingsOf};
+ghost use Rattle.half_mouth.specs.Transmissions.{bytes_given, count_of, last_body, transmission_at};
+ghost use Rattle.half_frame.specs.SlaveGives.{IsGivenBySlave};
 
 use df1_base::Host;
 
@@ -72,6 +76,28 @@ pub fn an_ack_counts_in_the_wait<H: Host>()
 /// what is being given while something is to be given.
 pub fn what_was_begun_is_given<H: Host>()
     ensures { (s : SlaveState H) (b : ℕ) → is_quiet s ≡ false → (slave_after_byte H.Host s b).mouth ≡ s.mouth }
+{}
+
+/// Transmissions are numbered from 1 in the order in which they begin, by a count that stops at the last value of u64. What
+/// is sent is the body of the one that was begun last, also when its fate is told meanwhile; and while the count hasn't
+/// stopped, a byte that is marked with a number, as the last byte of a transmission or one of its body, is given while the
+/// body of the transmission of that number is sent. Each message that the host handed out is transmitted, in order, once or
+/// several times running.
+pub fn transmissions_are_counted<H: Host>()
+    ensures begun { (past : Past) (s : SlaveState H) → Came H.Host past s → s.mouth.begun ≡ count_of (transmissions past.events) }
+    ensures sending { (past : Past) (s : SlaveState H) → Came H.Host past s → s.sending ≡ last_body (transmissions past.events) }
+    ensures numbered { (past : Past) (s : SlaveState H) (out : Given) (n : ℕ) → Came H.Host past s → out_at_take s ≡ Some out → (out.last_of ≡ Some n) ⊎ (out.body_of ≡ Some n)
+        → length (transmissions past.events) < 2 ^ 64 → transmission_at (transmissions past.events) n ≡ Some (slave_after_take s).sending }
+    ensures running { (past : Past) (s : SlaveState H) → Came H.Host past s → AreSendingsOf (transmissions past.events) (handed_out past.events) }
+{}
+
+/// What a slave gave, whatever it heard and also where its host was changed, is whole messages of its transmissions, in
+/// order, each with a right check, and ACKs, NAKs and EOTs, and at the end perhaps a part of one of these: the master hears
+/// nothing else in it. What happened and was given over the signals of a new slave is such a past.
+pub fn what_is_given_is_df1<H: Host>()
+    ensures wire { (past : Past) (s : SlaveState H) → Came H.Host past s → IsGivenBySlave s.setup.check (handed_out past.events) (bytes_given past.gave) }
+    ensures signals { (setup : Settings) (host : H) (signals : List Letter) → H.Host.holds_bodies host
+        → Came H.Host (record { events = events H.Host (new_slave setup host) signals; gave = emission H.Host (new_slave setup host) signals }) (slave_after_all H.Host (new_slave setup host) signals) }
 {}
 
 /// Of every slave that is reached: what is being given is short, a message that is held is a body, and the host holds

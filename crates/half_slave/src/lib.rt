@@ -48,10 +48,12 @@ use df1_base::{ACK, Act, Did, Fate, Host, NAK, News, Out, Resp, Step};
 use df1_check::Check;
 use half_frame::{EOT, HalfFramer, SlaveEar, SlaveHeard};
 use half_mouth::HalfMouth;
-use held::{Held, close_wait, count_sending, fate_at_ack, fate_at_poll, fate_at_reset};
+pub use held::Held;
+use held::{close_wait, count_sending, fate_at_ack, fate_at_poll, fate_at_reset};
 pub use laws::{
     a_drain_ends, a_fate_is_told_once, an_ack_counts_in_the_wait, arrivals_are_heard,
-    messages_are_accepted_once, signals_go_on, what_is_held_fits, what_was_begun_is_given,
+    messages_are_accepted_once, signals_go_on, transmissions_are_counted, what_is_given_is_df1,
+    what_is_held_fits, what_was_begun_is_given,
 };
 use pccc_envelope::duplicate_filter::Filter;
 use pccc_envelope::key_of;
