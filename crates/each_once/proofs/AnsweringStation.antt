@@ -31,7 +31,7 @@ within-through _ _ _ (skips _ xs _ h) (keeps y ys zs g) = skips y xs zs (within-
 within-through _ _ _ (keeps _ xs _ h) (keeps y ys zs g) = keeps y xs zs (within-through xs ys zs h g)
 
 -- an element more at the end of both
-within-both : {A : Type 0} (x : A) (xs ys : List A) → IsWithin xs ys → IsWithin (xs ++ x ∷ []) (ys ++ x ∷ [])
+pub within-both : {A : Type 0} (x : A) (xs ys : List A) → IsWithin xs ys → IsWithin (xs ++ x ∷ []) (ys ++ x ∷ [])
 within-both x _ _ nothing = keeps x [] [] nothing
 within-both x _ _ (skips y xs ys h) = skips y (xs ++ x ∷ []) (ys ++ x ∷ []) (within-both x xs ys h)
 within-both x _ _ (keeps y xs ys h) = keeps y (xs ++ x ∷ []) (ys ++ x ∷ []) (within-both x xs ys h)
@@ -73,6 +73,21 @@ served first node executed sent body false is h =
 
 pub serves-accept : {first : StationState} {node : NodeState} {executed sent : List (List ℕ)} (body : List ℕ) → is_reply body ≡ false → Serves first node executed sent → Serves first (after_accept node body) (executed ++ body ∷ []) sent
 serves-accept {first} {node} {executed} {sent} body is h = served first node executed sent body (is_reply body) is h
+
+-- a reply changes nothing of it
+still-served : (first : StationState) (node : NodeState) (executed sent : List (List ℕ)) (body : List ℕ) (reply : Bool) → reply ≡ true → Serves first node executed sent →
+    Serves first (record node {
+      station = cond reply node.station (after_answer node.station body);
+      replies = cond reply node.replies (node.replies ++ reply_to node.station body ∷ []);
+      initiator = cond reply (after_reply node.initiator body) node.initiator;
+    }) executed sent
+still-served first node executed sent body true is h =
+    let left : List Issued → List Issued = λ (cs : List Issued). (after_reply (record node.initiator { issued = cs }) body).issued in
+    record { station = h.station; replies = h.replies; issues_none = ap left h.issues_none }
+still-served first node executed sent body false is h = absurd cc
+
+pub serves-reply : {first : StationState} {node : NodeState} {executed sent : List (List ℕ)} (body : List ℕ) → is_reply body ≡ true → Serves first node executed sent → Serves first (after_accept node body) executed sent
+serves-reply {first} {node} {executed} {sent} body is h = still-served first node executed sent body (is_reply body) is h
 
 -- ---- a reply that is handed out
 

@@ -15,6 +15,7 @@ pub mod MessageLengths
 pub mod NodeSteps
 pub mod OneDirection
 pub mod RisingPlaces
+pub mod SentAndExecuted
 pub mod StationAnswers
 pub mod StationReplies
 pub mod Sublists

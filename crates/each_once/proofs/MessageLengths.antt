@@ -1,6 +1,7 @@
 -- That messages have the length that a message may have: 6 to 250 bytes.
 use Rattle.std.proofs.Common.{◌≡◌, ℕ, zero, suc, ◌≤◌, Bool, true, false, IsTrue, ◌&&◌, ◌==◌, List, [], ◌∷◌, ◌++◌, length, map, Some, refl, sym, subst, arith}
-use Rattle.std.specs.Prelude.{slice_get, bit_and, nat_le}
+use Rattle.std.specs.Prelude.{All, slice_get, bit_and, nat_le}
+use Rattle.std.proofs.lemmas.List.Elements.{All-push}
 use Rattle.std.specs.List.{filter}
 use Rattle.std.specs.Option.{option_or}
 use Rattle.std.proofs.lemmas.Bool.{cond_both, leb-true}
@@ -9,8 +10,8 @@ use Rattle.std.proofs.lemmas.Option.{same_Some}
 use Rattle.df1_base.specs.Host.{IsBody}
 use Rattle.df1_node.specs.Answer.{StationState, after_answer}
 use Rattle.df1_node.specs.HostLaws.{reply-body}
-use Rattle.df1_node.specs.Initiator.{Issued, InitiatorState, next_issued, next_command, after_issue}
-use Rattle.df1_node.specs.Node.{NodeState, next_body}
+use Rattle.df1_node.specs.Initiator.{Issued, Waiting, InitiatorState, next_issued, next_command, after_issue}
+use Rattle.df1_node.specs.Node.{NodeState, next_body, after_node_issue, holds_bodies}
 use Rattle.pccc_envelope.specs.Envelope.{is_reply}
 use Rattle.script_statement.specs.Statements.{is_payload}
 use Rattle.each_once.specs.Exchanges.{exchanges}
@@ -83,3 +84,9 @@ issued-fits s src dst payload h may =
     let fits = payload-fits s src dst payload may in
     let more = map-append (λ (c : Issued). c.body) s.issued _ in
     subst AreBodies (sym more) (bodies-push (map (λ c. c.body) s.issued) (next_issued s src dst payload) h fits.0 fits.1)
+
+-- a command that is issued fits
+pub issue-holds : (node : NodeState) (src dst : ℕ) (payload : List ℕ) → IsTrue (is_payload payload) → holds_bodies node → holds_bodies (after_node_issue node src dst payload)
+issue-holds node src dst payload may holds =
+    let new : Issued = record { body = next_issued node.initiator src dst payload; standing = Waiting } in
+    (holds.0, All-push (λ (c : Issued). IsBody c.body) node.initiator.issued new holds.1 (payload-fits node.initiator src dst payload may), holds.2)

@@ -1,3 +1,5 @@
 pub mod Complete
 pub mod Once
 pub mod Steps
+-- What each end sent, as the report tells it.
+pub mod Wire

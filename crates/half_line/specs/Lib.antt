@@ -8,3 +8,4 @@ pub mod Plays
 pub mod Prompt
 pub mod Run
 pub mod Steps
+pub mod Wire

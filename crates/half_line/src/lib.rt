@@ -27,6 +27,7 @@ pub mod once_law;
 mod reported;
 mod setup;
 mod way;
+pub mod wire_law;
 mod world;
 
 pub use way::Way;

@@ -39,7 +39,7 @@ and-parts true b h = h
 and-parts false b h = absurd cc
 
 -- what may be issued is no reply
-payload-command : (payload : List ℕ) → IsTrue (is_payload payload) → eqb (bit_at (slice_index payload 0) 6) 1 ≡ false
+pub payload-command : (payload : List ℕ) → IsTrue (is_payload payload) → eqb (bit_at (slice_index payload 0) 6) 1 ≡ false
 payload-command [] h = absurd cc
 payload-command (cmd ∷ rest) h = sym (and_64 cmd) ∙ ap not (and-parts (nat_le (length (cmd ∷ rest)) 245) (bit_and cmd 0x40 == 0) h)
 

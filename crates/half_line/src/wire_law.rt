@@ -1,0 +1,14 @@
+//! What the ends send: a law of the run of a half-duplex script. The function does nothing.
+ghost use Rattle.script_parts.specs.declared.script.Script.{Script};
+ghost use Rattle.script_parts.specs.HalfPlayable.{IsHalfPlayable};
+ghost use Rattle.half_line.specs.Run.{record_of};
+ghost use Rattle.half_line.specs.Wire.{AreDf1Wires};
+
+/// A law: in every run, also in one that deceives an end, what the master sent and what each station sent, joined from the
+/// lines of the report, is DF1: whole messages, polls, responses and EOTs, with at the end perhaps the begin of one more, and
+/// nothing else. Its messages, each perhaps several times running, are those that the end's host handed out: commands that the
+/// script issues there, and replies that its station made (manual topic: half-duplex protocol).
+#[tactic(auto, unfolding(crate::specs::Run::record_of))]
+pub fn what_is_sent_is_df1()
+    ensures { (script : Script) → IsHalfPlayable script → AreDf1Wires script (record_of script) }
+{}
