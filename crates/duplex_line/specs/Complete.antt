@@ -1,7 +1,6 @@
 -- Each command executed and answered: what the record of an undisturbed run that ends with nothing under way tells.
-use Rattle.std.specs.Prelude.{◌≡◌, ◌≤◌, ℕ, List, [], ◌∷◌, length}
+use Rattle.std.specs.Prelude.{◌≡◌, ◌≤◌, ℕ, List, length}
 use Rattle.df1_node.specs.Answer.{StationState}
-use Rattle.df1_node.specs.Initiator.{Answered}
 use Rattle.script_statement.specs.declared.who.Who.{Who}
 use Rattle.script_statement.specs.declared.who.Who.TheVariants.{A, B}
 use Rattle.script_parts.specs.declared.script.Script.{Script}
@@ -9,16 +8,10 @@ use Rattle.replay_report.specs.declared.record.Line.{Line}
 use Rattle.replay_report.specs.declared.record.Record.{Record}
 use Rattle.each_once.specs.BySource.{AreAllOf}
 use Rattle.each_once.specs.Exchanges.{exchanges}
-use Rattle.each_once.specs.Once.{IsReplyTo}
-use Rattle.each_once.specs.Tells.{executed_in, outcomes_in}
+use Rattle.each_once.specs.Once.{IsAnswered}
+use Rattle.each_once.specs.Tells.{executed_in}
 use Rattle.duplex_line.specs.Issues.{commands_of_a, commands_of_b}
 use Rattle.duplex_line.specs.Run.{first_station, plan_of_a, plan_of_b}
-
--- command n is told as answered, by what the station answered to that very command, and not otherwise
-pub record IsAnswered (from : Who) (issued : List (List ℕ)) (answered : List (List ℕ × List ℕ)) (lines : List Line) (n : ℕ) : Type 0 where
-  pub reply : List ℕ
-  pub told : outcomes_in from n lines ≡ Answered reply ∷ []
-  pub is_reply : IsReplyTo issued answered n reply
 
 -- the station of one end executed all commands of the other, each once, those of each source in their order; and each was answered
 pub record AreAllDone (from to : Who) (issued : List (List ℕ)) (first : StationState) (lines : List Line) : Type 0 where

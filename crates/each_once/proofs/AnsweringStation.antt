@@ -16,13 +16,9 @@ use Rattle.each_once.specs.Exchanges.{exchanges, station_after}
 pub use Rattle.each_once.specs.Exchanges.{replies_to}
 use Rattle.each_once.proofs.StationReplies.{exchanges-push, exchanges-bodies, exchange-fits}
 use Rattle.each_once.proofs.CommandBodies.{bodies-told, next-first}
-use Rattle.each_once.proofs.Sublists.{IsWithin, nothing, skips, keeps, within-front, within-has, Has, from-map}
+use Rattle.each_once.proofs.Sublists.{IsWithin, nothing, skips, keeps, within-all, within-front, within-has, Has, from-map}
 
 -- ---- lists within lists
-
-pub within-all : {A : Type 0} (xs : List A) → IsWithin xs xs
-within-all [] = nothing
-within-all (x ∷ xs) = keeps x xs xs (within-all xs)
 
 pub within-through : {A : Type 0} (xs ys zs : List A) → IsWithin xs ys → IsWithin ys zs → IsWithin xs zs
 within-through xs _ _ h nothing = h
@@ -48,7 +44,7 @@ serves-start first node station replies issued = record { station = station; rep
 
 -- ---- a command that is executed
 
-replies-push : (first : StationState) (executed : List (List ℕ)) (body : List ℕ) (station : StationState) → station ≡ station_after first executed
+pub replies-push : (first : StationState) (executed : List (List ℕ)) (body : List ℕ) (station : StationState) → station ≡ station_after first executed
     → replies_to first (executed ++ body ∷ []) ≡ replies_to first executed ++ reply_to station body ∷ []
 replies-push first executed body station is =
     ap (map (λ x. x.1)) (exchanges-push first executed body)
@@ -140,6 +136,29 @@ serves-clear {first} {node} {executed} {sent} h = record {
 pub sent-within : {first : StationState} {node : NodeState} {executed sent : List (List ℕ)} → Serves first node executed sent → IsWithin sent (replies_to first executed)
 sent-within {first} {node} {executed} {sent} h = within-through sent (sent ++ node.replies) (replies_to first executed) (within-front sent sent node.replies (within-all sent)) h.replies
 
+-- the reply at a place is to the command there
+pub record RepliesAt (first : StationState) (executed : List (List ℕ)) (place : ℕ) (reply : List ℕ) : Type 0 where
+  pub body : List ℕ
+  pub exchanged : slice_get (exchanges first executed) place ≡ Some (body, reply)
+  pub is_executed : slice_get executed place ≡ Some body
+  pub fits : is_reply_to body reply ≡ true
+  pub is_a_reply : is_reply reply ≡ true
+
+pub reply-at : (first : StationState) (executed : List (List ℕ)) (place : ℕ) (reply : List ℕ) → slice_get (replies_to first executed) place ≡ Some reply → RepliesAt first executed place reply
+reply-at first executed place reply at =
+    let answered = exchanges first executed in
+    let exchange = from-map (λ (e : List ℕ × List ℕ). e.1) answered place reply at in
+    let body = exchange.0.0 in
+    let is : slice_get answered place ≡ Some (body, reply) = exchange.1 ∙ ap (λ r. Some (body, r)) exchange.2 in
+    let fits = exchange-fits first executed place body reply is in
+    record {
+      body = body;
+      exchanged = is;
+      is_executed = ap (λ bs. slice_get bs place) (sym (exchanges-bodies first executed)) ∙ slice_get-map (λ (e : List ℕ × List ℕ). e.0) answered place ∙ ap (option_map (λ (e : List ℕ × List ℕ). e.0)) is;
+      fits = fits.0;
+      is_a_reply = fits.1;
+    }
+
 -- one of the replies is to one of the commands
 pub record Replies (first : StationState) (executed : List (List ℕ)) (reply : List ℕ) : Type 0 where
   pub place : ℕ
@@ -151,19 +170,8 @@ pub record Replies (first : StationState) (executed : List (List ℕ)) (reply : 
 
 pub reply-of : (first : StationState) (executed : List (List ℕ)) (reply : List ℕ) → Has (replies_to first executed) reply → Replies first executed reply
 reply-of first executed reply has =
-    let answered = exchanges first executed in
-    let exchange = from-map (λ (e : List ℕ × List ℕ). e.1) answered has.0 reply has.1 in
-    let body = exchange.0.0 in
-    let is : slice_get answered has.0 ≡ Some (body, reply) = exchange.1 ∙ ap (λ r. Some (body, r)) exchange.2 in
-    let fits = exchange-fits first executed has.0 body reply is in
-    record {
-      place = has.0;
-      body = body;
-      exchanged = is;
-      is_executed = ap (λ bs. slice_get bs has.0) (sym (exchanges-bodies first executed)) ∙ slice_get-map (λ (e : List ℕ × List ℕ). e.0) answered has.0 ∙ ap (option_map (λ (e : List ℕ × List ℕ). e.0)) is;
-      fits = fits.0;
-      is_a_reply = fits.1;
-    }
+    let r = reply-at first executed has.0 reply has.1 in
+    record { place = has.0; body = r.body; exchanged = r.exchanged; is_executed = r.is_executed; fits = r.fits; is_a_reply = r.is_a_reply }
 
 pub sent-replies : {first : StationState} {node : NodeState} {executed sent : List (List ℕ)} (reply : List ℕ) → Serves first node executed sent → Has sent reply → Replies first executed reply
 sent-replies {first} {node} {executed} {sent} reply h has = reply-of first executed reply (within-has sent (replies_to first executed) reply (sent-within h) has)

@@ -1,26 +1,36 @@
--- How far an initiator is whose commands are answered in the order in which they are handed out: the first so many are answered, the
--- others are out, each with ticks left, and all that weren't handed out wait.
-use Rattle.std.proofs.Common.{◌≡◌, ◌∙◌, ◌⊎◌, ℕ, zero, suc, ◌+◌, ◌-◌, ◌<◌, ◌≤◌, Bool, true, false, ◌&&◌, cond, eqb, nat_lt, List, [], ◌∷◌, ◌++◌, length, Option, Some, None, find, position, option_map, refl, sym, ap, subst, inl, inr, arith, length-append}
+-- How far an initiator is with the commands that pass a test, as those to one station, where these are answered in the order in which
+-- they are handed out: the first so many are answered, the others are out, each with ticks left, and all that weren't handed out wait.
+use Rattle.std.proofs.Common.{◌≡◌, ◌∙◌, ◌⊎◌, ℕ, zero, suc, ◌+◌, ◌-◌, ◌<◌, ◌≤◌, Bool, true, false, ◌&&◌, eqb, nat_lt, List, [], ◌∷◌, ◌++◌, length, map, Option, Some, None, find, position, option_map, refl, sym, ap, ap₂, subst, inl, inr, arith, length-append}
 use Rattle.std.specs.Prelude.{slice_get, ◌==◌, count_by, if◌then◌else◌}
+use Rattle.std.specs.List.{filter}
 use Rattle.std.specs.Option.{option_map_or}
 use Rattle.std.proofs.lemmas.Bool.{and_parts, lt-ltb, eq-eqb, eqb-true, false_from_ne_true}
 use borrow.Author.Tests.{ltb-true}
 use Rattle.std.proofs.lemmas.List.{map-append, length-map}
-use Rattle.std.proofs.lemmas.List.Sums.{sum_by-cons, sum_by-append}
 use Rattle.std.proofs.lemmas.Option.{same_Some, slice_get_within, slice_get-map}
 use Rattle.pccc_envelope.specs.Envelope.{tns_of}
-use Rattle.df1_node.specs.Initiator.{Issued, Standing, Waiting, Out, Answered, Undelivered, Unanswered, InitiatorState, is_waiting, is_out, is_reply_to, is_due, restated, ticked, all_ticked, source_of, count_out, count_out_of, next_issued, next_command, answered_place, after_issue, after_reply, after_hand_out}
+use Rattle.df1_node.specs.Initiator.{Issued, Standing, Waiting, Out, Answered, Undelivered, Unanswered, InitiatorState, is_waiting, is_out, is_reply_to, is_due, restated, ticked, all_ticked, source_of, count_out, count_out_of, next_issued, next_place, next_command, answered_place, after_issue, after_reply, after_hand_out}
 use Rattle.df1_node.specs.HostLaws.{command-found}
 use Rattle.df1_node.proofs.Final.{get-restated}
-use Rattle.each_once.proofs.Sublists.{Has, IsOther, Differ, get-more, from-map}
-use Rattle.each_once.proofs.HandedOrder.{AreAt, at-more, at-push}
+use Rattle.each_once.proofs.Sublists.{Has, IsOther, Differ, differ-at, get-more, from-map}
+use Rattle.each_once.proofs.AcceptedReplies.{numbers-differ}
+use Rattle.each_once.proofs.HandedOrder.{AreAt, at-more, at-push, push-cases}
 use Rattle.each_once.proofs.HandedOut.{AreNumbered, numbered-at, numbered-apart, bodies_of}
 use Rattle.each_once.proofs.CommandBodies.{next-first, position-cons, bodies-restated, bodies-tick}
-use Rattle.each_once.proofs.InitiatorProgress.{IsDone, done-waits, done-ticked}
+use Rattle.each_once.proofs.CommandCounts.{count_mine, one_if, none-if, same-if, other-if, and-same, both_of, out_now, count-restated, count-more, count-same, count-none, count-fewer, mine-out, count-bodies}
 
--- how many commands wait
-abbrev pub count_waiting : List Issued → ℕ
-count_waiting issued = count_by (λ c. is_waiting c.standing) issued
+-- a test that each passes
+abbrev pub each_body : List ℕ → Bool
+each_body body = true
+
+pub filter-each : (xs : List (List ℕ)) → filter each_body xs ≡ xs
+filter-each [] = refl
+filter-each (x ∷ xs) = ap (λ (ys : List (List ℕ)). x ∷ ys) (filter-each xs)
+
+-- a command is answered
+abbrev pub IsDone : Standing → Type 0
+IsDone (Answered reply) = Unit {0}
+IsDone other = ⊥
 
 -- a command is out, and so many ticks, less those that passed late, are left to it
 abbrev pub IsOutIn : ℕ → ℕ → Standing → Type 0
@@ -40,18 +50,31 @@ StandInTurn issued ticks late [] (suc done) = ⊥
 StandInTurn issued ticks late (p ∷ ps) zero = StandsAs issued (IsOutIn ticks late) p × StandInTurn issued ticks late ps zero
 StandInTurn issued ticks late (p ∷ ps) (suc done) = StandsAs issued IsDone p × StandInTurn issued ticks late ps done
 
--- these bodies were handed out; the first so many of their commands are answered
-pub record AreUnderWay (s : InitiatorState) (handed : List (List ℕ)) (done late : ℕ) : Type 0 where
+-- of those that pass the test these bodies were handed out; the first so many of their commands are answered
+pub record AreUnderWay (mine : List ℕ → Bool) (s : InitiatorState) (handed : List (List ℕ)) (done late : ℕ) : Type 0 where
   pub order : List ℕ
   pub are_at : AreAt (bodies_of s.issued) order handed
+  pub are_mine : (k : ℕ) (body : List ℕ) → slice_get handed k ≡ Some body → mine body ≡ true
   pub differ : Differ order
   pub stand : StandInTurn s.issued s.reply_ticks late order done
-  pub wait : (p : ℕ) (c : Issued) → slice_get s.issued p ≡ Some c → (Has order p → ⊥) → is_waiting c.standing ≡ true
-  pub counted : done + count_out s.issued ≡ length order
+  pub wait : (p : ℕ) (c : Issued) → slice_get s.issued p ≡ Some c → mine c.body ≡ true → (Has order p → ⊥) → is_waiting c.standing ≡ true
+  pub counted : done + count_mine mine is_out s.issued ≡ length order
   pub few : count_out s.issued ≤ s.window
-  pub others : length order + count_waiting s.issued ≡ length s.issued
+  pub others : length order + count_mine mine is_waiting s.issued ≡ count_by (λ c. mine c.body) s.issued
 
 -- ---- how a command stands that is answered, or out
+
+done-waits : (s : Standing) → IsDone s → is_waiting s ≡ false
+done-waits (Answered reply) d = refl
+done-waits other d = absurd d
+
+done-out : (s : Standing) → IsDone s → is_out s ≡ false
+done-out (Answered reply) d = refl
+done-out other d = absurd d
+
+done-ticked : (s : Standing) → IsDone s → IsDone (ticked s)
+done-ticked (Answered reply) d = tt
+done-ticked other d = absurd d
 
 out-out : (ticks late : ℕ) (s : Standing) → IsOutIn ticks late s → is_out s ≡ true
 out-out ticks late (Out left) o = refl
@@ -87,12 +110,20 @@ has-last : (ps : List ℕ) (q : ℕ) → Has (ps ++ q ∷ []) q
 has-last [] q = (0, refl)
 has-last (p ∷ ps) q = let later = has-last ps q in (suc later.0, later.1)
 
--- an element of a list with one more is an old one, or the last
-get-push : (cs : List Issued) (c : Issued) (k : ℕ) (d : Issued) → slice_get (cs ++ c ∷ []) k ≡ Some d → (slice_get cs k ≡ Some d) ⊎ (d ≡ c)
-get-push [] c zero d is = inr (sym (same_Some c d is))
-get-push [] c (suc k) d is = absurd cc
-get-push (e ∷ cs) c zero d is = inl is
-get-push (e ∷ cs) c (suc k) d is = get-push cs c k d is
+-- the body at a place of the order
+at-body : (bodies : List (List ℕ)) (ps : List ℕ) (xs : List (List ℕ)) (k p : ℕ) → AreAt bodies ps xs → slice_get ps k ≡ Some p → (x : List ℕ) × (slice_get xs k ≡ Some x) × (slice_get bodies p ≡ Some x)
+at-body bodies [] xs k p at is = absurd cc
+at-body bodies (q ∷ ps) [] k p at is = absurd at
+at-body bodies (q ∷ ps) (x ∷ xs) zero p at is = (x, refl, ap (slice_get bodies) (sym (same_Some q p is)) ∙ at.0)
+at-body bodies (q ∷ ps) (x ∷ xs) (suc k) p at is = at-body bodies ps xs k p at.1 is
+
+-- the place of a body of the order
+at-place : (bodies : List (List ℕ)) (ps : List ℕ) (xs : List (List ℕ)) (k : ℕ) (x : List ℕ) → AreAt bodies ps xs → slice_get xs k ≡ Some x → (p : ℕ) × (slice_get ps k ≡ Some p) × (slice_get bodies p ≡ Some x)
+at-place bodies [] [] k x at is = absurd cc
+at-place bodies [] (y ∷ xs) k x at is = absurd at
+at-place bodies (p ∷ ps) [] k x at is = absurd at
+at-place bodies (p ∷ ps) (y ∷ xs) zero x at is = (p, refl, at.0 ∙ is)
+at-place bodies (p ∷ ps) (y ∷ xs) (suc k) x at is = at-place bodies ps xs k x at.1 is
 
 -- ---- one command stands otherwise
 
@@ -110,69 +141,30 @@ stand-there cs ticks late q s [] (suc done) apart h = absurd h
 stand-there cs ticks late q s (p ∷ ps) zero apart h = (stands-there cs q s (IsOutIn ticks late) p (apart 0 p refl) h.0, stand-there cs ticks late q s ps zero (λ k r at. apart (suc k) r at) h.1)
 stand-there cs ticks late q s (p ∷ ps) (suc done) apart h = (stands-there cs q s IsDone p (apart 0 p refl) h.0, stand-there cs ticks late q s ps done (λ k r at. apart (suc k) r at) h.1)
 
--- ---- counting those that are out, or wait
+-- the order, where its commands stand as they stood, or otherwise
+stand-so : (cs ds : List Issued) (ticks late later : ℕ) (ps : List ℕ) (done : ℕ) → ((p : ℕ) → StandsAs cs IsDone p → StandsAs ds IsDone p) → ((p : ℕ) → StandsAs cs (IsOutIn ticks late) p → StandsAs ds (IsOutIn ticks later) p)
+    → StandInTurn cs ticks late ps done → StandInTurn ds ticks later ps done
+stand-so cs ds ticks late later [] zero answered out h = tt
+stand-so cs ds ticks late later [] (suc done) answered out h = absurd h
+stand-so cs ds ticks late later (p ∷ ps) zero answered out h = (out p h.0, stand-so cs ds ticks late later ps zero answered out h.1)
+stand-so cs ds ticks late later (p ∷ ps) (suc done) answered out h = (answered p h.0, stand-so cs ds ticks late later ps done answered out h.1)
 
-abbrev one_if : Bool → ℕ
-one_if b = cond b 1 0
-
-abbrev count_of : (Standing → Bool) → List Issued → ℕ
-count_of t cs = count_by (λ c. t c.standing) cs
-
-count-cons : (t : Standing → Bool) (c : Issued) (cs : List Issued) → count_of t (c ∷ cs) ≡ one_if (t c.standing) + count_of t cs
-count-cons t c cs = sum_by-cons (λ (x : Issued). cond (t x.standing) 1 0) c cs
-
-count-restated : (t : Standing → Bool) (cs : List Issued) (p : ℕ) (c : Issued) (s : Standing) → slice_get cs p ≡ Some c → count_of t (restated cs p s) + one_if (t c.standing) ≡ count_of t cs + one_if (t s)
-count-restated t [] p c s at = absurd cc
-count-restated t (d ∷ cs) zero c s at =
-    let now = count-cons t (record d { standing = s }) cs in
-    let was = count-cons t d cs in
-    let same = ap (λ (x : Issued). one_if (t x.standing)) (same_Some d c at) in
-    omega (arith, now, was, same)
-count-restated t (d ∷ cs) (suc p) c s at =
-    let now = count-cons t d (restated cs p s) in
-    let was = count-cons t d cs in
-    let later = count-restated t cs p c s at in
-    omega (arith, now, was, later)
-
-count-more : (t : Standing → Bool) (cs : List Issued) (c : Issued) → count_of t (cs ++ c ∷ []) ≡ count_of t cs + one_if (t c.standing)
-count-more t cs c = sum_by-append (λ (x : Issued). cond (t x.standing) 1 0) cs (c ∷ []) ∙ omega arith
-
-count-same : (t : Standing → Bool) (cs ds : List Issued) → length ds ≡ length cs → ((p : ℕ) (c d : Issued) → slice_get cs p ≡ Some c → slice_get ds p ≡ Some d → t d.standing ≡ t c.standing) → count_of t ds ≡ count_of t cs
-count-same t [] [] same each = refl
-count-same t [] (d ∷ ds) same each = absurd (omega arith)
-count-same t (c ∷ cs) [] same each = absurd (omega arith)
-count-same t (c ∷ cs) (d ∷ ds) same each =
-    let now = count-cons t d ds in
-    let was = count-cons t c cs in
-    let here = ap one_if (each 0 c d refl refl) in
-    let later = count-same t cs ds (omega (arith, same)) (λ p x y at-x at-y. each (suc p) x y at-x at-y) in
-    omega (arith, now, was, here, later)
-
-count-none : (t : Standing → Bool) (cs : List Issued) → ((p : ℕ) (c : Issued) → slice_get cs p ≡ Some c → t c.standing ≡ false) → count_of t cs ≡ 0
-count-none t [] none = refl
-count-none t (c ∷ cs) none =
-    let all = count-cons t c cs in
-    let here = ap one_if (none 0 c refl) in
-    let later = count-none t cs (λ p d at. none (suc p) d at) in
-    omega (arith, all, here, later)
-
-length-restated : (cs : List Issued) (p : ℕ) (s : Standing) → length (restated cs p s) ≡ length cs
-length-restated [] p s = refl
-length-restated (c ∷ cs) zero s = refl
-length-restated (c ∷ cs) (suc p) s = ap suc (length-restated cs p s)
+stands-so : (cs : List Issued) (P Q : Standing → Type 0) (p : ℕ) → ((x : Standing) → P x → Q x) → StandsAs cs P p → StandsAs cs Q p
+stands-so cs P Q p so h = record { command = h.command; is_at = h.is_at; stands = so h.command.standing h.stands }
 
 -- ---- the start
 
-pub under-way-start : (s : InitiatorState) → s.issued ≡ [] → AreUnderWay s [] 0 0
-under-way-start s none = record {
+pub under-way-start : (mine : List ℕ → Bool) (s : InitiatorState) → s.issued ≡ [] → AreUnderWay mine s [] 0 0
+under-way-start mine s none = record {
   order = [];
   are_at = tt;
+  are_mine = λ k body at. absurd cc;
   differ = tt;
   stand = tt;
-  wait = λ p c is has. let no = subst (λ (cs : List Issued). slice_get cs p ≡ Some c) none is in absurd cc;
-  counted = let zero : count_out s.issued ≡ 0 = ap count_out none in omega (arith, zero);
+  wait = λ p c is of has. let no = subst (λ (cs : List Issued). slice_get cs p ≡ Some c) none is in absurd cc;
+  counted = let zero : count_mine mine is_out s.issued ≡ 0 = ap (count_mine mine is_out) none in omega (arith, zero);
   few = let zero : count_out s.issued ≡ 0 = ap count_out none in omega (arith, zero);
-  others = let zero : count_waiting s.issued ≡ 0 = ap count_waiting none in let empty : length s.issued ≡ 0 = ap length none in omega (arith, zero, empty);
+  others = let zero : count_mine mine is_waiting s.issued ≡ 0 = ap (count_mine mine is_waiting) none in let empty : count_by (λ c. mine c.body) s.issued ≡ 0 = ap (λ (cs : List Issued). count_by (λ c. mine c.body) cs) none in omega (arith, zero, empty);
 }
 
 -- ---- a command is issued
@@ -180,27 +172,63 @@ under-way-start s none = record {
 stands-more : (cs more : List Issued) (P : Standing → Type 0) (p : ℕ) → StandsAs cs P p → StandsAs (cs ++ more) P p
 stands-more cs more P p h = record { command = h.command; is_at = get-more cs more p h.command h.is_at; stands = h.stands }
 
-stand-more : (cs more : List Issued) (ticks late : ℕ) (ps : List ℕ) (done : ℕ) → StandInTurn cs ticks late ps done → StandInTurn (cs ++ more) ticks late ps done
-stand-more cs more ticks late [] zero h = tt
-stand-more cs more ticks late [] (suc done) h = absurd h
-stand-more cs more ticks late (p ∷ ps) zero h = (stands-more cs more (IsOutIn ticks late) p h.0, stand-more cs more ticks late ps zero h.1)
-stand-more cs more ticks late (p ∷ ps) (suc done) h = (stands-more cs more IsDone p h.0, stand-more cs more ticks late ps done h.1)
-
-pub under-way-issue : (s : InitiatorState) (src dst : ℕ) (payload : List ℕ) (handed : List (List ℕ)) (done late : ℕ) → AreUnderWay s handed done late → AreUnderWay (after_issue s src dst payload) handed done late
-under-way-issue s src dst payload handed done late u =
+pub under-way-issue : (mine : List ℕ → Bool) (s : InitiatorState) (src dst : ℕ) (payload : List ℕ) (handed : List (List ℕ)) (done late : ℕ) → AreUnderWay mine s handed done late → AreUnderWay mine (after_issue s src dst payload) handed done late
+under-way-issue mine s src dst payload handed done late u =
     let new : Issued = record { body = next_issued s src dst payload; standing = Waiting } in
-    let count = count-more is_out s.issued new in
-    let waits = count-more is_waiting s.issued new in
-    let one = length-append s.issued (new ∷ []) in
+    let all = count-more out_now s.issued new in
+    let count = count-more (both_of mine is_out) s.issued new in
+    let waits = count-more (both_of mine is_waiting) s.issued new in
+    let own = count-more (λ (c : Issued). mine c.body) s.issued new in
+    let none = none-if (mine new.body) false refl in
+    let one = same-if (mine new.body) true refl in
     record {
       order = u.order;
       are_at = subst (λ (bodies : List (List ℕ)). AreAt bodies u.order handed) (sym (map-append (λ (c : Issued). c.body) s.issued (new ∷ []))) (at-more (bodies_of s.issued) (new.body ∷ []) u.order handed u.are_at);
+      are_mine = u.are_mine;
       differ = u.differ;
-      stand = stand-more s.issued (new ∷ []) s.reply_ticks late u.order done u.stand;
-      wait = λ p c is none. elim (get-push s.issued new p c is) [ inl old ↦ u.wait p c old none | inr last ↦ ap (λ (x : Issued). is_waiting x.standing) last ];
-      counted = omega (arith, count, u.counted);
-      few = omega (arith, count, u.few);
-      others = omega (arith, waits, one, u.others);
+      stand = stand-so s.issued (s.issued ++ new ∷ []) s.reply_ticks late late u.order done (λ p. stands-more s.issued (new ∷ []) IsDone p) (λ p. stands-more s.issued (new ∷ []) (IsOutIn s.reply_ticks late) p) u.stand;
+      wait = λ p c is of none. elim (push-cases s.issued new p c is) [ inl old ↦ u.wait p c old of none | inr last ↦ ap (λ (x : Issued). is_waiting x.standing) last.1 ];
+      counted = omega (arith, count, none, u.counted);
+      few = omega (arith, all, u.few);
+      others = omega (arith, waits, own, one, u.others);
+    }
+
+-- ---- a command that doesn't pass the test stands otherwise
+
+-- it isn't of the order
+other-order : (mine : List ℕ → Bool) (s : InitiatorState) (q : ℕ) (body : List ℕ) (handed : List (List ℕ)) (done late : ℕ) → slice_get (bodies_of s.issued) q ≡ Some body → mine body ≡ false → (u : AreUnderWay mine s handed done late) → (k p : ℕ) → slice_get u.order k ≡ Some p → p ≡ q → ⊥
+other-order mine s q body handed done late at other u k p found same =
+    let x = at-body (bodies_of s.issued) u.order handed k p u.are_at found in
+    let is : x.0 ≡ body = same_Some x.0 body (sym x.2 ∙ ap (slice_get (bodies_of s.issued)) same ∙ at) in
+    let clash : true ≡ false = sym (u.are_mine k x.0 x.1) ∙ ap mine is ∙ other in cc
+
+-- the body of a command
+pub body-of : (cs : List Issued) (p : ℕ) (c : Issued) → slice_get cs p ≡ Some c → slice_get (bodies_of cs) p ≡ Some c.body
+body-of cs p c at = slice_get-map (λ (x : Issued). x.body) cs p ∙ ap (option_map (λ (x : Issued). x.body)) at
+
+other-restated : (mine : List ℕ → Bool) (s : InitiatorState) (q : ℕ) (c : Issued) (standing : Standing) (handed : List (List ℕ)) (done late : ℕ) → slice_get s.issued q ≡ Some c → mine c.body ≡ false → count_out (restated s.issued q standing) ≤ s.window → AreUnderWay mine s handed done late
+    → AreUnderWay mine (record s { issued = restated s.issued q standing }) handed done late
+other-restated mine s q c standing handed done late at other few u =
+    let now : Issued = record c { standing = standing } in
+    let out = count-restated (both_of mine is_out) s.issued q c standing at in
+    let waits = count-restated (both_of mine is_waiting) s.issued q c standing at in
+    let own = count-restated (λ (x : Issued). mine x.body) s.issued q c standing at in
+    let out_none = other-if (mine c.body) (is_out c.standing) other in
+    let out_now_none = other-if (mine c.body) (is_out standing) other in
+    let waits_none = other-if (mine c.body) (is_waiting c.standing) other in
+    let waits_now_none = other-if (mine c.body) (is_waiting standing) other in
+    record {
+      order = u.order;
+      are_at = subst (λ (bodies : List (List ℕ)). AreAt bodies u.order handed) (sym (bodies-restated s.issued q standing)) u.are_at;
+      are_mine = u.are_mine;
+      differ = u.differ;
+      stand = stand-there s.issued s.reply_ticks late q standing u.order done (other-order mine s q c.body handed done late (body-of s.issued q c at) other u) u.stand;
+      wait = λ p d found of none. u.wait p d (sym (get-restated s.issued q p standing (λ same.
+          let is : d ≡ now = same_Some d now (sym found ∙ ap (slice_get (restated s.issued q standing)) (sym same) ∙ restated-at s.issued q c standing at) in
+          let clash : true ≡ false = sym of ∙ ap (λ (x : Issued). mine x.body) is ∙ other in cc)) ∙ found) of none;
+      counted = omega (arith, out, out_none, out_now_none, u.counted);
+      few = few;
+      others = omega (arith, waits, waits_none, waits_now_none, own, u.others);
     }
 
 -- ---- the next command is handed out
@@ -238,27 +266,64 @@ waits-out (Answered reply) w = refl
 waits-out Undelivered w = refl
 waits-out Unanswered w = refl
 
-handed-to : (s : InitiatorState) (q : ℕ) (handed : List (List ℕ)) (body : List ℕ) (done late : ℕ) (c : Issued) → slice_get s.issued q ≡ Some c → is_waiting c.standing ≡ true → c.body ≡ body → count_out s.issued < s.window → AreUnderWay s handed done late
-    → AreUnderWay (record s { issued = restated s.issued q (Out s.reply_ticks) }) (handed ++ body ∷ []) done late
-handed-to s q handed body done late c at waits is room u =
+-- the command that is handed out next: it waits, and fewer are out than may be
+pub record HandsOut (s : InitiatorState) (body : List ℕ) : Type 0 where
+  pub place : ℕ
+  pub command : Issued
+  pub is_at : slice_get s.issued place ≡ Some command
+  pub has_body : command.body ≡ body
+  pub waits : is_waiting command.standing ≡ true
+  pub room : count_out s.issued < s.window
+  pub is_next : next_place s ≡ Some place
+
+pub hands-out : (s : InitiatorState) (body : List ℕ) → next_command s ≡ Some body → HandsOut s body
+hands-out s body next =
+    let n = next-first s body next in
+    let first = n.0 in
+    let may = some-next (nat_lt (count_out s.issued) s.window) (option_map (λ c. c.body) (find (is_due s) s.issued)) body (sym (command-found s) ∙ next) in
+    record {
+      place = first.place;
+      command = first.command;
+      is_at = first.is_at;
+      has_body = first.has_body;
+      waits = (and_parts (is_waiting first.command.standing) (nat_lt (count_out_of (source_of first.command) s.issued) s.per_source) first.passes).0;
+      room = ltb-true (count_out s.issued) s.window may;
+      is_next = n.1;
+    }
+
+-- then fewer are out than one more
+handed-few : (s : InitiatorState) (q : ℕ) (c : Issued) → slice_get s.issued q ≡ Some c → is_waiting c.standing ≡ true → count_out s.issued < s.window → count_out (restated s.issued q (Out s.reply_ticks)) ≤ s.window
+handed-few s q c at waits room =
+    let now = count-restated out_now s.issued q c (Out s.reply_ticks) at in
+    let was : one_if (is_out c.standing) ≡ 0 = ap one_if (waits-out c.standing waits) in
+    omega (arith, now, was, room)
+
+handed-to : (mine : List ℕ → Bool) (s : InitiatorState) (q : ℕ) (handed : List (List ℕ)) (body : List ℕ) (done late : ℕ) (c : Issued) → slice_get s.issued q ≡ Some c → is_waiting c.standing ≡ true → c.body ≡ body → mine body ≡ true → count_out s.issued < s.window → AreUnderWay mine s handed done late
+    → AreUnderWay mine (record s { issued = restated s.issued q (Out s.reply_ticks) }) (handed ++ body ∷ []) done late
+handed-to mine s q handed body done late c at waits is own room u =
     let out : Standing = Out s.reply_ticks in
     let here : StandsAs (restated s.issued q out) (IsOutIn s.reply_ticks late) q = record { command = record c { standing = out }; is_at = restated-at s.issued q c out at; stands = omega arith } in
-    let now = count-restated is_out s.issued q c out at in
-    let was : one_if (is_out c.standing) ≡ 0 = ap one_if (waits-out c.standing waits) in
-    let fewer = count-restated is_waiting s.issued q c out at in
-    let waited : one_if (is_waiting c.standing) ≡ 1 = ap one_if waits in
-    let size = length-restated s.issued q out in
+    let own_here : mine c.body ≡ true = ap mine is ∙ own in
+    let now = count-restated (both_of mine is_out) s.issued q c out at in
+    let was = none-if (mine c.body) (is_out c.standing) (waits-out c.standing waits) in
+    let goes = same-if (mine c.body) true refl in
+    let mine_one : one_if (mine c.body) ≡ 1 = ap one_if own_here in
+    let fewer = count-restated (both_of mine is_waiting) s.issued q c out at in
+    let waited = same-if (mine c.body) (is_waiting c.standing) waits in
+    let none = none-if (mine c.body) false refl in
+    let all = count-restated (λ (x : Issued). mine x.body) s.issued q c out at in
     let one = length-append u.order (q ∷ []) in
     record {
       order = u.order ++ q ∷ [];
-      are_at = at-push (bodies_of (restated s.issued q out)) u.order handed q body (slice_get-map (λ (x : Issued). x.body) (restated s.issued q out) q ∙ ap (option_map (λ (x : Issued). x.body)) here.is_at ∙ ap Some is)
+      are_at = at-push (bodies_of (restated s.issued q out)) u.order handed q body (body-of (restated s.issued q out) q (record c { standing = out }) here.is_at ∙ ap Some is)
           (subst (λ (bodies : List (List ℕ)). AreAt bodies u.order handed) (sym (bodies-restated s.issued q out)) u.are_at);
+      are_mine = λ k x found. elim (push-cases handed body k x found) [ inl old ↦ u.are_mine k x old | inr last ↦ ap mine last.1 ∙ own ];
       differ = differ-push u.order q u.differ (λ has. new has.0 q has.1 refl);
       stand = stand-push (restated s.issued q out) s.reply_ticks late u.order done q (stand-there s.issued s.reply_ticks late q out u.order done new u.stand) here;
-      wait = λ p d found none. u.wait p d (sym (get-restated s.issued q p out (λ same. none (subst (Has (u.order ++ q ∷ [])) same (has-last u.order q)))) ∙ found) (λ has. none (has-push u.order q p has));
-      counted = omega (arith, now, was, one, u.counted);
-      few = omega (arith, now, was, room);
-      others = omega (arith, fewer, waited, size, one, u.others);
+      wait = λ p d found of none. u.wait p d (sym (get-restated s.issued q p out (λ same. none (subst (Has (u.order ++ q ∷ [])) same (has-last u.order q)))) ∙ found) of (λ has. none (has-push u.order q p has));
+      counted = omega (arith, now, was, goes, mine_one, one, u.counted);
+      few = handed-few s q c at waits room;
+      others = omega (arith, fewer, waited, none, mine_one, all, one, u.others);
     }
   where
     new : (k p : ℕ) → slice_get u.order k ≡ Some p → p ≡ q → ⊥
@@ -266,14 +331,18 @@ handed-to s q handed body done late c at waits is room u =
         let no = turn-waits s.issued s.reply_ticks late u.order done k p c u.stand found (ap (slice_get s.issued) same ∙ at) in
         let clash : true ≡ false = sym waits ∙ no in cc
 
-pub under-way-hand_out : (s : InitiatorState) (body : List ℕ) (handed : List (List ℕ)) (done late : ℕ) → next_command s ≡ Some body → AreUnderWay s handed done late → AreUnderWay (after_hand_out s) (handed ++ body ∷ []) done late
-under-way-hand_out s body handed done late next u =
-    let n = next-first s body next in
-    let first = n.0 in
-    let may = some-next (nat_lt (count_out s.issued) s.window) (option_map (λ c. c.body) (find (is_due s) s.issued)) body (sym (command-found s) ∙ next) in
-    let due = and_parts (is_waiting first.command.standing) (nat_lt (count_out_of (source_of first.command) s.issued) s.per_source) first.passes in
-    subst (λ (place : Option ℕ). AreUnderWay (record s { issued = option_map_or (λ p. restated s.issued p (Out s.reply_ticks)) place s.issued }) (handed ++ body ∷ []) done late) (sym n.1)
-    (handed-to s first.place handed body done late first.command first.is_at due.0 first.has_body (ltb-true (count_out s.issued) s.window may) u)
+pub under-way-hand_out : (mine : List ℕ → Bool) (s : InitiatorState) (body : List ℕ) (handed : List (List ℕ)) (done late : ℕ) → mine body ≡ true → next_command s ≡ Some body → AreUnderWay mine s handed done late → AreUnderWay mine (after_hand_out s) (handed ++ body ∷ []) done late
+under-way-hand_out mine s body handed done late own next u =
+    let n = hands-out s body next in
+    subst (λ (place : Option ℕ). AreUnderWay mine (record s { issued = option_map_or (λ p. restated s.issued p (Out s.reply_ticks)) place s.issued }) (handed ++ body ∷ []) done late) (sym n.is_next)
+    (handed-to mine s n.place handed body done late n.command n.is_at n.waits n.has_body own n.room u)
+
+-- one that doesn't pass the test
+pub under-way-hand_out-other : (mine : List ℕ → Bool) (s : InitiatorState) (body : List ℕ) (handed : List (List ℕ)) (done late : ℕ) → mine body ≡ false → next_command s ≡ Some body → AreUnderWay mine s handed done late → AreUnderWay mine (after_hand_out s) handed done late
+under-way-hand_out-other mine s body handed done late other next u =
+    let n = hands-out s body next in
+    subst (λ (place : Option ℕ). AreUnderWay mine (record s { issued = option_map_or (λ p. restated s.issued p (Out s.reply_ticks)) place s.issued }) handed done late) (sym n.is_next)
+    (other-restated mine s n.place n.command (Out s.reply_ticks) handed done late n.is_at (ap mine n.has_body ∙ other) (handed-few s n.place n.command n.is_at n.waits n.room) u)
 
 -- ---- the reply to the first command that is out
 
@@ -316,34 +385,60 @@ stand-answered cs ticks late r (q ∷ ps) zero p c at differ is h =
 stand-answered cs ticks late r (q ∷ ps) (suc done) p c at differ is h =
     (stands-there cs p (Answered r) IsDone q (λ same. other-at q ps done p differ.0 is same) h.0, stand-answered cs ticks late r ps done p c at differ.1 is h.1)
 
-pub under-way-reply : (s : InitiatorState) (handed : List (List ℕ)) (done late : ℕ) (body r : List ℕ) → length s.issued ≤ 65535 → AreNumbered s.tns 0 s.issued → slice_get handed done ≡ Some body → is_reply_to body r ≡ true → AreUnderWay s handed done late
-    → (place : ℕ) × (answered_place s.issued r ≡ Some place) × AreUnderWay (after_reply s r) handed (suc done) late
-under-way-reply s handed done late body r few numbered next fits u =
+-- a reply that answers this command
+abbrev answered_at : InitiatorState → ℕ → List ℕ → InitiatorState
+answered_at s p r = record s { issued = restated s.issued p (Answered r) }
+
+answered-mine : (mine : List ℕ → Bool) (s : InitiatorState) (handed : List (List ℕ)) (done late : ℕ) (r : List ℕ) (p : ℕ) (c : Issued) → (u : AreUnderWay mine s handed done late) → slice_get u.order done ≡ Some p → slice_get s.issued p ≡ Some c → mine c.body ≡ true → IsOutIn s.reply_ticks late c.standing
+    → AreUnderWay mine (answered_at s p r) handed (suc done) late
+answered-mine mine s handed done late r p c u found at own out =
+    let now = count-restated (both_of mine is_out) s.issued p c (Answered r) at in
+    let was = same-if (mine c.body) (is_out c.standing) (out-out s.reply_ticks late c.standing out) in
+    let goes = none-if (mine c.body) false refl in
+    let one : one_if (mine c.body) ≡ 1 = ap one_if own in
+    let others = count-restated (both_of mine is_waiting) s.issued p c (Answered r) at in
+    let waited = none-if (mine c.body) (is_waiting c.standing) (out-waits s.reply_ticks late c.standing out) in
+    let all = count-restated (λ (x : Issued). mine x.body) s.issued p c (Answered r) at in
+    record {
+      order = u.order;
+      are_at = subst (λ (bs : List (List ℕ)). AreAt bs u.order handed) (sym (bodies-restated s.issued p (Answered r))) u.are_at;
+      are_mine = u.are_mine;
+      differ = u.differ;
+      stand = stand-answered s.issued s.reply_ticks late r u.order done p c at u.differ found u.stand;
+      wait = λ q d is of none. u.wait q d (sym (get-restated s.issued p q (Answered r) (λ same. none (done, found ∙ ap Some same))) ∙ is) of none;
+      counted = omega (arith, now, was, goes, one, u.counted);
+      few = let fewer = count-restated out_now s.issued p c (Answered r) at in omega (arith, fewer, u.few);
+      others = omega (arith, others, waited, goes, all, u.others);
+    }
+
+-- what is answered: the command at a place that has this body
+pub record Answers (s : InitiatorState) (r body : List ℕ) : Type 0 where
+  pub place : ℕ
+  pub is_place : answered_place s.issued r ≡ Some place
+  pub is_at : slice_get (bodies_of s.issued) place ≡ Some body
+
+pub under-way-reply : (mine : List ℕ → Bool) (s : InitiatorState) (handed : List (List ℕ)) (done late : ℕ) (body r : List ℕ) → length s.issued ≤ 65535 → AreNumbered s.tns 0 s.issued → slice_get handed done ≡ Some body → is_reply_to body r ≡ true → AreUnderWay mine s handed done late
+    → Answers s r body × AreUnderWay mine (after_reply s r) handed (suc done) late
+under-way-reply mine s handed done late body r few numbered next fits u =
     let found = turn-place s.issued s.reply_ticks late u.order done handed body u.are_at u.stand next in
     let p = found.0 in
     let c = found.2.command in
-    let is_body : c.body ≡ body = same_Some _ _ (sym (ap (option_map (λ (x : Issued). x.body)) found.2.is_at) ∙ sym (slice_get-map (λ (x : Issued). x.body) s.issued p) ∙ found.3) in
+    let is_body : c.body ≡ body = same_Some _ _ (sym (body-of s.issued p c found.2.is_at) ∙ found.3) in
     let fits-c : is_reply_to c.body r ≡ true = ap (λ b. is_reply_to b r) is_body ∙ fits in
     let out = out-out s.reply_ticks late c.standing found.2.stands in
     let passes : (is_out c.standing && is_reply_to c.body r) ≡ true = rw (out, fits-c) refl in
     let is_place : answered_place s.issued r ≡ Some p = position-only (λ x. is_out x.standing && is_reply_to x.body r) s.issued p c found.2.is_at passes
     (λ q d at yes. one-place s r few numbered p q c d found.2.is_at at fits-c (and_parts _ _ yes).1) in
-    let now = count-restated is_out s.issued p c (Answered r) found.2.is_at in
-    let was : one_if (is_out c.standing) ≡ 1 = ap one_if out in
-    let others = count-restated is_waiting s.issued p c (Answered r) found.2.is_at in
-    let waited : one_if (is_waiting c.standing) ≡ 0 = ap one_if (out-waits s.reply_ticks late c.standing found.2.stands) in
-    let size = length-restated s.issued p (Answered r) in
-    let after : AreUnderWay (record s { issued = restated s.issued p (Answered r) }) handed (suc done) late = record {
-      order = u.order;
-      are_at = subst (λ (bs : List (List ℕ)). AreAt bs u.order handed) (sym (bodies-restated s.issued p (Answered r))) u.are_at;
-      differ = u.differ;
-      stand = stand-answered s.issued s.reply_ticks late r u.order done p c found.2.is_at u.differ found.1 u.stand;
-      wait = λ q d at none. u.wait q d (sym (get-restated s.issued p q (Answered r) (λ same. none (done, found.1 ∙ ap Some same))) ∙ at) none;
-      counted = omega (arith, now, was, u.counted);
-      few = omega (arith, now, was, u.few);
-      others = omega (arith, others, waited, size, u.others);
-    } in
-    (p, is_place, subst (λ (place : Option ℕ). AreUnderWay (record s { issued = option_map_or (λ x. restated s.issued x (Answered r)) place s.issued }) handed (suc done) late) (sym is_place) after)
+    let after = answered-mine mine s handed done late r p c u found.1 found.2.is_at (ap mine is_body ∙ u.are_mine done body next) found.2.stands in
+    (record { place = p; is_place = is_place; is_at = found.3 }, subst (λ (place : Option ℕ). AreUnderWay mine (record s { issued = option_map_or (λ x. restated s.issued x (Answered r)) place s.issued }) handed (suc done) late) (sym is_place) after)
+
+-- the reply answers a command that doesn't pass the test
+pub under-way-reply-other : (mine : List ℕ → Bool) (s : InitiatorState) (handed : List (List ℕ)) (done late : ℕ) (body r : List ℕ) → mine body ≡ false → Answers s r body → AreUnderWay mine s handed done late → AreUnderWay mine (after_reply s r) handed done late
+under-way-reply-other mine s handed done late body r other a u =
+    let c = from-map (λ (x : Issued). x.body) s.issued a.place body a.is_at in
+    let fewer = count-restated out_now s.issued a.place c.0 (Answered r) c.1 in
+    subst (λ (place : Option ℕ). AreUnderWay mine (record s { issued = option_map_or (λ x. restated s.issued x (Answered r)) place s.issued }) handed done late) (sym a.is_place)
+    (other-restated mine s a.place c.0 (Answered r) handed done late c.1 (ap mine c.2 ∙ other) (omega (arith, fewer, u.few)) u)
 
 -- ---- a tick
 
@@ -353,12 +448,6 @@ stands-ticked cs P Q p still h = record {
   is_at = slice_get-map {A = Issued} (λ c. record c { standing = ticked c.standing }) cs p ∙ ap (option_map {U = Issued} (λ c. record c { standing = ticked c.standing })) h.is_at;
   stands = still h.command.standing h.stands;
 }
-
-stand-ticked : (cs : List Issued) (ticks late later : ℕ) (ps : List ℕ) (done : ℕ) → ((x : Standing) → IsOutIn ticks late x → IsOutIn ticks later (ticked x)) → StandInTurn cs ticks late ps done → StandInTurn (all_ticked cs) ticks later ps done
-stand-ticked cs ticks late later [] zero still h = tt
-stand-ticked cs ticks late later [] (suc done) still h = absurd h
-stand-ticked cs ticks late later (p ∷ ps) zero still h = (stands-ticked cs (IsOutIn ticks late) (IsOutIn ticks later) p still h.0, stand-ticked cs ticks late later ps zero still h.1)
-stand-ticked cs ticks late later (p ∷ ps) (suc done) still h = (stands-ticked cs IsDone IsDone p done-ticked h.0, stand-ticked cs ticks late later ps done still h.1)
 
 -- a place is of the order, or not
 has-or-not : (ps : List ℕ) (p : ℕ) → Has ps p ⊎ (Has ps p → ⊥)
@@ -401,54 +490,99 @@ waits-ticked Undelivered = refl
 waits-ticked Unanswered = refl
 
 -- the command at a place before the tick
-from-tick : (cs : List Issued) (p : ℕ) (d : Issued) → slice_get (all_ticked cs) p ≡ Some d → (c : Issued) × (slice_get cs p ≡ Some c) × (d.standing ≡ ticked c.standing)
+from-tick : (cs : List Issued) (p : ℕ) (d : Issued) → slice_get (all_ticked cs) p ≡ Some d → (c : Issued) × (slice_get cs p ≡ Some c) × (d.standing ≡ ticked c.standing) × (d.body ≡ c.body)
 from-tick cs p d at =
     let c = from-map {A = Issued} (λ x. record x { standing = ticked x.standing }) cs p d at in
-    (c.0, c.1, ap (λ (x : Issued). x.standing) (sym c.2))
+    (c.0, c.1, ap (λ (x : Issued). x.standing) (sym c.2), ap (λ (x : Issued). x.body) (sym c.2))
 
-ticked-to : (s : InitiatorState) (handed : List (List ℕ)) (done late later : ℕ) → (u : AreUnderWay s handed done late) → StandInTurn (all_ticked s.issued) s.reply_ticks later u.order done
-    → ((p : ℕ) (c : Issued) → slice_get s.issued p ≡ Some c → is_out (ticked c.standing) ≡ is_out c.standing) → AreUnderWay (record s { issued = all_ticked s.issued }) handed done later
-ticked-to s handed done late later u stand each =
+-- how a command stands after it
+same-tick : (cs : List Issued) (p : ℕ) (c d : Issued) → slice_get cs p ≡ Some c → slice_get (all_ticked cs) p ≡ Some d → (d.standing ≡ ticked c.standing) × (d.body ≡ c.body)
+same-tick cs p c d at-c at-d =
+    let was = from-tick cs p d at-d in
+    let same : was.0 ≡ c = same_Some _ _ (sym was.1 ∙ at-c) in
+    (was.2 ∙ ap (λ (x : Issued). ticked x.standing) same, was.3 ∙ ap (λ (x : Issued). x.body) same)
+
+-- none is out that wasn't
+out-before : (x : Standing) → is_out (ticked x) ≡ true → is_out x ≡ true
+out-before (Out left) out = refl
+out-before Waiting out = absurd cc
+out-before (Answered reply) out = absurd cc
+out-before Undelivered out = absurd cc
+out-before Unanswered out = absurd cc
+
+-- how as many stand so as did
+count-ticked : (mine : List ℕ → Bool) (stands : Standing → Bool) (cs : List Issued) → ((p : ℕ) (c : Issued) → slice_get cs p ≡ Some c → mine c.body ≡ true → stands (ticked c.standing) ≡ stands c.standing) → count_mine mine stands (all_ticked cs) ≡ count_mine mine stands cs
+count-ticked mine stands cs each = count-same (both_of mine stands) cs (all_ticked cs) (length-map {A = Issued} cs (λ c. record c { standing = ticked c.standing }))
+    (λ p c d at-c at-d. let same = same-tick cs p c d at-c at-d in
+    ap₂ (λ (b : List ℕ) (x : Standing). mine b && stands x) same.1 same.0 ∙ and-same (mine c.body) (stands (ticked c.standing)) (stands c.standing) (λ of. each p c at-c of))
+
+ticked-to : (mine : List ℕ → Bool) (s : InitiatorState) (handed : List (List ℕ)) (done late later : ℕ) → (u : AreUnderWay mine s handed done late) → StandInTurn (all_ticked s.issued) s.reply_ticks later u.order done
+    → ((p : ℕ) (c : Issued) → slice_get s.issued p ≡ Some c → mine c.body ≡ true → is_out (ticked c.standing) ≡ is_out c.standing) → AreUnderWay mine (record s { issued = all_ticked s.issued }) handed done later
+ticked-to mine s handed done late later u stand each =
     let size : length (all_ticked s.issued) ≡ length s.issued = length-map {A = Issued} s.issued (λ c. record c { standing = ticked c.standing }) in
-    let count : count_out (all_ticked s.issued) ≡ count_out s.issued = count-same is_out s.issued (all_ticked s.issued) size
-    (λ p c d at-c at-d. let was = from-tick s.issued p d at-d in let same : was.0 ≡ c = same_Some _ _ (sym was.1 ∙ at-c) in ap is_out (was.2 ∙ ap (λ (x : Issued). ticked x.standing) same) ∙ each p c at-c) in
-    let waits : count_waiting (all_ticked s.issued) ≡ count_waiting s.issued = count-same is_waiting s.issued (all_ticked s.issued) size
-    (λ p c d at-c at-d. let was = from-tick s.issued p d at-d in let same : was.0 ≡ c = same_Some _ _ (sym was.1 ∙ at-c) in ap is_waiting was.2 ∙ waits-ticked was.0.standing ∙ ap (λ (x : Issued). is_waiting x.standing) same) in
+    let count = count-ticked mine is_out s.issued each in
+    let waits = count-ticked mine is_waiting s.issued (λ p c at of. waits-ticked c.standing) in
+    let own : count_by (λ c. mine c.body) (all_ticked s.issued) ≡ count_by (λ c. mine c.body) s.issued = count-same (λ (c : Issued). mine c.body) s.issued (all_ticked s.issued) size (λ p c d at-c at-d. ap mine (same-tick s.issued p c d at-c at-d).1) in
+    let fewer : count_out (all_ticked s.issued) ≤ count_out s.issued = count-fewer out_now out_now s.issued (all_ticked s.issued) size (λ p c d at-c at-d out. out-before c.standing (sym (ap is_out (same-tick s.issued p c d at-c at-d).0) ∙ out)) in
     record {
       order = u.order;
       are_at = subst (λ (bs : List (List ℕ)). AreAt bs u.order handed) (sym (bodies-tick s)) u.are_at;
+      are_mine = u.are_mine;
       differ = u.differ;
       stand = stand;
-      wait = λ p d at none. let was = from-tick s.issued p d at in ap is_waiting was.2 ∙ waits-ticked was.0.standing ∙ u.wait p was.0 was.1 none;
+      wait = λ p d at of none. let was = from-tick s.issued p d at in ap is_waiting was.2 ∙ waits-ticked was.0.standing ∙ u.wait p was.0 was.1 (sym (ap mine was.3) ∙ of) none;
       counted = omega (arith, count, u.counted);
-      few = omega (arith, count, u.few);
-      others = omega (arith, waits, size, u.others);
+      few = omega (arith, fewer, u.few);
+      others = omega (arith, waits, own, u.others);
     }
 
 -- what holds of commands that stand so as those of an order, and of those that wait, holds of each
-each-command : (s : InitiatorState) (handed : List (List ℕ)) (done late : ℕ) (P : Standing → Type 0) → (u : AreUnderWay s handed done late) → ((k p : ℕ) → slice_get u.order k ≡ Some p → StandsAs s.issued P p) → ((x : Standing) → is_waiting x ≡ true → P x)
-    → (p : ℕ) (c : Issued) → slice_get s.issued p ≡ Some c → P c.standing
-each-command s handed done late P u turn waits p c at = elim (has-or-not u.order p) [
+each-command : (mine : List ℕ → Bool) (s : InitiatorState) (handed : List (List ℕ)) (done late : ℕ) (P : Standing → Type 0) → (u : AreUnderWay mine s handed done late) → ((k p : ℕ) → slice_get u.order k ≡ Some p → StandsAs s.issued P p) → ((x : Standing) → is_waiting x ≡ true → P x)
+    → (p : ℕ) (c : Issued) → slice_get s.issued p ≡ Some c → mine c.body ≡ true → P c.standing
+each-command mine s handed done late P u turn waits p c at of = elim (has-or-not u.order p) [
   | inl has ↦
       let stands = turn has.0 p has.1 in
       let same : stands.command ≡ c = same_Some _ _ (sym stands.is_at ∙ at) in
       subst (λ (x : Issued). P x.standing) same stands.stands
-  | inr none ↦ waits c.standing (u.wait p c at none)
+  | inr none ↦ waits c.standing (u.wait p c at of none)
 ]
 
-stands-so : (cs : List Issued) (P Q : Standing → Type 0) (p : ℕ) → ((x : Standing) → P x → Q x) → StandsAs cs P p → StandsAs cs Q p
-stands-so cs P Q p so h = record { command = h.command; is_at = h.is_at; stands = so h.command.standing h.stands }
-
 -- enough ticks are left to each that is out
-pub under-way-tick : (s : InitiatorState) (handed : List (List ℕ)) (done late : ℕ) → late + 1 < s.reply_ticks → AreUnderWay s handed done late → AreUnderWay (record s { issued = all_ticked s.issued }) handed done (late + 1)
-under-way-tick s handed done late few u =
-    ticked-to s handed done late (late + 1) u (stand-ticked s.issued s.reply_ticks late (late + 1) u.order done (λ x o. out-ticked s.reply_ticks late x few o) u.stand)
-    (each-command s handed done late (λ x. is_out (ticked x) ≡ is_out x) u
+pub under-way-tick : (mine : List ℕ → Bool) (s : InitiatorState) (handed : List (List ℕ)) (done late : ℕ) → late + 1 < s.reply_ticks → AreUnderWay mine s handed done late → AreUnderWay mine (record s { issued = all_ticked s.issued }) handed done (late + 1)
+under-way-tick mine s handed done late few u =
+    ticked-to mine s handed done late (late + 1) u
+    (stand-so s.issued (all_ticked s.issued) s.reply_ticks late (late + 1) u.order done (λ p. stands-ticked s.issued IsDone IsDone p done-ticked)
+    (λ p. stands-ticked s.issued (IsOutIn s.reply_ticks late) (IsOutIn s.reply_ticks (late + 1)) p (λ x o. out-ticked s.reply_ticks late x few o)) u.stand)
+    (each-command mine s handed done late (λ x. is_out (ticked x) ≡ is_out x) u
     (λ k p at. elim (turn-stands s.issued s.reply_ticks late u.order done k p u.stand at) [
       | inl answered ↦ stands-so s.issued IsDone (λ x. is_out (ticked x) ≡ is_out x) p ticked-done answered
       | inr out ↦ stands-so s.issued (IsOutIn s.reply_ticks late) (λ x. is_out (ticked x) ≡ is_out x) p (λ x o. ticked-out s.reply_ticks late x few o) out
     ])
     ticked-waits)
+
+-- ---- ticks of which the initiator isn't told
+
+restood : (mine : List ℕ → Bool) (s : InitiatorState) (handed : List (List ℕ)) (done late later : ℕ) → (u : AreUnderWay mine s handed done late) → StandInTurn s.issued s.reply_ticks later u.order done → AreUnderWay mine s handed done later
+restood mine s handed done late later u stand = record {
+  order = u.order;
+  are_at = u.are_at;
+  are_mine = u.are_mine;
+  differ = u.differ;
+  stand = stand;
+  wait = u.wait;
+  counted = u.counted;
+  few = u.few;
+  others = u.others;
+}
+
+out-passed : (ticks late : ℕ) (x : Standing) → IsOutIn ticks late x → IsOutIn ticks (late + 1) x
+out-passed ticks late (Out left) o = omega (arith, o)
+out-passed ticks late other o = absurd o
+
+pub under-way-passed : (mine : List ℕ → Bool) (s : InitiatorState) (handed : List (List ℕ)) (done late : ℕ) → AreUnderWay mine s handed done late → AreUnderWay mine s handed done (late + 1)
+under-way-passed mine s handed done late u =
+    restood mine s handed done late (late + 1) u
+    (stand-so s.issued s.issued s.reply_ticks late (late + 1) u.order done (λ p h. h) (λ p. stands-so s.issued (IsOutIn s.reply_ticks late) (IsOutIn s.reply_ticks (late + 1)) p (out-passed s.reply_ticks late)) u.stand)
 
 -- ---- none is out
 
@@ -459,66 +593,71 @@ turn-done cs ticks late (q ∷ ps) zero k p all h at = absurd (omega (arith, all
 turn-done cs ticks late (q ∷ ps) (suc done) zero p all h at = subst (StandsAs cs IsDone) (same_Some q p at) h.0
 turn-done cs ticks late (q ∷ ps) (suc done) (suc k) p all h at = turn-done cs ticks late ps done k p (omega (arith, all)) h.1 at
 
-turn-later : (cs : List Issued) (ticks late later : ℕ) (ps : List ℕ) (done : ℕ) → done ≡ length ps → StandInTurn cs ticks late ps done → StandInTurn cs ticks later ps done
-turn-later cs ticks late later [] zero all h = tt
-turn-later cs ticks late later [] (suc done) all h = absurd h
-turn-later cs ticks late later (q ∷ ps) zero all h = absurd (omega (arith, all))
-turn-later cs ticks late later (q ∷ ps) (suc done) all h = (h.0, turn-later cs ticks late later ps done (omega (arith, all)) h.1)
+-- and any ticks may have passed
+turn-later : (cs ds : List Issued) (ticks late later : ℕ) (ps : List ℕ) (done : ℕ) → ((p : ℕ) → StandsAs cs IsDone p → StandsAs ds IsDone p) → done ≡ length ps → StandInTurn cs ticks late ps done → StandInTurn ds ticks later ps done
+turn-later cs ds ticks late later [] zero answered all h = tt
+turn-later cs ds ticks late later [] (suc done) answered all h = absurd h
+turn-later cs ds ticks late later (q ∷ ps) zero answered all h = absurd (omega (arith, all))
+turn-later cs ds ticks late later (q ∷ ps) (suc done) answered all h = (answered q h.0, turn-later cs ds ticks late later ps done answered (omega (arith, all)) h.1)
 
 -- as many bodies as places
-pub at-count : (bodies : List (List ℕ)) (ps : List ℕ) (xs : List (List ℕ)) → AreAt bodies ps xs → length ps ≡ length xs
+at-count : (bodies : List (List ℕ)) (ps : List ℕ) (xs : List (List ℕ)) → AreAt bodies ps xs → length ps ≡ length xs
 at-count bodies [] [] at = refl
 at-count bodies [] (x ∷ xs) at = absurd at
 at-count bodies (p ∷ ps) [] at = absurd at
 at-count bodies (p ∷ ps) (x ∷ xs) at = ap suc (at-count bodies ps xs at.1)
 
--- any ticks may then have passed late
-pub under-way-later : (s : InitiatorState) (handed : List (List ℕ)) (done late later : ℕ) → done ≡ length handed → AreUnderWay s handed done late → AreUnderWay s handed done later
-under-way-later s handed done late later all u =
-    let count = at-count (bodies_of s.issued) u.order handed u.are_at in
-    record {
-      order = u.order;
-      are_at = u.are_at;
-      differ = u.differ;
-      stand = turn-later s.issued s.reply_ticks late later u.order done (omega (arith, all, count)) u.stand;
-      wait = u.wait;
-      counted = u.counted;
-      few = u.few;
-      others = u.others;
-    }
+full-order : (mine : List ℕ → Bool) (s : InitiatorState) (handed : List (List ℕ)) (done late : ℕ) → done ≡ length handed → (u : AreUnderWay mine s handed done late) → done ≡ length u.order
+full-order mine s handed done late all u = let count = at-count (bodies_of s.issued) u.order handed u.are_at in omega (arith, count, all)
 
-done-turn : (cs : List Issued) (ticks late later : ℕ) (ps : List ℕ) (done : ℕ) → done ≡ length ps → StandInTurn cs ticks late ps done → StandInTurn (all_ticked cs) ticks later ps done
-done-turn cs ticks late later [] zero all h = tt
-done-turn cs ticks late later [] (suc done) all h = absurd h
-done-turn cs ticks late later (q ∷ ps) zero all h = absurd (omega (arith, all))
-done-turn cs ticks late later (q ∷ ps) (suc done) all h = (stands-ticked cs IsDone IsDone q done-ticked h.0, done-turn cs ticks late later ps done (omega (arith, all)) h.1)
+pub under-way-later : (mine : List ℕ → Bool) (s : InitiatorState) (handed : List (List ℕ)) (done late later : ℕ) → done ≡ length handed → AreUnderWay mine s handed done late → AreUnderWay mine s handed done later
+under-way-later mine s handed done late later all u =
+    restood mine s handed done late later u (turn-later s.issued s.issued s.reply_ticks late later u.order done (λ p h. h) (full-order mine s handed done late all u) u.stand)
 
 -- and so at a tick
-pub under-way-rests : (s : InitiatorState) (handed : List (List ℕ)) (done late later : ℕ) → done ≡ length handed → AreUnderWay s handed done late → AreUnderWay (record s { issued = all_ticked s.issued }) handed done later
-under-way-rests s handed done late later all u =
-    let count = at-count (bodies_of s.issued) u.order handed u.are_at in
-    let full : done ≡ length u.order = omega (arith, all, count) in
-    ticked-to s handed done late later u (done-turn s.issued s.reply_ticks late later u.order done full u.stand)
-    (each-command s handed done late (λ x. is_out (ticked x) ≡ is_out x) u
+pub under-way-rests : (mine : List ℕ → Bool) (s : InitiatorState) (handed : List (List ℕ)) (done late later : ℕ) → done ≡ length handed → AreUnderWay mine s handed done late → AreUnderWay mine (record s { issued = all_ticked s.issued }) handed done later
+under-way-rests mine s handed done late later all u =
+    let full = full-order mine s handed done late all u in
+    ticked-to mine s handed done late later u (turn-later s.issued (all_ticked s.issued) s.reply_ticks late later u.order done (λ p. stands-ticked s.issued IsDone IsDone p done-ticked) full u.stand)
+    (each-command mine s handed done late (λ x. is_out (ticked x) ≡ is_out x) u
     (λ k p at. stands-so s.issued IsDone (λ x. is_out (ticked x) ≡ is_out x) p ticked-done (turn-done s.issued s.reply_ticks late u.order done k p full u.stand at))
     ticked-waits)
+
+-- ---- what was handed out
+
+-- no more than are answered, and may be out
+pub under-way-few : (mine : List ℕ → Bool) (s : InitiatorState) (handed : List (List ℕ)) (done late : ℕ) → AreUnderWay mine s handed done late → length handed ≤ done + s.window
+under-way-few mine s handed done late u =
+    let count = at-count (bodies_of s.issued) u.order handed u.are_at in
+    let out = mine-out mine s.issued in
+    omega (arith, count, out, u.counted, u.few)
+
+-- each is the body of a command
+pub under-way-at : (mine : List ℕ → Bool) (s : InitiatorState) (handed : List (List ℕ)) (done late k : ℕ) (body : List ℕ) → slice_get handed k ≡ Some body → AreUnderWay mine s handed done late → (place : ℕ) × (slice_get (bodies_of s.issued) place ≡ Some body)
+under-way-at mine s handed done late k body is u = let p = at-place (bodies_of s.issued) u.order handed k body u.are_at is in (p.0, p.2)
+
+-- their TNS differ
+others-differ : (bodies : List (List ℕ)) (p : ℕ) (x : List ℕ) (ps : List ℕ) (xs : List (List ℕ)) → Differ (map tns_of bodies) → slice_get bodies p ≡ Some x → AreAt bodies ps xs → IsOther p ps → IsOther (tns_of x) (map tns_of xs)
+others-differ bodies p x [] [] differ is at others = tt
+others-differ bodies p x [] (y ∷ ys) differ is at others = absurd at
+others-differ bodies p x (q ∷ ps) [] differ is at others = absurd at
+others-differ bodies p x (q ∷ ps) (y ∷ ys) differ is at others = (λ same. others.0 (differ-at tns_of bodies p q x y differ is at.0 same), others-differ bodies p x ps ys differ is at.1 others.1)
+
+order-differ : (bodies : List (List ℕ)) (ps : List ℕ) (xs : List (List ℕ)) → Differ (map tns_of bodies) → AreAt bodies ps xs → Differ ps → Differ (map tns_of xs)
+order-differ bodies [] [] differ at apart = tt
+order-differ bodies [] (x ∷ xs) differ at apart = absurd at
+order-differ bodies (p ∷ ps) [] differ at apart = absurd at
+order-differ bodies (p ∷ ps) (x ∷ xs) differ at apart = (others-differ bodies p x ps xs differ at.0 at.1 apart.0, order-differ bodies ps xs differ at.1 apart.1)
+
+pub under-way-differ : (mine : List ℕ → Bool) (s : InitiatorState) (handed : List (List ℕ)) (done late : ℕ) → length s.issued ≤ 65535 → AreNumbered s.tns 0 s.issued → AreUnderWay mine s handed done late → Differ (map tns_of handed)
+under-way-differ mine s handed done late few numbered u = order-differ (bodies_of s.issued) u.order handed (numbers-differ s.tns 0 s.issued (omega (arith, few)) numbered) u.are_at u.differ
 
 -- ---- nothing waits
 
 -- none of a source is out where none is
 none-of : (cs : List Issued) (source : ℕ) → count_out_of source cs ≤ count_out cs
-none-of [] source = omega arith
-none-of (c ∷ cs) source =
-    let later = none-of cs source in
-    let all = count-cons is_out c cs in
-    let of = sum_by-cons (λ (x : Issued). cond (is_out x.standing && (source_of x == source)) 1 0) c cs in
-    let here = at-most (is_out c.standing) (source_of c == source) in
-    omega (arith, later, all, of, here)
-  where
-    at-most : (a b : Bool) → cond (a && b) 1 0 ≤ cond a 1 0
-    at-most true true = omega arith
-    at-most true false = omega arith
-    at-most false b = omega arith
+none-of cs source = count-fewer (λ c. is_out c.standing && (source_of c == source)) out_now cs cs refl
+    (λ p c d at-c at-d both. let same : d ≡ c = same_Some d c (sym at-d ∙ at-c) in sym (ap (λ (x : Issued). is_out x.standing) same) ∙ (and_parts (is_out d.standing) (source_of d == source) both).0)
 
 none-at : (t : Issued → Bool) (d : Issued) (cs : List Issued) (c : Issued) (b : Bool) → t d ≡ b → option_map (λ x. x.body) (find t (d ∷ cs)) ≡ None → (option_map (λ x. x.body) (find t cs) ≡ None → (k : ℕ) → slice_get cs k ≡ Some c → t c ≡ false)
     → (k : ℕ) → slice_get (d ∷ cs) k ≡ Some c → t c ≡ false
@@ -534,29 +673,37 @@ left-false : (a b : Bool) → (a && b) ≡ false → b ≡ true → a ≡ false
 left-false true b h e = cc
 left-false false b h e = refl
 
--- once all that were handed out are answered and none is handed out next, all commands are answered, and as many were handed out
-pub under-way-all : (s : InitiatorState) (handed : List (List ℕ)) (done late : ℕ) → 1 ≤ s.window → 1 ≤ s.per_source → done ≡ length handed → next_command s ≡ None → (u : AreUnderWay s handed done late)
-    → (k : ℕ) (c : Issued) → slice_get s.issued k ≡ Some c → Has u.order k × IsDone c.standing
-under-way-all s handed done late some some-of all none u k c at =
-    let count = at-count (bodies_of s.issued) u.order handed u.are_at in
-    let no-out : count_out s.issued ≡ 0 = omega (arith, u.counted, count, all) in
+-- a command is answered, or waits
+abbrev pub IsDoneOrWaits : Standing → Type 0
+IsDoneOrWaits x = IsDone x ⊎ (is_waiting x ≡ true)
+
+-- once all that were handed out are answered, each that passes the test is, or waits
+pub under-way-rested : (mine : List ℕ → Bool) (s : InitiatorState) (handed : List (List ℕ)) (done late : ℕ) → done ≡ length handed → AreUnderWay mine s handed done late → (k : ℕ) (c : Issued) → slice_get s.issued k ≡ Some c → mine c.body ≡ true → IsDoneOrWaits c.standing
+under-way-rested mine s handed done late all u =
+    each-command mine s handed done late IsDoneOrWaits u
+    (λ k p at. stands-so s.issued IsDone IsDoneOrWaits p (λ x h. inl h) (turn-done s.issued s.reply_ticks late u.order done k p (full-order mine s handed done late all u) u.stand at))
+    (λ x waits. inr waits)
+
+-- where that is so of all commands, and none is handed out next, each is answered
+pub all-done : (s : InitiatorState) → 1 ≤ s.window → 1 ≤ s.per_source → next_command s ≡ None → ((k : ℕ) (c : Issued) → slice_get s.issued k ≡ Some c → IsDoneOrWaits c.standing) → (k : ℕ) (c : Issued) → slice_get s.issued k ≡ Some c → IsDone c.standing
+all-done s some some-of none each k c at =
+    let no-out : count_out s.issued ≡ 0 = count-none out_now s.issued (λ p d is. elim (each p d is) [ inl done ↦ done-out d.standing done | inr waits ↦ waits-out d.standing waits ]) in
     let may : nat_lt (count_out s.issued) s.window ≡ true = lt-ltb (count_out s.issued) s.window (omega (arith, no-out, some)) in
     let nothing : option_map (λ x. x.body) (find (is_due s) s.issued) ≡ None = rw may at (sym (command-found s) ∙ none) in
     let fails = none-found (is_due s) s.issued k c nothing at in
     let fewer = none-of s.issued (source_of c) in
     let due : nat_lt (count_out_of (source_of c) s.issued) s.per_source ≡ true = lt-ltb _ s.per_source (omega (arith, fewer, no-out, some-of)) in
     let waits : is_waiting c.standing ≡ false = left-false (is_waiting c.standing) _ fails due in
-    elim (has-or-not u.order k) [
-      | inl has ↦
-          let answered = turn-done s.issued s.reply_ticks late u.order done has.0 k (omega (arith, all, count)) u.stand has.1 in
-          let same : answered.command ≡ c = same_Some _ _ (sym answered.is_at ∙ at) in
-          (has, subst (λ (x : Issued). IsDone x.standing) same answered.stands)
-      | inr none-has ↦ absurd (let yes = u.wait k c at none-has in let clash : true ≡ false = sym yes ∙ waits in cc)
-    ]
+    elim (each k c at) [ inl done ↦ done | inr idle ↦ absurd (let clash : true ≡ false = sym idle ∙ waits in cc) ]
 
--- so as many were handed out as were issued
-pub under-way-full : (s : InitiatorState) (handed : List (List ℕ)) (done late : ℕ) → (u : AreUnderWay s handed done late) → ((k : ℕ) (c : Issued) → slice_get s.issued k ≡ Some c → Has u.order k × IsDone c.standing) → length handed ≡ length s.issued
-under-way-full s handed done late u all =
-    let none = count-none is_waiting s.issued (λ p c at. done-waits c.standing (all p c at).1) in
+-- so as many were handed out as pass the test
+pub under-way-full : (mine : List ℕ → Bool) (s : InitiatorState) (handed : List (List ℕ)) (done late : ℕ) → AreUnderWay mine s handed done late → ((k : ℕ) (c : Issued) → slice_get s.issued k ≡ Some c → IsDone c.standing) → length handed ≡ length (filter mine (bodies_of s.issued))
+under-way-full mine s handed done late u all =
+    let none : count_mine mine is_waiting s.issued ≡ 0 = count-none (both_of mine is_waiting) s.issued (λ p c at. ap (λ (w : Bool). mine c.body && w) (done-waits c.standing (all p c at)) ∙ and-false (mine c.body)) in
     let count = at-count (bodies_of s.issued) u.order handed u.are_at in
-    omega (arith, none, count, u.others)
+    let bodies = count-bodies mine s.issued in
+    omega (arith, none, count, bodies, u.others)
+  where
+    and-false : (b : Bool) → (b && false) ≡ false
+    and-false true = refl
+    and-false false = refl

@@ -116,7 +116,7 @@ rise-more bodies more (p ∷ ps) [] at rise = absurd at
 rise-more bodies more (p ∷ ps) (x ∷ xs) at rise = (earlier-all-more bodies more p ps xs (slice_get_within bodies p x at.0) at.1 rise.0, rise-more bodies more ps xs at.1 rise.1)
 
 -- an element at a place of a list with one more is an old one, or the last
-push-cases : {A : Type 0} (xs : List A) (last : A) (k : ℕ) (x : A) → slice_get (xs ++ last ∷ []) k ≡ Some x → (slice_get xs k ≡ Some x) ⊎ ((k ≡ length xs) × (x ≡ last))
+pub push-cases : {A : Type 0} (xs : List A) (last : A) (k : ℕ) (x : A) → slice_get (xs ++ last ∷ []) k ≡ Some x → (slice_get xs k ≡ Some x) ⊎ ((k ≡ length xs) × (x ≡ last))
 push-cases [] last zero x is = inr (refl, sym (same-some last x is))
 push-cases [] last (suc k) x is = absurd cc
 push-cases (y ∷ xs) last zero x is = inl is

@@ -1,12 +1,13 @@
 pub mod AcceptedReplies
+pub mod AnsweredCommands
 pub mod AnsweringStation
 pub mod CommandBodies
+pub mod CommandCounts
 pub mod CommandsUnderWay
 pub mod ContinuedCommands
 pub mod CountedUp
 pub mod HandedOrder
 pub mod HandedOut
-pub mod InitiatorProgress
 pub mod InitiatorSteps
 pub mod IssuedCommands
 pub mod IssuingNode

@@ -1,12 +1,12 @@
 -- That messages have the length that a message may have: 6 to 250 bytes.
-use Rattle.std.proofs.Common.{◌≡◌, ℕ, zero, suc, ◌≤◌, Bool, true, false, IsTrue, ◌&&◌, ◌==◌, List, [], ◌∷◌, ◌++◌, length, map, Some, refl, sym, subst, arith}
+use Rattle.std.proofs.Common.{◌≡◌, ◌∙◌, ℕ, zero, suc, ◌≤◌, Bool, true, false, IsTrue, ◌&&◌, ◌==◌, List, [], ◌∷◌, ◌++◌, length, map, Some, option_map, refl, ap, sym, subst, arith}
 use Rattle.std.specs.Prelude.{All, slice_get, bit_and, nat_le}
 use Rattle.std.proofs.lemmas.List.Elements.{All-push}
 use Rattle.std.specs.List.{filter}
 use Rattle.std.specs.Option.{option_or}
 use Rattle.std.proofs.lemmas.Bool.{cond_both, leb-true}
 use Rattle.std.proofs.lemmas.List.{map-append}
-use Rattle.std.proofs.lemmas.Option.{same_Some}
+use Rattle.std.proofs.lemmas.Option.{same_Some, slice_get-map}
 use Rattle.df1_base.specs.Host.{IsBody}
 use Rattle.df1_node.specs.Answer.{StationState, after_answer}
 use Rattle.df1_node.specs.HostLaws.{reply-body}
@@ -16,6 +16,7 @@ use Rattle.pccc_envelope.specs.Envelope.{is_reply}
 use Rattle.script_statement.specs.Statements.{is_payload}
 use Rattle.each_once.specs.Exchanges.{exchanges}
 use Rattle.each_once.proofs.CommandBodies.{next-first}
+use Rattle.each_once.proofs.HandedOrder.{AreAt}
 use Rattle.each_once.proofs.HandedOut.{is_command, Hosts}
 
 abbrev pub AreBodies : List (List ℕ) → Type 0
@@ -43,19 +44,28 @@ bodies-filter : (p : List ℕ → Bool) (xs : List (List ℕ)) → AreBodies xs 
 bodies-filter p [] h = tt
 bodies-filter p (x ∷ xs) h = cond_both (p x) (x ∷ filter p xs) (filter p xs) AreBodies (λ _. (h.0, bodies-filter p xs h.1)) (λ _. bodies-filter p xs h.1)
 
+-- each of them has it
+pub body-at : (bodies : List (List ℕ)) (n : ℕ) (body : List ℕ) → AreBodies bodies → slice_get bodies n ≡ Some body → IsBody body
+body-at [] n body fits at = absurd cc
+body-at (b ∷ bodies) zero body fits at = subst IsBody (same_Some b body at) fits.0
+body-at (b ∷ bodies) (suc n) body fits at = body-at bodies n body fits.1 at
+
+-- so have those at some places
+pub bodies-at : (bodies : List (List ℕ)) (ps : List ℕ) (xs : List (List ℕ)) → AreBodies bodies → AreAt bodies ps xs → AreBodies xs
+bodies-at bodies [] [] fits at = tt
+bodies-at bodies [] (x ∷ xs) fits at = absurd at
+bodies-at bodies (p ∷ ps) [] fits at = absurd at
+bodies-at bodies (p ∷ ps) (x ∷ xs) fits at = (body-at bodies p x fits at.0, bodies-at bodies ps xs fits at.1)
+
 -- ---- what is handed out next: a reply, or a command that was issued
 
-replies-fit : (first : StationState) (xs : List (List ℕ)) → length first.block ≤ 244 → AreBodies xs → AreBodies (map (λ e. e.1) (exchanges first xs))
+pub replies-fit : (first : StationState) (xs : List (List ℕ)) → length first.block ≤ 244 → AreBodies xs → AreBodies (map (λ e. e.1) (exchanges first xs))
 replies-fit first [] few h = tt
 replies-fit first (x ∷ xs) few h = (reply-body first x few h.0, replies-fit (after_answer first x) xs few h.1)
 
-fits-at : (cs : List Issued) (k : ℕ) (c : Issued) → AreBodies (map (λ x. x.body) cs) → slice_get cs k ≡ Some c → IsBody c.body
-fits-at [] k c h is = absurd cc
-fits-at (x ∷ cs) zero c h is = subst (λ (y : Issued). IsBody y.body) (same_Some x c is) h.0
-fits-at (x ∷ cs) (suc k) c h is = fits-at cs k c h.1 is
-
 command-fits : (s : InitiatorState) (body : List ℕ) → AreBodies (map (λ c. c.body) s.issued) → next_command s ≡ Some body → IsBody body
-command-fits s body h next = let first = (next-first s body next).0 in subst IsBody first.has_body (fits-at s.issued first.place first.command h first.is_at)
+command-fits s body h next = let first = (next-first s body next).0 in
+    subst IsBody first.has_body (body-at (map (λ c. c.body) s.issued) first.place first.command.body h (slice_get-map (λ (c : Issued). c.body) s.issued first.place ∙ ap (option_map (λ (c : Issued). c.body)) first.is_at))
 
 next-of : (replies : List (List ℕ)) (s : InitiatorState) (body : List ℕ) → AreBodies replies → AreBodies (map (λ c. c.body) s.issued) → option_or (slice_get replies 0) (next_command s) ≡ Some body → IsBody body
 next-of [] s body replies commands next = command-fits s body commands next

@@ -1,17 +1,18 @@
 -- Where bodies stand among commands: at places that rise, or those of each source do.
-use Rattle.std.proofs.Common.{◌≡◌, ◌∙◌, ℕ, zero, suc, ◌+◌, ◌<◌, ◌≤◌, true, false, List, [], ◌∷◌, ◌++◌, length, map, Option, Some, refl, ap, ap₂, sym, subst, arith, append_assoc, length-append, add-one}
+use Rattle.std.proofs.Common.{◌≡◌, ◌∙◌, ℕ, zero, suc, ◌+◌, ◌<◌, ◌≤◌, true, false, List, [], ◌∷◌, ◌++◌, length, map, Option, Some, cond, refl, ap, ap₂, sym, subst, arith, append_assoc, length-append, add-one}
 use Rattle.std.specs.Prelude.{Bool, slice_get, slice_index, nat_eq, All}
 use Rattle.std.specs.List.{filter, IsDistinct, AllByRecursion}
 use Rattle.std.specs.List.Sorted.{IsStrictlyIncreasing}
 use Rattle.std.proofs.lemmas.Bool.{cond_both, eq-eqb, eqb-true, false_from_ne_true}
+use Rattle.std.proofs.lemmas.List.{length-map}
 use Rattle.std.proofs.lemmas.Option.{slice_get_within, get_or_from_slice_get}
 use Rattle.pccc_envelope.specs.Envelope.{tns_of}
 use Rattle.df1_node.specs.Initiator.{Issued}
-use Rattle.each_once.specs.BySource.{AreOnceOf, is_of_source}
+use Rattle.each_once.specs.BySource.{AreOnceOf, AreAllOf, is_of_source}
 use Rattle.each_once.specs.Direction.{AreSomeOf}
 use Rattle.each_once.specs.Once.{AreApart}
-use Rattle.each_once.proofs.Sublists.{IsWithin, nothing, skips, keeps, from-map, get-seam}
-use Rattle.each_once.proofs.HandedOrder.{AreAt, AreInTurn, IsEarlierThanAll, RiseBySource, source_at, places-within, rise-within}
+use Rattle.each_once.proofs.Sublists.{IsWithin, nothing, skips, keeps, from-map, get-seam, same-some}
+use Rattle.each_once.proofs.HandedOrder.{AreAt, AreInTurn, IsEarlier, IsEarlierThanAll, RiseBySource, source_at, places-within, rise-within}
 use Rattle.each_once.proofs.HandedOut.{AreNumbered, numbered-at, numbered-apart}
 
 -- numbers that rise, from one on
@@ -106,12 +107,77 @@ at-places all [] (x ∷ xs) h = absurd h
 at-places all (p ∷ ps) [] h = absurd h
 at-places all (p ∷ ps) (x ∷ xs) h = ap₂ (λ (o : Option (List ℕ)) (os : List (Option (List ℕ))). o ∷ os) (sym h.0) (at-places all ps xs h.1)
 
+once-at : (all : List (List ℕ)) (places : List ℕ) (some : List (List ℕ)) → RiseBySource all places → AreAt all places some → AreOnceOf some all
+once-at all places some rise at = (places, places-differ all places rise, λ source. increasing-of all source places rise, at-places all places some at)
+
 -- bodies that stand in order among what was handed out in turn
 pub some-in-turn : (some handed all : List (List ℕ)) (waits : List Bool) → IsWithin some handed → AreInTurn all waits handed → AreOnceOf some all
 some-in-turn some handed all waits within turn =
     let places = places-within all turn.order some handed within turn.are_at in
+    once-at all places.0 some (rise-within all places.0 turn.order places.1 turn.rise) places.2
+
+-- ---- among those that pass a test
+
+-- how many before a place pass it
+abbrev rank : (List ℕ → Bool) → List (List ℕ) → ℕ → ℕ
+rank p [] k = 0
+rank p (x ∷ xs) zero = 0
+rank p (x ∷ xs) (suc k) = cond (p x) (suc (rank p xs k)) (rank p xs k)
+
+rank-at : (p : List ℕ → Bool) (all : List (List ℕ)) (k : ℕ) (x : List ℕ) → slice_get all k ≡ Some x → p x ≡ true → slice_get (filter p all) (rank p all k) ≡ Some x
+rank-at p [] k x at passes = absurd cc
+rank-at p (y ∷ ys) zero x at passes = let here : p y ≡ true = ap p (same-some y x at) ∙ passes in rw here at
+rank-at p (y ∷ ys) (suc k) x at passes = by-test (p y) (rank-at p ys k x at passes)
+  where
+    by-test : (b : Bool) → slice_get (filter p ys) (rank p ys k) ≡ Some x → slice_get (cond b (y ∷ filter p ys) (filter p ys)) (cond b (suc (rank p ys k)) (rank p ys k)) ≡ Some x
+    by-test true later = later
+    by-test false later = later
+
+rank-lower : (p : List ℕ → Bool) (all : List (List ℕ)) (j k : ℕ) (x : List ℕ) → slice_get all j ≡ Some x → p x ≡ true → j < k → rank p all j < rank p all k
+rank-lower p [] j k x at passes less = absurd cc
+rank-lower p (y ∷ ys) zero zero x at passes less = absurd (omega (arith, less))
+rank-lower p (y ∷ ys) zero (suc k) x at passes less = let here : p y ≡ true = ap p (same-some y x at) ∙ passes in rw here (omega arith)
+rank-lower p (y ∷ ys) (suc j) zero x at passes less = absurd (omega (arith, less))
+rank-lower p (y ∷ ys) (suc j) (suc k) x at passes less = both (p y) (rank p ys j) (rank p ys k) (rank-lower p ys j k x at passes (omega (arith, less)))
+  where
+    both : (b : Bool) (m n : ℕ) → m < n → cond b (suc m) m < cond b (suc n) n
+    both true m n below = omega (arith, below)
+    both false m n below = below
+
+source-is : (all : List (List ℕ)) (k : ℕ) (x : List ℕ) → slice_get all k ≡ Some x → source_at all k ≡ slice_index x 1
+source-is all k x at = ap (λ (body : List ℕ). slice_index body 1) (get_or_from_slice_get all k x [] at)
+
+earlier-rank : (p : List ℕ → Bool) (all : List (List ℕ)) (j k : ℕ) (x y : List ℕ) → slice_get all j ≡ Some x → slice_get all k ≡ Some y → p x ≡ true → p y ≡ true → IsEarlier all j k → IsEarlier (filter p all) (rank p all j) (rank p all k)
+earlier-rank p all j k x y at-x at-y of-x of-y earlier same =
+    rank-lower p all j k x at-x of-x
+    (earlier (source-is all j x at-x ∙ sym (source-is (filter p all) (rank p all j) x (rank-at p all j x at-x of-x)) ∙ same ∙ source-is (filter p all) (rank p all k) y (rank-at p all k y at-y of-y) ∙ sym (source-is all k y at-y)))
+
+-- each of these bodies passes it
+abbrev AllPass : (List ℕ → Bool) → List (List ℕ) → Type 0
+AllPass p xs = (k : ℕ) (x : List ℕ) → slice_get xs k ≡ Some x → p x ≡ true
+
+earlier-all-rank : (p : List ℕ → Bool) (all : List (List ℕ)) (j : ℕ) (x : List ℕ) (ps : List ℕ) (xs : List (List ℕ)) → slice_get all j ≡ Some x → p x ≡ true → AreAt all ps xs → AllPass p xs → IsEarlierThanAll all j ps → IsEarlierThanAll (filter p all) (rank p all j) (map (rank p all) ps)
+earlier-all-rank p all j x [] xs at passes are each h = tt
+earlier-all-rank p all j x (k ∷ ps) [] at passes are each h = absurd are
+earlier-all-rank p all j x (k ∷ ps) (y ∷ xs) at passes are each h = (earlier-rank p all j k x y at are.0 passes (each 0 y refl) h.0, earlier-all-rank p all j x ps xs at passes are.1 (λ n z is. each (suc n) z is) h.1)
+
+rise-rank : (p : List ℕ → Bool) (all : List (List ℕ)) (ps : List ℕ) (xs : List (List ℕ)) → AreAt all ps xs → AllPass p xs → RiseBySource all ps → RiseBySource (filter p all) (map (rank p all) ps)
+rise-rank p all [] xs are each h = tt
+rise-rank p all (k ∷ ps) [] are each h = absurd are
+rise-rank p all (k ∷ ps) (y ∷ xs) are each h = (earlier-all-rank p all k y ps xs are.0 (each 0 y refl) are.1 (λ n z is. each (suc n) z is) h.0, rise-rank p all ps xs are.1 (λ n z is. each (suc n) z is) h.1)
+
+at-rank : (p : List ℕ → Bool) (all : List (List ℕ)) (ps : List ℕ) (xs : List (List ℕ)) → AreAt all ps xs → AllPass p xs → AreAt (filter p all) (map (rank p all) ps) xs
+at-rank p all [] [] are each = tt
+at-rank p all [] (x ∷ xs) are each = absurd are
+at-rank p all (k ∷ ps) [] are each = absurd are
+at-rank p all (k ∷ ps) (x ∷ xs) are each = (rank-at p all k x are.0 (each 0 x refl), at-rank p all ps xs are.1 (λ n z is. each (suc n) z is))
+
+-- bodies that pass it, and stand in order among what was handed out in turn
+pub passing-in-turn : (p : List ℕ → Bool) (some handed all : List (List ℕ)) (waits : List Bool) → IsWithin some handed → AreInTurn all waits handed → ((k : ℕ) (x : List ℕ) → slice_get some k ≡ Some x → p x ≡ true) → AreOnceOf some (filter p all)
+passing-in-turn p some handed all waits within turn each =
+    let places = places-within all turn.order some handed within turn.are_at in
     let rise = rise-within all places.0 turn.order places.1 turn.rise in
-    (places.0, places-differ all places.0 rise, λ source. increasing-of all source places.0 rise, at-places all places.0 some places.2)
+    once-at (filter p all) (map (rank p all) places.0) some (rise-rank p all places.0 some places.2 each rise) (at-rank p all places.0 some places.2 each)
 
 -- ---- one source
 
@@ -131,6 +197,48 @@ all-of-one all source (x ∷ xs) (p ∷ ps) one at =
 pub some-of-one-source : (some all : List (List ℕ)) (source : ℕ) → All (λ body. slice_index body 1 ≡ source) all → AreOnceOf some all → AreSomeOf some all
 some-of-one-source some all source one once =
     (once.0, subst IsStrictlyIncreasing (all-of-one all source some once.0 one once.3) (once.2 source), once.3)
+
+-- numbers that rise, from one on
+rise-of : (low : ℕ) (xs : List ℕ) → (0 < length xs → low ≤ slice_index xs 0) → IsStrictlyIncreasing xs → RiseFrom low xs
+rise-of low [] first h = tt
+rise-of low (x ∷ xs) first h = (first (omega arith), rise-of (suc x) xs (λ some. let next = h 0 (omega (arith, some)) in omega (arith, next)) (λ k inside. let more = h (suc k) (omega (arith, inside)) in rw add-one (rw add-one at more)))
+
+-- so many fit below a bound
+rise-room : (all : List (List ℕ)) (low : ℕ) (places : List ℕ) (some : List (List ℕ)) → RiseFrom low places → low ≤ length all → map Some some ≡ map (slice_get all) places → low + length places ≤ length all
+rise-room all low [] some h below at = omega (arith, below)
+rise-room all low (p ∷ ps) [] h below at = absurd cc
+rise-room all low (p ∷ ps) (x ∷ xs) h below at =
+    let here : slice_get all p ≡ Some x = cc in
+    let later : map Some xs ≡ map (slice_get all) ps = cc in
+    let inside = slice_get_within all p x here in
+    let more = rise-room all (suc p) ps xs h.1 (omega (arith, inside)) later in
+    omega (arith, more, h.0)
+
+-- so where there are as many places as elements, they are those of all, one after another
+all-places : (front rest : List (List ℕ)) (places : List ℕ) (some : List (List ℕ)) → RiseFrom (length front) places → map Some some ≡ map (slice_get (front ++ rest)) places → length some ≡ length rest → some ≡ rest
+all-places front [] places [] h at count = refl
+all-places front [] places (x ∷ xs) h at count = absurd (omega (arith, count))
+all-places front (y ∷ ys) places [] h at count = absurd (omega (arith, count))
+all-places front (y ∷ ys) [] (x ∷ xs) h at count = absurd cc
+all-places front (y ∷ ys) (p ∷ ps) (x ∷ xs) h at count =
+    let here : slice_get (front ++ y ∷ ys) p ≡ Some x = cc in
+    let later : map Some xs ≡ map (slice_get (front ++ y ∷ ys)) ps = cc in
+    let inside = slice_get_within (front ++ y ∷ ys) p x here in
+    let room = rise-room (front ++ y ∷ ys) (suc p) ps xs h.1 (omega (arith, inside)) later in
+    let size = length-append front (y ∷ ys) in
+    let as-many = sym (length-map ps (slice_get (front ++ y ∷ ys))) ∙ ap length (sym later) ∙ length-map xs Some in
+    let place : p ≡ length front = omega (arith, room, size, as-many, count, h.0) in
+    let first : x ≡ y = same-some x y (sym here ∙ ap (slice_get (front ++ y ∷ ys)) place ∙ get-seam front y ys) in
+    let same : front ++ y ∷ ys ≡ (front ++ y ∷ []) ++ ys = sym (append_assoc front (y ∷ []) ys) in
+    let one = length-append front (y ∷ []) in
+    let rest = all-places (front ++ y ∷ []) ys ps xs (rise-lower (length (front ++ y ∷ [])) (suc p) ps (omega (arith, one, place)) h.1) (later ∙ ap (λ (all : List (List ℕ)). map (slice_get all) ps) same) (omega (arith, count)) in
+    ap₂ (λ (b : List ℕ) (bs : List (List ℕ)). b ∷ bs) first rest
+
+-- what is all of one source in order is the list itself
+pub all-of-one-source : (some all : List (List ℕ)) (source : ℕ) → All (λ body. slice_index body 1 ≡ source) all → AreAllOf some all → some ≡ all
+all-of-one-source some all source one whole =
+    let places = some-of-one-source some all source one whole.0 in
+    all-places [] all places.0 some (rise-of 0 places.0 (λ some. omega arith) places.1) places.2 whole.1
 
 -- ---- commands
 

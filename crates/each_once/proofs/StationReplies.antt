@@ -1,5 +1,6 @@
 -- What a reply has in common with its command, and that a station's replies fit the commands in their order.
-use Rattle.std.proofs.Common.{◌≡◌, ℕ, zero, suc, Bool, true, ◌&&◌, List, [], ◌∷◌, ◌++◌, map, Some, slice_get, slice_index, bit_or, refl, ap, ap₂, subst}
+use Rattle.std.proofs.Common.{◌≡◌, ◌∙◌, ℕ, zero, suc, Bool, true, ◌&&◌, List, [], ◌∷◌, ◌++◌, length, map, Some, slice_get, slice_index, bit_or, refl, sym, ap, ap₂, subst}
+use Rattle.std.proofs.lemmas.List.{length-map}
 use Rattle.std.specs.List.{fold}
 use Rattle.std.proofs.Math.Nat.{mod-add-div}
 use Rattle.std.proofs.lemmas.Bool.{and_parts, eqb-true, eq-eqb}
@@ -57,6 +58,9 @@ exchanges-push first (b ∷ xs) x = ap (λ es. (b, reply_to first b) ∷ es) (ex
 pub exchanges-bodies : (first : StationState) (xs : List (List ℕ)) → map (λ e. e.0) (exchanges first xs) ≡ xs
 exchanges-bodies first [] = refl
 exchanges-bodies first (b ∷ xs) = ap (λ bs. b ∷ bs) (exchanges-bodies (after_answer first b) xs)
+
+pub exchanges-length : (first : StationState) (xs : List (List ℕ)) → length (map (λ e. e.1) (exchanges first xs)) ≡ length xs
+exchanges-length first xs = length-map (exchanges first xs) (λ e. e.1) ∙ sym (length-map (exchanges first xs) (λ e. e.0)) ∙ ap length (exchanges-bodies first xs)
 
 pub exchanges-tns : (first : StationState) (xs : List (List ℕ)) → map tns_of (map (λ e. e.1) (exchanges first xs)) ≡ map tns_of xs
 exchanges-tns first [] = refl

@@ -1,6 +1,6 @@
 -- Lists within lists, in order, and lists whose elements differ.
 use Rattle.std.proofs.Common.{◌≡◌, ◌∙◌, ℕ, zero, suc, ◌≤◌, Bool, true, false, List, [], ◌∷◌, ◌++◌, map, cond, Some, refl, ap, sym, subst, arith, take, append-nil, length, is_none, Option, None}
-use Rattle.std.specs.Prelude.{slice_get, Contains}
+use Rattle.std.specs.Prelude.{slice_get, All, Contains}
 use Rattle.std.specs.List.{filter}
 use Rattle.std.proofs.lemmas.List.Elements.{filter-append}
 use Rattle.std.proofs.lemmas.Option.{slice_get_within, get_or_from_slice_get}
@@ -42,6 +42,10 @@ pub data IsWithin {A : Type 0} : List A → List A → Type 0 where
 pub within-none : {A : Type 0} (ys : List A) → IsWithin [] ys
 within-none [] = nothing
 within-none (y ∷ ys) = skips y [] ys (within-none ys)
+
+pub within-all : {A : Type 0} (xs : List A) → IsWithin xs xs
+within-all [] = nothing
+within-all (x ∷ xs) = keeps x xs xs (within-all xs)
 
 pub within-front : {A : Type 0} (xs ys zs : List A) → IsWithin xs ys → IsWithin xs (ys ++ zs)
 within-front _ _ zs nothing = within-none zs
@@ -102,6 +106,10 @@ differ-within f _ _ nothing differ = tt
 differ-within f _ _ (skips y xs ys h) differ = differ-within f xs ys h differ.1
 differ-within f _ _ (keeps x xs ys h) differ = (other-within f (f x) xs ys h differ.0, differ-within f xs ys h differ.1)
 
+-- those of a front
+pub differ-front : {A B : Type 0} (f : A → B) (xs ys : List A) → Differ (map f (xs ++ ys)) → Differ (map f xs)
+differ-front f xs ys = differ-within f xs (xs ++ ys) (within-front xs xs ys (within-all xs))
+
 other-has : {A B : Type 0} (f : A → B) (b : B) (xs : List A) (k : ℕ) (x : A) → IsOther b (map f xs) → slice_get xs k ≡ Some x → b ≡ f x → ⊥
 other-has f b [] k x other is same = cc
 other-has f b (y ∷ xs) zero x other is same = other.0 (same ∙ ap f (same-some x y (sym is)))
@@ -141,6 +149,10 @@ from-map f (x ∷ xs) (suc k) y is = from-map f xs k y is
 
 pub contains-at : {A : Type 0} (xs : List A) (k : ℕ) (x : A) → slice_get xs k ≡ Some x → Contains xs x
 contains-at xs k x is = (k, slice_get_within xs k x is, get_or_from_slice_get xs k x x is)
+
+-- what all have, the element at a place has
+pub all-at : {A : Type 0} (P : A → Type 0) (xs : List A) (k : ℕ) (x : A) → All P xs → slice_get xs k ≡ Some x → P x
+all-at P xs k x all is = subst P (get_or_from_slice_get xs k x x is) (all k x (slice_get_within xs k x is))
 
 pub filter-keeps : {A : Type 0} (p : A → Bool) (xs : List A) (x : A) → p x ≡ true → filter p (xs ++ x ∷ []) ≡ filter p xs ++ x ∷ []
 filter-keeps p xs x passes = filter-append p xs (x ∷ []) ∙ rw passes refl

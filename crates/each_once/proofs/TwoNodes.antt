@@ -13,16 +13,14 @@ use Rattle.df1_node.specs.Answer.{StationState}
 use Rattle.df1_node.specs.Initiator.{is_reply_to}
 use Rattle.df1_node.specs.Node.{NodeState}
 use Rattle.each_once.specs.Exchanges.{exchanges}
-use Rattle.each_once.proofs.Sublists.{IsWithin, nothing, keeps, within-front, Differ, differ-within, differ-last, get-more, has-filter, from-map, filter-keeps, get-seam}
-use Rattle.each_once.proofs.StationReplies.{exchanges-bodies, exchanges-tns, exchange-fits}
+use Rattle.each_once.proofs.Sublists.{Differ, differ-front, differ-last, get-more, has-filter, from-map, filter-keeps, get-seam}
+use Rattle.each_once.proofs.AnsweringStation.{reply-at}
+use Rattle.each_once.proofs.StationReplies.{exchanges-length, exchanges-tns}
 use Rattle.each_once.proofs.AcceptedReplies.{handed-differ}
-use Rattle.each_once.proofs.HandedOut.{bodies_of, is_command, Hosts}
-use Rattle.each_once.proofs.CommandsUnderWay.{AreUnderWay, at-count}
+use Rattle.each_once.proofs.HandedOut.{is_command, Hosts}
+use Rattle.each_once.proofs.CommandsUnderWay.{AreUnderWay, each_body, under-way-few}
 
 -- ---- the replies of a station, by their places
-
-exchanges-length : (first : StationState) (xs : List (List ℕ)) → length (map (λ e. e.1) (exchanges first xs)) ≡ length xs
-exchanges-length first xs = length-map (exchanges first xs) (λ e. e.1) ∙ sym (length-map (exchanges first xs) (λ e. e.0)) ∙ ap length (exchanges-bodies first xs)
 
 -- a station replied as often as it executed commands
 replied-count : {first : StationState} {node : NodeState} {messages heard : List (List ℕ)} → Hosts first node messages heard →
@@ -33,14 +31,8 @@ replied-count {first} {node} {messages} {heard} h = sym (exchanges-length first 
 replied-at : (first : StationState) (executed replies rest : List (List ℕ)) (n : ℕ) (reply : List ℕ) → map (λ e. e.1) (exchanges first executed) ≡ replies ++ rest → slice_get replies n ≡ Some reply →
     (body : List ℕ) × (slice_get executed n ≡ Some body) × (is_reply_to body reply ≡ true)
 replied-at first executed replies rest n reply all at =
-    let answered = exchanges first executed in
-    let exchange = from-map (λ (e : List ℕ × List ℕ). e.1) answered n reply (ap (λ rs. slice_get rs n) all ∙ get-more replies rest n reply at) in
-    let body = exchange.0.0 in
-    let is : slice_get answered n ≡ Some (body, reply) = exchange.1 ∙ ap (λ r. Some (body, r)) exchange.2 in (
-      body,
-      ap (λ bs. slice_get bs n) (sym (exchanges-bodies first executed)) ∙ slice_get-map (λ (e : List ℕ × List ℕ). e.0) answered n ∙ ap (option_map (λ (e : List ℕ × List ℕ). e.0)) is,
-      (exchange-fits first executed n body reply is).0,
-    )
+    let r = reply-at first executed n reply (ap (λ rs. slice_get rs n) all ∙ get-more replies rest n reply at) in
+    (r.body, r.is_executed, r.fits)
 
 -- ---- the reply that is in flight is to the first command that isn't answered
 
@@ -58,22 +50,15 @@ answer-fits {first} {other} {station} {initiator} {sent} {heard} {commands} {tol
 
 pub few-replies : {first other : StationState} {station initiator : NodeState} {sent heard commands told : List (List ℕ)} → Hosts first station sent heard → Hosts other initiator commands told →
     (command : List ℕ) → commands ≡ heard ++ command ∷ [] → is_reply command ≡ false → (flight : List (List ℕ)) → sent ≡ told ++ flight →
-    (n late : ℕ) → length (filter is_reply told) ≡ n → AreUnderWay initiator.initiator (filter is_command commands) n late → length station.replies < initiator.initiator.window
+    (n late : ℕ) → length (filter is_reply told) ≡ n → AreUnderWay each_body initiator.initiator (filter is_command commands) n late → length station.replies < initiator.initiator.window
 few-replies {first} {other} {station} {initiator} {sent} {heard} {commands} {told} s i command sends plain flight flies n late count u =
-    let handed = at-count (bodies_of initiator.initiator.issued) u.order (filter is_command commands) u.are_at in
+    let handed = under-way-few each_body initiator.initiator (filter is_command commands) n late u in
     let one_more = ap length (ap (filter is_command) sends ∙ filter-keeps is_command heard command (ap not plain)) ∙ length-append (filter is_command heard) (command ∷ []) in
     let replied = replied-count s in
     let told_some = ap length (ap (filter is_reply) flies ∙ filter-append is_reply told flight) ∙ length-append (filter is_reply told) (filter is_reply flight) in
-    omega (arith, handed, one_more, replied, told_some, count, u.counted, u.few)
+    omega (arith, handed, one_more, replied, told_some, count)
 
 -- ---- keys
-
-within-all : {A : Type 0} (xs : List A) → IsWithin xs xs
-within-all [] = nothing
-within-all (x ∷ xs) = keeps x xs xs (within-all xs)
-
-differ-front : (xs ys : List (List ℕ)) → Differ (map tns_of (xs ++ ys)) → Differ (map tns_of xs)
-differ-front xs ys = differ-within tns_of xs (xs ++ ys) (within-front xs xs ys (within-all xs))
 
 -- the TNS of a node's commands differ, and those of its replies, which are those of the other's commands
 commands-differ : {first : StationState} {node : NodeState} {messages heard : List (List ℕ)} → Hosts first node messages heard → length node.initiator.issued ≤ 65535 →
@@ -84,7 +69,7 @@ commands-differ {first} {node} {messages} {heard} h few =
 replies-differ : {first : StationState} {node : NodeState} {messages heard : List (List ℕ)} → Hosts first node messages heard → Differ (map tns_of (filter is_command heard)) →
     Differ (map tns_of (filter is_reply messages))
 replies-differ {first} {node} {messages} {heard} h differ =
-    differ-front (filter is_reply messages) node.replies (subst (λ rs. Differ (map tns_of rs)) h.replies (subst Differ (sym (exchanges-tns first (filter is_command heard))) differ))
+    differ-front tns_of (filter is_reply messages) node.replies (subst (λ rs. Differ (map tns_of rs)) h.replies (subst Differ (sym (exchanges-tns first (filter is_command heard))) differ))
 
 -- a message before the last, of the same kind, has another TNS
 other-tns : (p : List ℕ → Bool) (heard : List (List ℕ)) (m : List ℕ) (k : ℕ) (h : List ℕ) → Differ (map tns_of (filter p (heard ++ m ∷ []))) → slice_get heard k ≡ Some h → p h ≡ true → p m ≡ true →
@@ -111,7 +96,7 @@ pub key-is-new : {first other : StationState} {station initiator : NodeState} {s
     is_kept (last_key heard) (key_of m) ≡ false
 key-is-new {first} {other} {station} {initiator} {sent} {heard} {commands} {told} s i m sends flight flies few few_too =
     let executed : Differ (map tns_of (filter is_command told)) =
-    differ-front (filter is_command told) (filter is_command flight)
+    differ-front tns_of (filter is_command told) (filter is_command flight)
     (subst (λ xs. Differ (map tns_of xs)) (ap (filter is_command) flies ∙ filter-append is_command told flight) (commands-differ s few)) in
     let of_commands = subst (λ xs. Differ (map tns_of (filter is_command xs))) sends (commands-differ i few_too) in
     let of_replies = subst (λ xs. Differ (map tns_of (filter is_reply xs))) sends (replies-differ i executed) in

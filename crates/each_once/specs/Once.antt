@@ -1,7 +1,8 @@
 -- Each command once at most: over the commands that a script issues at one end, and what the report tells of that end and of
 -- the station at the other. It knows nothing of frames, checks, acknowledgements, timers and repeats.
-use Rattle.std.specs.Prelude.{◌≡◌, ◌≤◌, ℕ, List, slice_get, length, All, Contains, Some}
+use Rattle.std.specs.Prelude.{◌≡◌, ◌≤◌, ℕ, List, [], ◌∷◌, slice_get, length, All, Contains, Some}
 use Rattle.df1_node.specs.Answer.{StationState}
+use Rattle.df1_node.specs.Initiator.{Answered}
 use Rattle.script_statement.specs.declared.who.Who.{Who}
 use Rattle.replay_report.specs.declared.record.Line.{Line}
 use Rattle.each_once.specs.Commands.{command_at}
@@ -18,6 +19,12 @@ pub record IsReplyTo (issued : List (List ℕ)) (answered : List (List ℕ × Li
   pub body : List ℕ
   pub is_command : command_at issued number ≡ Some body
   pub is_answer : Contains answered (body, reply)
+
+-- command n is told as answered, by what the station answered to that very command, and not otherwise
+pub record IsAnswered (from : Who) (issued : List (List ℕ)) (answered : List (List ℕ × List ℕ)) (lines : List Line) (n : ℕ) : Type 0 where
+  pub reply : List ℕ
+  pub told : outcomes_in from n lines ≡ Answered reply ∷ []
+  pub is_reply : IsReplyTo issued answered n reply
 
 -- a reply is what the station answered to a command that was given up
 pub record IsAstray (issued : List (List ℕ)) (answered : List (List ℕ × List ℕ)) (given_up : List ℕ) (reply : List ℕ) : Type 0 where

@@ -1,6 +1,6 @@
 //! Laws of one direction of a link, and of commands by source. The functions do nothing.
 ghost use Rattle.std.specs.Prelude.{◌≡◌, ℕ, List, All, slice_index};
-ghost use Rattle.each_once.specs.BySource.{AreOnceOf};
+ghost use Rattle.each_once.specs.BySource.{AreOnceOf, AreAllOf};
 ghost use Rattle.each_once.specs.Direction.{Happening, direction_after, AreSomeOf};
 
 /// A law: whatever happens to the bytes and whatever responses the sender hears, the accepted messages are some of those
@@ -14,4 +14,10 @@ pub fn accepted_messages_were_taken_up()
 pub fn commands_of_one_source_stay_in_order()
     ensures { (some all : List (List ℕ)) (source : ℕ) → All (λ body. slice_index body 1 ≡ source) all → AreOnceOf some all
         → AreSomeOf some all }
+{}
+
+/// A law: where all commands are of one source, what is all of them, those of each source in order, is the list of them.
+pub fn all_commands_of_one_source_are_the_list()
+    ensures { (some all : List (List ℕ)) (source : ℕ) → All (λ body. slice_index body 1 ≡ source) all → AreAllOf some all
+        → some ≡ all }
 {}

@@ -1,22 +1,20 @@
--- What the master accepted of a station, and which key is kept of that.
-pub mod AnswerBook
 -- A station hears its call: a message, or a poll, where it has a reply and where it has none.
 pub mod CallHeard
 -- A cell arrives at a station.
 pub mod CallStep
 -- The cells that an end is still to give of what it has begun.
 pub mod ComingCells
--- How far the master's commands are: none is out for too many ticks.
-pub mod CommandsInTime
+-- What passed between the master and one station.
+pub mod Dealings
 -- What an ear hears of the cells on their way to it, and that none of them deceives its end.
 pub mod EarHears
 -- The master begins a thing, where it has given all else: what each station will hear then.
 pub mod MasterBegins
 -- What holds at each point of an undisturbed run.
 pub mod Invariant
--- The books of all stations, and where the command is that is out.
+-- The dealings with all stations, by what is awaited.
 pub mod Ledger
--- What a station changes of the books.
+-- What a station changes of the dealings with it.
 pub mod LedgerSteps
 -- What is so of the commands and the numbers of a line, and of the reply to a command.
 pub mod LineFacts
@@ -26,7 +24,7 @@ pub mod LinkStep
 pub mod MasterStep
 -- What the master hears of what a station gives: DLE ACK, DLE EOT, and a message.
 pub mod MasterHears
--- The next command for a station has another key than the one that it executed last.
+-- A message that is behind others has another key than the last of them.
 pub mod NewKeys
 -- Where nothing is under way the master has no message to give.
 pub mod QuietLine
@@ -48,8 +46,6 @@ pub mod StageTicks
 pub mod Stages
 -- A station that has heard its call answers it, until the master has heard that.
 pub mod StationAnswers
--- What a station has executed of the master's commands, and which reply waits at its node.
-pub mod StationBook
 -- What a station hears of what the master gives: DLE ACK, a poll, and a message.
 pub mod StationHears
 -- A station of which nothing is awaited, and one that is called: what each hears leaves it so, until the call is heard.
@@ -62,5 +58,5 @@ pub mod TickStep
 pub mod WholeText
 -- Over a whole run that nothing disturbs.
 pub mod WholeRun
--- The run of an undisturbed write, whose reply a poll fetches.
+-- The runs of an undisturbed write, and of two commands out at two stations.
 pub mod Witness

@@ -1,4 +1,4 @@
--- A half-duplex script whose run nothing disturbs: a command is issued, executed, and answered at a poll.
+-- Half-duplex scripts whose runs nothing disturbs: a command is issued, executed, and answered at a poll; and two are out at two stations, whose replies come in the other order.
 use Rattle.std.specs.Prelude.{ℕ, true, List, [], ◌∷◌, None}
 use Rattle.df1_base.specs.declared.file_type.FileType.TheVariants.{Integer}
 use Rattle.df1_check.specs.declared.Check.TheVariants.{Bcc}
@@ -37,3 +37,34 @@ the_command = 0x03 ∷ 0x00 ∷ 0x0F ∷ 0x00 ∷ 0x01 ∷ 0x00 ∷ 0xAA ∷ 0x0
 
 abbrev pub the_reply : List ℕ
 the_reply = 0x00 ∷ 0x03 ∷ 0x4F ∷ 0x00 ∷ 0x01 ∷ 0x00 ∷ []
+
+-- two commands may be out: an echo of 52 goes to station 5, and one of 51 to station 3; the polls come to station 3 first
+abbrev pub two_stations : Script
+two_stations = record {
+  half = true;
+  check = Bcc;
+  ends = record (first_plan M 0) { window = 2 } ∷ first_plan (S 3) 3 ∷ first_plan (S 5) 5 ∷ [];
+  events =
+      Issue M None 5 (0x06 ∷ 0x00 ∷ 0x52 ∷ [])
+      ∷ Issue M None 3 (0x06 ∷ 0x00 ∷ 0x51 ∷ [])
+      ∷ Take M 16 ∷ reach 3 16 ∷ reach 5 16 ∷ Take (S 5) 2 ∷ come_from 5 2
+      ∷ Take M 16 ∷ reach 3 16 ∷ reach 5 16 ∷ Take (S 3) 2 ∷ come_from 3 2
+      ∷ Tick M 1 ∷ Take M 4 ∷ reach 3 4 ∷ reach 5 4 ∷ Take (S 3) 12 ∷ come_from 3 12
+      ∷ Take M 2 ∷ reach 3 2 ∷ reach 5 2
+      ∷ Tick M 1 ∷ Take M 4 ∷ reach 3 4 ∷ reach 5 4 ∷ Take (S 5) 12 ∷ come_from 5 12
+      ∷ Take M 2 ∷ reach 3 2 ∷ reach 5 2
+      ∷ [];
+}
+
+-- the bodies of its commands and of their replies
+abbrev pub first_echo : List ℕ
+first_echo = 0x05 ∷ 0x00 ∷ 0x06 ∷ 0x00 ∷ 0x01 ∷ 0x00 ∷ 0x00 ∷ 0x52 ∷ []
+
+abbrev pub first_echoed : List ℕ
+first_echoed = 0x00 ∷ 0x05 ∷ 0x46 ∷ 0x00 ∷ 0x01 ∷ 0x00 ∷ 0x52 ∷ []
+
+abbrev pub second_echo : List ℕ
+second_echo = 0x03 ∷ 0x00 ∷ 0x06 ∷ 0x00 ∷ 0x02 ∷ 0x00 ∷ 0x00 ∷ 0x51 ∷ []
+
+abbrev pub second_echoed : List ℕ
+second_echoed = 0x00 ∷ 0x03 ∷ 0x46 ∷ 0x00 ∷ 0x02 ∷ 0x00 ∷ 0x51 ∷ []

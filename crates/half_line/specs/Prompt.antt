@@ -1,11 +1,12 @@
 -- Half-duplex runs that nothing disturbs: no byte is lost, altered or foreign, few ticks come between two states in which nothing is under way, and in the end no reply is left at a station.
-use Rattle.std.specs.Prelude.{◌≡◌, ℕ, ◌+◌, ◌<◌, Bool, ◌&&◌, All, List, [], ◌∷◌, slice_get, is_none, min, sum_by, Option, Some, None, IsTrue, if◌then◌else◌}
+use Rattle.std.specs.Prelude.{◌≡◌, ℕ, ◌+◌, ◌<◌, ◌≤◌, Bool, ◌&&◌, All, List, [], ◌∷◌, slice_get, is_none, min, sum_by, Option, Some, None, IsTrue, if◌then◌else◌}
 use Rattle.std.specs.List.{list_all}
 use Rattle.half_slave.specs.Slave as slave
 use Rattle.half_master.specs.Master as master
 use Rattle.script_parts.specs.declared.script.Event.{Event}
 use Rattle.script_parts.specs.declared.script.Event.TheVariants as event
 use Rattle.script_parts.specs.declared.script.Script.{Script}
+use Rattle.script_parts.specs.HalfPlayable.{station_plans}
 use Rattle.lane_cells.specs.Cells.{LaneCell}
 use Rattle.each_once.specs.NodeHost.{node_host}
 use Rattle.half_line.specs.Acts.{LineStationState, HalfState, MasterDeed, Issue, Give, Tick, LaneDeed, Deliver, Lose, Alter, Foreign, lane_of, LinkDeed, StationGives, OnLane}
@@ -107,13 +108,13 @@ pub record KeepsNone (side : LineStationState) : Type 0 where
 abbrev pub EndsFetched : Script → Type 0
 EndsFetched script = All KeepsNone (last_state script).stations
 
--- the master has one command out at a time
-abbrev pub IsOneAtATime : Script → Type 0
-IsOneAtATime script = (plan_of_m script).window ≡ 1
+-- each station has room for as many replies as the master may have commands out
+abbrev pub HasRooms : Script → Type 0
+HasRooms script = All (λ plan. (plan_of_m script).window ≤ plan.room) (station_plans script.ends)
 
--- a run of a master that has one command out at a time, that nothing disturbs, with few ticks, that ends with nothing under way and no reply left at a station
+-- a run whose stations have room, that nothing disturbs, with few ticks, that ends with nothing under way and no reply left at a station
 pub record IsUndisturbed (script : Script) : Type 0 where
-  pub single : IsOneAtATime script
+  pub rooms : HasRooms script
   pub prompt : IsPrompt script
   pub quiet : EndsQuiet script
   pub few_ticks : HasFewTicks script

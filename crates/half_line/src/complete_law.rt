@@ -7,7 +7,7 @@ ghost use Rattle.each_once.specs.Tells.{executed_in, answers_in};
 ghost use Rattle.half_line.specs.Run.{record_of};
 ghost use Rattle.half_line.specs.Prompt.{IsUndisturbed};
 ghost use Rattle.half_line.specs.Complete.{IsComplete};
-ghost use Rattle.half_line.specs.Example.{polled_write, the_command, the_reply};
+ghost use Rattle.half_line.specs.Example.{polled_write, the_command, the_reply, two_stations, first_echo, first_echoed, second_echo, second_echoed};
 
 /// A law: a run that nothing disturbs and that ends with no reply left at a station exists, and in it no end is deceived, and
 /// all commands are executed and answered; a write to a station is one, whose reply a poll fetches (manual topic: half-duplex
@@ -22,11 +22,23 @@ pub fn a_polled_write_is_executed_and_answered()
     ensures answered { answers_in M (record_of polled_write).lines ≡ (1, the_reply) ∷ [] }
 {}
 
-/// A law: where the master has one command out at a time, in a run that loses, alters and adds no byte, in which few ticks
-/// come while something is under way and fewer in all than the master waits for a reply, and which ends with nothing under
-/// way and no reply left at a station, no end is deceived; each station executes all commands that were issued to it, in
-/// their order; and the master accepts for each command, in their order, what the station answered to it (manual topic:
-/// half-duplex protocol).
+/// A law: so is a run in which two commands are out at two stations; the polls come to the station of the second first, so its
+/// answer comes first (manual topic: half-duplex protocol).
+#[tactic(auto, unfolding(crate::specs::Run::record_of))]
+pub fn commands_of_two_stations_are_executed_and_answered()
+    ensures playable { IsHalfPlayable two_stations }
+    ensures undisturbed { IsUndisturbed two_stations }
+    ensures complete { IsComplete two_stations (record_of two_stations) }
+    ensures executed { executed_in (S 5) (record_of two_stations).lines ≡ first_echo ∷ [] }
+    ensures executed_too { executed_in (S 3) (record_of two_stations).lines ≡ second_echo ∷ [] }
+    ensures answered { answers_in M (record_of two_stations).lines ≡ (2, second_echoed) ∷ (1, first_echoed) ∷ [] }
+{}
+
+/// A law: where each station has room for as many replies as the master may have commands out, in a run that loses, alters
+/// and adds no byte, in which few ticks come while something is under way and fewer in all than the master waits for a
+/// reply, and which ends with nothing under way and no reply left at a station, no end is deceived; each station executes
+/// all commands that were issued to it, each once, those of each source in their order; the master accepts its replies to
+/// them in that order; and each command is told as answered, by its own reply (manual topic: half-duplex protocol).
 #[tactic(auto, unfolding(crate::specs::Run::record_of))]
 pub fn an_undisturbed_polled_run_is_complete()
     ensures { (script : Script) → IsHalfPlayable script → IsUndisturbed script → IsComplete script (record_of script) }

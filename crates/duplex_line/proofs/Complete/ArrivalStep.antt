@@ -43,7 +43,7 @@ use Rattle.duplex_line.proofs.Once.ArrivingCell.{told_at, coming, arrived}
 use Rattle.duplex_line.specs.Prompt.{Late}
 use Rattle.duplex_line.proofs.Complete.ClearLane.{end_of, IsTrueEnd}
 use Rattle.duplex_line.proofs.Complete.MessageUnderWay.{awaits, heard_by, byte-acts, flow-silent, far-silent, flow-acked, far-acked, good-end, good-arrives, flow-accepted, far-accepted}
-use Rattle.each_once.proofs.CommandsUnderWay.{under-way-reply}
+use Rattle.each_once.proofs.CommandsUnderWay.{each_body, under-way-reply}
 use Rattle.each_once.proofs.HandedOut.{is_command, Hosts}
 use Rattle.each_once.proofs.TwoNodes.{answer-fits, few-replies, key-is-new}
 use Rattle.each_once.proofs.MessageLengths.{AreBodies}
@@ -177,10 +177,10 @@ length-push xs x = omega (arith, length-append xs (x ∷ []))
 reply-ahead : (first : StationState) (node : NodeState) (sent heard : List (List ℕ)) (body : List ℕ) (late : ℕ) (command : List ℕ) → is_reply body ≡ true → Hosts first node sent heard → length node.initiator.issued ≤ 65535
     → (a : IsAhead node.initiator (filter is_command sent) heard late) → slice_get (filter is_command sent) a.done ≡ Some command → is_reply_to command body ≡ true → IsAhead (after_accept node body).initiator (filter is_command sent) (heard ++ body ∷ []) late
 reply-ahead first node sent heard body late command reply h few a next fits =
-    let answered = under-way-reply node.initiator (filter is_command sent) a.done late command body few h.initiates.numbered next fits a.under_way in
+    let answered = under-way-reply each_body node.initiator (filter is_command sent) a.done late command body few h.initiates.numbered next fits a.under_way in
     rw reply (record {
       done = suc a.done;
-      under_way = answered.2;
+      under_way = answered.1;
       answers = ap length (filter-keeps is_reply heard body reply) ∙ length-push (filter is_reply heard) body ∙ ap suc a.answers;
     })
 
@@ -198,15 +198,6 @@ accepted-ahead near far first far_first end cell cells b count late lines body h
     let fits = answer-fits h.end.hosts h.far_end.hosts body arrives _ h.far_flow.flight reply a.done a.answers in
     reply-ahead far_first b.end.host h.far_sent h.far_heard body late.b fits.0 reply h.far_end.hosts h.far_end.few a fits.1 fits.2
 accepted-ahead near far first far_first end cell cells b count late lines body h arrives false command = command-ahead b.end.host (filter is_command h.far_sent) h.far_heard body late.b command h.far_end.ahead
-
--- it answers some command
-accepted-place : (near far : Who) (first far_first : StationState) (end : EndState NodeState) (cell : LaneCell) (cells : List LaneCell) (b : LineEndState) (count : ℕ) (late : Late) (lines : List Line) (body : List ℕ) → (h : Flows near far first far_first (coming end cell cells b count) late lines)
-    → h.sent ≡ h.far_heard ++ body ∷ [] → is_reply body ≡ true → (place : ℕ) × (answered_place b.end.host.initiator.issued body ≡ Some place)
-accepted-place near far first far_first end cell cells b count late lines body h arrives reply =
-    let a = h.far_end.ahead in
-    let fits = answer-fits h.end.hosts h.far_end.hosts body arrives _ h.far_flow.flight reply a.done a.answers in
-    let answered = under-way-reply b.end.host.initiator (filter is_command h.far_sent) a.done late.b fits.0 body h.far_end.few h.far_end.hosts.initiates.numbered fits.1 fits.2 a.under_way in
-    (answered.0, answered.1)
 
 -- there is room for it
 has-room : (near far : Who) (first far_first : StationState) (end : EndState NodeState) (cell : LaneCell) (cells : List LaneCell) (b : LineEndState) (count : ℕ) (late : Late) (lines : List Line) (body : List ℕ) → (h : Flows near far first far_first (coming end cell cells b count) late lines)

@@ -33,7 +33,7 @@ use Rattle.each_once.proofs.CommandBodies.{bodies-next}
 use Rattle.duplex_line.proofs.Once.EndSteps.{hosts-handed}
 use Rattle.duplex_line.specs.Prompt.{Late}
 use Rattle.duplex_line.proofs.Complete.MessageUnderWay.{Flow, gave, flow-transmits, flow-loads, flow-gives, flow-back, flow-host, far-host}
-use Rattle.each_once.proofs.CommandsUnderWay.{under-way-issue}
+use Rattle.each_once.proofs.CommandsUnderWay.{each_body, under-way-issue}
 use Rattle.each_once.proofs.MessageLengths.{AreBodies, issued-fits, next-fits, bodies-push, bodies-last}
 use Rattle.duplex_line.proofs.Complete.Invariant.{Allowance, IsAllowed, IsAhead, IsEnd, Flows, heard-bodies, allowed-next, ahead-next}
 use Rattle.each_once.proofs.Sublists.{none-is}
@@ -58,7 +58,7 @@ flows-issue near far first far_first s late lines src dst payload may command fe
       end = record {
         hosts = hosts-issue h.end.hosts source dst payload command few;
         sends = sends-host s.a.end after h.end.sends;
-        ahead = record { done = h.end.ahead.done; under_way = under-way-issue node.initiator source dst payload (filter is_command h.sent) h.end.ahead.done late.a h.end.ahead.under_way; answers = h.end.ahead.answers };
+        ahead = record { done = h.end.ahead.done; under_way = under-way-issue each_body node.initiator source dst payload (filter is_command h.sent) h.end.ahead.done late.a h.end.ahead.under_way; answers = h.end.ahead.answers };
         bodies = h.end.bodies;
         commands = issued-fits node.initiator source dst payload h.end.commands may;
         allowed = record { room = h.end.allowed.room; window = h.end.allowed.window; per_source = h.end.allowed.per_source };

@@ -17,7 +17,7 @@ use Rattle.each_once.proofs.HandedOut.{is_command, Hosts}
 use Rattle.duplex_line.specs.Prompt.{Late}
 use Rattle.duplex_line.proofs.Complete.MessageUnderWay.{Flow}
 use Rattle.duplex_line.proofs.Complete.ToldMessages.{TellsOf}
-use Rattle.each_once.proofs.CommandsUnderWay.{AreUnderWay, under-way-hand_out}
+use Rattle.each_once.proofs.CommandsUnderWay.{AreUnderWay, each_body, under-way-hand_out}
 use Rattle.each_once.proofs.InitiatorSteps.{next-is-command}
 use Rattle.each_once.proofs.NodeSteps.{waiting-reply}
 use Rattle.each_once.proofs.Sublists.{same-some, filter-keeps, filter-drops}
@@ -44,7 +44,7 @@ pub record HaveRoom (near far : Allowance) : Type 0 where
 -- how far an initiator is that handed out these commands: so many of them are answered, by as many replies
 pub record IsAhead (s : InitiatorState) (commands heard : List (List ℕ)) (late : ℕ) : Type 0 where
   pub done : ℕ
-  pub under_way : AreUnderWay s commands done late
+  pub under_way : AreUnderWay each_body s commands done late
   pub answers : length (filter is_reply heard) ≡ done
 
 -- an end that handed out these messages and accepted those
@@ -137,7 +137,7 @@ ahead-next first node body sent heard late next h a = by-replies node.replies re
         let plain : is_reply body ≡ false = next-is-command command h.initiates in
         let after : IsAhead (after_hand_out node.initiator) (filter is_command sent ++ body ∷ []) heard late = record {
           done = a.done;
-          under_way = under-way-hand_out node.initiator body (filter is_command sent) a.done late command a.under_way;
+          under_way = under-way-hand_out each_body node.initiator body (filter is_command sent) a.done late refl command a.under_way;
           answers = a.answers;
         } in
         rw is (subst (λ (xs : List (List ℕ)). IsAhead (after_hand_out node.initiator) xs heard late) (sym (filter-keeps is_command sent body (ap not plain))) after)

@@ -31,7 +31,7 @@ use Rattle.duplex_line.proofs.Once.LineSteps.{tick-silent}
 use Rattle.duplex_line.specs.Prompt.{Late, none_late, is_idle, is_quiet, late_with, late_after, AreFew, patience}
 use Rattle.duplex_line.proofs.Complete.MessageUnderWay.{Flow, awaits, IsPatient, IsSteady, ticked, steadied, tick-steady, ticked-awaits, flow-ticks, far-ticks, flow-late}
 use Rattle.duplex_line.proofs.Complete.QuietEnd.{GivesNothing, gives-nothing, awaits-none, never-waits, all-heard}
-use Rattle.each_once.proofs.CommandsUnderWay.{AreUnderWay, under-way-tick, under-way-later, under-way-rests}
+use Rattle.each_once.proofs.CommandsUnderWay.{AreUnderWay, each_body, under-way-tick, under-way-later, under-way-rests}
 use Rattle.each_once.proofs.TwoNodes.{all-answered}
 use Rattle.each_once.proofs.MessageLengths.{AreBodies}
 use Rattle.duplex_line.proofs.Complete.ToldMessages.{TellsOf, tells-silent}
@@ -142,7 +142,7 @@ later-end : (first : StationState) (allowed : Allowance) (e : EndState NodeState
 later-end first allowed e sent heard late later h all = record {
   hosts = h.hosts;
   sends = h.sends;
-  ahead = record { done = h.ahead.done; under_way = under-way-later e.host.initiator (filter is_command sent) h.ahead.done late later all h.ahead.under_way; answers = h.ahead.answers };
+  ahead = record { done = h.ahead.done; under_way = under-way-later each_body e.host.initiator (filter is_command sent) h.ahead.done late later all h.ahead.under_way; answers = h.ahead.answers };
   bodies = h.bodies;
   commands = h.commands;
   allowed = h.allowed;
@@ -252,10 +252,10 @@ later-patient near far first far_first s late lines h true is steady = ticked-tr
 later-patient near far first far_first s late lines h false is steady = ticked-patient s.a.end.sender.activity s.a.end.sender.limits.ack_ticks late.a h.flow.patient steady
 
 ticked-ahead : (node : NodeState) (commands heard : List (List ℕ)) (late later : ℕ) (a : IsAhead node.initiator commands heard late) → (a.done ≡ length commands) ⊎ ((late + 1 < node.initiator.reply_ticks) × (later ≡ late + 1)) → IsAhead (node_ticked node).initiator commands heard later
-ticked-ahead node commands heard late later a (inl all) = record { done = a.done; under_way = under-way-rests node.initiator commands a.done late later all a.under_way; answers = a.answers }
+ticked-ahead node commands heard late later a (inl all) = record { done = a.done; under_way = under-way-rests each_body node.initiator commands a.done late later all a.under_way; answers = a.answers }
 ticked-ahead node commands heard late later a (inr more) = record {
   done = a.done;
-  under_way = subst (λ (n : ℕ). AreUnderWay (node_ticked node).initiator commands a.done n) (sym more.1) (under-way-tick node.initiator commands a.done late more.0 a.under_way);
+  under_way = subst (λ (n : ℕ). AreUnderWay each_body (node_ticked node).initiator commands a.done n) (sym more.1) (under-way-tick each_body node.initiator commands a.done late more.0 a.under_way);
   answers = a.answers;
 }
 

@@ -30,12 +30,12 @@ use Rattle.duplex_line.specs.Run.{first_station, first_side, first_node, setup_o
 use Rattle.duplex_line.specs.Plays.{issued_by, IsUnspent}
 use Rattle.each_once.specs.Commands.{AreOutcomesTold, told_of}
 use Rattle.each_once.specs.Exchanges.{exchanges}
-use Rattle.each_once.specs.Once.{Once, IsReplyTo}
+use Rattle.each_once.specs.Once.{Once, IsReplyTo, IsAnswered}
 use Rattle.each_once.specs.Tells.{is_who, where_of_command, executed_in, answers_in, outcome_at, outcomes_in}
 use Rattle.duplex_line.proofs.Steps.EventsToCome.{room-of-a, room-of-b, unspent}
 use Rattle.duplex_line.proofs.Steps.NothingToGive.{leave-none}
 use Rattle.duplex_line.proofs.Once.SentMessages.{sends-start}
-use Rattle.each_once.proofs.Sublists.{Has}
+use Rattle.each_once.proofs.Sublists.{all-at}
 use Rattle.each_once.proofs.HandedOut.{is_command, Hosts}
 use Rattle.each_once.proofs.NodeSteps.{hosts-start}
 use Rattle.duplex_line.proofs.Once.Invariant.{AreTwo, two-swapped, joins-end, a-and-b}
@@ -43,11 +43,11 @@ use Rattle.duplex_line.proofs.Once.LineSteps.{payload-command}
 use Rattle.duplex_line.proofs.Once.WholeRun.{IsPlain, ArePlain, plain-again, plain-foreign, each-once}
 use Rattle.duplex_line.proofs.Once.ToldCommands.{recounts-run}
 use Rattle.duplex_line.specs.Prompt.{Late, none_late, late_seen, ticks_of, late_with, late_after, is_quiet, AreFew, IsGentle, late_over, IsPromptOver, late_event, IsPromptAfter, IsPrompt, EndsQuiet, HasRooms}
-use Rattle.duplex_line.specs.Complete.{IsAnswered, AreAllDone, IsComplete}
+use Rattle.duplex_line.specs.Complete.{AreAllDone, IsComplete}
 use Rattle.duplex_line.proofs.Complete.DecoderPlace.{sync-start}
 use Rattle.duplex_line.proofs.Complete.MessageUnderWay.{Flow}
-use Rattle.each_once.proofs.InitiatorProgress.{IsDone}
-use Rattle.each_once.proofs.CommandsUnderWay.{under-way-start, under-way-all, under-way-full}
+use Rattle.each_once.proofs.AnsweredCommands.{answered-at}
+use Rattle.each_once.proofs.CommandsUnderWay.{IsDone, each_body, filter-each, under-way-start, under-way-rested, all-done, under-way-full}
 use Rattle.each_once.proofs.TwoNodes.{all-answered}
 use Rattle.duplex_line.proofs.Complete.ToldMessages.{TellsOf, tells-silent}
 use Rattle.duplex_line.proofs.Complete.Invariant.{Allowance, IsAhead, IsEnd, Flows, flows-swapped}
@@ -212,7 +212,7 @@ start-end : (plan : EndPlan) (script : Script) → IsFit plan → IsEnd (first_s
 start-end plan script fit = record {
   hosts = hosts-start (first_station plan) (first_node plan) refl refl refl;
   sends = sends-start (setup_of script.check plan) (first_node plan);
-  ahead = record { done = 0; under_way = under-way-start (first_node plan).initiator refl; answers = refl };
+  ahead = record { done = 0; under_way = under-way-start each_body (first_node plan).initiator refl; answers = refl };
   bodies = tt;
   commands = tt;
   allowed = record { room = refl; window = refl; per_source = fit.per_source };
@@ -245,96 +245,29 @@ flows-start script playable rooms =
       honest = refl;
     }
 
--- ---- an outcome that is a reply is told as an answer
-
--- the answers have this at some place
-abbrev IsAmong : ℕ → List ℕ → List (ℕ × List ℕ) → Type 0
-IsAmong n reply answers = (k : ℕ) × (slice_get answers k ≡ Some (n, reply))
-
-answered-first : (who by : Who) (n number : ℕ) (reply body : List ℕ) (lines : List Line) (own same : Bool) → is_who who by ≡ own → (number == n) ≡ same → slice_get (outcomes_in who n (line.Answered by number body ∷ lines)) 0 ≡ Some (Answered reply)
-    → (slice_get (outcomes_in who n lines) 0 ≡ Some (Answered reply) → IsAmong n reply (answers_in who lines)) → IsAmong n reply (answers_in who (line.Answered by number body ∷ lines))
-answered-first who by n number reply body lines true true is at first later =
-    let here : outcomes_in who n (line.Answered by number body ∷ lines) ≡ Answered body ∷ outcomes_in who n lines = rw (is, at) refl in
-    let answer : Some (Answered body) ≡ Some (Answered reply) = ap (λ (os : List Standing). slice_get os 0) (sym here) ∙ first in
-    (0, rw is (ap (λ (m : ℕ). Some (m, body)) (eqb-true number n at) ∙ ap (λ (r : List ℕ). Some (n, r)) (reply-of body reply answer)))
-  where
-    reply-of : (x y : List ℕ) → Some (Answered x) ≡ Some (Answered y) → x ≡ y
-    reply-of x y e = cc
-answered-first who by n number reply body lines true false is at first later =
-    let here : outcomes_in who n (line.Answered by number body ∷ lines) ≡ outcomes_in who n lines = rw (is, at) refl in
-    let among = later (ap (λ (os : List Standing). slice_get os 0) (sym here) ∙ first) in
-    let told : answers_in who (line.Answered by number body ∷ lines) ≡ (number, body) ∷ answers_in who lines = rw is refl in
-    (suc among.0, ap (λ (all : List (ℕ × List ℕ)). slice_get all (suc among.0)) told ∙ among.1)
-answered-first who by n number reply body lines false same is at first later =
-    let here : outcomes_in who n (line.Answered by number body ∷ lines) ≡ outcomes_in who n lines = rw is refl in
-    let among = later (ap (λ (os : List Standing). slice_get os 0) (sym here) ∙ first) in
-    let told : answers_in who (line.Answered by number body ∷ lines) ≡ answers_in who lines = rw is refl in
-    (among.0, ap (λ (all : List (ℕ × List ℕ)). slice_get all among.0) told ∙ among.1)
-
--- a command that was given up has no answer as its outcome
-not-answered : (who by : Who) (n number : ℕ) (reply : List ℕ) (outcome : Standing) → (Some outcome ≡ Some (Answered reply) → ⊥) → (own same : Bool) → is_who who by ≡ own → (number == n) ≡ same → where_of_command who n by number outcome ≡ Some (Answered reply) → ⊥
-not-answered who by n number reply outcome other true true is at told = let here : where_of_command who n by number outcome ≡ Some outcome = rw (is, at) refl in other (sym here ∙ told)
-not-answered who by n number reply outcome other true false is at told = let here : where_of_command who n by number outcome ≡ None = rw (is, at) refl in let no : None ≡ Some (Answered reply) = sym here ∙ told in absurd cc
-not-answered who by n number reply outcome other false same is at told = let here : where_of_command who n by number outcome ≡ None = rw is refl in let no : None ≡ Some (Answered reply) = sym here ∙ told in absurd cc
-
--- so where its line is the first, the first answer is told behind it
-later-first : (who : Who) (n : ℕ) (reply : List ℕ) (told : Line) (lines : List Line) (outcome : Option Standing) → outcome_at who n told ≡ outcome → (outcome ≡ Some (Answered reply) → ⊥) → slice_get (outcomes_in who n (told ∷ lines)) 0 ≡ Some (Answered reply)
-    → slice_get (outcomes_in who n lines) 0 ≡ Some (Answered reply)
-later-first who n reply told lines None is other first =
-    let here : outcomes_in who n (told ∷ lines) ≡ outcomes_in who n lines = rw is refl in
-    ap (λ (os : List Standing). slice_get os 0) (sym here) ∙ first
-later-first who n reply told lines (Some outcome) is other first =
-    let here : outcomes_in who n (told ∷ lines) ≡ outcome ∷ outcomes_in who n lines = rw is refl in
-    absurd (other (ap (λ (os : List Standing). slice_get os 0) (sym here) ∙ first))
-
-first-answer : (who : Who) (n : ℕ) (reply : List ℕ) (lines : List Line) → slice_get (outcomes_in who n lines) 0 ≡ Some (Answered reply) → IsAmong n reply (answers_in who lines)
-first-answer who n reply [] is = absurd cc
-first-answer who n reply (line.Sent by bytes ∷ lines) is = first-answer who n reply lines is
-first-answer who n reply (line.Exec by body ∷ lines) is = first-answer who n reply lines is
-first-answer who n reply (line.Answered by number body ∷ lines) is = answered-first who by n number reply body lines (is_who who by) (number == n) refl refl is (first-answer who n reply lines)
-first-answer who n reply (line.Undelivered by number ∷ lines) is = first-answer who n reply lines (later-first who n reply (line.Undelivered by number) lines _ refl (not-answered who by n number reply Undelivered (λ e. absurd cc) (is_who who by) (number == n) refl refl) is)
-first-answer who n reply (line.Unanswered by number ∷ lines) is = first-answer who n reply lines (later-first who n reply (line.Unanswered by number) lines _ refl (not-answered who by n number reply Unanswered (λ e. absurd cc) (is_who who by) (number == n) refl refl) is)
-first-answer who n reply (line.Stray by body ∷ lines) is = first-answer who n reply lines is
-first-answer who n reply (line.Repeat by ∷ lines) is = first-answer who n reply lines is
-first-answer who n reply (line.Full by ∷ lines) is = first-answer who n reply lines is
-first-answer who n reply (line.Damaged by ∷ lines) is = first-answer who n reply lines is
-first-answer who n reply (line.Enquiry by ∷ lines) is = first-answer who n reply lines is
-first-answer who n reply (line.Dropped by ∷ lines) is = first-answer who n reply lines is
-
 -- ---- the commands of one end, where nothing is under way
 
-answered-by : (s : Standing) → IsDone s → (reply : List ℕ) × (told_of s ≡ Answered reply ∷ [])
-answered-by (Answered reply) done = (reply, refl)
-answered-by other done = absurd done
-
-all-at : {X : Type 0} (P : X → Type 0) (xs : List X) (k : ℕ) (x : X) → All P xs → slice_get xs k ≡ Some x → P x
-all-at P [] k x all is = absurd cc
-all-at P (y ∷ xs) zero x all is = subst P (same_Some y x is) (All-head P y xs all)
-all-at P (y ∷ xs) (suc k) x all is = all-at P xs k x (All-tail P y xs all) is
-
 -- an answered command is told as such
-answered-at : (from to : Who) (bodies : List (List ℕ)) (first : StationState) (issued : List Issued) (lines : List Line) → AreOutcomesTold from issued lines → Once from to bodies first lines → (k : ℕ) (c : Issued) → slice_get issued k ≡ Some c → IsDone c.standing
+answered-of : (from to : Who) (bodies : List (List ℕ)) (first : StationState) (issued : List Issued) (lines : List Line) → AreOutcomesTold from issued lines → Once from to bodies first lines → (k : ℕ) (c : Issued) → slice_get issued k ≡ Some c → IsDone c.standing
     → IsAnswered from bodies (exchanges first (executed_in to lines)) lines (suc k)
-answered-at from to bodies first issued lines told once k c is done =
-    let by = answered-by c.standing done in
-    let outcome : outcomes_in from (suc k) lines ≡ Answered by.0 ∷ [] = told (suc k) ∙ rw is by.1 in
-    let answer = first-answer from (suc k) by.0 lines (ap (λ (os : List Standing). slice_get os 0) outcome) in
-    record { reply = by.0; told = outcome; is_reply = all-at (λ a. IsReplyTo bodies (exchanges first (executed_in to lines)) a.0 a.1) (answers_in from lines) answer.0 (suc k, by.0) once.answers answer.1 }
+answered-of from to bodies first issued lines told once k c is done =
+    let answered = exchanges first (executed_in to lines) in
+    answered-at from bodies answered issued lines told k c is done (λ reply by among. all-at (λ a. IsReplyTo bodies answered a.0 a.1) (answers_in from lines) among.0 (suc k, reply) once.answers among.1)
 
 at-place : (issued : List Issued) (k : ℕ) → suc k ≤ length issued → (c : Issued) × (slice_get issued k ≡ Some c)
 at-place [] k within = absurd (omega (arith, within))
 at-place (c ∷ cs) zero within = (c, refl)
 at-place (c ∷ cs) (suc k) within = at-place cs k (omega (arith, within))
 
-all-done : (from to : Who) (first other : StationState) (station initiator : NodeState) (sent heard commands told : List (List ℕ)) (late : ℕ) (lines : List Line) → Hosts first station sent heard → Hosts other initiator commands told → commands ≡ heard → sent ≡ told
+each-done : (from to : Who) (first other : StationState) (station initiator : NodeState) (sent heard commands told : List (List ℕ)) (late : ℕ) (lines : List Line) → Hosts first station sent heard → Hosts other initiator commands told → commands ≡ heard → sent ≡ told
     → station.replies ≡ [] → next_command initiator.initiator ≡ None → 1 ≤ initiator.initiator.window → 1 ≤ initiator.initiator.per_source → IsAhead initiator.initiator (filter is_command commands) told late → TellsOf to heard lines
     → AreOutcomesTold from initiator.initiator.issued lines → (bodies : List (List ℕ)) → map (λ c. c.body) initiator.initiator.issued ≡ bodies → Once from to bodies first lines → AreAllDone from to bodies first lines
-all-done from to first other station initiator sent heard commands told late lines s i all_heard all_told none nothing window per_source a executes outcomes bodies are once =
+each-done from to first other station initiator sent heard commands told late lines s i all_heard all_told none nothing window per_source a executes outcomes bodies are once =
     let handed = filter is_command commands in
     let all = all-answered s i all_heard all_told none a.done a.answers in
-    let each = under-way-all initiator.initiator handed a.done late window per_source all nothing a.under_way in
-    let full = under-way-full initiator.initiator handed a.done late a.under_way each in
     let issued = initiator.initiator.issued in
+    let each = all-done initiator.initiator window per_source nothing (λ k c at. under-way-rested each_body initiator.initiator handed a.done late all a.under_way k c at refl) in
+    let full : length handed ≡ length issued = under-way-full each_body initiator.initiator handed a.done late a.under_way each ∙ ap length (filter-each (map (λ c. c.body) issued)) ∙ length-map issued (λ c. c.body) in
     let count : length (executed_in to lines) ≡ length bodies =
     ap length (executes.executes ∙ ap (filter is_command) (sym all_heard)) ∙ full ∙ sym (length-map issued (λ c. c.body)) ∙ ap length are in
     record {
@@ -342,12 +275,12 @@ all-done from to first other station initiator sent heard commands told late lin
       answered = by-number (sym (length-map issued (λ c. c.body)) ∙ ap length are) each;
     }
   where
-    by-number : length initiator.initiator.issued ≡ length bodies → ((k : ℕ) (c : Issued) → slice_get initiator.initiator.issued k ≡ Some c → Has a.under_way.order k × IsDone c.standing)
+    by-number : length initiator.initiator.issued ≡ length bodies → ((k : ℕ) (c : Issued) → slice_get initiator.initiator.issued k ≡ Some c → IsDone c.standing)
         → (n : ℕ) → 1 ≤ n → n ≤ length bodies → IsAnswered from bodies (exchanges first (executed_in to lines)) lines n
     by-number same each zero least most = absurd (omega (arith, least))
     by-number same each (suc k) least most =
         let c = at-place initiator.initiator.issued k (omega (arith, same, most)) in
-        answered-at from to bodies first initiator.initiator.issued lines outcomes once k c.0 c.1 (each k c.0 c.1).1
+        answered-of from to bodies first initiator.initiator.issued lines outcomes once k c.0 c.1 (each k c.0 c.1)
 
 pub is-complete : (script : Script) → IsPlayable script → HasRooms script → IsPrompt script → EndsQuiet script → IsComplete script (record_from (last_state script) (lines_after (start script) script.events))
 is-complete script playable rooms prompt quiet =
@@ -362,9 +295,9 @@ is-complete script playable rooms prompt quiet =
     let once = each-once script playable h.honest in
     record {
       honest = h.honest;
-      of_a = all-done A B b a s.b.end.host s.a.end.host h.far_sent h.far_heard h.sent h.heard late.a lines h.far_end.hosts h.end.hosts rest.all_heard rest.far_all_heard rest.far_nothing_waits.0 rest.nothing_waits.1
+      of_a = each-done A B b a s.b.end.host s.a.end.host h.far_sent h.far_heard h.sent h.heard late.a lines h.far_end.hosts h.end.hosts rest.all_heard rest.far_all_heard rest.far_nothing_waits.0 rest.nothing_waits.1
           (some-window h.allowed h.rooms.near_some h.end.allowed.window) h.end.allowed.per_source h.end.ahead h.far_tells r.recounts.outcomes _ r.recounts.issued.bodies once.to_b;
-      of_b = all-done B A a b s.a.end.host s.b.end.host h.sent h.heard h.far_sent h.far_heard late.b lines h.end.hosts h.far_end.hosts rest.far_all_heard rest.all_heard rest.nothing_waits.0 rest.far_nothing_waits.1
+      of_b = each-done B A a b s.a.end.host s.b.end.host h.sent h.heard h.far_sent h.far_heard late.b lines h.end.hosts h.far_end.hosts rest.far_all_heard rest.all_heard rest.nothing_waits.0 rest.far_nothing_waits.1
           (some-window h.far_allowed h.rooms.far_some h.far_end.allowed.window) h.far_end.allowed.per_source h.far_end.ahead h.tells r.far_recounts.outcomes _ r.far_recounts.issued.bodies once.to_a;
     }
   where

@@ -2,6 +2,7 @@
 use Rattle.std.proofs.Common.{◌≡◌, ◌∙◌, ℕ, Bool, true, false, List, Option, None, is_none, ap, sym, subst, refl}
 use Rattle.std.specs.Prelude.{IsTrue, nat_lt, ◌&&◌, if◌then◌else◌}
 use Rattle.df1_check.specs.declared.Check.{Check}
+use Rattle.df1_node.specs.HostLaws.{command-found}
 use Rattle.df1_node.specs.Node.{NodeState, next_body}
 use Rattle.duplex_end.specs.declared.Setup.{Setup}
 use Rattle.duplex_sender.specs.declared.Phase.TheVariants as phase
@@ -20,7 +21,7 @@ either-none false o none = none
 
 -- a node without commands and replies hands out nothing
 first-body : (plan : EndPlan) → next_body (first_node plan) ≡ None
-first-body plan = either-none (nat_lt 0 plan.window) None refl
+first-body plan = command-found (first_node plan).initiator ∙ either-none (nat_lt 0 plan.window) None refl
 
 none-chosen : (check : Check) (embed : Bool) → chosen (nothing check embed) ≡ None
 none-chosen check true = refl

@@ -20,7 +20,7 @@ use Rattle.replay_report.specs.Report.{sent_lines}
 use Rattle.report_lines.specs.SentBytes.{sent_by}
 use Rattle.each_once.specs.Tells.{is_who, executed_in}
 use Rattle.each_once.specs.Exchanges.{replies_to}
-use Rattle.each_once.proofs.AnsweringStation.{within-all}
+use Rattle.each_once.proofs.Sublists.{within-all}
 use Rattle.each_once.proofs.HandedOut.{is_command, waits_of}
 use Rattle.each_once.proofs.RisingPlaces.{some-in-turn}
 use Rattle.duplex_line.specs.Acts.{LineEndState, LineState, swapped, Deed, Issue, Take, Deliver, Lose, Alter, Foreign, Tick, near_after, arriving, after_deed, after_deeds, near_lines, arrival_lines, lines_at, lines_over, given_at, given_over}

@@ -1,245 +1,160 @@
--- The books of all stations in an undisturbed run, and where the command is that is out: what the master and time change of them.
-use Rattle.std.proofs.Common.{◌≡◌, ◌∙◌, ℕ, suc, ◌+◌, ◌<◌, ◌≤◌, Bool, true, false, List, [], ◌∷◌, ◌++◌, length, map, take, Option, Some, None, refl, ap, sym, subst, append-nil, arith}
-use Rattle.std.specs.Prelude.{IsTrue, slice_get}
-use Rattle.std.specs.List.{filter}
-use Rattle.std.proofs.lemmas.List.{map-append, length-map, take-append-le}
+-- The dealings of the master with all stations in an undisturbed run, by what is awaited; and what the master and time change of them.
+use Rattle.std.proofs.Common.{◌≡◌, ◌∙◌, ℕ, ◌+◌, ◌<◌, ◌≤◌, Bool, true, false, List, [], ◌∷◌, ◌++◌, map, Some, None, refl, ap, sym, subst, append-nil}
+use Rattle.std.specs.Prelude.{IsTrue, slice_get, slice_index, ◌==◌, if◌then◌else◌}
+use Rattle.std.proofs.lemmas.Bool.{eq-eqb, ne_eqb}
+use Rattle.std.proofs.lemmas.List.{map-append}
 use Rattle.std.proofs.lemmas.List.Elements.{filter_map-append}
-use Rattle.pccc_envelope.specs.declared.key.Key.{Key}
-use Rattle.df1_node.specs.Answer.{StationState, reply_to}
-use Rattle.df1_node.specs.Initiator.{Issued, InitiatorState, Waiting, next_command, next_issued, after_issue, after_hand_out, unanswered_from}
-use Rattle.df1_node.specs.Node.{NodeState}
+use Rattle.df1_node.specs.Initiator.{Issued, InitiatorState, Waiting, next_command, next_issued, after_issue, after_hand_out}
 use Rattle.half_master.specs.declared.stations.Station.{Station}
 use Rattle.half_master.specs.Keys.{kept_at}
-use Rattle.half_slave.specs.Slave.{SlaveState}
 use Rattle.script_statement.specs.Statements.{is_payload}
 use Rattle.script_statement.specs.declared.who.Who.TheVariants.{M, S}
 use Rattle.script_parts.specs.HalfPlayable.{is_declared}
 use Rattle.replay_report.specs.declared.record.Line.{Line}
-use Rattle.each_once.specs.Exchanges.{station_after}
-use Rattle.each_once.specs.Tells.{answer_at, answers_in}
+use Rattle.each_once.specs.OfStation.{lines_of}
+use Rattle.each_once.specs.Tells.{answer_at, executed_at, answers_in, executed_in}
 use Rattle.each_once.proofs.CommandBodies.{bodies-hand_out, bodies-tick}
 use Rattle.each_once.proofs.MessageLengths.{AreBodies, issued-fits}
-use Rattle.each_once.proofs.Sublists.{get-more}
 use Rattle.half_line.specs.Acts.{LineStationState}
-use Rattle.half_line.specs.Complete.{is_to, numbered}
+use Rattle.half_line.specs.Complete.{is_to}
 use Rattle.half_line.proofs.Once.Invariant.{Setting}
 use Rattle.half_line.proofs.Once.LinesOfStation.{executed-same}
 use Rattle.half_line.proofs.Once.MasterOutcomes.{AreDeclared, declared-push}
-use Rattle.half_line.proofs.Once.QuietLines.{IsSilentOf, IsMute}
-use Rattle.half_line.proofs.Complete.AnswerBook.{AnswerBook, numbered-more, answer-issue, answer-same}
-use Rattle.half_line.proofs.Complete.CommandsInTime.{AreInTime, in-time-issue, in-time-hand_out, in-time-tick, in-time-later, less_one, ticked_all}
-use Rattle.half_line.proofs.Complete.StationBook.{StationBook, first_to, book-issue, book-same, same-node}
-use Rattle.each_once.proofs.InitiatorProgress.{out_count, under-inside}
+use Rattle.half_line.proofs.Once.QuietLines.{IsSilentOf, lines-both}
+use Rattle.half_line.proofs.Complete.Dealings.{Dealings, bodies_in, alike, ticked_all, dealings-issue, dealings-hands, dealings-hands-other, dealings-tick, dealings-later}
+use Rattle.half_line.proofs.Complete.StagePlaces.{each-place}
+use Rattle.half_line.proofs.Complete.Stages.{Receipt, Polling, Ack, Eot, Message, Now, Idles, Awaits}
 
--- the command that is out: none is; it goes to its station; the station executed it and keeps its reply; or that is on its way to the master
-pub data Stay : Type 0 where
-  Nowhere : Stay
-  Going : (body : List ℕ) → Stay
-  Kept : (body : List ℕ) → Stay
-  Returning : (body : List ℕ) → Stay
+-- ---- what is on its way to a station, and from it, by what is awaited
 
--- how many commands were executed, where so many are answered
-abbrev pub ran_of : Stay → ℕ → ℕ
-ran_of Nowhere done = done
-ran_of (Going body) done = done
-ran_of (Kept body) done = suc done
-ran_of (Returning body) done = suc done
+abbrev pub at_place : ℕ → ℕ → List ℕ → List (List ℕ)
+at_place place p body = if place == p then body ∷ [] else []
 
--- what a station replies to a command, where so many are answered
-abbrev pub answer_to : StationState → ℕ → List (List ℕ) → ℕ → List ℕ → List ℕ
-answer_to first number bodies done body = reply_to (station_after first (first_to number done bodies)) body
+-- the command
+abbrev pub going : Now → ℕ → List (List ℕ)
+going Idles p = []
+going (Awaits place (Receipt body)) p = at_place place p body
+going (Awaits place Polling) p = []
+going (Awaits place Ack) p = []
+going (Awaits place Eot) p = []
+going (Awaits place (Message reply)) p = []
 
--- the replies that wait at it
-abbrev pub due_if : Bool → List ℕ → List (List ℕ)
-due_if true reply = reply ∷ []
-due_if false reply = []
+-- the reply
+abbrev pub back : Now → ℕ → List (List ℕ)
+back Idles p = []
+back (Awaits place (Receipt body)) p = []
+back (Awaits place Polling) p = []
+back (Awaits place Ack) p = []
+back (Awaits place Eot) p = []
+back (Awaits place (Message reply)) p = at_place place p reply
 
-abbrev pub due_of : Stay → StationState → ℕ → List (List ℕ) → ℕ → List (List ℕ)
-due_of Nowhere first number bodies done = []
-due_of (Going body) first number bodies done = []
-due_of (Kept body) first number bodies done = due_if (is_to number body) (answer_to first number bodies done body)
-due_of (Returning body) first number bodies done = []
+pub at-here : (place : ℕ) (body : List ℕ) → at_place place place body ≡ body ∷ []
+at-here place body = rw (eq-eqb place place refl) refl
 
--- it is the one behind those that are answered
-abbrev pub IsOut : Option ℕ → List (List ℕ) → ℕ → List ℕ → Type 0
-IsOut out bodies done body = (left : ℕ) × (out ≡ Some left) × (slice_get bodies done ≡ Some body)
+pub at-other : (place p : ℕ) (body : List ℕ) → (p ≡ place → ⊥) → at_place place p body ≡ []
+at-other place p body differ = rw (ne_eqb place p (λ same. differ (sym same))) refl
 
-abbrev pub IsOutAs : Stay → Option ℕ → List (List ℕ) → ℕ → Type 0
-IsOutAs Nowhere out bodies done = out ≡ None
-IsOutAs (Going body) out bodies done = IsOut out bodies done body
-IsOutAs (Kept body) out bodies done = IsOut out bodies done body
-IsOutAs (Returning body) out bodies done = IsOut out bodies done body
+-- ---- the line
 
--- the books of one station
-pub record SideBooks (first : StationState) (number : ℕ) (bodies : List (List ℕ)) (stay : Stay) (done : ℕ) (kept : Option Key) (s : SlaveState NodeState) (lines : List Line) : Type 0 where
-  pub station : StationBook first number bodies (ran_of stay done) (due_of stay first number bodies done) s lines
-  pub answer : AnswerBook first number bodies done kept lines
+-- the replies that the master accepted of a station
+abbrev pub told_in : ℕ → List Line → List (List ℕ)
+told_in number lines = map (λ a. a.1) (answers_in M (lines_of number lines))
 
--- the bodies of an initiator's commands, and the numbers of answers or commands
-abbrev pub bodies_in : InitiatorState → List (List ℕ)
-bodies_in i = map (λ (c : Issued). c.body) i.issued
-
-abbrev pub numbers_in : List (ℕ × List ℕ) → List ℕ
-numbers_in cs = map (λ (c : ℕ × List ℕ). c.0) cs
+abbrev pub SideDealings : Setting → InitiatorState → List Station → List Line → Now → ℕ → ℕ → LineStationState → Type 0
+SideDealings setting i listed lines now ticks p side = Dealings (setting.first p) side.number i (executed_in (S side.number) lines) (told_in side.number lines) (going now p) (back now p) (kept_at listed p) side.slave ticks
 
 -- of a master with this initiator and this list; the ticks are those that passed
-pub record Ledger (setting : Setting) (i : InitiatorState) (listed : List Station) (stations : List LineStationState) (lines : List Line) (stay : Stay) (done ticks : ℕ) : Type 0 where
-  pub out : Option ℕ
-  pub in_time : AreInTime i done out ticks
-  pub is_out : IsOutAs stay out (bodies_in i) done
+pub record Ledger (setting : Setting) (i : InitiatorState) (listed : List Station) (stations : List LineStationState) (lines : List Line) (now : Now) (ticks : ℕ) : Type 0 where
+  pub some : 1 ≤ i.window
+  pub some_of : 1 ≤ i.per_source
   pub fits : AreBodies (bodies_in i)
   pub declared : AreDeclared setting.numbers (bodies_in i)
-  pub in_order : numbers_in (answers_in M lines) ≡ numbers_in (take done (numbered (bodies_in i)))
-  pub sides : (p : ℕ) (side : LineStationState) → slice_get stations p ≡ Some side → SideBooks (setting.first p) side.number (bodies_in i) stay done (kept_at listed p) side.slave lines
+  pub sides : (p : ℕ) (side : LineStationState) → slice_get stations p ≡ Some side → SideDealings setting i listed lines now ticks p side
 
--- ---- how many there are
-
--- at least those that were executed
-ran-few : (stay : Stay) (out : Option ℕ) (bodies : List (List ℕ)) (done : ℕ) → IsOutAs stay out bodies done → ran_of stay done ≤ done + out_count out
-ran-few Nowhere out bodies done o = omega arith
-ran-few (Going body) out bodies done o = omega arith
-ran-few (Kept body) out bodies done o = let one = ap out_count o.1 in omega (arith, one)
-ran-few (Returning body) out bodies done o = let one = ap out_count o.1 in omega (arith, one)
-
--- and at least those that are answered
-pub ledger-few : (setting : Setting) (i : InitiatorState) (listed : List Station) (stations : List LineStationState) (lines : List Line) (stay : Stay) (done ticks : ℕ) → Ledger setting i listed stations lines stay done ticks → done ≤ length (bodies_in i)
-ledger-few setting i listed stations lines stay done ticks l =
-    let count = length-map i.issued (λ (c : Issued). c.body) in
-    let some = under-inside i.issued done l.out l.in_time.under_way in
-    omega (arith, count, some)
-
--- ---- a command is issued
-
-out-more : (stay : Stay) (out : Option ℕ) (bodies more : List (List ℕ)) (done : ℕ) → IsOutAs stay out bodies done → IsOutAs stay out (bodies ++ more) done
-out-more Nowhere out bodies more done o = o
-out-more (Going body) out bodies more done o = (o.0, o.1, get-more bodies more done body o.2)
-out-more (Kept body) out bodies more done o = (o.0, o.1, get-more bodies more done body o.2)
-out-more (Returning body) out bodies more done o = (o.0, o.1, get-more bodies more done body o.2)
-
-due-more : (stay : Stay) (first : StationState) (number : ℕ) (bodies more : List (List ℕ)) (done : ℕ) → done ≤ length bodies → due_of stay first number bodies done ≡ due_of stay first number (bodies ++ more) done
-due-more Nowhere first number bodies more done few = refl
-due-more (Going body) first number bodies more done few = refl
-due-more (Kept body) first number bodies more done few = ap (λ (all : List (List ℕ)). due_if (is_to number body) (reply_to (station_after first (filter (is_to number) all)) body)) (sym (take-append-le done bodies more few))
-due-more (Returning body) first number bodies more done few = refl
-
-books-issue : (first : StationState) (number : ℕ) (bodies more : List (List ℕ)) (stay : Stay) (done : ℕ) (kept : Option Key) (s : SlaveState NodeState) (lines : List Line) → done ≤ length bodies → ran_of stay done ≤ length bodies
-    → SideBooks first number bodies stay done kept s lines → SideBooks first number (bodies ++ more) stay done kept s lines
-books-issue first number bodies more stay done kept s lines few ran b = record {
-  station = subst (λ (due : List (List ℕ)). StationBook first number (bodies ++ more) (ran_of stay done) due s lines) (due-more stay first number bodies more done few)
-      (book-issue first number bodies more (ran_of stay done) (due_of stay first number bodies done) s lines ran b.station);
-  answer = answer-issue first number bodies more done kept lines few b.answer;
+-- the same is on its way, whatever else is awaited
+pub ledger-now : {setting : Setting} {i : InitiatorState} {listed : List Station} {stations : List LineStationState} {lines : List Line} {now : Now} {ticks : ℕ} (after : Now) → ((p : ℕ) → going now p ≡ going after p) → ((p : ℕ) → back now p ≡ back after p)
+    → Ledger setting i listed stations lines now ticks → Ledger setting i listed stations lines after ticks
+ledger-now {lines = lines} {now = now} after same_going same_back l = record {
+  some = l.some;
+  some_of = l.some_of;
+  fits = l.fits;
+  declared = l.declared;
+  sides = λ p side at. alike (executed_in (S side.number) lines) (executed_in (S side.number) lines) (told_in side.number lines) (told_in side.number lines) (going now p) (going after p) (back now p) (back after p) refl refl (same_going p) (same_back p) (l.sides p side at);
 }
-
-pub ledger-issue : (setting : Setting) (i : InitiatorState) (src dst : ℕ) (payload : List ℕ) (listed : List Station) (stations : List LineStationState) (lines : List Line) (stay : Stay) (done ticks : ℕ) → IsTrue (is_payload payload) → is_declared setting.numbers dst ≡ true
-    → Ledger setting i listed stations lines stay done ticks → Ledger setting (after_issue i src dst payload) listed stations lines stay done ticks
-ledger-issue setting i src dst payload listed stations lines stay done ticks may is l =
-    let new : Issued = record { body = next_issued i src dst payload; standing = Waiting } in
-    let bodies = bodies_in i in
-    let more = map-append (λ (c : Issued). c.body) i.issued (new ∷ []) in
-    let count = length-map i.issued (λ (c : Issued). c.body) in
-    let some = under-inside i.issued done l.out l.in_time.under_way in
-    let ran = ran-few stay l.out bodies done l.is_out in
-    let few : done ≤ length bodies = omega (arith, count, some) in
-    record {
-      out = l.out;
-      in_time = in-time-issue i src dst payload done l.out ticks l.in_time;
-      is_out = subst (λ (all : List (List ℕ)). IsOutAs stay l.out all done) (sym more) (out-more stay l.out bodies (new.body ∷ []) done l.is_out);
-      fits = issued-fits i src dst payload l.fits may;
-      declared = subst (λ (all : List (List ℕ)). AreDeclared setting.numbers all) (sym more) (declared-push setting.numbers bodies new.body l.declared is);
-      in_order = l.in_order ∙ ap numbers_in (sym (numbered-more bodies (new.body ∷ []) done few)) ∙ ap (λ (all : List (List ℕ)). numbers_in (take done (numbered all))) (sym more);
-      sides = λ p side at.
-          subst (λ (all : List (List ℕ)). SideBooks (setting.first p) side.number all stay done (kept_at listed p) side.slave lines) (sym more)
-          (books-issue (setting.first p) side.number bodies (new.body ∷ []) stay done (kept_at listed p) side.slave lines few (omega (arith, count, some, ran)) (l.sides p side at));
-    }
-
--- ---- other commands of the same bodies
-
-ledger-now : (setting : Setting) (i now : InitiatorState) (listed : List Station) (stations : List LineStationState) (lines : List Line) (stay : Stay) (done ticks later : ℕ) (out : Option ℕ) → bodies_in now ≡ bodies_in i → AreInTime now done out later → IsOutAs stay out (bodies_in i) done
-    → Ledger setting i listed stations lines stay done ticks → Ledger setting now listed stations lines stay done later
-ledger-now setting i now listed stations lines stay done ticks later out same in_time is_out l = record {
-  out = out;
-  in_time = in_time;
-  is_out = subst (λ (all : List (List ℕ)). IsOutAs stay out all done) (sym same) is_out;
-  fits = subst AreBodies (sym same) l.fits;
-  declared = subst (λ (all : List (List ℕ)). AreDeclared setting.numbers all) (sym same) l.declared;
-  in_order = l.in_order ∙ ap (λ (all : List (List ℕ)). numbers_in (take done (numbered all))) (sym same);
-  sides = λ p side at. subst (λ (all : List (List ℕ)). SideBooks (setting.first p) side.number all stay done (kept_at listed p) side.slave lines) (sym same) (l.sides p side at);
-}
-
--- ---- time passes
-
-out-ticked : (stay : Stay) (out : Option ℕ) (bodies : List (List ℕ)) (done : ℕ) → IsOutAs stay out bodies done → IsOutAs stay (less_one out) bodies done
-out-ticked Nowhere out bodies done o = ap less_one o
-out-ticked (Going body) out bodies done o = (_, ap less_one o.1, o.2)
-out-ticked (Kept body) out bodies done o = (_, ap less_one o.1, o.2)
-out-ticked (Returning body) out bodies done o = (_, ap less_one o.1, o.2)
-
--- at a tick of the initiator no command is given up
-pub ledger-tick : (setting : Setting) (i : InitiatorState) (listed : List Station) (stations : List LineStationState) (lines : List Line) (stay : Stay) (done ticks : ℕ) → ticks + 1 < i.reply_ticks → Ledger setting i listed stations lines stay done ticks
-    → (unanswered_from 1 i.issued ≡ []) × Ledger setting (ticked_all i) listed stations lines stay done (ticks + 1)
-ledger-tick setting i listed stations lines stay done ticks few l =
-    let t = in-time-tick i done l.out ticks few l.in_time in
-    (t.0, ledger-now setting i (ticked_all i) listed stations lines stay done ticks (ticks + 1) (less_one l.out) (bodies-tick i) t.1 (out-ticked stay l.out (bodies_in i) done l.is_out) l)
-
--- at one of which it isn't told
-pub ledger-later : (setting : Setting) (i : InitiatorState) (listed : List Station) (stations : List LineStationState) (lines : List Line) (stay : Stay) (done ticks : ℕ) → Ledger setting i listed stations lines stay done ticks → Ledger setting i listed stations lines stay done (ticks + 1)
-ledger-later setting i listed stations lines stay done ticks l = ledger-now setting i i listed stations lines stay done ticks (ticks + 1) l.out refl (in-time-later i done l.out ticks l.in_time) l.is_out l
-
--- ---- the next command is handed out
-
--- none goes to a station or comes from one
-abbrev pub IsHome : Stay → Type 0
-IsHome Nowhere = Unit {0}
-IsHome (Going body) = ⊥
-IsHome (Kept body) = Unit {0}
-IsHome (Returning body) = ⊥
-
--- where none is out
-is-nowhere : (stay : Stay) (out : Option ℕ) (bodies : List (List ℕ)) (done : ℕ) → IsOutAs stay out bodies done → out ≡ None → stay ≡ Nowhere
-is-nowhere Nowhere out bodies done o none = refl
-is-nowhere (Going body) out bodies done o none = absurd (let no = sym none ∙ o.1 in cc)
-is-nowhere (Kept body) out bodies done o none = absurd (let no = sym none ∙ o.1 in cc)
-is-nowhere (Returning body) out bodies done o none = absurd (let no = sym none ∙ o.1 in cc)
-
-pub ledger-hands : (setting : Setting) (i : InitiatorState) (body : List ℕ) (listed : List Station) (stations : List LineStationState) (lines : List Line) (stay : Stay) (done ticks : ℕ) → next_command i ≡ Some body → Ledger setting i listed stations lines stay done ticks
-    → (stay ≡ Nowhere) × Ledger setting (after_hand_out i) listed stations lines (Going body) done ticks × (slice_get (bodies_in i) done ≡ Some body)
-ledger-hands setting i body listed stations lines stay done ticks next l =
-    let t = in-time-hand_out i body done l.out ticks next l.in_time in
-    let nowhere = is-nowhere stay l.out (bodies_in i) done l.is_out t.0 in
-    let now : Ledger setting i listed stations lines Nowhere done ticks = subst (λ (s : Stay). Ledger setting i listed stations lines s done ticks) nowhere l in
-    let same = bodies-hand_out i in
-    let at = t.2 in (
-      nowhere,
-      record {
-        out = Some i.reply_ticks;
-        in_time = t.1;
-        is_out = (i.reply_ticks, refl, ap (λ (all : List (List ℕ)). slice_get all done) same ∙ at);
-        fits = subst AreBodies (sym same) now.fits;
-        declared = subst (λ (all : List (List ℕ)). AreDeclared setting.numbers all) (sym same) now.declared;
-        in_order = now.in_order ∙ ap (λ (all : List (List ℕ)). numbers_in (take done (numbered all))) (sym same);
-        sides = λ p side is.
-            let b = now.sides p side is in
-            subst (λ (all : List (List ℕ)). SideBooks (setting.first p) side.number all (Going body) done (kept_at listed p) side.slave lines) (sym same) (record { station = b.station; answer = b.answer });
-      },
-      at,
-    )
 
 -- ---- more is told, but of no command and no answer
 
-pub ledger-lines : (setting : Setting) (i : InitiatorState) (listed : List Station) (stations : List LineStationState) (lines more : List Line) (stay : Stay) (done ticks : ℕ) → ((number : ℕ) → IsSilentOf number more) → IsMute more
-    → Ledger setting i listed stations lines stay done ticks → Ledger setting i listed stations (lines ++ more) stay done ticks
-ledger-lines setting i listed stations lines more stay done ticks silent mute l = record {
-  out = l.out;
-  in_time = l.in_time;
-  is_out = l.is_out;
+pub more-executed : (number : ℕ) (lines more : List Line) (told : List (List ℕ)) → executed_in (S number) more ≡ told → executed_in (S number) lines ++ told ≡ executed_in (S number) (lines ++ more)
+more-executed number lines more told is = ap (λ (xs : List (List ℕ)). executed_in (S number) lines ++ xs) (sym is) ∙ sym (filter_map-append (executed_at (S number)) lines more)
+
+pub more-told : (number : ℕ) (lines more : List Line) (told : List (ℕ × List ℕ)) → answers_in M (lines_of number more) ≡ told → told_in number lines ++ map (λ a. a.1) told ≡ told_in number (lines ++ more)
+more-told number lines more told is =
+    ap (λ (xs : List (ℕ × List ℕ)). told_in number lines ++ map (λ a. a.1) xs) (sym is)
+    ∙ sym (map-append (λ (a : ℕ × List ℕ). a.1) (answers_in M (lines_of number lines)) (answers_in M (lines_of number more)))
+    ∙ ap (map (λ (a : ℕ × List ℕ). a.1)) (sym (filter_map-append (answer_at M) (lines_of number lines) (lines_of number more)) ∙ ap (λ (all : List Line). answers_in M all) (sym (lines-both number lines more)))
+
+pub same-executed : (number : ℕ) (lines more : List Line) → executed_in (S number) more ≡ [] → executed_in (S number) lines ≡ executed_in (S number) (lines ++ more)
+same-executed number lines more none = sym (append-nil (executed_in (S number) lines)) ∙ more-executed number lines more [] none
+
+pub same-told : (number : ℕ) (lines more : List Line) → answers_in M (lines_of number more) ≡ [] → told_in number lines ≡ told_in number (lines ++ more)
+same-told number lines more none = sym (append-nil (told_in number lines)) ∙ more-told number lines more [] none
+
+pub ledger-lines : {setting : Setting} {i : InitiatorState} {listed : List Station} {stations : List LineStationState} {lines : List Line} {now : Now} {ticks : ℕ} (more : List Line) → ((number : ℕ) → IsSilentOf number more) → Ledger setting i listed stations lines now ticks → Ledger setting i listed stations (lines ++ more) now ticks
+ledger-lines {lines = lines} {now = now} more silent l = record {
+  some = l.some;
+  some_of = l.some_of;
   fits = l.fits;
   declared = l.declared;
-  in_order = ap numbers_in (filter_map-append (answer_at M) lines more ∙ ap (λ (xs : List (ℕ × List ℕ)). answers_in M lines ++ xs) mute.answers ∙ append-nil (answers_in M lines)) ∙ l.in_order;
   sides = λ p side at.
-      let b = l.sides p side at in
       let n = side.number in
-      record {
-        station = book-same (setting.first p) n (bodies_in i) (ran_of stay done) (due_of stay (setting.first p) n (bodies_in i) done) side.slave side.slave lines more (same-node side.slave.host side.slave.host refl) refl (sym (executed-same n (S n) more) ∙ (silent n).executes) b.station;
-        answer = answer-same (setting.first p) n (bodies_in i) done (kept_at listed p) (kept_at listed p) lines more refl (silent n).answers b.answer;
-      };
+      alike (executed_in (S n) lines) (executed_in (S n) (lines ++ more)) (told_in n lines) (told_in n (lines ++ more)) (going now p) (going now p) (back now p) (back now p)
+      (same-executed n lines more (sym (executed-same n (S n) more) ∙ (silent n).executes)) (same-told n lines more (silent n).answers) refl refl (l.sides p side at);
 }
+
+-- ---- a command is issued
+
+pub ledger-issue : {setting : Setting} {i : InitiatorState} {listed : List Station} {stations : List LineStationState} {lines : List Line} {now : Now} {ticks : ℕ} (src dst : ℕ) (payload : List ℕ) → IsTrue (is_payload payload) → is_declared setting.numbers dst ≡ true
+    → Ledger setting i listed stations lines now ticks → Ledger setting (after_issue i src dst payload) listed stations lines now ticks
+ledger-issue {setting = setting} {i = i} src dst payload may is l =
+    let new : Issued = record { body = next_issued i src dst payload; standing = Waiting } in
+    record {
+      some = l.some;
+      some_of = l.some_of;
+      fits = issued-fits i src dst payload l.fits may;
+      declared = subst (λ (all : List (List ℕ)). AreDeclared setting.numbers all) (sym (map-append (λ (c : Issued). c.body) i.issued (new ∷ []))) (declared-push setting.numbers (bodies_in i) new.body l.declared is);
+      sides = λ p side at. dealings-issue src dst payload (l.sides p side at);
+    }
+
+-- ---- time passes
+
+pub ledger-tick : {setting : Setting} {i : InitiatorState} {listed : List Station} {stations : List LineStationState} {lines : List Line} {now : Now} {ticks : ℕ} → ticks + 1 < i.reply_ticks → Ledger setting i listed stations lines now ticks → Ledger setting (ticked_all i) listed stations lines now (ticks + 1)
+ledger-tick {setting = setting} {i = i} few l = record {
+  some = l.some;
+  some_of = l.some_of;
+  fits = subst AreBodies (sym (bodies-tick i)) l.fits;
+  declared = subst (λ (all : List (List ℕ)). AreDeclared setting.numbers all) (sym (bodies-tick i)) l.declared;
+  sides = λ p side at. dealings-tick few (l.sides p side at);
+}
+
+-- of which the initiator isn't told
+pub ledger-later : {setting : Setting} {i : InitiatorState} {listed : List Station} {stations : List LineStationState} {lines : List Line} {now : Now} {ticks : ℕ} → Ledger setting i listed stations lines now ticks → Ledger setting i listed stations lines now (ticks + 1)
+ledger-later l = record { some = l.some; some_of = l.some_of; fits = l.fits; declared = l.declared; sides = λ p side at. dealings-later (l.sides p side at) }
+
+-- ---- the next command is handed out, for the station at this place
+
+pub ledger-hands : {setting : Setting} {i : InitiatorState} {listed : List Station} {stations : List LineStationState} {lines : List Line} {ticks : ℕ} (body : List ℕ) (place : ℕ) (side : LineStationState) → next_command i ≡ Some body → slice_get stations place ≡ Some side → is_to side.number body ≡ true
+    → ((p : ℕ) (other : LineStationState) → slice_get stations p ≡ Some other → (p ≡ place → ⊥) → is_to other.number body ≡ false)
+    → Ledger setting i listed stations lines Idles ticks → Ledger setting (after_hand_out i) listed stations lines (Awaits place (Receipt body)) ticks
+ledger-hands {setting = setting} {i = i} {listed = listed} {stations = stations} {lines = lines} {ticks = ticks} body place side next at to apart l =
+    let now = Awaits place (Receipt body) in
+    record {
+      some = l.some;
+      some_of = l.some_of;
+      fits = subst AreBodies (sym (bodies-hand_out i)) l.fits;
+      declared = subst (λ (all : List (List ℕ)). AreDeclared setting.numbers all) (sym (bodies-hand_out i)) l.declared;
+      sides = each-place (λ p x. SideDealings setting (after_hand_out i) listed lines now ticks p x) stations place side at
+          (alike (executed_in (S side.number) lines) (executed_in (S side.number) lines) (told_in side.number lines) (told_in side.number lines) (body ∷ []) (going now place) [] (back now place) refl refl (sym (at-here place body)) refl (dealings-hands body to next (l.sides place side at)))
+          (λ p other there differ.
+          alike (executed_in (S other.number) lines) (executed_in (S other.number) lines) (told_in other.number lines) (told_in other.number lines) [] (going now p) [] (back now p) refl refl (sym (at-other place p body differ)) refl
+          (dealings-hands-other body (apart p other there differ) next (l.sides p other there)));
+    }

@@ -23,7 +23,7 @@ use Rattle.half_line.specs.Steps.{link_of, rejoined}
 use Rattle.half_line.proofs.Once.Invariant.{Setting}
 use Rattle.half_line.proofs.Complete.StageSteps.{lane_left, station-deceived}
 use Rattle.half_line.proofs.Complete.StagePlaces.{stage-gives}
-use Rattle.half_line.proofs.Complete.StationBook.{same-node}
+use Rattle.half_line.proofs.Complete.Dealings.{same-node}
 use Rattle.half_line.proofs.Complete.ReplyHeard.{back_left, master-deceived}
 use Rattle.half_line.proofs.Complete.LedgerSteps.{ledger-side}
 use Rattle.half_line.proofs.Complete.Invariant.{Course, Flow}
@@ -81,11 +81,8 @@ flow-gives setting wait s late ticks lines place side at f =
     record {
       course = subst (λ (all : List Line). Course setting m (slice_set s.stations place (after_take side)) late ticks all) (sym (append-nil lines)) (record {
         now = c.now;
-        stay = c.stay;
-        done = c.done;
         stage = stage-gives late m s.stations c.now place side at c.stage;
-        tied = c.tied;
-        ledger = ledger-side setting m.host.initiator m.stations s.stations lines c.stay c.done ticks place side (after_take side) at refl (same-node side.slave.host side.slave.host refl) refl c.ledger;
+        ledger = ledger-side place side (after_take side) at refl (same-node side.slave.host side.slave.host refl) refl c.ledger;
       });
       check = f.check;
       waits = f.waits;
@@ -97,7 +94,7 @@ flow-gives setting wait s late ticks lines place side at f =
 none-more : (n m : ℕ) → n ≡ 0 → m ≡ 0 → n + m ≡ 0
 none-more n m first second = omega (arith, first, second)
 
-flow-arrives : (setting : Setting) (wait : ℕ) (s : HalfState) (late ticks : ℕ) (lines : List Line) (place : ℕ) (side : LineStationState) (cell : LaneCell) (cells : List LaneCell) → At setting s.master s.stations place (lane_left side (cell ∷ cells)) → Flow setting wait s late ticks lines
+flow-arrives : (setting : Setting) (wait : ℕ) (s : HalfState) (late ticks : ℕ) (lines : List Line) (place : ℕ) (side : LineStationState) (cell : LaneCell) (cells : List LaneCell) → At setting s.master s.stations lines place (lane_left side (cell ∷ cells)) → Flow setting wait s late ticks lines
     → Flow setting wait (rejoined s place (after_link_deed (link_of s (lane_left side (cell ∷ cells))) (OnLane ToStation Deliver))) late ticks (lines ++ link_lines (link_of s (lane_left side (cell ∷ cells))) (OnLane ToStation Deliver))
 flow-arrives setting wait s late ticks lines place side cell cells at f =
     let was = lane_left side (cell ∷ cells) in
@@ -109,7 +106,7 @@ flow-arrives setting wait s late ticks lines place side cell cells at f =
       honest = none-more s.deceived _ f.honest (station-deceived (moved ToStation (link_of s was) Deliver) cell a.honest);
     }
 
-lane-to : (setting : Setting) (wait : ℕ) (s : HalfState) (late ticks : ℕ) (lines : List Line) (place : ℕ) (side : LineStationState) (cells : List LaneCell) (deed : LaneDeed) → IsGentleOn cells deed → At setting s.master s.stations place (lane_left side cells) → Flow setting wait s late ticks lines
+lane-to : (setting : Setting) (wait : ℕ) (s : HalfState) (late ticks : ℕ) (lines : List Line) (place : ℕ) (side : LineStationState) (cells : List LaneCell) (deed : LaneDeed) → IsGentleOn cells deed → At setting s.master s.stations lines place (lane_left side cells) → Flow setting wait s late ticks lines
     → Flow setting wait (rejoined s place (after_link_deed (link_of s (lane_left side cells)) (OnLane ToStation deed))) late ticks (lines ++ link_lines (link_of s (lane_left side cells)) (OnLane ToStation deed))
 lane-to setting wait s late ticks lines place side [] Deliver gentle at f = flow-same setting wait s late ticks lines place (lane_left side []) at.is_at f
 lane-to setting wait s late ticks lines place side (cell ∷ cells) Deliver gentle at f = flow-arrives setting wait s late ticks lines place side cell cells at f
@@ -119,7 +116,7 @@ lane-to setting wait s late ticks lines place side [] (Alter mask) gentle at f =
 lane-to setting wait s late ticks lines place side (cell ∷ cells) (Alter mask) gentle at f = absurd cc
 lane-to setting wait s late ticks lines place side cells (Foreign byte) gentle at f = absurd gentle
 
-flow-hears : (setting : Setting) (wait : ℕ) (s : HalfState) (late ticks : ℕ) (lines : List Line) (place : ℕ) (side : LineStationState) (cell : LaneCell) (cells : List LaneCell) → At setting s.master s.stations place (back_left side (cell ∷ cells)) → Flow setting wait s late ticks lines
+flow-hears : (setting : Setting) (wait : ℕ) (s : HalfState) (late ticks : ℕ) (lines : List Line) (place : ℕ) (side : LineStationState) (cell : LaneCell) (cells : List LaneCell) → At setting s.master s.stations lines place (back_left side (cell ∷ cells)) → Flow setting wait s late ticks lines
     → Flow setting wait (rejoined s place (after_link_deed (link_of s (back_left side (cell ∷ cells))) (OnLane ToMaster Deliver))) late ticks (lines ++ link_lines (link_of s (back_left side (cell ∷ cells))) (OnLane ToMaster Deliver))
 flow-hears setting wait s late ticks lines place side cell cells at f =
     let was = back_left side (cell ∷ cells) in
@@ -132,7 +129,7 @@ flow-hears setting wait s late ticks lines place side cell cells at f =
       honest = none-more s.deceived _ f.honest (master-deceived (moved ToMaster (link_of s was) Deliver) cell r.honest);
     }
 
-lane-from : (setting : Setting) (wait : ℕ) (s : HalfState) (late ticks : ℕ) (lines : List Line) (place : ℕ) (side : LineStationState) (cells : List LaneCell) (deed : LaneDeed) → IsGentleOn cells deed → At setting s.master s.stations place (back_left side cells) → Flow setting wait s late ticks lines
+lane-from : (setting : Setting) (wait : ℕ) (s : HalfState) (late ticks : ℕ) (lines : List Line) (place : ℕ) (side : LineStationState) (cells : List LaneCell) (deed : LaneDeed) → IsGentleOn cells deed → At setting s.master s.stations lines place (back_left side cells) → Flow setting wait s late ticks lines
     → Flow setting wait (rejoined s place (after_link_deed (link_of s (back_left side cells)) (OnLane ToMaster deed))) late ticks (lines ++ link_lines (link_of s (back_left side cells)) (OnLane ToMaster deed))
 lane-from setting wait s late ticks lines place side [] Deliver gentle at f = flow-same setting wait s late ticks lines place (back_left side []) at.is_at f
 lane-from setting wait s late ticks lines place side (cell ∷ cells) Deliver gentle at f = flow-hears setting wait s late ticks lines place side cell cells at f
@@ -144,7 +141,7 @@ lane-from setting wait s late ticks lines place side cells (Foreign byte) gentle
 
 -- ---- either
 
-pub flow-link : (setting : Setting) (wait : ℕ) (s : HalfState) (late ticks : ℕ) (lines : List Line) (place : ℕ) (side : LineStationState) (deed : LinkDeed) → IsGentleAt side deed → At setting s.master s.stations place side → Flow setting wait s late ticks lines
+pub flow-link : (setting : Setting) (wait : ℕ) (s : HalfState) (late ticks : ℕ) (lines : List Line) (place : ℕ) (side : LineStationState) (deed : LinkDeed) → IsGentleAt side deed → At setting s.master s.stations lines place side → Flow setting wait s late ticks lines
     → Flow setting wait (rejoined s place (after_link_deed (link_of s side) deed)) late ticks (lines ++ link_lines (link_of s side) deed)
 flow-link setting wait s late ticks lines place side StationGives gentle at f = flow-gives setting wait s late ticks lines place side at.is_at f
 flow-link setting wait s late ticks lines place side (OnLane ToStation deed) gentle at f = lane-to setting wait s late ticks lines place side side.to_it deed gentle at f

@@ -2,11 +2,8 @@
 use Rattle.std.proofs.Common.{◌≡◌, ◌∙◌, ℕ, zero, suc, ◌≤◌, Bool, true, false, List, [], ◌∷◌, ◌++◌, length, map, Option, Some, None, is_some, refl, ap, sym, subst, arith}
 use Rattle.std.specs.Prelude.{IsTrue, slice_get, slice_index, unwrap_or, ◌==◌, ◌||◌, ◌&&◌, if◌then◌else◌}
 use Rattle.std.specs.Option.{option_or}
-use Rattle.std.specs.List.{filter}
 use Rattle.std.proofs.lemmas.Bool.{and_parts, eqb-true, eq-eqb}
-use Rattle.std.proofs.lemmas.List.{map-append, take-append-le}
-use Rattle.df1_node.specs.Answer.{reply_to}
-use Rattle.df1_node.specs.Initiator.{Issued, InitiatorState, Waiting, next_issued, next_command, after_hand_out}
+use Rattle.df1_node.specs.Initiator.{InitiatorState, next_command, after_hand_out}
 use Rattle.df1_node.specs.Node.{NodeState, next_body, after_next}
 use Rattle.half_mouth.specs.Giving.{is_done}
 use Rattle.half_master.specs.declared.table.Phase.{Phase}
@@ -20,54 +17,33 @@ use Rattle.half_master.proofs.Seen.{listed-number}
 use Rattle.script_statement.specs.Statements.{is_payload}
 use Rattle.script_parts.specs.HalfPlayable.{is_declared}
 use Rattle.replay_report.specs.declared.record.Line.{Line}
-use Rattle.each_once.specs.Exchanges.{station_after}
+use Rattle.each_once.proofs.MessageLengths.{body-at}
 use Rattle.each_once.specs.NodeHost.{node_host}
 use Rattle.each_once.proofs.Sublists.{Has, from-map}
 use Rattle.half_line.specs.Acts.{LineStationState, after_issue}
 use Rattle.half_line.specs.Complete.{is_to}
-use Rattle.half_line.specs.Issues.{bodies_of}
-use Rattle.half_line.proofs.Once.Invariant.{Setting, number-at, other-number}
-use Rattle.half_line.proofs.Complete.Stages.{Receipt, Polling, Ack, Eot, Message, waits-busy, Now, Idles, Awaits, Stage, Idling}
+use Rattle.half_line.proofs.Once.Invariant.{Setting}
+use Rattle.half_line.proofs.Once.MasterOutcomes.{next-has}
+use Rattle.half_line.proofs.Complete.Stages.{Receipt, waits-busy, Now, Idles, Awaits, Stage, Idling}
 use Rattle.half_line.proofs.Complete.StageBegins.{message-begins}
 use Rattle.half_line.proofs.Complete.StageSteps.{with_given}
 use Rattle.half_line.proofs.Complete.StageTicks.{stage-alike}
 use Rattle.half_line.proofs.Complete.StagePlaces.{stage-given, at-given}
 use Rattle.half_line.proofs.Complete.QuietLine.{done-left}
-use Rattle.half_line.proofs.Complete.Ledger.{Going, Stay, SideBooks, bodies_in, Ledger, ledger-few, ledger-issue, ledger-hands}
-use Rattle.half_line.proofs.Complete.Invariant.{IsTied, Course}
-use Rattle.half_line.proofs.Complete.LineFacts.{Known, body-at}
-use Rattle.half_master.specs.Keys.{kept_at}
+use Rattle.half_line.proofs.Complete.Dealings.{bodies_in}
+use Rattle.half_line.proofs.Complete.Ledger.{SideDealings, Ledger, ledger-issue, ledger-hands}
+use Rattle.half_line.proofs.Complete.Invariant.{Course}
+use Rattle.half_line.proofs.Complete.LineFacts.{Known, elsewhere, not-theirs}
 
 -- ---- a command is issued
 
-tied-more : (setting : Setting) (bodies more : List (List ℕ)) (done : ℕ) (now : Now) (stay : Stay) → done ≤ length bodies → IsTied setting bodies done now stay → IsTied setting (bodies ++ more) done now stay
-tied-more setting bodies more done Idles stay few tied = tied
-tied-more setting bodies more done (Awaits place (Receipt body)) stay few tied = tied
-tied-more setting bodies more done (Awaits place Polling) stay few tied = tied
-tied-more setting bodies more done (Awaits place Ack) stay few tied = tied
-tied-more setting bodies more done (Awaits place Eot) stay few tied = tied
-tied-more setting bodies more done (Awaits place (Message reply)) stay few tied = record {
-  body = tied.body;
-  here = tied.here;
-  stays = tied.stays;
-  is = tied.is ∙ ap (λ (all : List (List ℕ)). reply_to (station_after (setting.first place) (filter (is_to tied.here.number) all)) tied.body) (sym (take-append-le done bodies more few));
-}
-
 pub course-issue : (setting : Setting) (m : MasterState NodeState) (stations : List LineStationState) (late ticks : ℕ) (lines : List Line) (src : Option ℕ) (dst : ℕ) (payload : List ℕ) → IsTrue (is_payload payload) → is_declared setting.numbers dst ≡ true → Course setting m stations late ticks lines
     → Course setting (after_issue m src dst payload) stations late ticks lines
-course-issue setting m stations late ticks lines src dst payload may is c =
-    let i = m.host.initiator in
-    let source = unwrap_or src i.node in
-    let new : Issued = record { body = next_issued i source dst payload; standing = Waiting } in
-    let more = map-append (λ (x : Issued). x.body) i.issued (new ∷ []) in
-    record {
-      now = c.now;
-      stay = c.stay;
-      done = c.done;
-      stage = stage-alike late m (after_issue m src dst payload) stations c.now (record { ear = refl; mouth = refl; sending = refl }) refl refl c.stage;
-      tied = subst (λ (all : List (List ℕ)). IsTied setting all c.done c.now c.stay) (sym more) (tied-more setting (bodies_of m) (new.body ∷ []) c.done c.now c.stay (ledger-few setting i m.stations stations lines c.stay c.done ticks c.ledger) c.tied);
-      ledger = ledger-issue setting i source dst payload m.stations stations lines c.stay c.done ticks may is c.ledger;
-    }
+course-issue setting m stations late ticks lines src dst payload may is c = record {
+  now = c.now;
+  stage = stage-alike late m (after_issue m src dst payload) stations c.now (record { ear = refl; mouth = refl; sending = refl }) refl refl c.stage;
+  ledger = ledger-issue (unwrap_or src m.host.initiator.node) dst payload may is c.ledger;
+}
 
 -- ---- the next command is handed out
 
@@ -88,8 +64,8 @@ pub record Found (setting : Setting) (stations : List LineStationState) (n : ℕ
   pub number_at : slice_get setting.numbers place ≡ Some n
   pub number : side.number ≡ n
 
-pub found : (setting : Setting) (m : MasterState NodeState) (stations : List LineStationState) (n : ℕ) → Known setting m stations → is_declared setting.numbers n ≡ true → Found setting stations n
-found setting m stations n k is =
+pub found : (setting : Setting) (m : MasterState NodeState) (stations : List LineStationState) (lines : List Line) (n : ℕ) → Known setting m stations lines → is_declared setting.numbers n ≡ true → Found setting stations n
+found setting m stations lines n k is =
     let at = declared-somewhere setting.numbers n is in
     let side = from-map (λ (x : LineStationState). x.number) stations at.0 n (ap (λ (ns : List ℕ). slice_get ns at.0) k.numbers_are ∙ at.1) in
     record { place = at.0; side = side.0; is_at = side.1; number_at = at.1; number = side.2 }
@@ -114,72 +90,63 @@ may-begin m body next = by-test (is_done m.mouth && master.is_idle m.phase) refl
     by-test true is next = let parts = and_parts (is_done m.mouth) (master.is_idle m.phase) is in (parts.0, idle-phase m.phase parts.1)
     by-test false is next = absurd cc
 
--- then nothing is awaited
-idle-stage : (late : ℕ) (m : MasterState NodeState) (stations : List LineStationState) (now : Now) → m.phase ≡ phase.Idle → Stage late m stations now → Idling m stations
-idle-stage late m stations Idles idle stage = stage
-idle-stage late m stations (Awaits place awaited) idle stage = absurd (let no : true ≡ false = sym (ap master.is_idle idle) ∙ waits-busy late m place awaited stage.waits in cc)
-
-begins-course : (setting : Setting) (m : MasterState NodeState) (stations : List LineStationState) (late ticks : ℕ) (lines : List Line) (body : List ℕ) → Known setting m stations → m.setup.check ≡ m.ear.check → message_next node_host m ≡ Some body → Course setting m stations late ticks lines
-    → Course setting (begun node_host m) stations late ticks lines
-begins-course setting m stations late ticks lines body k check next c =
+begins-course : (setting : Setting) (m : MasterState NodeState) (stations : List LineStationState) (late ticks : ℕ) (lines : List Line) (body : List ℕ) → Known setting m stations lines → m.setup.check ≡ m.ear.check → is_done m.mouth ≡ true → m.phase ≡ phase.Idle → next_body m.host ≡ Some body → Idling m stations
+    → Ledger setting m.host.initiator m.stations stations lines Idles ticks → Course setting (begun node_host m) stations late ticks lines
+begins-course setting m stations late ticks lines body k check given idle nexts stage l =
     let i = m.host.initiator in
-    let may = may-begin m body next in
-    let stage = idle-stage late m stations c.now may.1 c.stage in
-    let nexts = next-of node_host m body next in
-    let l = ledger-hands setting i body m.stations stations lines c.stay c.done ticks (next-command m.host body k.replies_none nexts) c.ledger in
-    let old = c.ledger in
-    let at = l.2 in
-    let declared : is_declared setting.numbers (slice_index body 0) ≡ true = old.declared c.done body at in
+    let next = next-command m.host body k.replies_none nexts in
+    let at = next-has i body next in
+    let declared : is_declared setting.numbers (slice_index body 0) ≡ true = l.declared at.0 body at.1 in
     let listed : is_listed m.stations (slice_index body 0) ≡ true = listed-number m.stations (slice_index body 0) ∙ ap (λ (ns : List ℕ). is_declared ns (slice_index body 0)) k.list_is ∙ declared in
-    let f = found setting m stations (slice_index body 0) k declared in
-    let fits = body-at (bodies_of m) c.done body old.fits at in
+    let f = found setting m stations lines (slice_index body 0) k declared in
+    let fits = body-at (bodies_in i) at.0 body l.fits at.1 in
+    let apart = elsewhere setting m stations lines f.place f.side k f.is_at in
+    let to : is_to f.side.number body ≡ true = eq-eqb (slice_index body 0) f.side.number (sym f.number) in
     let after : MasterState NodeState = transmitted (let now : MasterState NodeState = with_host m (after_next m.host) in record now { sending = body }) 0 in
-    let expects = message-begins m after stations f.place f.side body (done-left m.mouth.left may.0) stage.outside stage.rest f.is_at
-    (λ p other there differ same. other-number setting stations f.place p f.side.number other k.numbers_are (number-at setting.numbers stations f.place f.side k.numbers_are f.is_at) there differ (sym same))
+    let expects = message-begins m after stations f.place f.side body (done-left m.mouth.left given) stage.outside stage.rest f.is_at
+    (λ p other there differ same. apart p other there differ (sym same))
     check fits.0 fits.1 (sym f.number) refl refl refl in
     let same : after.host.initiator ≡ after_hand_out i = handed-initiator m.host k.replies_none in
     let course : Course setting after stations late ticks lines = record {
       now = Awaits f.place (Receipt body);
-      stay = Going body;
-      done = c.done;
       stage = record { waits = record { left = m.setup.ack_ticks; resent = 0; phase = refl; patient = omega arith }; expects = expects };
-      tied = record { here = record { number = slice_index body 0; is_at = f.number_at; to = eq-eqb (slice_index body 0) (slice_index body 0) refl }; stays = refl };
-      ledger = subst (λ (x : InitiatorState). Ledger setting x m.stations stations lines (Going body) c.done ticks) (sym same) l.1;
+      ledger = subst (λ (x : InitiatorState). Ledger setting x m.stations stations lines (Awaits f.place (Receipt body)) ticks) (sym same)
+          (ledger-hands body f.place f.side next f.is_at to (λ p other there differ. not-theirs f.side other body to (apart p other there differ)) l);
     } in
-    subst (λ (e : MasterState NodeState). Course setting e stations late ticks lines) (sym (take-begins node_host m body may.0 may.1 nexts listed)) course
+    subst (λ (e : MasterState NodeState). Course setting e stations late ticks lines) (sym (take-begins node_host m body given idle nexts listed)) course
 
-begun-course : (setting : Setting) (m : MasterState NodeState) (stations : List LineStationState) (late ticks : ℕ) (lines : List Line) (o : Option (List ℕ)) → Known setting m stations → m.setup.check ≡ m.ear.check → message_next node_host m ≡ o → Course setting m stations late ticks lines
+-- then nothing is awaited
+begins-now : (setting : Setting) (m : MasterState NodeState) (stations : List LineStationState) (late ticks : ℕ) (lines : List Line) (body : List ℕ) (now : Now) → Known setting m stations lines → m.setup.check ≡ m.ear.check → message_next node_host m ≡ Some body → Stage late m stations now
+    → Ledger setting m.host.initiator m.stations stations lines now ticks → Course setting (begun node_host m) stations late ticks lines
+begins-now setting m stations late ticks lines body Idles k check next stage l =
+    let may = may-begin m body next in
+    begins-course setting m stations late ticks lines body k check may.0 may.1 (next-of node_host m body next) stage l
+begins-now setting m stations late ticks lines body (Awaits place awaited) k check next stage l =
+    absurd (let no : true ≡ false = sym (ap master.is_idle (may-begin m body next).1) ∙ waits-busy late m place awaited stage.waits in cc)
+
+begun-course : (setting : Setting) (m : MasterState NodeState) (stations : List LineStationState) (late ticks : ℕ) (lines : List Line) (o : Option (List ℕ)) → Known setting m stations lines → m.setup.check ≡ m.ear.check → message_next node_host m ≡ o → Course setting m stations late ticks lines
     → Course setting (begun_of node_host m o) stations late ticks lines
 begun-course setting m stations late ticks lines None k check next c = c
 begun-course setting m stations late ticks lines (Some body) k check next c =
-    subst (λ (o : Option (List ℕ)). Course setting (begun_of node_host m o) stations late ticks lines) next (begins-course setting m stations late ticks lines body k check next c)
+    subst (λ (o : Option (List ℕ)). Course setting (begun_of node_host m o) stations late ticks lines) next (begins-now setting m stations late ticks lines body c.now k check next c.stage c.ledger)
 
 -- ---- a byte is given
 
-ledger-given : (setting : Setting) (e : MasterState NodeState) (stations : List LineStationState) (lines : List Line) (stay : Stay) (done ticks : ℕ) → Ledger setting e.host.initiator e.stations stations lines stay done ticks → Ledger setting e.host.initiator e.stations (map (with_given e) stations) lines stay done ticks
-ledger-given setting e stations lines stay done ticks l = record {
-  out = l.out;
-  in_time = l.in_time;
-  is_out = l.is_out;
+ledger-given : {setting : Setting} {stations : List LineStationState} {lines : List Line} {now : Now} {ticks : ℕ} (e : MasterState NodeState) → Ledger setting e.host.initiator e.stations stations lines now ticks → Ledger setting e.host.initiator e.stations (map (with_given e) stations) lines now ticks
+ledger-given {setting = setting} {stations = stations} {lines = lines} {now = now} {ticks = ticks} e l = record {
+  some = l.some;
+  some_of = l.some_of;
   fits = l.fits;
   declared = l.declared;
-  in_order = l.in_order;
   sides = λ p side at.
       let was = at-given e stations p side at in
-      subst (λ (x : LineStationState). SideBooks (setting.first p) x.number (bodies_in e.host.initiator) stay done (kept_at e.stations p) x.slave lines) was.2 (l.sides p was.0 was.1);
+      subst (λ (x : LineStationState). SideDealings setting e.host.initiator e.stations lines now ticks p x) was.2 (l.sides p was.0 was.1);
 }
 
 given-course : (setting : Setting) (e : MasterState NodeState) (stations : List LineStationState) (late ticks : ℕ) (lines : List Line) → Course setting e stations late ticks lines → Course setting (given_next e) (map (with_given e) stations) late ticks lines
-given-course setting e stations late ticks lines c = record {
-  now = c.now;
-  stay = c.stay;
-  done = c.done;
-  stage = stage-given late e stations c.now c.stage;
-  tied = c.tied;
-  ledger = ledger-given setting e stations lines c.stay c.done ticks c.ledger;
-}
+given-course setting e stations late ticks lines c = record { now = c.now; stage = stage-given late e stations c.now c.stage; ledger = ledger-given e c.ledger }
 
-pub course-give : (setting : Setting) (m : MasterState NodeState) (stations : List LineStationState) (late ticks : ℕ) (lines : List Line) → Known setting m stations → m.setup.check ≡ m.ear.check → Course setting m stations late ticks lines
+pub course-give : (setting : Setting) (m : MasterState NodeState) (stations : List LineStationState) (late ticks : ℕ) (lines : List Line) → Known setting m stations lines → m.setup.check ≡ m.ear.check → Course setting m stations late ticks lines
     → Course setting (master_after_take node_host m) (map (with_given (begun node_host m)) stations) late ticks lines
 course-give setting m stations late ticks lines k check c =
     given-course setting (begun node_host m) stations late ticks lines (begun-course setting m stations late ticks lines (message_next node_host m) k check refl c)

@@ -1,4 +1,4 @@
--- A cell arrives at the master in an undisturbed run: the reply that it is of goes on, or ends; a message that ends so is the answer to the command that is out.
+-- A cell arrives at the master in an undisturbed run: the reply that it is of goes on, or ends; a message that ends so is the answer to a command that is out.
 use Rattle.std.proofs.Common.{◌≡◌, ◌∙◌, ℕ, suc, ◌+◌, Bool, true, false, List, [], ◌∷◌, ◌++◌, Option, Some, None, refl, ap, sym, subst, inl, inr, append-nil}
 use Rattle.std.specs.Prelude.{◌⊎◌, slice_get, slice_set, slice_index, ◌==◌}
 use Rattle.std.specs.Option.{option_and_then}
@@ -24,13 +24,10 @@ use Rattle.half_master.proofs.Seen.{lent-after}
 use Rattle.script_statement.specs.declared.who.Who.TheVariants.{M}
 use Rattle.replay_report.specs.declared.record.Line.{Line}
 use Rattle.lane_cells.specs.Cells.{LaneCell}
-use Rattle.each_once.specs.Exchanges.{station_after}
 use Rattle.each_once.specs.NodeHost.{node_host}
 use Rattle.each_once.proofs.Sublists.{same-some, from-map}
 use Rattle.report_lines.specs.NodeLines.{did_lines, act_lines, step_lines}
 use Rattle.half_line.specs.Acts.{LineStationState}
-use Rattle.half_line.specs.Complete.{is_to}
-use Rattle.half_line.specs.Issues.{bodies_of}
 use Rattle.half_line.proofs.Once.Invariant.{Setting, number-at}
 use Rattle.half_line.proofs.Once.Places.{set-same, set-other}
 use Rattle.half_line.proofs.Complete.EarHears.{Telling, deceived_at}
@@ -40,11 +37,11 @@ use Rattle.half_line.proofs.Complete.StageTicks.{waits-alike}
 use Rattle.half_line.proofs.Complete.StagePlaces.{set-settled}
 use Rattle.half_line.proofs.Complete.StationAnswers.{Answers, StillAnswers, HearsReply, reply-cell}
 use Rattle.half_line.proofs.Complete.ReplyHeard.{back_left, after_reply, GoesOn, silent-heard, Settles, ack-heard, eot-heard, good-heard}
-use Rattle.half_line.proofs.Complete.StationBook.{first_to, same-node}
-use Rattle.half_line.proofs.Complete.Ledger.{Nowhere, Returning, Stay, IsHome, answer_to, Ledger}
-use Rattle.half_line.proofs.Complete.LedgerSteps.{answer_lines, answer-place, ledger-side, ledger-answers}
-use Rattle.half_line.proofs.Complete.Invariant.{IsTied, Course}
-use Rattle.half_line.proofs.Complete.LineFacts.{apart, here, elsewhere, answer-fits, answer-from, from-here, from-elsewhere, answer-new}
+use Rattle.half_line.proofs.Complete.Dealings.{same-node, reply-new}
+use Rattle.half_line.proofs.Complete.Ledger.{Ledger, going, back, ledger-now}
+use Rattle.half_line.proofs.Complete.LedgerSteps.{kept_in, answer_lines, comes-here, accepts-here, ledger-side, ledger-answers}
+use Rattle.half_line.proofs.Complete.Invariant.{Course}
+use Rattle.half_line.proofs.Complete.LineFacts.{Known, elsewhere, not-theirs, answer-from, from-here, from-elsewhere}
 use Rattle.half_line.proofs.Complete.CallStep.{At}
 
 -- what is told of the cell
@@ -56,12 +53,12 @@ pub record Replied (setting : Setting) (m : MasterState NodeState) (stations : L
   pub ear_check : (after_reply m cell).ear.check ≡ m.ear.check
   pub honest : deceived_at master_ear m.ear cell ≡ 0
 
--- a reply comes from the station at a place, on a line with this stage and these books
-record Comings (setting : Setting) (m : MasterState NodeState) (stations : List LineStationState) (late ticks : ℕ) (lines : List Line) (place : ℕ) (side : LineStationState) (awaited : Awaited) (stay : Stay) (done : ℕ) : Type 0 where
-  at : At setting m stations place side
+-- a reply comes from the station at a place, on a line with this stage
+record Comings (setting : Setting) (m : MasterState NodeState) (stations : List LineStationState) (late ticks : ℕ) (lines : List Line) (place : ℕ) (side : LineStationState) (awaited : Awaited) : Type 0 where
+  at : At setting m stations lines place side
   stage : Stage late m stations (Awaits place awaited)
   called : SideCalled m side awaited
-  ledger : Ledger setting m.host.initiator m.stations stations lines stay done ticks
+  ledger : Ledger setting m.host.initiator m.stations stations lines (Awaits place awaited) ticks
 
 -- ---- what is told
 
@@ -71,20 +68,19 @@ step-told step named what done is-act is-did is-news = rw (is-act, is-did, is-ne
 says-none : (m : MasterState NodeState) (cell : LaneCell) (what : Act) → Says node_host m cell.byte what None news.Nothing → ((named : List ℕ) → act_lines M what None named ≡ []) → reply_lines m cell ≡ []
 says-none m cell what says none = step-told (master.step_at_byte node_host m cell.byte) (master.body_of (after_reply m cell)) what None says.act says.did says.news ∙ none (master.body_of (after_reply m cell))
 
--- the books with no line more, of a station that only gave a cell away
-told-none : (setting : Setting) (m : MasterState NodeState) (stations : List LineStationState) (lines : List Line) (stay : Stay) (done ticks : ℕ) (place : ℕ) (side : LineStationState) (cell : LaneCell) (cells : List LaneCell) → slice_get stations place ≡ Some side → reply_lines m cell ≡ []
-    → Ledger setting m.host.initiator m.stations stations lines stay done ticks → Ledger setting m.host.initiator m.stations (slice_set stations place (back_left side cells)) (lines ++ reply_lines m cell) stay done ticks
-told-none setting m stations lines stay done ticks place side cell cells at none l =
-    subst (λ (all : List Line). Ledger setting m.host.initiator m.stations (slice_set stations place (back_left side cells)) all stay done ticks)
+-- the dealings with no line more, with a station that only gave a cell away
+told-none : {setting : Setting} {stations : List LineStationState} {lines : List Line} {now : Now} {ticks : ℕ} (m : MasterState NodeState) (place : ℕ) (side : LineStationState) (cell : LaneCell) (cells : List LaneCell) → slice_get stations place ≡ Some side → reply_lines m cell ≡ []
+    → Ledger setting m.host.initiator m.stations stations lines now ticks → Ledger setting m.host.initiator m.stations (slice_set stations place (back_left side cells)) (lines ++ reply_lines m cell) now ticks
+told-none {setting = setting} {stations = stations} {lines = lines} {now = now} {ticks = ticks} m place side cell cells at none l =
+    subst (λ (all : List Line). Ledger setting m.host.initiator m.stations (slice_set stations place (back_left side cells)) all now ticks)
     (sym (append-nil lines) ∙ ap (λ (more : List Line). lines ++ more) (sym none))
-    (ledger-side setting m.host.initiator m.stations stations lines stay done ticks place side (back_left side cells) at refl (same-node side.slave.host side.slave.host refl) refl l)
+    (ledger-side place side (back_left side cells) at refl (same-node side.slave.host side.slave.host refl) refl l)
 
 -- ---- it goes on
 
-on-step : {setting : Setting} {m : MasterState NodeState} {stations : List LineStationState} {place : ℕ} {side : LineStationState} {late ticks done : ℕ} {lines : List Line} {stay : Stay} (awaited : Awaited) (reply : Telling master_ear) (cell : LaneCell) (cells : List LaneCell)
-    → (c : Comings setting m stations late ticks lines place side awaited stay done) → IsTied setting (bodies_of m) done (Awaits place awaited) stay → (g : GoesOn m side cell cells reply) → Progress (with_byte m cell.byte) (back_left side cells) awaited
-    → Replied setting m stations late ticks lines place side cell cells
-on-step {setting = setting} {m = m} {stations = stations} {place = place} {side = side} {late = late} {ticks = ticks} {done = done} {lines = lines} {stay = stay} awaited reply cell cells c tied g progress =
+on-step : {setting : Setting} {m : MasterState NodeState} {stations : List LineStationState} {place : ℕ} {side : LineStationState} {late ticks : ℕ} {lines : List Line} (awaited : Awaited) (reply : Telling master_ear) (cell : LaneCell) (cells : List LaneCell)
+    → (c : Comings setting m stations late ticks lines place side awaited) → (g : GoesOn m side cell cells reply) → Progress (with_byte m cell.byte) (back_left side cells) awaited → Replied setting m stations late ticks lines place side cell cells
+on-step {setting = setting} {m = m} {stations = stations} {place = place} {side = side} {late = late} {ticks = ticks} {lines = lines} awaited reply cell cells c g progress =
     let now = with_byte m cell.byte in
     let left = back_left side cells in
     let all = slice_set stations place left in
@@ -100,11 +96,8 @@ on-step {setting = setting} {m = m} {stations = stations} {place = place} {side 
     } in
     let course : Course setting now all late ticks (lines ++ reply_lines m cell) = record {
       now = Awaits place awaited;
-      stay = stay;
-      done = done;
       stage = stage;
-      tied = tied;
-      ledger = told-none setting m stations lines stay done ticks place side cell cells c.at.is_at (says-none m cell act.Nothing g.says (λ named. refl)) c.ledger;
+      ledger = told-none m place side cell cells c.at.is_at (says-none m cell act.Nothing g.says (λ named. refl)) c.ledger;
     } in
     record {
       course = subst (λ (after : MasterState NodeState). Course setting after all late ticks (lines ++ reply_lines m cell)) (sym g.master) course;
@@ -126,21 +119,18 @@ settled-check : {m : MasterState NodeState} {side : LineStationState} {awaited :
 settled-check cell cells c s = sym s.this.line ∙ c.line
 
 -- of an ACK and an EOT nothing is told, and the initiator stays
-settles-step : {setting : Setting} {m : MasterState NodeState} {stations : List LineStationState} {place : ℕ} {side : LineStationState} {late ticks done : ℕ} {lines : List Line} {stay : Stay} {awaited : Awaited} {host : NodeState} (cell : LaneCell) (cells : List LaneCell)
-    → Comings setting m stations late ticks lines place side awaited stay done → IsHome stay → host.initiator ≡ m.host.initiator → Settles m side cell cells host m.stations → reply_lines m cell ≡ [] → Replied setting m stations late ticks lines place side cell cells
-settles-step {setting = setting} {m = m} {stations = stations} {place = place} {side = side} {ticks = ticks} {done = done} {lines = lines} {stay = stay} cell cells c home same s none =
+settles-step : {setting : Setting} {m : MasterState NodeState} {stations : List LineStationState} {place : ℕ} {side : LineStationState} {late ticks : ℕ} {lines : List Line} {awaited : Awaited} {host : NodeState} (cell : LaneCell) (cells : List LaneCell) → Comings setting m stations late ticks lines place side awaited
+    → ((p : ℕ) → going (Awaits place awaited) p ≡ []) → ((p : ℕ) → back (Awaits place awaited) p ≡ []) → host.initiator ≡ m.host.initiator → Settles m side cell cells host m.stations → reply_lines m cell ≡ [] → Replied setting m stations late ticks lines place side cell cells
+settles-step {setting = setting} {m = m} {stations = stations} {place = place} {side = side} {ticks = ticks} {lines = lines} cell cells c none_going none_back same s none =
     let all = slice_set stations place (back_left side cells) in
     let i : (after_reply m cell).host.initiator ≡ m.host.initiator = ap (λ (node : NodeState). node.initiator) s.host_is ∙ same in
-    let l = told-none setting m stations lines stay done ticks place side cell cells c.at.is_at none c.ledger in
+    let l = told-none m place side cell cells c.at.is_at none (ledger-now Idles none_going none_back c.ledger) in
     record {
       course = record {
         now = Idles;
-        stay = stay;
-        done = done;
         stage = settled-stage cell cells c.stage s;
-        tied = home;
-        ledger = subst (λ (listed : List Station). Ledger setting (after_reply m cell).host.initiator listed all (lines ++ reply_lines m cell) stay done ticks) (sym s.list_is)
-            (subst (λ (x : InitiatorState). Ledger setting x m.stations all (lines ++ reply_lines m cell) stay done ticks) (sym i) l);
+        ledger = subst (λ (listed : List Station). Ledger setting (after_reply m cell).host.initiator listed all (lines ++ reply_lines m cell) Idles ticks) (sym s.list_is)
+            (subst (λ (x : InitiatorState). Ledger setting x m.stations all (lines ++ reply_lines m cell) Idles ticks) (sym i) l);
       };
       ear_check = settled-check cell cells c.called s;
       honest = s.honest;
@@ -158,51 +148,39 @@ answered node reply place is at = rw (is, at) refl
 room-for-reply : (node : NodeState) (reply : List ℕ) → is_reply reply ≡ true → has_room node reply ≡ true
 room-for-reply node reply is = rw is refl
 
-abbrev kept_in : Option Station → Option Key
-kept_in o = option_and_then {T = Station} (λ station. station.kept) o
-
-answer-step : {setting : Setting} {m : MasterState NodeState} {stations : List LineStationState} {place : ℕ} {side : LineStationState} {late ticks done : ℕ} {lines : List Line} (body : List ℕ) (cell : LaneCell) (cells : List LaneCell) → let reply = answer_to (setting.first place) side.number (bodies_of m) done body in
-    Comings setting m stations late ticks lines place side (Message reply) (Returning body) done → is_to side.number body ≡ true → HearsReply side.slave cell cells m.ear (a_reply reply) → Replied setting m stations late ticks lines place side cell cells
-answer-step {setting = setting} {m = m} {stations = stations} {place = place} {side = side} {ticks = ticks} {done = done} {lines = lines} body cell cells c to h =
+answer-step : {setting : Setting} {m : MasterState NodeState} {stations : List LineStationState} {place : ℕ} {side : LineStationState} {late ticks : ℕ} {lines : List Line} (reply : List ℕ) (cell : LaneCell) (cells : List LaneCell) → Comings setting m stations late ticks lines place side (Message reply)
+    → HearsReply side.slave cell cells m.ear (a_reply reply) → Replied setting m stations late ticks lines place side cell cells
+answer-step {setting = setting} {m = m} {stations = stations} {place = place} {side = side} {ticks = ticks} {lines = lines} reply cell cells c h =
     let k = c.at.known in
     let l = c.ledger in
     let i = m.host.initiator in
-    let first = setting.first place in
     let n = side.number in
-    let bodies = bodies_of m in
-    let reply = answer_to first n bodies done body in
     let w = c.stage.waits in
-    let then = station_after first (first_to n done bodies) in
-    let fits = answer-fits then body in
     let at_number = number-at setting.numbers stations place side k.numbers_are c.at.is_at in
     let station = from-map (λ (x : Station). x.number) m.stations place n (ap (λ (ns : List ℕ). slice_get ns place) k.list_is ∙ at_number) in
-    let from : slice_index reply 1 ≡ station.0.number = answer-from then body ∙ eqb-true (slice_index body 0) n to ∙ sym station.2 in
+    let a = accepts-here place side station.0 reply c.at.is_at station.1 k.few k.numbered l in
+    let from : slice_index reply 1 ≡ station.0.number = answer-from a.body reply a.fits ∙ eqb-true (slice_index a.body 0) n a.to ∙ sym station.2 in
     let kept : kept_at m.stations place ≡ station.0.kept = ap (λ (o : Option Station). kept_in o) station.1 in
-    let new : is_kept station.0.kept (key_of reply) ≡ false =
-    ap (λ key. is_kept key (key_of reply)) (sym kept ∙ (l.sides place side c.at.is_at).answer.key) ∙ answer-new first n bodies done body (apart setting m stations k) l.is_out.2 to in
-    let good = good-heard m side cell cells reply w.left place station.0 c.called w.phase h station.1 from new (room-for-reply m.host reply fits.1) in
+    let new : is_kept station.0.kept (key_of reply) ≡ false = ap (λ key. is_kept key (key_of reply)) (sym kept) ∙ reply-new reply k.few k.numbered (comes-here place side reply c.at.is_at l) in
+    let good = good-heard m side cell cells reply w.left place station.0 c.called w.phase h station.1 from new (room-for-reply m.host reply a.is_a_reply) in
     let s = good.0 in
-    let placed = answer-place setting i m.stations stations lines body reply done ticks fits.0 l in
+    let number = a.answers.place + 1 in
     let named : master.body_of (after_reply m cell) ≡ reply = lent-after node_host m cell.byte ∙ h.body in
-    let told : reply_lines m cell ≡ answer_lines (done + 1) reply =
+    let told : reply_lines m cell ≡ answer_lines number reply =
     step-told (master.step_at_byte node_host m cell.byte) (master.body_of (after_reply m cell)) act.Accept (Some (did_accept m.host reply)) good.1.act good.1.did good.1.news
-    ∙ ap (λ (d : Did). did_lines M (Some d) (master.body_of (after_reply m cell))) (answered m.host reply done fits.1 placed.0)
-    ∙ ap (λ (b : List ℕ). answer_lines (done + 1) b) named in
-    let others = elsewhere setting m stations place side body k c.at.is_at to in
+    ∙ ap (λ (d : Did). did_lines M (Some d) (master.body_of (after_reply m cell))) (answered m.host reply a.answers.place a.is_a_reply a.answers.is_place)
+    ∙ ap (λ (b : List ℕ). answer_lines number b) named in
     let all = slice_set stations place (back_left side cells) in
-    let now = ledger-answers setting i m.stations stations lines body done ticks place side (back_left side cells) station.0 c.at.is_at refl refl station.1 to fits.0 (from-here then n body to)
-    (λ p other found differ. let far = others p other found differ in (far.1, from-elsewhere then other.number body far.1)) l in
-    let same : (after_reply m cell).host.initiator ≡ initiator_after i reply = ap (λ (node : NodeState). node.initiator) s.host_is ∙ accepted-reply m.host reply fits.1 in
+    let now = ledger-answers place side (back_left side cells) station.0 reply number c.at.is_at refl refl station.1 (from-here n a.body reply a.fits a.to) a
+    (λ p other found differ. let far = not-theirs side other a.body a.to (elsewhere setting m stations lines place side k c.at.is_at p other found differ) in (far, from-elsewhere other.number a.body reply a.fits far)) l in
+    let same : (after_reply m cell).host.initiator ≡ initiator_after i reply = ap (λ (node : NodeState). node.initiator) s.host_is ∙ accepted-reply m.host reply a.is_a_reply in
     record {
       course = record {
         now = Idles;
-        stay = Nowhere;
-        done = suc done;
         stage = settled-stage cell cells c.stage s;
-        tied = tt;
-        ledger = subst (λ (more : List Line). Ledger setting (after_reply m cell).host.initiator (after_reply m cell).stations all (lines ++ more) Nowhere (suc done) ticks) (sym told)
-            (subst (λ (listed : List Station). Ledger setting (after_reply m cell).host.initiator listed all (lines ++ answer_lines (done + 1) reply) Nowhere (suc done) ticks) (sym s.list_is)
-            (subst (λ (x : InitiatorState). Ledger setting x (with_key m.stations place (key_of reply)) all (lines ++ answer_lines (done + 1) reply) Nowhere (suc done) ticks) (sym same) now));
+        ledger = subst (λ (more : List Line). Ledger setting (after_reply m cell).host.initiator (after_reply m cell).stations all (lines ++ more) Idles ticks) (sym told)
+            (subst (λ (listed : List Station). Ledger setting (after_reply m cell).host.initiator listed all (lines ++ answer_lines number reply) Idles ticks) (sym s.list_is)
+            (subst (λ (x : InitiatorState). Ledger setting x (with_key m.stations place (key_of reply)) all (lines ++ answer_lines number reply) Idles ticks) (sym same) now));
       };
       ear_check = settled-check cell cells c.called s;
       honest = s.honest;
@@ -219,50 +197,44 @@ next-cell m side cell cells reply is r = reply-cell side.slave cell cells m.ear 
 none-comes : (m : MasterState NodeState) (side : LineStationState) (cell : LaneCell) (cells : List LaneCell) → side.from_it ≡ cell ∷ cells → side.from_it ≡ [] → ⊥
 none-comes m side cell cells is none = let no : cell ∷ cells ≡ [] = sym is ∙ none in cc
 
-returns-step : {setting : Setting} {m : MasterState NodeState} {stations : List LineStationState} {place : ℕ} {side : LineStationState} {late ticks done : ℕ} {lines : List Line} {stay : Stay} (awaited : Awaited) (cell : LaneCell) (cells : List LaneCell) → side.from_it ≡ cell ∷ cells
-    → Comings setting m stations late ticks lines place side awaited stay done → IsTied setting (bodies_of m) done (Awaits place awaited) stay → Replied setting m stations late ticks lines place side cell cells
-returns-step {m = m} {side = side} (Receipt body) cell cells is c tied = absurd (none-comes m side cell cells is c.called.progress.none_back)
-returns-step {m = m} {side = side} Polling cell cells is c tied = absurd (none-comes m side cell cells is c.called.progress.none_back)
-returns-step {setting = setting} {m = m} {stations = stations} {place = place} {side = side} {late = late} {ticks = ticks} {lines = lines} Ack cell cells is c tied = by-cell (next-cell m side cell cells an_ack is c.called.progress)
+returns-step : {setting : Setting} {m : MasterState NodeState} {stations : List LineStationState} {place : ℕ} {side : LineStationState} {late ticks : ℕ} {lines : List Line} (awaited : Awaited) (cell : LaneCell) (cells : List LaneCell) → side.from_it ≡ cell ∷ cells
+    → Comings setting m stations late ticks lines place side awaited → Replied setting m stations late ticks lines place side cell cells
+returns-step {m = m} {side = side} (Receipt body) cell cells is c = absurd (none-comes m side cell cells is c.called.progress.none_back)
+returns-step {m = m} {side = side} Polling cell cells is c = absurd (none-comes m side cell cells is c.called.progress.none_back)
+returns-step {setting = setting} {m = m} {stations = stations} {place = place} {side = side} {late = late} {ticks = ticks} {lines = lines} Ack cell cells is c = by-cell (next-cell m side cell cells an_ack is c.called.progress)
   where
     by-cell : Next m side cell cells an_ack → Replied setting m stations late ticks lines place side cell cells
     by-cell (inl still) =
         let g = silent-heard m side cell cells an_ack c.called.progress still in
-        on-step Ack an_ack cell cells c tied g g.returns
+        on-step Ack an_ack cell cells c g g.returns
     by-cell (inr h) =
         let w = c.stage.waits in
         let r = ack-heard m side cell cells w.left w.resent c.called w.phase h in
-        settles-step cell cells c tied refl r.0 (says-none m cell act.PeerAck r.1 (λ named. refl))
-returns-step {setting = setting} {m = m} {stations = stations} {place = place} {side = side} {late = late} {ticks = ticks} {lines = lines} Eot cell cells is c tied = by-cell (next-cell m side cell cells an_eot is c.called.progress)
+        settles-step cell cells c (λ p. refl) (λ p. refl) refl r.0 (says-none m cell act.PeerAck r.1 (λ named. refl))
+returns-step {setting = setting} {m = m} {stations = stations} {place = place} {side = side} {late = late} {ticks = ticks} {lines = lines} Eot cell cells is c = by-cell (next-cell m side cell cells an_eot is c.called.progress)
   where
     by-cell : Next m side cell cells an_eot → Replied setting m stations late ticks lines place side cell cells
     by-cell (inl still) =
         let g = silent-heard m side cell cells an_eot c.called.progress still in
-        on-step Eot an_eot cell cells c tied g g.returns
+        on-step Eot an_eot cell cells c g g.returns
     by-cell (inr h) =
         let w = c.stage.waits in
         let r = eot-heard m side cell cells w.left place c.called w.phase h in
-        settles-step cell cells c tied refl r.0 (says-none m cell act.Nothing r.1 (λ named. refl))
-returns-step {setting = setting} {m = m} {stations = stations} {place = place} {side = side} {late = late} {ticks = ticks} {done = done} {lines = lines} (Message reply) cell cells is c tied = by-cell (next-cell m side cell cells (a_reply reply) is c.called.progress)
+        settles-step cell cells c (λ p. refl) (λ p. refl) refl r.0 (says-none m cell act.Nothing r.1 (λ named. refl))
+returns-step {setting = setting} {m = m} {stations = stations} {place = place} {side = side} {late = late} {ticks = ticks} {lines = lines} (Message reply) cell cells is c = by-cell (next-cell m side cell cells (a_reply reply) is c.called.progress)
   where
     by-cell : Next m side cell cells (a_reply reply) → Replied setting m stations late ticks lines place side cell cells
     by-cell (inl still) =
         let g = silent-heard m side cell cells (a_reply reply) c.called.progress still in
-        on-step (Message reply) (a_reply reply) cell cells c tied g g.returns
-    by-cell (inr h) =
-        let number = here setting m stations place side tied.body c.at.known c.at.is_at tied.here in
-        let to : is_to side.number tied.body ≡ true = ap (λ (n : ℕ). is_to n tied.body) (sym number) ∙ tied.here.to in
-        let same : reply ≡ answer_to (setting.first place) side.number (bodies_of m) done tied.body = tied.is ∙ ap (λ (n : ℕ). answer_to (setting.first place) n (bodies_of m) done tied.body) number in
-        answer-step tied.body cell cells
-        (subst (λ (r : List ℕ). Comings setting m stations late ticks lines place side (Message r) (Returning tied.body) done) same (subst (λ (s : Stay). Comings setting m stations late ticks lines place side (Message reply) s done) tied.stays c))
-        to (subst (λ (r : List ℕ). HearsReply side.slave cell cells m.ear (a_reply r)) same h)
+        on-step (Message reply) (a_reply reply) cell cells c g g.returns
+    by-cell (inr h) = answer-step reply cell cells c h
 
 -- ---- of any station
 
-by-now : {setting : Setting} {m : MasterState NodeState} {stations : List LineStationState} {place : ℕ} {side : LineStationState} {late ticks done : ℕ} {lines : List Line} {stay : Stay} (now : Now) (cell : LaneCell) (cells : List LaneCell) → At setting m stations place side → side.from_it ≡ cell ∷ cells
-    → Stage late m stations now → IsTied setting (bodies_of m) done now stay → Ledger setting m.host.initiator m.stations stations lines stay done ticks → Replied setting m stations late ticks lines place side cell cells
-by-now {m = m} {place = place} {side = side} Idles cell cells at is stage tied l = absurd (none-comes m side cell cells is (stage.rest place side at.is_at).none_back)
-by-now {setting = setting} {m = m} {stations = stations} {place = place} {side = side} {late = late} {ticks = ticks} {done = done} {lines = lines} {stay = stay} (Awaits q awaited) cell cells at is stage tied l = by-place (place == q) refl
+by-now : {setting : Setting} {m : MasterState NodeState} {stations : List LineStationState} {place : ℕ} {side : LineStationState} {late ticks : ℕ} {lines : List Line} (now : Now) (cell : LaneCell) (cells : List LaneCell) → At setting m stations lines place side → side.from_it ≡ cell ∷ cells
+    → Stage late m stations now → Ledger setting m.host.initiator m.stations stations lines now ticks → Replied setting m stations late ticks lines place side cell cells
+by-now {m = m} {place = place} {side = side} Idles cell cells at is stage l = absurd (none-comes m side cell cells is (stage.rest place side at.is_at).none_back)
+by-now {setting = setting} {m = m} {stations = stations} {place = place} {side = side} {late = late} {ticks = ticks} {lines = lines} (Awaits q awaited) cell cells at is stage l = by-place (place == q) refl
   where
     by-place : (same : Bool) → (place == q) ≡ same → Replied setting m stations late ticks lines place side cell cells
     by-place false same = absurd (none-comes m side cell cells is (stage.expects.others place side at.is_at (eqb-false place q same)).none_back)
@@ -272,10 +244,9 @@ by-now {setting = setting} {m = m} {stations = stations} {place = place} {side =
         let e = stage_here.expects in
         let side_is : e.side ≡ side = same-some e.side side (sym e.is_at ∙ at.is_at) in
         let called = subst (λ (s : LineStationState). SideCalled m s awaited) side_is e.called in
-        let tied_here : IsTied setting (bodies_of m) done (Awaits place awaited) stay = subst (λ (n : ℕ). IsTied setting (bodies_of m) done (Awaits n awaited) stay) there tied in
-        returns-step awaited cell cells is (record { at = at; stage = stage_here; called = called; ledger = l }) tied_here
+        let here = subst (λ (n : ℕ). Ledger setting m.host.initiator m.stations stations lines (Awaits n awaited) ticks) there l in
+        returns-step awaited cell cells is (record { at = at; stage = stage_here; called = called; ledger = here })
 
-pub master-hears : (setting : Setting) (m : MasterState NodeState) (stations : List LineStationState) (late ticks : ℕ) (lines : List Line) (place : ℕ) (side : LineStationState) (cell : LaneCell) (cells : List LaneCell) → At setting m stations place side → side.from_it ≡ cell ∷ cells
+pub master-hears : (setting : Setting) (m : MasterState NodeState) (stations : List LineStationState) (late ticks : ℕ) (lines : List Line) (place : ℕ) (side : LineStationState) (cell : LaneCell) (cells : List LaneCell) → At setting m stations lines place side → side.from_it ≡ cell ∷ cells
     → Course setting m stations late ticks lines → Replied setting m stations late ticks lines place side cell cells
-master-hears setting m stations late ticks lines place side cell cells at is c =
-    by-now c.now cell cells at is c.stage c.tied c.ledger
+master-hears setting m stations late ticks lines place side cell cells at is c = by-now c.now cell cells at is c.stage c.ledger

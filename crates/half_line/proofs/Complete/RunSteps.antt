@@ -34,7 +34,7 @@ flow-quiet : (setting : Setting) (wait : ℕ) (s : HalfState) (late other ticks 
 flow-quiet setting wait s late other ticks lines quiet f =
     let c = f.course in
     record {
-      course = record { now = c.now; stay = c.stay; done = c.done; stage = stage-quiet late other s c.now quiet c.stage; tied = c.tied; ledger = c.ledger };
+      course = record { now = c.now; stage = stage-quiet late other s c.now quiet c.stage; ledger = c.ledger };
       check = f.check;
       waits = f.waits;
       honest = f.honest;
@@ -69,7 +69,7 @@ flow-issue setting wait s late ticks lines src dst payload may is f = record {
   honest = f.honest;
 }
 
-flow-give : (setting : Setting) (wait : ℕ) (s : HalfState) (late ticks : ℕ) (lines : List Line) → Known setting s.master s.stations → Flow setting wait s late ticks lines → Flow setting wait (after_master_deed s Give) late ticks lines
+flow-give : (setting : Setting) (wait : ℕ) (s : HalfState) (late ticks : ℕ) (lines : List Line) → Known setting s.master s.stations lines → Flow setting wait s late ticks lines → Flow setting wait (after_master_deed s Give) late ticks lines
 flow-give setting wait s late ticks lines k f =
     let m = s.master in
     record {
@@ -79,7 +79,7 @@ flow-give setting wait s late ticks lines k f =
       honest = f.honest;
     }
 
-flow-tick : (setting : Setting) (wait : ℕ) (s : HalfState) (late ticks : ℕ) (lines : List Line) → Known setting s.master s.stations → ticks + 1 < wait → late_after late s (AtMaster Tick) < patience (after_master_deed s Tick) → Flow setting wait s late ticks lines
+flow-tick : (setting : Setting) (wait : ℕ) (s : HalfState) (late ticks : ℕ) (lines : List Line) → Known setting s.master s.stations lines → ticks + 1 < wait → late_after late s (AtMaster Tick) < patience (after_master_deed s Tick) → Flow setting wait s late ticks lines
     → Flow setting wait (after_master_deed s Tick) (late_after late s (AtMaster Tick)) (ticks + 1) (lines ++ lines_at s (AtMaster Tick))
 flow-tick setting wait s late ticks lines k few patient f =
     let m = s.master in
@@ -92,12 +92,12 @@ flow-tick setting wait s late ticks lines k few patient f =
 
 -- ---- anywhere
 
-flow-with : (setting : Setting) (wait : ℕ) (s : HalfState) (late ticks : ℕ) (lines : List Line) (place : ℕ) (deed : LinkDeed) (o : Option LineStationState) → slice_get s.stations place ≡ o → IsGentleWith deed o → Known setting s.master s.stations → Flow setting wait s late ticks lines
+flow-with : (setting : Setting) (wait : ℕ) (s : HalfState) (late ticks : ℕ) (lines : List Line) (place : ℕ) (deed : LinkDeed) (o : Option LineStationState) → slice_get s.stations place ≡ o → IsGentleWith deed o → Known setting s.master s.stations lines → Flow setting wait s late ticks lines
     → Flow setting wait (after_with s place deed o) late ticks (lines ++ lines_with s deed o)
 flow-with setting wait s late ticks lines place deed None at gentle k f = subst (λ (all : List Line). Flow setting wait s late ticks all) (sym (append-nil lines)) f
 flow-with setting wait s late ticks lines place deed (Some side) at gentle k f = flow-link setting wait s late ticks lines place side deed gentle (record { known = k; is_at = at }) f
 
-flow-step : (setting : Setting) (wait : ℕ) (s : HalfState) (late ticks : ℕ) (lines : List Line) (step : UnitStep) → IsPlain step → Known setting s.master s.stations → IsGentle s step → late_after late s step < patience (after_step s step) → ticks + ticks_of step < wait → Flow setting wait s late ticks lines
+flow-step : (setting : Setting) (wait : ℕ) (s : HalfState) (late ticks : ℕ) (lines : List Line) (step : UnitStep) → IsPlain step → Known setting s.master s.stations lines → IsGentle s step → late_after late s step < patience (after_step s step) → ticks + ticks_of step < wait → Flow setting wait s late ticks lines
     → Flow setting wait (after_step s step) (late_after late s step) (ticks + ticks_of step) (lines ++ lines_at s step)
 flow-step setting wait s late ticks lines (AtMaster (Issue src dst payload)) plain k gentle patient few f = absurd plain
 flow-step setting wait s late ticks lines (AtMaster Give) plain k gentle patient few f =
@@ -112,7 +112,7 @@ pub record Along (setting : Setting) (wait count : ℕ) (s : HalfState) (late ti
   pub kept : Kept setting count s lines
   pub flow : Flow setting wait s late ticks lines
 
-known-along : (setting : Setting) (wait count : ℕ) (s : HalfState) (late ticks : ℕ) (lines : List Line) → count ≤ 65535 → AreShort setting → Along setting wait count s late ticks lines → Known setting s.master s.stations
+known-along : (setting : Setting) (wait count : ℕ) (s : HalfState) (late ticks : ℕ) (lines : List Line) → count ≤ 65535 → AreShort setting → Along setting wait count s late ticks lines → Known setting s.master s.stations lines
 known-along setting wait count s late ticks lines few short a = known setting count s lines few short (a.kept a.flow.honest)
 
 abbrev pub ticks_over : List UnitStep → ℕ

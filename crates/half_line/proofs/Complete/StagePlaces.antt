@@ -19,21 +19,26 @@ use Rattle.half_line.proofs.Once.Places.{set-same, set-other}
 use Rattle.half_line.proofs.Complete.Stages.{SideRests, AllRest, Awaited, Receipt, Polling, Ack, Eot, Message, SideCalled, Expects, Waits, Now, Idles, Awaits, Stage, waits-busy, expects-busy, both}
 use Rattle.half_line.proofs.Complete.StageSteps.{rests-gives, called-gives, with_given, rests-given, called-given}
 
+-- ---- each station, by one of them and the others
+
+pub each-place : (P : ℕ → LineStationState → Type 0) (stations : List LineStationState) (place : ℕ) (now : LineStationState) → slice_get stations place ≡ Some now → P place now → ((p : ℕ) (other : LineStationState) → slice_get stations p ≡ Some other → (p ≡ place → ⊥) → P p other)
+    → (p : ℕ) (side : LineStationState) → slice_get stations p ≡ Some side → P p side
+each-place P stations place now is here others p side at = by-place (p == place) refl
+  where
+    by-place : (same : Bool) → (p == place) ≡ same → P p side
+    by-place true same =
+        let there = eqb-true p place same in
+        let side_is : now ≡ side = same-some now side (sym is ∙ ap (slice_get stations) (sym there) ∙ at) in
+        subst (λ (n : ℕ). P n side) (sym there) (subst (P place) side_is here)
+    by-place false same = others p side at (eqb-false p place same)
+
 -- ---- one station is another now
 
 -- what a place holds then: the new one there, and the old ones elsewhere
 pub at-place : (P : ℕ → LineStationState → Type 0) (stations : List LineStationState) (place : ℕ) (was now : LineStationState) → slice_get stations place ≡ Some was → P place now → ((p : ℕ) (other : LineStationState) → slice_get stations p ≡ Some other → (p ≡ place → ⊥) → P p other)
     → (p : ℕ) (side : LineStationState) → slice_get (slice_set stations place now) p ≡ Some side → P p side
-at-place P stations place was now is new others p side at = by-place (p == place) refl
-  where
-    by-place : (same : Bool) → (p == place) ≡ same → P p side
-    by-place true same =
-        let here = eqb-true p place same in
-        let side_is : now ≡ side = same-some now side (sym (set-same stations place was now is) ∙ ap (slice_get (slice_set stations place now)) (sym here) ∙ at) in
-        subst (λ (n : ℕ). P n side) (sym here) (subst (P place) side_is new)
-    by-place false same =
-        let differ = eqb-false p place same in
-        others p side (sym (set-other stations place p now differ) ∙ at) differ
+at-place P stations place was now is new others =
+    each-place P (slice_set stations place now) place now (set-same stations place was now is) new (λ p other at differ. others p other (sym (set-other stations place p now differ) ∙ at) differ)
 
 -- nothing is awaited of any
 pub set-rests : (m : MasterState NodeState) (stations : List LineStationState) (place : ℕ) (was now : LineStationState) → slice_get stations place ≡ Some was → SideRests m now → AllRest m stations → AllRest m (slice_set stations place now)

@@ -1,4 +1,4 @@
--- A unit of time passes in an undisturbed run: a wait goes on, and an idle master polls, or has a message to give; no command is given up.
+-- A unit of time passes in an undisturbed run: a wait goes on, and an idle master polls, or has a message to give.
 use Rattle.std.proofs.Common.{◌≡◌, ◌∙◌, ℕ, ◌+◌, ◌<◌, Bool, true, false, List, [], ◌++◌, map, min, Option, Some, None, refl, ap, ap₂, sym, subst, append-nil, arith}
 use Rattle.std.specs.Prelude.{slice_get, if◌then◌else◌}
 use Rattle.std.specs.Option.{option_map}
@@ -25,28 +25,23 @@ use Rattle.each_once.proofs.Sublists.{from-map}
 use Rattle.report_lines.specs.NodeLines.{turn_lines, gone_lines}
 use Rattle.half_line.specs.Acts.{LineStationState, HalfState, Tick, master_lines, after_master_deed}
 use Rattle.half_line.specs.Steps.{AtMaster}
-use Rattle.half_line.specs.Issues.{bodies_of}
 use Rattle.half_line.specs.Prompt.{is_idle, is_quiet, late_after, patience}
 use Rattle.half_line.proofs.Once.Invariant.{Setting, number-at, other-number}
+use Rattle.half_line.proofs.Once.QuietLines.{tick-silent}
 use Rattle.half_line.proofs.Complete.Stages.{Awaited, Polling, Now, Idles, Awaits, Stage, Idling, Awaiting, expects-busy, both}
 use Rattle.half_line.proofs.Complete.StageBegins.{poll-begins}
 use Rattle.half_line.proofs.Complete.StageTicks.{stage-alike, expects-same, tick-waited}
 use Rattle.half_line.proofs.Complete.StagePlaces.{awaits-busy}
 use Rattle.half_line.proofs.Complete.QuietLine.{done-left}
-use Rattle.half_line.proofs.Complete.Ledger.{Stay, IsHome, Ledger, ledger-tick, ledger-later}
-use Rattle.half_line.proofs.Complete.Invariant.{IsTied, Course}
+use Rattle.half_line.proofs.Complete.Ledger.{Ledger, ledger-now, ledger-lines, ledger-tick, ledger-later}
+use Rattle.half_line.proofs.Complete.Invariant.{Course}
 use Rattle.half_line.proofs.Complete.LineFacts.{Known}
 
--- ---- what is told of a tick at which nothing is given up
-
-tick-told : (m after : MasterState NodeState) → TickLeaves node_host m after [] → master_lines m Tick ≡ []
-tick-told m after t = ap₂ (λ (x : Turn) (y : List ℕ). turn_lines M x ++ gone_lines M y) t.turn t.gone
-
--- the course after a tick that leaves this master
-left-course : (setting : Setting) (m after : MasterState NodeState) (stations : List LineStationState) (late ticks : ℕ) (lines : List Line) → TickLeaves node_host m after [] → Course setting after stations late ticks lines → Course setting (master_after_tick node_host m) stations late ticks (lines ++ master_lines m Tick)
-left-course setting m after stations late ticks lines t c =
-    subst (λ (all : List Line). Course setting (master_after_tick node_host m) stations late ticks all) (sym (append-nil lines) ∙ ap (λ (more : List Line). lines ++ more) (sym (tick-told m after t)))
-    (subst (λ (e : MasterState NodeState). Course setting e stations late ticks lines) (sym t.master) c)
+-- the course after a tick that leaves this master: of the commands that are executed and answered nothing is told
+left-course : (setting : Setting) (m after : MasterState NodeState) (stations : List LineStationState) (late ticks : ℕ) (lines : List Line) (lost : List ℕ) → TickLeaves node_host m after lost → Course setting after stations late ticks lines → Course setting (master_after_tick node_host m) stations late ticks (lines ++ master_lines m Tick)
+left-course setting m after stations late ticks lines lost t c =
+    subst (λ (e : MasterState NodeState). Course setting e stations late ticks (lines ++ master_lines m Tick)) (sym t.master)
+    (record { now = c.now; stage = c.stage; ledger = ledger-lines (master_lines m Tick) (λ number. tick-silent number M (turn_at_tick node_host m) (gone_at_tick node_host m)) c.ledger })
 
 -- ---- while something is awaited
 
@@ -72,43 +67,39 @@ late-one s late place awaited a =
 few-left : (n a b : ℕ) → n < min a b → (n < a) × (n < b)
 few-left n a b few = let left = min-le_left a b in let right = min-le_right a b in (omega (arith, few, left), omega (arith, few, right))
 
-waiting-tick : (setting : Setting) (s : HalfState) (late ticks : ℕ) (lines : List Line) (place : ℕ) (awaited : Awaited) (stay : Stay) (done : ℕ) → late_after late s (AtMaster Tick) < patience (after_master_deed s Tick) → Awaiting late s.master s.stations place awaited
-    → IsTied setting (bodies_of s.master) done (Awaits place awaited) stay → Ledger setting s.master.host.initiator s.master.stations s.stations lines stay done ticks
-    → Course setting (master_after_tick node_host s.master) s.stations (late_after late s (AtMaster Tick)) (ticks + 1) (lines ++ master_lines s.master Tick)
-waiting-tick setting s late ticks lines place awaited stay done few a tied l =
+waiting-tick : (setting : Setting) (s : HalfState) (late ticks : ℕ) (lines : List Line) (place : ℕ) (awaited : Awaited) → late_after late s (AtMaster Tick) < patience (after_master_deed s Tick) → Awaiting late s.master s.stations place awaited
+    → Ledger setting s.master.host.initiator s.master.stations s.stations lines (Awaits place awaited) ticks → Course setting (master_after_tick node_host s.master) s.stations (late_after late s (AtMaster Tick)) (ticks + 1) (lines ++ master_lines s.master Tick)
+waiting-tick setting s late ticks lines place awaited few a l =
     let m = s.master in
+    let now = Awaits place awaited in
     let one = late-one s late place awaited a in
     let setup = signal-setup node_host m TickLetter in
     let few_now : late + 1 < min m.setup.ack_ticks m.setup.poll_ticks = subst (λ (n : ℕ). n < min m.setup.ack_ticks m.setup.poll_ticks) one (subst (λ (x : MasterSetup). late_after late s (AtMaster Tick) < min x.ack_ticks x.poll_ticks) setup few) in
     let each = few-left (late + 1) m.setup.ack_ticks m.setup.poll_ticks few_now in
     let w = tick-waited late m place awaited each.0 each.1 a.waits in
-    let stage : Stage (late + 1) w.after s.stations (Awaits place awaited) = record { waits = w.waits; expects = expects-same m w.after s.stations place awaited w.alike a.expects } in
-    let later = ledger-later setting m.host.initiator m.stations s.stations lines stay done ticks l in
+    let stage : Stage (late + 1) w.after s.stations now = record { waits = w.waits; expects = expects-same m w.after s.stations place awaited w.alike a.expects } in
     let course : Course setting w.after s.stations (late + 1) (ticks + 1) lines = record {
-      now = Awaits place awaited;
-      stay = stay;
-      done = done;
+      now = now;
       stage = stage;
-      tied = subst (λ (node : NodeState). IsTied setting (map (λ c. c.body) node.initiator.issued) done (Awaits place awaited) stay) (sym w.host) tied;
-      ledger = subst (λ (listed : List Station). Ledger setting w.after.host.initiator listed s.stations lines stay done (ticks + 1)) (sym w.stations_are)
-          (subst (λ (node : NodeState). Ledger setting node.initiator m.stations s.stations lines stay done (ticks + 1)) (sym w.host) later);
+      ledger = subst (λ (listed : List Station). Ledger setting w.after.host.initiator listed s.stations lines now (ticks + 1)) (sym w.stations_are)
+          (subst (λ (node : NodeState). Ledger setting node.initiator m.stations s.stations lines now (ticks + 1)) (sym w.host) (ledger-later l));
     } in
-    subst (λ (n : ℕ). Course setting (master_after_tick node_host m) s.stations n (ticks + 1) (lines ++ master_lines m Tick)) (sym one) (left-course setting m w.after s.stations (late + 1) (ticks + 1) lines w.leaves course)
+    subst (λ (n : ℕ). Course setting (master_after_tick node_host m) s.stations n (ticks + 1) (lines ++ master_lines m Tick)) (sym one) (left-course setting m w.after s.stations (late + 1) (ticks + 1) lines [] w.leaves course)
 
 -- ---- where nothing is awaited
 
 -- the tick doesn't reach the host
-same-tick : (setting : Setting) (m : MasterState NodeState) (stations : List LineStationState) (other ticks : ℕ) (lines : List Line) (stay : Stay) (done : ℕ) → TickLeaves node_host m m [] → Idling m stations → IsHome stay
-    → Ledger setting m.host.initiator m.stations stations lines stay done ticks → Course setting (master_after_tick node_host m) stations other (ticks + 1) (lines ++ master_lines m Tick)
-same-tick setting m stations other ticks lines stay done t idling tied l =
-    let course : Course setting m stations other (ticks + 1) lines = record { now = Idles; stay = stay; done = done; stage = idling; tied = tied; ledger = ledger-later setting m.host.initiator m.stations stations lines stay done ticks l } in
-    left-course setting m m stations other (ticks + 1) lines t course
+same-tick : (setting : Setting) (m : MasterState NodeState) (stations : List LineStationState) (other ticks : ℕ) (lines : List Line) → TickLeaves node_host m m [] → Idling m stations
+    → Ledger setting m.host.initiator m.stations stations lines Idles ticks → Course setting (master_after_tick node_host m) stations other (ticks + 1) (lines ++ master_lines m Tick)
+same-tick setting m stations other ticks lines t idling l =
+    let course : Course setting m stations other (ticks + 1) lines = record { now = Idles; stage = idling; ledger = ledger-later l } in
+    left-course setting m m stations other (ticks + 1) lines [] t course
 
 -- it does, and a station is polled, if there is one
-polls-course : (setting : Setting) (e : MasterState NodeState) (stations : List LineStationState) (other ticks : ℕ) (lines : List Line) (stay : Stay) (done : ℕ) (o : Option Station) → slice_get e.stations e.next ≡ o → numbers_of e.stations ≡ setting.numbers → map (λ (x : LineStationState). x.number) stations ≡ setting.numbers → e.mouth.left ≡ [] → Idling e stations
-    → IsHome stay → Ledger setting e.host.initiator e.stations stations lines stay done ticks → Course setting (polled e o) stations other ticks lines
-polls-course setting e stations other ticks lines stay done None is list_is numbers_are given idling tied l = record { now = Idles; stay = stay; done = done; stage = idling; tied = tied; ledger = l }
-polls-course setting e stations other ticks lines stay done (Some station) is list_is numbers_are given idling tied l =
+polls-course : (setting : Setting) (e : MasterState NodeState) (stations : List LineStationState) (other ticks : ℕ) (lines : List Line) (o : Option Station) → slice_get e.stations e.next ≡ o → numbers_of e.stations ≡ setting.numbers → map (λ (x : LineStationState). x.number) stations ≡ setting.numbers → e.mouth.left ≡ [] → Idling e stations
+    → Ledger setting e.host.initiator e.stations stations lines Idles ticks → Course setting (polled e o) stations other ticks lines
+polls-course setting e stations other ticks lines None is list_is numbers_are given idling l = record { now = Idles; stage = idling; ledger = l }
+polls-course setting e stations other ticks lines (Some station) is list_is numbers_are given idling l =
     let number : slice_get setting.numbers e.next ≡ Some station.number = ap (λ (ns : List ℕ). slice_get ns e.next) (sym list_is) ∙ slice_get-map (λ (x : Station). x.number) e.stations e.next ∙ ap (option_map (λ (x : Station). x.number)) is in
     let side = from-map (λ (x : LineStationState). x.number) stations e.next station.number (ap (λ (ns : List ℕ). slice_get ns e.next) numbers_are ∙ number) in
     let after = polled e (Some station) in
@@ -117,37 +108,32 @@ polls-course setting e stations other ticks lines stay done (Some station) is li
     refl (ap (λ (n : ℕ). give e.mouth (unmarked (poll_bytes n))) (sym side.2)) in
     record {
       now = Awaits e.next Polling;
-      stay = stay;
-      done = done;
       stage = record { waits = record { left = e.setup.poll_ticks; phase = refl; patient = omega arith }; expects = expects };
-      tied = tied;
-      ledger = l;
+      ledger = ledger-now (Awaits e.next Polling) (λ p. refl) (λ p. refl) l;
     }
 
-polls-tick : (setting : Setting) (m : MasterState NodeState) (stations : List LineStationState) (other ticks : ℕ) (lines : List Line) (stay : Stay) (done : ℕ) → Known setting m stations → ticks + 1 < m.host.initiator.reply_ticks → is_done m.mouth ≡ true → next_body m.host ≡ None → Idling m stations → IsHome stay
-    → Ledger setting m.host.initiator m.stations stations lines stay done ticks → Course setting (master_after_tick node_host m) stations other (ticks + 1) (lines ++ master_lines m Tick)
-polls-tick setting m stations other ticks lines stay done k few gives next idling home l =
-    let t = tick-polls node_host m gives idling.idle next in
-    let passed = ledger-tick setting m.host.initiator m.stations stations lines stay done ticks few l in
+polls-tick : (setting : Setting) (m : MasterState NodeState) (stations : List LineStationState) (other ticks : ℕ) (lines : List Line) → Known setting m stations lines → ticks + 1 < m.host.initiator.reply_ticks → is_done m.mouth ≡ true → next_body m.host ≡ None → Idling m stations
+    → Ledger setting m.host.initiator m.stations stations lines Idles ticks → Course setting (master_after_tick node_host m) stations other (ticks + 1) (lines ++ master_lines m Tick)
+polls-tick setting m stations other ticks lines k few gives next idling l =
     let e : MasterState NodeState = with_host m (after_tick m.host) in
     let after = polled e (slice_get m.stations m.next) in
-    let leaves : TickLeaves node_host m after [] = subst (λ (lost : List ℕ). TickLeaves node_host m after lost) passed.0 t in
     let still = stage-alike 0 m e stations Idles (record { ear = refl; mouth = refl; sending = refl }) refl refl idling in
-    left-course setting m after stations other (ticks + 1) lines leaves
-    (polls-course setting e stations other (ticks + 1) lines stay done (slice_get m.stations m.next) refl k.list_is k.numbers_are (done-left m.mouth.left gives) still home passed.1)
+    left-course setting m after stations other (ticks + 1) lines _ (tick-polls node_host m gives idling.idle next)
+    (polls-course setting e stations other (ticks + 1) lines (slice_get m.stations m.next) refl k.list_is k.numbers_are (done-left m.mouth.left gives) still (ledger-tick few l))
 
-idle-tick : (setting : Setting) (m : MasterState NodeState) (stations : List LineStationState) (other ticks : ℕ) (lines : List Line) (stay : Stay) (done : ℕ) (given : Bool) (next : Option (List ℕ)) → is_done m.mouth ≡ given → next_body m.host ≡ next → Known setting m stations → ticks + 1 < m.host.initiator.reply_ticks
-    → Idling m stations → IsHome stay → Ledger setting m.host.initiator m.stations stations lines stay done ticks → Course setting (master_after_tick node_host m) stations other (ticks + 1) (lines ++ master_lines m Tick)
-idle-tick setting m stations other ticks lines stay done false next gives is k few idling home l = same-tick setting m stations other ticks lines stay done (tick-giving node_host m gives) idling home l
-idle-tick setting m stations other ticks lines stay done true (Some body) gives is k few idling home l = same-tick setting m stations other ticks lines stay done (tick-ready node_host m body gives idling.idle is) idling home l
-idle-tick setting m stations other ticks lines stay done true None gives is k few idling home l = polls-tick setting m stations other ticks lines stay done k few gives is idling home l
+idle-tick : (setting : Setting) (m : MasterState NodeState) (stations : List LineStationState) (other ticks : ℕ) (lines : List Line) (given : Bool) (next : Option (List ℕ)) → is_done m.mouth ≡ given → next_body m.host ≡ next → Known setting m stations lines → ticks + 1 < m.host.initiator.reply_ticks
+    → Idling m stations → Ledger setting m.host.initiator m.stations stations lines Idles ticks → Course setting (master_after_tick node_host m) stations other (ticks + 1) (lines ++ master_lines m Tick)
+idle-tick setting m stations other ticks lines false next gives is k few idling l = same-tick setting m stations other ticks lines (tick-giving node_host m gives) idling l
+idle-tick setting m stations other ticks lines true (Some body) gives is k few idling l = same-tick setting m stations other ticks lines (tick-ready node_host m body gives idling.idle is) idling l
+idle-tick setting m stations other ticks lines true None gives is k few idling l = polls-tick setting m stations other ticks lines k few gives is idling l
 
 -- ---- whatever is awaited
 
-pub course-tick : (setting : Setting) (s : HalfState) (late ticks : ℕ) (lines : List Line) → Known setting s.master s.stations → ticks + 1 < s.master.host.initiator.reply_ticks → late_after late s (AtMaster Tick) < patience (after_master_deed s Tick) → Course setting s.master s.stations late ticks lines
+pub course-tick : (setting : Setting) (s : HalfState) (late ticks : ℕ) (lines : List Line) → Known setting s.master s.stations lines → ticks + 1 < s.master.host.initiator.reply_ticks → late_after late s (AtMaster Tick) < patience (after_master_deed s Tick) → Course setting s.master s.stations late ticks lines
     → Course setting (master_after_tick node_host s.master) s.stations (late_after late s (AtMaster Tick)) (ticks + 1) (lines ++ master_lines s.master Tick)
-course-tick setting s late ticks lines k few patient c = by-now c.now c.stage c.tied
+course-tick setting s late ticks lines k few patient c = by-now c.now c.stage c.ledger
   where
-    by-now : (now : Now) → Stage late s.master s.stations now → IsTied setting (bodies_of s.master) c.done now c.stay → Course setting (master_after_tick node_host s.master) s.stations (late_after late s (AtMaster Tick)) (ticks + 1) (lines ++ master_lines s.master Tick)
-    by-now Idles stage home = idle-tick setting s.master s.stations (late_after late s (AtMaster Tick)) ticks lines c.stay c.done (is_done s.master.mouth) (next_body s.master.host) refl refl k few stage home c.ledger
-    by-now (Awaits place awaited) stage tied = waiting-tick setting s late ticks lines place awaited c.stay c.done patient stage tied c.ledger
+    by-now : (now : Now) → Stage late s.master s.stations now → Ledger setting s.master.host.initiator s.master.stations s.stations lines now ticks
+        → Course setting (master_after_tick node_host s.master) s.stations (late_after late s (AtMaster Tick)) (ticks + 1) (lines ++ master_lines s.master Tick)
+    by-now Idles stage l = idle-tick setting s.master s.stations (late_after late s (AtMaster Tick)) ticks lines (is_done s.master.mouth) (next_body s.master.host) refl refl k few stage l
+    by-now (Awaits place awaited) stage l = waiting-tick setting s late ticks lines place awaited patient stage l

@@ -1,19 +1,20 @@
 -- Over a whole run that nothing disturbs, and that ends with nothing under way and no reply left at a station: each command executed and answered.
-use Rattle.std.proofs.Common.{◌≡◌, ◌∙◌, ℕ, zero, suc, ◌+◌, ◌<◌, ◌≤◌, Bool, true, List, [], ◌∷◌, ◌++◌, length, map, take, Option, Some, None, refl, ap, sym, subst, append_assoc, append-nil, arith}
+use Rattle.std.proofs.Common.{◌≡◌, ◌∙◌, ℕ, zero, suc, ◌+◌, ◌<◌, ◌≤◌, true, List, [], ◌∷◌, ◌++◌, length, map, get_or, Option, Some, None, refl, ap, sym, subst, append_assoc, append-nil, arith}
 use Rattle.std.specs.Prelude.{All, replicate, count_by, sum_by, slice_get, slice_index}
 use Rattle.std.specs.List.{filter}
 use Rattle.std.specs.Option.{option_or}
 use Rattle.std.proofs.lemmas.Bool.{eq-eqb}
-use Rattle.std.proofs.lemmas.List.{take_all, length-map}
+use Rattle.std.proofs.lemmas.List.{length-map}
 use Rattle.std.proofs.lemmas.List.Elements.{All-head, All-tail}
-use Rattle.std.proofs.lemmas.List.FromFn.{length-enumerate_from}
 use Rattle.std.proofs.lemmas.List.Sums.{sum_by-cons}
 use Rattle.std.proofs.lemmas.Option.{slice_get_within, slice_get-get_or, get_or_from_slice_get}
+use Rattle.pccc_envelope.specs.declared.key.Key.{Key}
 use Rattle.df1_node.specs.Answer.{StationState}
-use Rattle.df1_node.specs.Initiator.{Issued, next_command}
-use Rattle.df1_node.specs.Node.{next_body}
+use Rattle.df1_node.specs.Initiator.{Issued, Standing, Waiting, Answered, InitiatorState, next_command}
+use Rattle.df1_node.specs.Node.{NodeState, next_body}
 use Rattle.half_master.specs.Stations.{is_listed}
 use Rattle.half_master.proofs.Seen.{listed-number}
+use Rattle.half_slave.specs.Slave.{SlaveState}
 use Rattle.script_statement.specs.declared.who.Who.{Who}
 use Rattle.script_statement.specs.declared.who.Who.TheVariants.{M, S}
 use Rattle.script_parts.specs.declared.script.Event.{Event}
@@ -25,26 +26,38 @@ use Rattle.script_parts.specs.Plans.{first_plan}
 use Rattle.replay_report.specs.declared.record.Line.{Line}
 use Rattle.replay_report.specs.Report.{sent_lines}
 use Rattle.outset.specs.Outset.{first_station}
+use Rattle.each_once.specs.BySource.{AreOnceOf, AreAllOf}
+use Rattle.each_once.specs.Commands.{AreOutcomesTold}
+use Rattle.each_once.specs.Exchanges.{exchanges}
+use Rattle.each_once.specs.Once.{IsReplyTo}
 use Rattle.each_once.specs.Tells.{executed_in, answers_in}
 use Rattle.each_once.specs.OfStation.{lines_of as own_lines}
-use Rattle.each_once.proofs.InitiatorProgress.{IsUnderWay, under-all}
-use Rattle.each_once.proofs.Sublists.{from-map}
+use Rattle.each_once.proofs.AnsweredCommands.{IsAmong, answered-at}
+use Rattle.each_once.proofs.AnsweringStation.{replies_to}
+use Rattle.each_once.proofs.CommandsUnderWay.{AreUnderWay, IsDone, IsDoneOrWaits, body-of, under-way-rested, all-done, under-way-full}
+use Rattle.each_once.proofs.HandedOut.{waits_of, IsSettledBy, settled-at}
+use Rattle.each_once.proofs.OneDirection.{way-within}
+use Rattle.each_once.proofs.RisingPlaces.{passing-in-turn}
+use Rattle.each_once.proofs.StationReplies.{exchanges-length}
+use Rattle.each_once.proofs.Sublists.{all-at, from-map, contains-at}
 use Rattle.half_line.specs.Acts.{LineStationState, HalfState, LinkDeed, Give, Tick, StationGives}
-use Rattle.half_line.specs.Complete.{is_to, numbered, answers_of, AllDoneAt, IsComplete}
+use Rattle.half_line.specs.Complete.{is_to, exchanges_at, AllDoneAt, IsAnsweredByOne, IsComplete}
 use Rattle.half_line.specs.Issues.{commands_of_m, issued_of, bodies_of}
+use Rattle.half_line.specs.Once.{OnceAtStation, EachOnce}
 use Rattle.half_line.specs.Prompt.{is_quiet, ticks_at, late_event, IsPromptOver, IsPromptAfter, KeepsNone, IsUndisturbed}
 use Rattle.half_line.specs.Run.{plan_of_m, start, station_at, number_of, station_between, place_of, link_deeds, steps_with, steps_at, steps_of, after_event, giver, lines_of, state_after, lines_after, last_state, record_from}
 use Rattle.half_line.specs.Steps.{AtMaster, AtStation, bytes_over, lines_over}
-use Rattle.half_line.proofs.Once.EachStation.{plan_at, setting_of, holds-start, side-of}
-use Rattle.half_line.proofs.Once.Invariant.{Setting, Holds}
+use Rattle.half_line.proofs.Once.EachStation.{plan_at, setting_of, holds-start, side-of, each-once}
+use Rattle.half_line.proofs.Once.Invariant.{marks, Setting, Holds}
+use Rattle.half_line.proofs.Once.LinesOfStation.{executed-same, own-answer}
 use Rattle.half_line.proofs.Once.MasterCommands.{issued-run}
-use Rattle.half_line.proofs.Once.QuietLines.{sent-silent, sent-mute}
+use Rattle.half_line.proofs.Once.MasterOutcomes.{AreDeclared, next-has, outcomes-run}
+use Rattle.half_line.proofs.Once.QuietLines.{sent-silent}
 use Rattle.half_line.proofs.Once.WholeRun.{ArePlain, plain-with, plain-master, plain-take, counted, counted-more, with-bytes}
-use Rattle.half_line.proofs.Complete.AnswerBook.{is_numbered_to}
-use Rattle.half_line.proofs.Complete.CommandsInTime.{in-time-hand_out}
-use Rattle.half_line.proofs.Complete.Invariant.{Flow, IsTied, rooms, flow-start}
-use Rattle.half_line.proofs.Complete.Ledger.{Nowhere, Going, Kept, Returning, Stay, IsHome, due_if, numbers_in, answer_to, Ledger, ledger-lines}
-use Rattle.half_line.proofs.Complete.LineFacts.{AreShort, Known, known}
+use Rattle.half_line.proofs.Complete.Dealings.{Dealings}
+use Rattle.half_line.proofs.Complete.Invariant.{Flow, blocks, flow-start}
+use Rattle.half_line.proofs.Complete.Ledger.{told_in, Ledger, ledger-lines}
+use Rattle.half_line.proofs.Complete.LineFacts.{AreShort, Known, known, from-here}
 use Rattle.half_line.proofs.Complete.MasterStep.{found}
 use Rattle.half_line.proofs.Complete.QuietLine.{nothing-ready}
 use Rattle.half_line.proofs.Complete.RunSteps.{Along, ticks_over, along-steps, along-issue}
@@ -88,14 +101,7 @@ flow-lines : (setting : Setting) (wait : ℕ) (s : HalfState) (late ticks : ℕ)
 flow-lines setting wait s late ticks lines who bytes f =
     let c = f.course in
     record {
-      course = record {
-        now = c.now;
-        stay = c.stay;
-        done = c.done;
-        stage = c.stage;
-        tied = c.tied;
-        ledger = ledger-lines setting s.master.host.initiator s.master.stations s.stations lines (sent_lines who bytes) c.stay c.done ticks (λ number. sent-silent number who bytes) (sent-mute who bytes) c.ledger;
-      };
+      course = record { now = c.now; stage = c.stage; ledger = ledger-lines (sent_lines who bytes) (λ number. sent-silent number who bytes) c.ledger };
       check = f.check;
       waits = f.waits;
       honest = f.honest;
@@ -152,75 +158,83 @@ events-along setting wait count (e ∷ events) s late ticks lines possible few s
 
 -- ---- where nothing is under way and no reply is left, each command is answered
 
--- none goes to a station or comes from one
-quiet-home : (setting : Setting) (s : HalfState) (late : ℕ) (bodies : List (List ℕ)) (done : ℕ) (now : Now) (stay : Stay) → Stage late s.master s.stations now → is_quiet s ≡ true → IsTied setting bodies done now stay → IsHome stay
-quiet-home setting s late bodies done Idles stay stage quiet tied = tied
-quiet-home setting s late bodies done (Awaits place awaited) stay stage quiet tied = absurd (awaits-busy late s place awaited stage quiet)
+-- nothing is on its way to a station or from one
+quiet-now : {setting : Setting} {lines : List Line} {ticks : ℕ} (s : HalfState) (late : ℕ) (now : Now) → Stage late s.master s.stations now → is_quiet s ≡ true → Ledger setting s.master.host.initiator s.master.stations s.stations lines now ticks
+    → Ledger setting s.master.host.initiator s.master.stations s.stations lines Idles ticks
+quiet-now s late Idles stage quiet l = l
+quiet-now s late (Awaits place awaited) stage quiet l = absurd (awaits-busy late s place awaited stage quiet)
 
 keeps-none : (stations : List LineStationState) → All KeepsNone stations → (p : ℕ) (side : LineStationState) → slice_get stations p ≡ Some side → KeepsNone side
 keeps-none stations all p side at = subst KeepsNone (get_or_from_slice_get stations p side side at) (all p side (slice_get_within stations p side at))
 
--- and no station keeps one
-none-kept : (setting : Setting) (s : HalfState) (lines : List Line) (done ticks : ℕ) (stay : Stay) → Known setting s.master s.stations → All KeepsNone s.stations → IsHome stay → Ledger setting s.master.host.initiator s.master.stations s.stations lines stay done ticks → stay ≡ Nowhere
-none-kept setting s lines done ticks Nowhere k fetched home l = refl
-none-kept setting s lines done ticks (Going body) k fetched home l = absurd home
-none-kept setting s lines done ticks (Returning body) k fetched home l = absurd home
-none-kept setting s lines done ticks (Kept body) k fetched home l =
-    let f = found setting s.master s.stations (slice_index body 0) k (l.declared done body l.is_out.2) in
-    let first = setting.first f.place in
-    let to : is_to f.side.number body ≡ true = eq-eqb (slice_index body 0) f.side.number (sym f.number) in
-    let waits = (l.sides f.place f.side f.is_at).station.replies ∙ ap (λ (mine : Bool). due_if mine (answer_to first f.side.number (bodies_of s.master) done body)) to in
-    let none = (keeps-none s.stations fetched f.place f.side f.is_at).none_waits in
-    absurd (let no : [] ≡ answer_to first f.side.number (bodies_of s.master) done body ∷ [] = sym none ∙ waits in cc)
+-- so each station's replies were all accepted, and the commands for it that were handed out are answered
+record Settled (first : StationState) (number : ℕ) (i : InitiatorState) (lines : List Line) (ticks : ℕ) : Type 0 where
+  replied : told_in number lines ≡ replies_to first (executed_in (S number) lines)
+  count : length (told_in number lines) ≡ length (executed_in (S number) lines ++ [])
+  under_way : AreUnderWay (is_to number) i (executed_in (S number) lines ++ []) (length (told_in number lines)) ticks
+
+settled : {first : StationState} {number : ℕ} {i : InitiatorState} {kept : Option Key} {s : SlaveState NodeState} {ticks : ℕ} (lines : List Line) → s.host.replies ≡ [] → Dealings first number i (executed_in (S number) lines) (told_in number lines) [] [] kept s ticks → Settled first number i lines ticks
+settled {first = first} {number = number} lines none d =
+    let executed = executed_in (S number) lines in
+    let told = told_in number lines in
+    let replied : told ≡ replies_to first executed = sym (append-nil told) ∙ ap (λ (rs : List (List ℕ)). told ++ rs) (sym none) ∙ sym d.replies in
+    record {
+      replied = replied;
+      count = ap length replied ∙ exchanges-length first executed ∙ ap length (sym (append-nil executed));
+      under_way = d.under_way;
+    }
 
 -- the master has none to hand out
-none-waits : (setting : Setting) (s : HalfState) (lines : List Line) (stay : Stay) (done ticks : ℕ) (o : Option (List ℕ)) → next_command s.master.host.initiator ≡ o → Known setting s.master s.stations → ((body : List ℕ) → next_body s.master.host ≡ Some body → is_listed s.master.stations (slice_index body 0) ≡ true → ⊥) → Ledger setting s.master.host.initiator s.master.stations s.stations lines stay done ticks
-    → next_command s.master.host.initiator ≡ None
-none-waits setting s lines stay done ticks None is k n l = is
-none-waits setting s lines stay done ticks (Some body) is k n l =
+none-waits : (setting : Setting) (s : HalfState) (lines : List Line) (ticks : ℕ) (o : Option (List ℕ)) → next_command s.master.host.initiator ≡ o → Known setting s.master s.stations lines → ((body : List ℕ) → next_body s.master.host ≡ Some body → is_listed s.master.stations (slice_index body 0) ≡ true → ⊥)
+    → Ledger setting s.master.host.initiator s.master.stations s.stations lines Idles ticks → next_command s.master.host.initiator ≡ None
+none-waits setting s lines ticks None is k n l = is
+none-waits setting s lines ticks (Some body) is k n l =
     let m = s.master in
-    let at = (in-time-hand_out m.host.initiator body done l.out ticks is l.in_time).2 in
-    let listed : is_listed m.stations (slice_index body 0) ≡ true = listed-number m.stations (slice_index body 0) ∙ ap (λ (ns : List ℕ). is_declared ns (slice_index body 0)) k.list_is ∙ l.declared done body at in
+    let at = next-has m.host.initiator body is in
+    let listed : is_listed m.stations (slice_index body 0) ≡ true = listed-number m.stations (slice_index body 0) ∙ ap (λ (ns : List ℕ). is_declared ns (slice_index body 0)) k.list_is ∙ l.declared at.0 body at.1 in
     absurd (n body (ap (λ (replies : List (List ℕ)). option_or (slice_get replies 0) (next_command m.host.initiator)) k.replies_none ∙ is) listed)
 
 -- so all are answered
 record AllAnswered (setting : Setting) (s : HalfState) (lines : List Line) : Type 0 where
-  done : ℕ
   ticks : ℕ
-  count : length (bodies_of s.master) ≡ done
-  ledger : Ledger setting s.master.host.initiator s.master.stations s.stations lines Nowhere done ticks
+  declared : AreDeclared setting.numbers (bodies_of s.master)
+  settles : (p : ℕ) (side : LineStationState) → slice_get s.stations p ≡ Some side → Settled (setting.first p) side.number s.master.host.initiator lines ticks
+  each : (k : ℕ) (c : Issued) → slice_get (issued_of s.master) k ≡ Some c → IsDone c.standing
 
-all-answered : (setting : Setting) (wait : ℕ) (s : HalfState) (late ticks : ℕ) (lines : List Line) → Known setting s.master s.stations → is_quiet s ≡ true → All KeepsNone s.stations → Flow setting wait s late ticks lines → AllAnswered setting s lines
+all-answered : (setting : Setting) (wait : ℕ) (s : HalfState) (late ticks : ℕ) (lines : List Line) → Known setting s.master s.stations lines → is_quiet s ≡ true → All KeepsNone s.stations → Flow setting wait s late ticks lines → AllAnswered setting s lines
 all-answered setting wait s late ticks lines k quiet fetched f =
     let c = f.course in
-    let issued = issued_of s.master in
-    let home = quiet-home setting s late (bodies_of s.master) c.done c.now c.stay c.stage quiet c.tied in
-    let nowhere = none-kept setting s lines c.done ticks c.stay k fetched home c.ledger in
-    let l = subst (λ (stay : Stay). Ledger setting s.master.host.initiator s.master.stations s.stations lines stay c.done ticks) nowhere c.ledger in
-    let none = none-waits setting s lines Nowhere c.done ticks (next_command s.master.host.initiator) refl k (λ body. nothing-ready late s c.now body c.stage quiet) l in
-    let under : IsUnderWay issued c.done None = subst (λ (out : Option ℕ). IsUnderWay issued c.done out) l.is_out l.in_time.under_way in
-    record { done = c.done; ticks = ticks; count = length-map issued (λ (x : Issued). x.body) ∙ (under-all s.master.host.initiator c.done l.in_time.single under none).0; ledger = l }
+    let i = s.master.host.initiator in
+    let l = quiet-now s late c.now c.stage quiet c.ledger in
+    let none = none-waits setting s lines ticks (next_command i) refl k (λ body. nothing-ready late s c.now body c.stage quiet) l in
+    let settles : (p : ℕ) (side : LineStationState) → slice_get s.stations p ≡ Some side → Settled (setting.first p) side.number i lines ticks = λ p side at. settled lines (keeps-none s.stations fetched p side at).none_waits (l.sides p side at) in
+    let each : (n : ℕ) (c : Issued) → slice_get i.issued n ≡ Some c → IsDoneOrWaits c.standing = λ n c at.
+    let found = found setting s.master s.stations lines (slice_index c.body 0) k (l.declared n c.body (body-of i.issued n c at)) in
+    let number = found.side.number in
+    let this = settles found.place found.side found.is_at in
+    under-way-rested (is_to number) i (executed_in (S number) lines ++ []) (length (told_in number lines)) ticks this.count this.under_way n c at (eq-eqb (slice_index c.body 0) number (sym found.number)) in
+    record { ticks = ticks; declared = l.declared; settles = settles; each = all-done i l.some l.some_of none each }
 
 -- ---- what the record tells of one station
 
-all-of : (bodies : List (List ℕ)) (done : ℕ) → length bodies ≡ done → take done bodies ≡ bodies
-all-of bodies done count = take_all done bodies (omega (arith, count))
-
-all-numbered : (bodies : List (List ℕ)) (done : ℕ) → length bodies ≡ done → take done (numbered bodies) ≡ numbered bodies
-all-numbered bodies done count = let same = length-enumerate_from 1 bodies in take_all done (numbered bodies) (omega (arith, count, same))
-
 -- a station and the commands
 record DoneAt (first : StationState) (number : ℕ) (bodies : List (List ℕ)) (lines : List Line) : Type 0 where
-  executed : executed_in (S number) lines ≡ filter (is_to number) bodies
-  answered : answers_in M (own_lines number lines) ≡ answers_of first (filter (is_numbered_to number) (numbered bodies))
+  executed : AreAllOf (executed_in (S number) lines) (filter (is_to number) bodies)
+  replied : told_in number lines ≡ replies_to first (executed_in (S number) lines)
 
-done-at : (setting : Setting) (s : HalfState) (lines : List Line) (p : ℕ) (side : LineStationState) → slice_get s.stations p ≡ Some side → AllAnswered setting s lines → DoneAt (setting.first p) side.number (bodies_of s.master) lines
-done-at setting s lines p side at a =
-    let bodies = bodies_of s.master in
-    let b = a.ledger.sides p side at in
+done-at : (setting : Setting) (count : ℕ) (s : HalfState) (lines : List Line) (p : ℕ) (side : LineStationState) → slice_get s.stations p ≡ Some side → Holds setting count s lines → AllAnswered setting s lines → DoneAt (setting.first p) side.number (bodies_of s.master) lines
+done-at setting count s lines p side at h a =
+    let n = side.number in
+    let i = s.master.host.initiator in
+    let this = h.sides p side at in
+    let settles = a.settles p side at in
+    let same : this.executed ≡ executed_in (S n) lines = sym this.told.executes ∙ executed-same n (S n) lines in
+    let within = way-within h.commands (marks side.to_it) side.slave.kept this.executed this.way in
+    let once : AreOnceOf this.executed (filter (is_to n) (bodies_of s.master)) = passing-in-turn (is_to n) this.executed h.commands (bodies_of s.master) (waits_of i.issued) within h.master.issues.initiates.in_order (λ k body is. eq-eqb (slice_index body 0) n (this.to_it k body is)) in
+    let full = under-way-full (is_to n) i (executed_in (S n) lines ++ []) (length (told_in n lines)) a.ticks settles.under_way a.each in
     record {
-      executed = b.station.executes ∙ ap (filter (is_to side.number)) (all-of bodies a.done a.count);
-      answered = b.answer.answers ∙ ap (λ (cs : List (ℕ × List ℕ)). answers_of (setting.first p) (filter (is_numbered_to side.number) cs)) (all-numbered bodies a.done a.count);
+      executed = (subst (λ (xs : List (List ℕ)). AreOnceOf xs (filter (is_to n) (bodies_of s.master))) same once, ap length (sym (append-nil (executed_in (S n) lines))) ∙ full);
+      replied = settles.replied;
     }
 
 -- ---- a run
@@ -230,7 +244,7 @@ are-short script playable p number at =
     let plans = station_plans script.ends in
     let plan = from-map (λ (x : EndPlan). x.node) plans p number at in
     let same : plan_at script p ≡ plan.0 = get_or_from_slice_get plans p plan.0 (first_plan M 0) plan.1 in
-    subst (λ (x : EndPlan). length x.block ≤ 244) (sym same) (rooms script playable p plan.0 plan.1).block
+    subst (λ (x : EndPlan). length x.block ≤ 244) (sym same) (blocks script playable p plan.0 plan.1)
 
 at-plan : (script : Script) (playable : IsHalfPlayable script) (count : ℕ) (s : HalfState) (lines : List Line) (p : ℕ) (plan : EndPlan) → bodies_of s.master ≡ commands_of_m script → Holds (setting_of script playable) count s lines → AllAnswered (setting_of script playable) s lines
     → slice_get (station_plans script.ends) p ≡ Some plan → AllDoneAt script (record_from s lines) plan
@@ -241,8 +255,43 @@ at-plan script playable count s lines p plan bodies h a at =
     let all : DoneAt (first_station plan) plan.node (commands_of_m script) lines =
     subst (λ (x : EndPlan). DoneAt (first_station x) plan.node (commands_of_m script) lines) first
     (subst (λ (bs : List (List ℕ)). DoneAt (first_station (plan_at script p)) plan.node bs lines) bodies
-    (subst (λ (n : ℕ). DoneAt (first_station (plan_at script p)) n (bodies_of s.master) lines) side.2 (done-at (setting_of script playable) s lines p side.0 side.1 a))) in
-    record { executed = all.executed; answered = all.answered }
+    (subst (λ (n : ℕ). DoneAt (first_station (plan_at script p)) n (bodies_of s.master) lines) side.2 (done-at (setting_of script playable) count s lines p side.0 side.1 h a))) in
+    record { executed = all.executed; replied = all.replied }
+
+-- ---- one command
+
+-- its answer is the reply of the station that it was issued to
+reply-of : (script : Script) (playable : IsHalfPlayable script) (count : ℕ) (s : HalfState) (lines : List Line) (k : ℕ) (c : Issued) (plan : EndPlan) (reply : List ℕ) → Holds (setting_of script playable) count s lines → OnceAtStation script (record_from s lines) plan → slice_get (issued_of s.master) k ≡ Some c
+    → is_to plan.node c.body ≡ true → c.standing ≡ Answered reply → IsAmong (suc k) reply (answers_in M lines) → IsReplyTo (commands_of_m script) (exchanges_at (record_from s lines) plan) (suc k) reply
+reply-of script playable count s lines k c plan reply h o at to stands among =
+    let n = plan.node in
+    let settles : IsSettledBy h.heard c.body (Answered reply) = subst (λ (x : Standing). IsSettledBy h.heard c.body x) stands (settled-at h.heard (issued_of s.master) k c h.master.issues.initiates.settled at) in
+    let own = own-answer n (suc k) reply lines among.0 (from-here n c.body reply settles.1 to) among.1 in
+    let same : executed_in (S n) (own_lines n lines) ≡ executed_in (S n) lines = executed-same n (S n) lines in
+    subst (λ (xs : List (List ℕ)). IsReplyTo (commands_of_m script) (exchanges (first_station plan) xs) (suc k) reply) same
+    (all-at (λ a. IsReplyTo (commands_of_m script) (exchanges (first_station plan) (executed_in (S n) (own_lines n lines))) a.0 a.1) (answers_in M (own_lines n lines)) own.0 (suc k, reply) o.once.answers own.1)
+
+one-answered : (script : Script) (playable : IsHalfPlayable script) (count : ℕ) (s : HalfState) (lines : List Line) (k : ℕ) (c : Issued) → AreOutcomesTold M (issued_of s.master) lines → EachOnce script (record_from s lines) → Known (setting_of script playable) s.master s.stations lines → Holds (setting_of script playable) count s lines
+    → AllAnswered (setting_of script playable) s lines → slice_get (issued_of s.master) k ≡ Some c → IsAnsweredByOne script (record_from s lines) (suc k)
+one-answered script playable count s lines k c told once known h a at =
+    let setting = setting_of script playable in
+    let plans = station_plans script.ends in
+    let f = found setting s.master s.stations lines (slice_index c.body 0) known (a.declared k c.body (body-of (issued_of s.master) k c at)) in
+    let plan = from-map (λ (x : EndPlan). x.node) plans f.place (slice_index c.body 0) f.number_at in
+    let o = all-at (OnceAtStation script (record_from s lines)) plans f.place plan.0 once.stations plan.1 in
+    record {
+      plan = plan.0;
+      is_station = contains-at plans f.place plan.0 plan.1;
+      answered = answered-at M (commands_of_m script) (exchanges_at (record_from s lines) plan.0) (issued_of s.master) lines told k c at (a.each k c at)
+          (λ reply stands among. reply-of script playable count s lines k c plan.0 reply h o at (eq-eqb (slice_index c.body 0) plan.0.node (sym plan.2)) stands among);
+    }
+
+by-number : (script : Script) (s : HalfState) (lines : List Line) → length (issued_of s.master) ≡ length (commands_of_m script) → ((k : ℕ) (c : Issued) → slice_get (issued_of s.master) k ≡ Some c → IsAnsweredByOne script (record_from s lines) (suc k))
+    → (n : ℕ) → 1 ≤ n → n ≤ length (commands_of_m script) → IsAnsweredByOne script (record_from s lines) n
+by-number script s lines count each zero least most = absurd (omega (arith, least))
+by-number script s lines count each (suc k) least most =
+    let none : Issued = record { body = []; standing = Waiting } in
+    each k (get_or (issued_of s.master) k none) (slice_get-get_or (issued_of s.master) k none (omega (arith, count, most)))
 
 pub is-complete : (script : Script) → IsHalfPlayable script → IsUndisturbed script → IsComplete script (record_from (last_state script) (lines_after (start script) script.events))
 is-complete script playable undisturbed =
@@ -252,14 +301,17 @@ is-complete script playable undisturbed =
     let wait = (plan_of_m script).reply_ticks in
     let plans = station_plans script.ends in
     let short = are-short script playable in
-    let begins : Along setting wait 0 (start script) 0 0 [] = record { kept = λ none. holds-start script playable; flow = flow-start script playable undisturbed.single } in
+    let begins : Along setting wait 0 (start script) 0 0 [] = record { kept = λ none. holds-start script playable; flow = flow-start script playable undisturbed.rooms } in
     let e = events-along setting wait 0 script.events (start script) 0 0 [] playable.events (omega (arith, playable.commands)) short undisturbed.prompt (omega (arith, undisturbed.few_ticks)) begins in
     let f = e.along.flow in
     let h = e.along.kept f.honest in
-    let a = all-answered setting wait s e.late e.ticks lines (known setting e.count s lines e.few short h) undisturbed.quiet undisturbed.fetched f in
-    let bodies = (issued-run script).bodies in
+    let k = known setting e.count s lines e.few short h in
+    let a = all-answered setting wait s e.late e.ticks lines k undisturbed.quiet undisturbed.fetched f in
+    let bodies : bodies_of s.master ≡ commands_of_m script = (issued-run script).bodies in
+    let told = outcomes-run script playable in
+    let once = each-once script playable bodies told f.honest in
     record {
       honest = f.honest;
-      stations = λ k d inside. at-plan script playable e.count s lines k _ bodies h a (slice_get-get_or plans k d inside);
-      in_order = a.ledger.in_order ∙ ap numbers_in (all-numbered (bodies_of s.master) a.done a.count) ∙ ap (λ (bs : List (List ℕ)). numbers_in (numbered bs)) bodies;
+      stations = λ n d inside. at-plan script playable e.count s lines n _ bodies h a (slice_get-get_or plans n d inside);
+      answered = by-number script s lines (sym (length-map (issued_of s.master) (λ (c : Issued). c.body)) ∙ ap length bodies) (λ n c at. one-answered script playable e.count s lines n c told once k h a at);
     }

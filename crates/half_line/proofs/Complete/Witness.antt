@@ -1,5 +1,5 @@
--- The run of an undisturbed write, whose reply a poll fetches.
-use Rattle.std.proofs.Common.{◌≡◌, ℕ, List, [], ◌∷◌, Option, Some, None, refl, arith, Bool, true, false, is_none, nat_eq}
+-- The run of an undisturbed write, whose reply a poll fetches; and that of two commands out at two stations.
+use Rattle.std.proofs.Common.{◌≡◌, ℕ, ◌≤◌, List, [], ◌∷◌, Option, Some, None, refl, arith, Bool, true, false, is_none, nat_eq}
 use Rattle.std.proofs.lemmas.Bool.{ltb-true}
 use Rattle.std.specs.Prelude.{All, ◌&&◌, nat_lt, slice_get}
 use Rattle.std.specs.List.{IsDistinct}
@@ -10,6 +10,12 @@ use Rattle.logical_address.specs.Reading.{three_front}
 use Rattle.slc_commands.specs.Order.{fields, spelled_order}
 use Rattle.script_statement.specs.declared.who.Who.TheVariants.{M, S}
 use Rattle.lane_cells.specs.Cells.{LaneCell}
+use Rattle.end_settings.specs.declared.key.Key.{Key}
+use Rattle.end_settings.specs.declared.key.Key.TheVariants.{AckTicks, Embed, MaxEnqs, MaxNaks, MaxResends, MaxSends, Node, PerSource, PollTicks, ReplyTicks, Room, Tns, Window}
+use Rattle.end_settings.specs.Rows.{Fits}
+use Rattle.end_settings.specs.Table.{row_of}
+use Rattle.script_parts.specs.Plans.{first_plan, setting_in}
+use Rattle.script_parts.specs.declared.script.EndPlan.{EndPlan}
 use Rattle.script_parts.specs.declared.script.Event.{Event}
 use Rattle.script_parts.proofs.PlanSettings.{Fits-first_plan}
 use Rattle.script_parts.specs.HalfPlayable.{IsStationNumber, IsStationPlan, IsHalfPossible, IsHalfPlayable, numbers_of, station_plans}
@@ -17,10 +23,11 @@ use Rattle.each_once.proofs.Sublists.{none-is}
 use Rattle.each_once.specs.Tells.{executed_in, answers_in}
 use Rattle.half_line.specs.Acts.{LineStationState, HalfState, LaneDeed, Deliver, Lose, Alter, Foreign, lane_of, LinkDeed, StationGives, OnLane}
 use Rattle.half_line.specs.Steps.{UnitStep, AtMaster, AtStation, after_step}
-use Rattle.half_line.specs.Run.{start, steps_of, after_event, last_state, lines_after, record_from}
+use Rattle.half_line.specs.Run.{plan_of_m, start, steps_of, after_event, last_state, lines_after, record_from}
 use Rattle.half_line.specs.Prompt.{late_after, late_event, patience, IsGentleOn, IsGentleAt, IsGentleWith, IsGentle, IsPromptOver, IsPromptAfter, EndsQuiet, KeepsNone, EndsFetched, IsUndisturbed}
-use Rattle.half_line.specs.Complete.{AllDoneAt, IsComplete}
-use Rattle.half_line.specs.Example.{polled_write, the_command, the_reply}
+use Rattle.half_line.specs.Complete.{IsComplete}
+use Rattle.half_line.specs.Example.{polled_write, the_command, the_reply, two_stations, first_echo, first_echoed, second_echo, second_echoed}
+use Rattle.half_line.proofs.Complete.WholeRun.{is-complete}
 
 -- ---- it can be played
 
@@ -68,15 +75,6 @@ polled_write-executed-none = refl
 pub polled_write-answered : answers_in M (lines_after (start polled_write) polled_write.events) ≡ (1, the_reply) ∷ []
 unfolding check_bytes with_byte spelled_order fields three_front
 polled_write-answered = refl
-
-pub polled_write-complete : IsComplete polled_write (record_from (last_state polled_write) (lines_after (start polled_write) polled_write.events))
-unfolding check_bytes with_byte spelled_order fields three_front
-polled_write-complete = record {
-  honest = refl;
-  stations = all (AllDoneAt polled_write (record_from (last_state polled_write) (lines_after (start polled_write) polled_write.events))) (station_plans polled_write.ends)
-      (record { executed = refl; answered = refl }, (record { executed = refl; answered = refl }, tt));
-  in_order = refl;
-}
 
 -- ---- nothing disturbs it
 
@@ -158,9 +156,84 @@ polled_write-fetched = all KeepsNone (last_state polled_write).stations (record 
 
 pub polled_write-undisturbed : IsUndisturbed polled_write
 polled_write-undisturbed = record {
-  single = refl;
+  rooms = all (λ (plan : EndPlan). (plan_of_m polled_write).window ≤ plan.room) (station_plans polled_write.ends) (omega arith, (omega arith, tt));
   prompt = prompt-after 0 (start polled_write) polled_write.events polled_write-checked;
   quiet = polled_write-quiet;
   few_ticks = omega arith;
   fetched = polled_write-fetched;
 }
+
+pub polled_write-complete : IsComplete polled_write (record_from (last_state polled_write) (lines_after (start polled_write) polled_write.events))
+polled_write-complete = is-complete polled_write polled_write-playable polled_write-undisturbed
+
+-- ---- two commands out at two stations
+
+two-settings : (key : Key) → Fits (row_of key).values (setting_in (record (first_plan M 0) { window = 2 }) key)
+two-settings Window = (omega arith, omega arith)
+two-settings AckTicks = Fits-first_plan M 0 (omega arith) AckTicks
+two-settings Embed = Fits-first_plan M 0 (omega arith) Embed
+two-settings MaxEnqs = Fits-first_plan M 0 (omega arith) MaxEnqs
+two-settings MaxNaks = Fits-first_plan M 0 (omega arith) MaxNaks
+two-settings MaxResends = Fits-first_plan M 0 (omega arith) MaxResends
+two-settings MaxSends = Fits-first_plan M 0 (omega arith) MaxSends
+two-settings Node = Fits-first_plan M 0 (omega arith) Node
+two-settings PerSource = Fits-first_plan M 0 (omega arith) PerSource
+two-settings PollTicks = Fits-first_plan M 0 (omega arith) PollTicks
+two-settings ReplyTicks = Fits-first_plan M 0 (omega arith) ReplyTicks
+two-settings Room = Fits-first_plan M 0 (omega arith) Room
+two-settings Tns = Fits-first_plan M 0 (omega arith) Tns
+
+pub two_stations-playable : IsHalfPlayable two_stations
+two_stations-playable = record {
+  mode = refl;
+  ends = (
+    record { end = refl; files = refl; words = All-nil _; settings = two-settings; compat = refl; block = omega arith },
+    all IsStationPlan (station_plans two_stations.ends) (
+      record { end = refl; files = refl; words = All-nil _; settings = Fits-first_plan (S 3) 3 (omega arith); compat = refl; block = omega arith },
+      (
+        record { end = refl; files = refl; words = All-nil _; settings = Fits-first_plan (S 5) 5 (omega arith); compat = refl; block = omega arith },
+        tt,
+      ),
+    ),
+    record { at_most = omega arith; distinct = distinct; each = all IsStationNumber (3 ∷ 5 ∷ []) ((λ is. omega (arith, is), omega arith), ((λ is. omega (arith, is), omega arith), tt)) },
+  );
+  events = all (IsHalfPossible (numbers_of two_stations.ends)) two_stations.events ((refl, refl, refl), ((refl, refl, refl), ((refl, (omega arith, omega arith)), ((refl, (omega arith, omega arith)), ((refl, (omega arith, omega arith)), ((refl, (omega arith, omega arith)), ((refl, (omega arith, omega arith)), ((refl, (omega arith, omega arith)), ((refl, (omega arith, omega arith)), ((refl, (omega arith, omega arith)), ((refl, (omega arith, omega arith)), ((refl, (omega arith, omega arith)), ((refl, (omega arith, omega arith)), ((refl, (omega arith, omega arith)), ((refl, (omega arith, omega arith)), ((refl, (omega arith, omega arith)), ((refl, (omega arith, omega arith)), ((refl, (omega arith, omega arith)), ((refl, (omega arith, omega arith)), ((refl, (omega arith, omega arith)), ((refl, (omega arith, omega arith)), ((refl, (omega arith, omega arith)), ((refl, (omega arith, omega arith)), ((refl, (omega arith, omega arith)), ((refl, (omega arith, omega arith)), ((refl, (omega arith, omega arith)), ((refl, (omega arith, omega arith)), ((refl, (omega arith, omega arith)), ((refl, (omega arith, omega arith)), ((refl, (omega arith, omega arith)), tt))))))))))))))))))))))))))))));
+  commands = omega arith;
+  sum = omega arith;
+}
+
+pub two_stations-executed : executed_in (S 5) (lines_after (start two_stations) two_stations.events) ≡ first_echo ∷ []
+unfolding check_bytes with_byte spelled_order fields three_front
+two_stations-executed = refl
+
+pub two_stations-executed-too : executed_in (S 3) (lines_after (start two_stations) two_stations.events) ≡ second_echo ∷ []
+unfolding check_bytes with_byte spelled_order fields three_front
+two_stations-executed-too = refl
+
+pub two_stations-answered : answers_in M (lines_after (start two_stations) two_stations.events) ≡ (2, second_echoed) ∷ (1, first_echoed) ∷ []
+unfolding check_bytes with_byte spelled_order fields three_front
+two_stations-answered = refl
+
+two_stations-checked : prompt_after 0 (start two_stations) two_stations.events ≡ true
+unfolding check_bytes with_byte spelled_order fields three_front is_gentle_on
+two_stations-checked = refl
+
+two_stations-quiet : EndsQuiet two_stations
+unfolding check_bytes with_byte spelled_order fields three_front
+two_stations-quiet = refl
+
+two_stations-fetched : EndsFetched two_stations
+unfolding check_bytes with_byte spelled_order fields three_front
+two_stations-fetched = all KeepsNone (last_state two_stations).stations (record { none_waits = refl; none_held = refl }, (record { none_waits = refl; none_held = refl }, tt))
+
+pub two_stations-undisturbed : IsUndisturbed two_stations
+two_stations-undisturbed = record {
+  rooms = all (λ (plan : EndPlan). (plan_of_m two_stations).window ≤ plan.room) (station_plans two_stations.ends) (omega arith, (omega arith, tt));
+  prompt = prompt-after 0 (start two_stations) two_stations.events two_stations-checked;
+  quiet = two_stations-quiet;
+  few_ticks = omega arith;
+  fetched = two_stations-fetched;
+}
+
+pub two_stations-complete : IsComplete two_stations (record_from (last_state two_stations) (lines_after (start two_stations) two_stations.events))
+two_stations-complete = is-complete two_stations two_stations-playable two_stations-undisturbed

@@ -183,7 +183,7 @@ recounts-tick numbers m lines r =
 -- ---- a take
 
 -- the command that is handed out next is one of them
-next-has : (s : InitiatorState) (body : List ℕ) → next_command s ≡ Some body → Has (map (λ (c : Issued). c.body) s.issued) body
+pub next-has : (s : InitiatorState) (body : List ℕ) → next_command s ≡ Some body → Has (map (λ (c : Issued). c.body) s.issued) body
 next-has s body is =
     let first = (next-first s body is).0 in
     (first.place, slice_get-map (λ (c : Issued). c.body) s.issued first.place ∙ ap (option_map (λ (c : Issued). c.body)) first.is_at ∙ ap Some first.has_body)
