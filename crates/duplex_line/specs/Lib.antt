@@ -10,3 +10,4 @@ pub mod Run
 pub mod Steps
 pub mod Told
 pub mod Wire
+pub mod Transmissions

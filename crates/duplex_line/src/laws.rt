@@ -66,7 +66,8 @@ pub fn an_undisturbed_run_is_complete()
 
 /// A law: in every run, whatever is heard, what each end sent by the report is whole frames, responses and ENQs, with at the
 /// end perhaps the begin of one more, and nothing else; and its frames carry, in their order, each perhaps several times
-/// running, commands that the script issues there and replies that its station made (manual topic: full-duplex protocol).
+/// running, commands that the script issues there and replies that its station made. Where no end was deceived, no two of
+/// these have the same key (manual topic: full-duplex protocol).
 #[tactic(auto, unfolding(crate::specs::Run::record_of))]
 pub fn what_is_on_the_wire_is_df1()
     ensures { (script : Script) → IsPlayable script → AreDf1Wires script (record_of script) }

@@ -31,10 +31,13 @@ use Rattle.duplex_line.specs.Prompt.{IsPrompt, EndsQuiet, HasRooms}
 use Rattle.duplex_line.specs.Complete.{IsComplete as DuplexComplete}
 use Rattle.duplex_line.proofs.Complete.WholeRun.{is-complete as duplex-is-complete}
 use Rattle.duplex_line.proofs.Once.WholeRun.{each-once}
+use Rattle.duplex_line.specs.Wire.{AreDf1Wires as DuplexWires}
+use Rattle.duplex_line.proofs.Wire.WholeRun.{wires}
 use Rattle.line_world.specs.declared.world.World.{World}
 use Rattle.line_world.specs.declared.world.World.TheVariants.{Duplex, Polled}
 use Rattle.line_world.specs.Complete.{IsUndisturbed, IsUndisturbedIn, IsComplete, IsCompleteIn}
 use Rattle.line_world.specs.Once.{EachCommandOnce, EachOnceIn}
+use Rattle.line_world.specs.Wire.{AreDf1Wires, AreDf1WiresIn}
 use Rattle.line_world.specs.Runs.{after_event, after_events, all_lines, begun, begun_in, last_world, lines_in, lines_of, lines_after, played, printed, record_from, record_of, IsNext}
 
 -- ---- some events, and then others
@@ -226,3 +229,16 @@ complete-in false script mode h undisturbed = duplex-complete script (h.full mod
 
 pub all-complete : (script : Script) → CanBePlayed script → IsUndisturbed script → IsComplete script (record_of script)
 all-complete script h = complete-in script.half script refl h
+
+-- ---- what the ends sent
+
+duplex-wires : (script : Script) → IsPlayable script → DuplexWires script (record_of script)
+unfolding duplex.record_of
+duplex-wires script playable = subst (DuplexWires script) (sym (duplex-record script playable.mode)) (wires script playable)
+
+wires-in : (half : Bool) (script : Script) → script.half ≡ half → CanBePlayed script → AreDf1WiresIn half script (record_of script)
+wires-in true script mode h = tt
+wires-in false script mode h = duplex-wires script (h.full mode)
+
+pub all-wires : (script : Script) → CanBePlayed script → AreDf1Wires script (record_of script)
+all-wires script h = wires-in script.half script refl h

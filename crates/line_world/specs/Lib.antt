@@ -1,3 +1,4 @@
 pub mod Complete
 pub mod Once
 pub mod Runs
+pub mod Wire

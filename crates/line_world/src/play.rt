@@ -5,6 +5,7 @@ ghost use Rattle.script_parts.specs.HalfPlayable.{CanBePlayed};
 ghost use Rattle.line_world.specs.Complete.{IsUndisturbed, IsComplete};
 ghost use Rattle.line_world.specs.Once.{EachCommandOnce};
 ghost use Rattle.line_world.specs.Runs.{record_of};
+ghost use Rattle.line_world.specs.Wire.{AreDf1Wires};
 
 use crate::World;
 use df1_base::NoMemory;
@@ -15,12 +16,14 @@ use std::alloc::Global;
 /// Plays a script that can be read, and answers the record of its run. Where no end was deceived, each command of the script was
 /// executed once at most, by the station that it was issued to, and those of each source in their order, the words are those
 /// that the executed ones make, and each accepted reply was the one to that very command. Where nothing disturbed the line, no
-/// end was deceived, and all commands were executed and answered.
+/// end was deceived, and all commands were executed and answered. Whatever was heard, what each end of a full-duplex line sent
+/// is DF1, and carries its own commands and replies.
 pub fn replay(alloc: Global, script: &Script) -> Result<Record, NoMemory>
     requires { CanBePlayed script.now }
     ensures record { IfOk result (λ r. r ≡ record_of script.now) }
     ensures complete { IfOk result (λ r. IsUndisturbed script.now → IsComplete script.now r) }
     ensures once { IfOk result (λ r. r.deceived ≡ 0 → EachCommandOnce script.now r) }
+    ensures wires { IfOk result (λ r. AreDf1Wires script.now r) }
 {
     let mut world = World::new(alloc, script)?;
     for event in script.events.as_slice() {

@@ -99,17 +99,17 @@ given-keeps false s = λ some. (some, refl)
 -- ---- a frame that is begun was begun before
 
 -- what is put in and what is given begin no frame
-dropped-begun : (leaves : Bool) (g : Giving) → is_begun (if leaves then unask g else g) ≡ true → is_begun g ≡ true
+pub dropped-begun : (leaves : Bool) (g : Giving) → is_begun (if leaves then unask g else g) ≡ true → is_begun g ≡ true
 dropped-begun true g is = is
 dropped-begun false g is = is
 
-responded-begun : (r : Response) (g : Giving) → is_begun (elim r [ Offers resp ↦ offer g resp | Forgets ↦ forget g | Again ↦ answer_enq g | Silent ↦ g ]) ≡ true → is_begun g ≡ true
+pub responded-begun : (r : Response) (g : Giving) → is_begun (elim r [ Offers resp ↦ offer g resp | Forgets ↦ forget g | Again ↦ answer_enq g | Silent ↦ g ]) ≡ true → is_begun g ≡ true
 responded-begun (Offers resp) g is = is
 responded-begun Forgets g is = is
 responded-begun Again g is = is
 responded-begun Silent g is = is
 
-asked-begun : (what : SendTurn) (g : Giving) → is_begun (asked what g) ≡ true → is_begun g ≡ true
+pub asked-begun : (what : SendTurn) (g : Giving) → is_begun (asked what g) ≡ true → is_begun g ≡ true
 asked-begun turn.Still g is = is
 asked-begun turn.Ask g is = is
 asked-begun turn.Failed g is = is
@@ -121,7 +121,7 @@ left-begun : (left : List Given) → not (length (drop 1 left) == 0) ≡ true �
 left-begun [] is = is
 left-begun (unit ∷ rest) is = cons-begun unit rest
 
-given-begun : (g : Giving) (c : Option Choice) → is_begun (given g c).0 ≡ true → is_begun g ≡ true
+pub given-begun : (g : Giving) (c : Option Choice) → is_begun (given g c).0 ≡ true → is_begun g ≡ true
 given-begun g None is = is
 given-begun g (Some (Second out)) is = is
 given-begun g (Some (Respond r)) is = is

@@ -207,13 +207,18 @@ once-of near far first far_first s lines told h =
 tables-of : (near far : Who) (first far_first : StationState) (s : LineState) (lines : List Line) → Holds near far first far_first s lines → tables_of s.b ≡ (station_after far_first (executed_in far lines)).tables
 tables-of near far first far_first s lines h = rw h.told.executes (ap (λ (station : StationState). station.tables) h.far_hosts.station)
 
+pub holds-run : (script : Script) → IsPlayable script → (last_state script).deceived ≡ 0
+    → Holds A B (first_station (plan_of_a script)) (first_station (plan_of_b script)) (last_state script) (lines_after (start script) script.events)
+holds-run script playable none =
+    kept-events (first_station (plan_of_a script)) (first_station (plan_of_b script)) script.events (start script) [] playable.events (omega (arith, playable.commands_of_a)) (omega (arith, playable.commands_of_b)) (λ zero. holds-start script) none
+
 pub each-once : (script : Script) → IsPlayable script → (last_state script).deceived ≡ 0 → EachOnce script (record_from (last_state script) (lines_after (start script) script.events))
 each-once script playable none =
     let a = first_station (plan_of_a script) in
     let b = first_station (plan_of_b script) in
     let s = last_state script in
     let lines = lines_after (start script) script.events in
-    let h = kept-events a b script.events (start script) [] playable.events (omega (arith, playable.commands_of_a)) (omega (arith, playable.commands_of_b)) (λ zero. holds-start script) none in
+    let h = holds-run script playable none in
     let back = holds-swapped A B a b s lines h in
     let r = recounts-run script playable in
     record {

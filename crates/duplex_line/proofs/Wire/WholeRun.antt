@@ -6,7 +6,7 @@ use Rattle.std.proofs.lemmas.List.Elements.{All-head, All-tail}
 use Rattle.df1_check.specs.declared.Check.{Check}
 use Rattle.df1_node.specs.Answer.{StationState}
 use Rattle.duplex_end.proofs.OnWire.{on-wire-df1}
-use Rattle.pccc_envelope.specs.Envelope.{is_reply}
+use Rattle.pccc_envelope.specs.Envelope.{tns_of}
 use Rattle.script_statement.specs.declared.who.Who.{Who}
 use Rattle.script_statement.specs.declared.who.Who.TheVariants.{A, B, M, S}
 use Rattle.script_parts.specs.declared.script.EndPlan.{EndPlan}
@@ -23,16 +23,18 @@ use Rattle.each_once.specs.Exchanges.{replies_to}
 use Rattle.each_once.proofs.Sublists.{within-all}
 use Rattle.each_once.proofs.HandedOut.{is_command, waits_of}
 use Rattle.each_once.proofs.RisingPlaces.{some-in-turn}
+use Rattle.each_once.proofs.Sublists.{Differ}
 use Rattle.duplex_line.specs.Acts.{LineEndState, LineState, swapped, Deed, Issue, Take, Deliver, Lose, Alter, Foreign, Tick, near_after, arriving, after_deed, after_deeds, near_lines, arrival_lines, lines_at, lines_over, given_at, given_over}
 use Rattle.duplex_line.specs.Issues.{bodies_of}
 use Rattle.duplex_line.specs.Plays.{issued_by, IsUnspent}
 use Rattle.duplex_line.specs.Run.{first_station, setup_of, first_node, first_side, plan_of_a, plan_of_b, start, who_of, seen_from, after_event, deed_lines, lines_of, state_after, lines_after, last_state, record_from}
 use Rattle.duplex_line.specs.Wire.{IsDf1Wire, AreDf1Wires}
 use Rattle.duplex_line.proofs.Steps.EventsToCome.{room-of-a, room-of-b, unspent}
-use Rattle.duplex_line.proofs.Once.Invariant.{AreTwo, two-swapped, a-and-b, joins-end}
+use Rattle.duplex_line.proofs.Once.Invariant.{AreTwo, two-swapped, a-and-b, joins-end, holds-swapped}
 use Rattle.duplex_line.proofs.Once.ToldCommands.{recounts-run}
-use Rattle.duplex_line.proofs.Once.WholeRun.{IsPlain, ArePlain, plain-again, plain-foreign, sent-silent}
+use Rattle.duplex_line.proofs.Once.WholeRun.{IsPlain, ArePlain, plain-again, plain-foreign, sent-silent, holds-run}
 use Rattle.duplex_line.proofs.Wire.OneEnd.{Gave, May, gave-near, gave-arrival, gave-other, gave-start}
+use Rattle.duplex_line.proofs.Wire.OwnKeys.{own-keys, executed-differ}
 use Rattle.duplex_line.proofs.Wire.SilentLines.{sent-more, steps-send-nothing, own-sent, other-sent, arrival-other, near-executes}
 
 -- both ends, and the bytes that they gave
@@ -169,24 +171,29 @@ run-sent script playable =
     sent-events script.check (first_station (plan_of_a script)) (first_station (plan_of_b script)) script.events (start script) [] playable.events (omega (arith, playable.commands_of_a)) (omega (arith, playable.commands_of_b)) (sent-start script playable)
 
 -- what one end sent is DF1
-wire-of : (who : Who) (check : Check) (first : StationState) (side : LineEndState) (commands : List (List ℕ)) (lines : List Line) → bodies_of side ≡ commands → Gave who check first side lines (sent_by who lines) → IsDf1Wire who check commands first lines
-wire-of who check first side commands lines is g =
+wire-of : (who : Who) (check : Check) (first : StationState) (side : LineEndState) (commands : List (List ℕ)) (r : Record) → bodies_of side ≡ commands
+    → (r.deceived ≡ 0 → (issued_by side ≤ 65535) × Differ (map tns_of (executed_in who r.lines))) → Gave who check first side r.lines (sent_by who r.lines) → IsDf1Wire who check commands first r
+wire-of who check first side commands r is honest g =
     let issued = side.end.host.initiator.issued in
     let handed = filter is_command g.messages in
     record {
       messages = g.messages;
-      df1 = on-wire-df1 check g.messages (sent_by who lines) side.end g.on_wire;
+      df1 = on-wire-df1 check g.messages (sent_by who r.lines) side.end g.on_wire;
       commands_once = rw (← is) (some-in-turn handed handed (bodies_of side) (waits_of issued) (within-all handed) g.hosts.initiates.in_order);
       waiting = side.end.host.replies;
       replies_in_order = sym g.hosts.replies ∙ ap (replies_to first) (sym g.executed);
+      own_keys = λ none. own-keys first side.end.host g.messages g.heard g.hosts (honest none).0 (subst (λ (l : List (List ℕ)). Differ (map tns_of l)) g.executed (honest none).1);
     }
 
 pub wires : (script : Script) → IsPlayable script → AreDf1Wires script (record_from (last_state script) (lines_after (start script) script.events))
 wires script playable =
+    let a = first_station (plan_of_a script) in
+    let b = first_station (plan_of_b script) in
+    let s = last_state script in
+    let lines = lines_after (start script) script.events in
     let sent = run-sent script playable in
     let r = recounts-run script playable in
-    let lines = lines_after (start script) script.events in
     record {
-      of_a = wire-of A script.check (first_station (plan_of_a script)) (last_state script).a _ lines r.recounts.issued.bodies sent.of_near;
-      of_b = wire-of B script.check (first_station (plan_of_b script)) (last_state script).b _ lines r.far_recounts.issued.bodies sent.of_far;
+      of_a = wire-of A script.check a s.a _ (record_from s lines) r.recounts.issued.bodies (λ none. let h = holds-run script playable none in (h.few, executed-differ B A b a (swapped s) lines (holds-swapped A B a b s lines h))) sent.of_near;
+      of_b = wire-of B script.check b s.b _ (record_from s lines) r.far_recounts.issued.bodies (λ none. let h = holds-run script playable none in (h.far_few, executed-differ A B a b s lines h)) sent.of_far;
     }
