@@ -6,3 +6,5 @@ pub mod StationEnd
 pub mod WholeRun
 -- What was given at the end of a run, as the report tells it.
 pub mod Told
+-- Before the first event nothing is under way.
+pub mod FirstState

@@ -1,10 +1,11 @@
 //! Laws of the run of a half-duplex script. The functions do nothing.
-ghost use Rattle.std.specs.Prelude.{◌≡◌, ℕ};
+ghost use Rattle.std.specs.Prelude.{◌≡◌, ℕ, IsTrue};
 ghost use Rattle.script_parts.specs.declared.script.Script.{Script};
 ghost use Rattle.half_slave.specs.Arrived.{HeardByGrammar as HeardAtStation};
 ghost use Rattle.half_master.specs.Arrived.{HeardByGrammar as HeardAtMaster};
 ghost use Rattle.half_line.specs.Arrivals.{master_arrivals_in, station_arrivals_in};
 ghost use Rattle.half_line.specs.Issues.{bodies_of, commands_of_m};
+ghost use Rattle.half_line.specs.Prompt.{is_quiet};
 ghost use Rattle.half_line.specs.Run.{last_state, start};
 
 /// A law: at each byte that arrives at a station in a run, what is told whole, and the station that it names, is what the
@@ -20,4 +21,9 @@ pub fn whole_messages_are_heard_by_the_grammar()
 /// message packets).
 pub fn commands_are_issued()
     ensures { (script : Script) → bodies_of (last_state script).master ≡ commands_of_m script }
+{}
+
+/// A law: before the first event of a script nothing is under way.
+pub fn the_first_state_is_quiet()
+    ensures { (script : Script) → IsTrue (is_quiet (start script)) }
 {}

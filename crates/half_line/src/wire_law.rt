@@ -9,6 +9,6 @@ ghost use Rattle.half_line.specs.Wire.{AreDf1Wires};
 /// nothing else. Its messages, each perhaps several times running, are those that the end's host handed out: commands that the
 /// script issues there, and replies that its station made (manual topic: half-duplex protocol).
 #[tactic(auto, unfolding(crate::specs::Run::record_of))]
-pub fn what_is_sent_is_df1()
+pub fn what_is_on_the_wire_is_df1()
     ensures { (script : Script) → IsHalfPlayable script → AreDf1Wires script (record_of script) }
 {}
