@@ -15,6 +15,7 @@ use Rattle.df1_frame.specs.Spelling.{check_of}
 use Rattle.half_frame.specs.Spelling.{station_head, text_sent}
 use Rattle.half_mouth.specs.Giving.{Giving, is_done, taken, take}
 use Rattle.half_mouth.specs.Transmissions.{ends_here}
+use Rattle.half_mouth.proofs.Wires.{some-left}
 use Rattle.pccc_envelope.specs.Accepted.{Verdict, Repeated, Accepted, Refused}
 use Rattle.half_master.specs.declared.MasterSetup.{MasterSetup}
 use Rattle.half_master.specs.declared.stations.Station.{Station}
@@ -70,9 +71,6 @@ record Follows (setup : MasterSetup) (c : Course) (g : Giving) (at : Phase) : Ty
   pub tick : 1 ≤ setup.ack_ticks
   pub goes : GoesWith setup c (is_done g) at
   pub number : Numbered g at
-
-some-left : (x : Sent) (more : List Sent) → (length (x ∷ more) == 0) ≡ false
-some-left x more = grind (arith, nat_tests)
 
 -- ---- what the waiting is
 

@@ -1,6 +1,6 @@
 //! What holds of a master over every list of signals. The functions do nothing.
 
-ghost use Rattle.std.specs.Prelude.{◌≡◌, ◌≤◌, ◌<◌, ◌+◌, ◌^◌, ◌↔◌, ◌⊎◌, ◌∷◌, ◌++◌, [], ℕ, List, length, true, false, Some, None, is_some, option_to_list, IsNone, IsSome};
+ghost use Rattle.std.specs.Prelude.{◌≡◌, ◌≤◌, ◌<◌, ◌+◌, ◌-◌, ◌^◌, ◌↔◌, ◌⊎◌, ◌∷◌, ◌++◌, [], ℕ, List, length, true, false, Some, None, is_some, option_to_list, IsNone, IsSome};
 ghost use Rattle.std.specs.List.{fold};
 ghost use Rattle.df1_base.specs.declared.host.Fate.TheVariants.{Delivered, Undelivered};
 ghost use Rattle.df1_base.specs.declared.link.Out.{Out as Given};
@@ -8,7 +8,7 @@ ghost use Rattle.df1_check.specs.declared.Check.{Check as CheckKind};
 ghost use Rattle.half_frame.specs.MasterGives.{IsGivenByMaster};
 ghost use Rattle.half_mouth.specs.Giving.{is_done};
 ghost use Rattle.df1_frame.specs.Wire.{AreSendingsOf};
-ghost use Rattle.half_mouth.specs.Transmissions.{bytes_given, count_of, last_body, transmission_at};
+ghost use Rattle.half_mouth.specs.Transmissions.{bytes_given, count_of, counted_to, last_body, numbers_ended, transmission_at};
 ghost use Rattle.pccc_envelope.specs.Accepted.{kept_after, last_key, with_offer};
 ghost use Rattle.half_master.specs.declared.MasterSetup.{MasterSetup as Settings};
 ghost use Rattle.half_master.specs.Stations.{AreStations, numbers_of};
@@ -71,7 +71,8 @@ pub fn fates_are_told_exactly_so<H: Host>()
 /// A message that is given, for the first time or again, is one transmission more, and nothing else is: no poll and no
 /// ACK. What is sent is the body of the transmission that was begun last. While the count of transmissions hasn't stopped at
 /// the last value of u64, a byte that is marked with a number, as the last byte of a transmission or one of its body, is
-/// given while the body of the transmission of that number is sent. Each message to a station that the host handed out is
+/// given while the body of the transmission of that number is sent. Last bytes are given with the numbers 1, 2, 3 and so on, to
+/// that of the last transmission or the one before. Each message to a station that the host handed out is
 /// transmitted, in order, once or several times running.
 pub fn transmissions_are_counted<H: Host>()
     ensures begun { (e : MasterState H) (signals : List Letter) → (master_after_all H.Host e signals).mouth.begun ≡ begun_after e.mouth.begun (events H.Host e signals) }
@@ -80,6 +81,8 @@ pub fn transmissions_are_counted<H: Host>()
     ensures last { (past : Past) (e : MasterState H) → Came H.Host past e → e.sending ≡ last_body (transmissions past.events) }
     ensures numbered { (past : Past) (e : MasterState H) (out : Given) (n : ℕ) → Came H.Host past e → out_at_take H.Host e ≡ Some out → (out.last_of ≡ Some n) ⊎ (out.body_of ≡ Some n)
         → length (transmissions (with_signal H.Host past e Take).events) < 2 ^ 64 → transmission_at (transmissions (with_signal H.Host past e Take).events) n ≡ Some (master_after_take H.Host e).sending }
+    ensures ended { (past : Past) (e : MasterState H) → Came H.Host past e → length (transmissions past.events) < 2 ^ 64
+        → (numbers_ended past.gave ≡ counted_to (length (transmissions past.events))) ⊎ (numbers_ended past.gave ≡ counted_to (length (transmissions past.events) - 1)) }
     ensures running { (past : Past) (e : MasterState H) → Came H.Host past e → AreSendingsOf (transmissions past.events) (handed_out past.events) }
 {}
 

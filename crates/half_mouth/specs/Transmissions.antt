@@ -1,6 +1,6 @@
 -- The messages of the transmissions of an end, one after another, and the bytes that it gave.
 use Rattle.std.specs.Prelude.{ℕ, zero, suc, ◌-◌, ◌^◌, Bool, false, is_some, List, [], ◌∷◌, ◌++◌, length, map, min, Option, Some, None, option_to_list, slice_get, unwrap_or}
-use Rattle.std.specs.List.{last_or}
+use Rattle.std.specs.List.{filter_map, last_or}
 use Rattle.df1_base.specs.declared.link.Out.{Out}
 
 -- the bytes that were given
@@ -11,6 +11,15 @@ bytes_given outs = map {A = Out} (λ out. out.byte) outs
 abbrev pub ends_here : Option Out → Bool
 ends_here None = false
 ends_here (Some out) = is_some out.last_of
+
+-- the numbers of the transmissions whose last bytes were given, in order
+abbrev pub numbers_ended : List Out → List ℕ
+numbers_ended outs = filter_map {X = Out} (λ out. out.last_of) outs
+
+-- 1, 2, 3 and so on up to this one
+abbrev pub counted_to : ℕ → List ℕ
+counted_to zero = []
+counted_to (suc n) = counted_to n ++ suc n ∷ []
 
 -- the last of the bodies, empty where there is none
 abbrev pub last_body : List (List ℕ) → List ℕ

@@ -1,6 +1,6 @@
 //! What holds of a slave over every list of signals. The functions do nothing.
 
-ghost use Rattle.std.specs.Prelude.{◌≡◌, ◌≤◌, ◌<◌, ◌+◌, ◌^◌, ◌↔◌, ◌⊎◌, ◌∷◌, ◌++◌, [], ℕ, List, Bool, length, true, false, is_some, ◌&&◌, Some, IsNone, IsSome};
+ghost use Rattle.std.specs.Prelude.{◌≡◌, ◌≤◌, ◌<◌, ◌+◌, ◌-◌, ◌^◌, ◌↔◌, ◌⊎◌, ◌∷◌, ◌++◌, [], ℕ, List, Bool, length, true, false, is_some, ◌&&◌, Some, IsNone, IsSome};
 ghost use Rattle.std.specs.List.{fold};
 ghost use Rattle.df1_base.specs.declared.host.Fate.TheVariants.{Delivered, Undelivered};
 ghost use Rattle.df1_base.specs.declared.link.Out.{Out as Given};
@@ -17,7 +17,7 @@ ghost use Rattle.half_slave.specs.Received.{offers, handed_over};
 ghost use Rattle.half_slave.specs.Reached.{Reached, Fits};
 ghost use Rattle.half_slave.specs.Past.{Past, Came, handed_out, transmissions};
 ghost use Rattle.df1_frame.specs.Wire.{AreSendingsOf};
-ghost use Rattle.half_mouth.specs.Transmissions.{bytes_given, count_of, last_body, transmission_at};
+ghost use Rattle.half_mouth.specs.Transmissions.{bytes_given, count_of, counted_to, last_body, numbers_ended, transmission_at};
 ghost use Rattle.half_frame.specs.SlaveGives.{IsGivenBySlave};
 
 use df1_base::Host;
@@ -81,13 +81,16 @@ pub fn what_was_begun_is_given<H: Host>()
 /// Transmissions are numbered from 1 in the order in which they begin, by a count that stops at the last value of u64. What
 /// is sent is the body of the one that was begun last, also when its fate is told meanwhile; and while the count hasn't
 /// stopped, a byte that is marked with a number, as the last byte of a transmission or one of its body, is given while the
-/// body of the transmission of that number is sent. Each message that the host handed out is transmitted, in order, once or
-/// several times running.
+/// body of the transmission of that number is sent. Last bytes are given with the numbers 1, 2, 3 and so on, to that of the
+/// last transmission or the one before. Each message that the host handed out is transmitted, in order, once or several times
+/// running.
 pub fn transmissions_are_counted<H: Host>()
     ensures begun { (past : Past) (s : SlaveState H) → Came H.Host past s → s.mouth.begun ≡ count_of (transmissions past.events) }
     ensures sending { (past : Past) (s : SlaveState H) → Came H.Host past s → s.sending ≡ last_body (transmissions past.events) }
     ensures numbered { (past : Past) (s : SlaveState H) (out : Given) (n : ℕ) → Came H.Host past s → out_at_take s ≡ Some out → (out.last_of ≡ Some n) ⊎ (out.body_of ≡ Some n)
         → length (transmissions past.events) < 2 ^ 64 → transmission_at (transmissions past.events) n ≡ Some (slave_after_take s).sending }
+    ensures ended { (past : Past) (s : SlaveState H) → Came H.Host past s → length (transmissions past.events) < 2 ^ 64
+        → (numbers_ended past.gave ≡ counted_to (length (transmissions past.events))) ⊎ (numbers_ended past.gave ≡ counted_to (length (transmissions past.events) - 1)) }
     ensures running { (past : Past) (s : SlaveState H) → Came H.Host past s → AreSendingsOf (transmissions past.events) (handed_out past.events) }
 {}
 

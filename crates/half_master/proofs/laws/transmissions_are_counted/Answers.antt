@@ -1,6 +1,6 @@
 use Rattle.half_master.proofs.SendingLemmas.{signals-counted}
 use Rattle.half_master.proofs.Reaching.{KeepsBodies}
-use Rattle.half_master.proofs.Giving.{came-gave, came-number, came-running}
+use Rattle.half_master.proofs.Giving.{came-gave, came-number, came-ended, came-running}
 use Rattle.half_master.proofs.laws.transmissions_are_counted.Goals as goal
 
 pub returns-clause-begun : goal.returns-clause-begun
@@ -23,6 +23,11 @@ pub returns-clause-numbered : goal.returns-clause-numbered
 returns-clause-numbered g c =
     let laws : KeepsBodies g.H.Host = record { next_is = g.met.H.Host.body_at_next; at_accept = g.met.H.Host.bodies_at_accept; at_next = g.met.H.Host.bodies_at_next; at_told = g.met.H.Host.bodies_at_told; at_tick = g.met.H.Host.bodies_at_tick } in
     came-number g.H.Host laws
+
+pub returns-clause-ended : goal.returns-clause-ended
+returns-clause-ended g c =
+    let laws : KeepsBodies g.H.Host = record { next_is = g.met.H.Host.body_at_next; at_accept = g.met.H.Host.bodies_at_accept; at_next = g.met.H.Host.bodies_at_next; at_told = g.met.H.Host.bodies_at_told; at_tick = g.met.H.Host.bodies_at_tick } in
+    came-ended g.H.Host laws
 
 pub returns-clause-running : goal.returns-clause-running
 returns-clause-running g c =
