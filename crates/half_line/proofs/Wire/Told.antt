@@ -35,12 +35,12 @@ use Rattle.each_once.specs.Direction.{AreSomeOf}
 use Rattle.each_once.specs.Exchanges.{replies_to}
 use Rattle.each_once.specs.NodeHost.{node_host}
 use Rattle.each_once.specs.Tells.{executed_in}
-use Rattle.each_once.proofs.AnsweringStation.{Serves, serves-start, sent-within, sent-replies, within-all, within-through}
+use Rattle.each_once.proofs.AnsweringStation.{Serves, serves-start, sent-within, sent-replies, within-through}
 use Rattle.each_once.proofs.HandedOrder.{none-in-turn}
 use Rattle.each_once.proofs.HandedOut.{Hosts, waits_of}
 use Rattle.each_once.proofs.NodeSteps.{hosts-start}
 use Rattle.each_once.proofs.RisingPlaces.{some-of, some-in-turn}
-use Rattle.each_once.proofs.Sublists.{Has, IsWithin, nothing, skips, keeps, within-front, within-filter, from-map}
+use Rattle.each_once.proofs.Sublists.{Has, IsWithin, nothing, skips, keeps, within-all, within-front, within-filter, from-map}
 use Rattle.half_line.specs.Acts.{LineStationState}
 use Rattle.half_line.specs.Issues.{commands_of_m, issued_of}
 use Rattle.half_line.specs.Run.{master_setup, slave_setup, first_side, plan_of_m, start, last_state, lines_after, record_from}
