@@ -16,11 +16,11 @@ use Rattle.each_once.proofs.HandedOrder.{AreAt, AreInTurn, IsEarlier, IsEarlierT
 use Rattle.each_once.proofs.HandedOut.{AreNumbered, numbered-at, numbered-apart}
 
 -- numbers that rise, from one on
-abbrev RiseFrom : ℕ → List ℕ → Type 0
+abbrev pub RiseFrom : ℕ → List ℕ → Type 0
 RiseFrom low [] = Unit {0}
 RiseFrom low (x ∷ xs) = (low ≤ x) × RiseFrom (suc x) xs
 
-rise-lower : (low high : ℕ) (xs : List ℕ) → low ≤ high → RiseFrom high xs → RiseFrom low xs
+pub rise-lower : (low high : ℕ) (xs : List ℕ) → low ≤ high → RiseFrom high xs → RiseFrom low xs
 rise-lower low high [] below h = tt
 rise-lower low high (x ∷ xs) below h = (omega (arith, h.0), h.1)
 
@@ -28,7 +28,7 @@ rise-first : (low : ℕ) (xs : List ℕ) → RiseFrom low xs → 0 < length xs �
 rise-first low [] h some = absurd (omega arith)
 rise-first low (x ∷ xs) h some = h.0
 
-increasing : (low : ℕ) (xs : List ℕ) → RiseFrom low xs → IsStrictlyIncreasing xs
+pub increasing : (low : ℕ) (xs : List ℕ) → RiseFrom low xs → IsStrictlyIncreasing xs
 increasing low [] h k inside = absurd (omega arith)
 increasing low (x ∷ xs) h zero inside = let more = rise-first (suc x) xs h.1 (omega arith) in omega (arith, more)
 increasing low (x ∷ xs) h (suc k) inside = let more = increasing (suc x) xs h.1 k (omega arith) in rw add-one (rw add-one at more)

@@ -194,7 +194,7 @@ right-by G M w rights may single sent messages bytes left g (Some item) begun ar
     let front = part-front G M w item g.part left (may item begun.0) begun.2 begun.1 split.0 split.1 split.2 in
     let one : Splits G g.part [] split.1 = record { whole = sym front.1; each = front.0 } in
     let parts : sent ≡ flat_map rights.bodies_at g.items ++ rights.bodies_at item =
-        are ∙ flat_map-append rights.bodies_at g.items (item ∷ []) ∙ ap (λ (l : List (List ℕ)). flat_map rights.bodies_at g.items ++ l) (append-nil (rights.bodies_at item)) in
+    are ∙ flat_map-append rights.bodies_at g.items (item ∷ []) ∙ ap (λ (l : List (List ℕ)). flat_map rights.bodies_at g.items ++ l) (append-nil (rights.bodies_at item)) in
     let carried = carries-by G rights sent messages g.items item (rights.bodies_at item) all parts (single item) in
     record {
       items = g.items ++ [];

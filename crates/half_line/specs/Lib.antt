@@ -9,3 +9,4 @@ pub mod Prompt
 pub mod Run
 pub mod Steps
 pub mod Wire
+pub mod Transmissions

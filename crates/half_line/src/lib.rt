@@ -26,6 +26,7 @@ mod master;
 pub mod once_law;
 mod reported;
 mod setup;
+pub mod transmission_law;
 mod way;
 pub mod wire_law;
 mod world;

@@ -79,7 +79,7 @@ polled-takes : {H : Type 0} (m : Ghosts H) (e : MasterState H) (what : Option Ma
     ≡ fold with_offer before (if true && same && is_good what && is_from (slice_get e.stations place) (body_of e) then record { body = body_of e; has_room = m.room_for e.host (body_of e) } ∷ [] else [])
 polled-takes m e what before place left at true is kept =
     subst (λ (n : ℕ). before ++ took m e.host (effect_in m e what (phase.WaitsAfterPoll left n)) (body_of e)
-        ≡ fold with_offer before (if true && true && is_good what && is_from (slice_get e.stations place) (body_of e) then record { body = body_of e; has_room = m.room_for e.host (body_of e) } ∷ [] else []))
+    ≡ fold with_offer before (if true && true && is_good what && is_from (slice_get e.stations place) (body_of e) then record { body = body_of e; has_room = m.room_for e.host (body_of e) } ∷ [] else []))
     (sym (eqb-true at place is))
     (own-poll m e.host before (answered (m.room_for e.host) place (slice_get e.stations place) (body_of e)) what (body_of e) (is_from (slice_get e.stations place) (body_of e)) (record { body = body_of e; has_room = m.room_for e.host (body_of e) })
     (place-answer m e.host before e.stations place (m.room_for e.host) (body_of e) (slice_get e.stations place) refl kept))

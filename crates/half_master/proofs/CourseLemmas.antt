@@ -118,7 +118,7 @@ again-follows : {H : Type 0} (e : MasterState H) (c : Course) (resent : ℕ) →
 again-follows e c resent some not given within =
     let head = slice_index e.sending 0 in
     let gives : is_done (transmitted e resent).mouth ≡ false =
-        some-left (record { byte = 16; of_body = false }) (record { byte = 1; of_body = false } ∷ record { byte = head; of_body = false } ∷ text_sent e.sending (check_of e.setup.check (station_head e.setup.check head ++ e.sending))) in
+    some-left (record { byte = 16; of_body = false }) (record { byte = 1; of_body = false } ∷ record { byte = head; of_body = false } ∷ text_sent e.sending (check_of e.setup.check (station_head e.setup.check head ++ e.sending))) in
     record {
       tick = some;
       goes = subst (λ (done : Bool). GoesWith e.setup c done (phase.WaitsForAck e.setup.ack_ticks resent)) (sym gives) (record { waits_not = not; given = given; all = refl; within = within });
@@ -405,7 +405,7 @@ begun-follows {H} m e c (Some body) is f =
     let listed : MasterState H = transmitted (record e { sending = body; host = m.after_next e.host }) 0 in
     let other : MasterState H = with_host e (m.after_told (m.after_next e.host) fate.Undelivered) in
     let P : Bool → Type 0 = λ (b : Bool). let x : MasterState H = (if b then listed else other) in
-        Follows e.setup (course_told (if b then None else Some fate.Undelivered) (course_given (ends_here (take x.mouth).1) c)) (given_next x).mouth (given_next x).phase in
+    Follows e.setup (course_told (if b then None else Some fate.Undelivered) (course_given (ends_here (take x.mouth).1) c)) (given_next x).mouth (given_next x).phase in
     by-test (is_listed e.stations (slice_index body 0)) P
     (take-follows e.setup c listed.mouth listed.phase (again-follows (record e { sending = body; host = m.after_next e.host }) c 0 f.tick fresh.0 fresh.1 (omega arith)))
     (subst (λ (p : Phase). Follows e.setup (course_told (Some fate.Undelivered) (course_given (ends_here (take e.mouth).1) c)) (take e.mouth).0 p) (sym begins.idle) (told-follows e.setup c e.mouth begins.done idle))

@@ -117,9 +117,11 @@ performed-wired check messages ts outs e (effect.Waits left) over only suits w =
     (w.0, rw (append-nil messages) (wires-held (slave_hears check 250) (machine check 250) (rights check) messages ts outs e.mouth (awaits e.phase) _ e.sending (λ holds. sym (left-awaits left e.phase) ∙ holds) w.1))
 performed-wired check messages ts outs e effect.Delivered over only suits w = same-after check messages ts outs (record e { phase = phase.Idle }) (idle-wired check messages ts outs e w)
 performed-wired check messages ts outs e (effect.Again resent) over only suits w =
-    let P : Check → Type 0 = λ c. Wires (slave_hears check 250) (machine check 250) (rights check) messages (with_again ts) outs (transmit e.mouth (message_sent c (slice_index e.sending 0) e.sending)) true e.sending in
-    (w.0, rw (append-nil messages) (subst P (sym w.0) (wires-again (slave_hears check 250) (machine check 250) (rights check) messages ts outs e.mouth (awaits e.phase) true e.sending (own check e.sending)
-    (message_sent check (slice_index e.sending 0) e.sending) (suits.0, refl, refl) refl (own-bytes check e.sending) (λ none. cc) over (w.1.held only) w.1)))
+    let P : Check → Type 0 = λ c. Wires (slave_hears check 250) (machine check 250) (rights check) messages (with_again ts) outs (transmit e.mouth (message_sent c (slice_index e.sending 0) e.sending)) true e.sending in (
+      w.0,
+      rw (append-nil messages) (subst P (sym w.0) (wires-again (slave_hears check 250) (machine check 250) (rights check) messages ts outs e.mouth (awaits e.phase) true e.sending (own check e.sending)
+          (message_sent check (slice_index e.sending 0) e.sending) (suits.0, refl, refl) refl (own-bytes check e.sending) (λ none. cc) over (w.1.held only) w.1)),
+    )
 performed-wired check messages ts outs e effect.GivenUp over only suits w = same-after check messages ts outs (record e { phase = phase.Idle }) (idle-wired check messages ts outs e w)
 performed-wired check messages ts outs e effect.PollOver over only suits w = same-after check messages ts outs (record e { phase = phase.Idle }) (idle-wired check messages ts outs e w)
 performed-wired check messages ts outs e (effect.Accepted place) over only suits w =
@@ -162,9 +164,11 @@ begun-wired {H} m laws check messages ts outs e (Some body) is holds w =
     let listed : MasterState H = transmitted (record e { sending = body; host = m.after_next e.host }) 0 in
     let other : MasterState H = with_host e (m.after_told (m.after_next e.host) fate.Undelivered) in
     let P : Check → Type 0 = λ c. Wires (slave_hears check 250) (machine check 250) (rights check) (messages ++ body ∷ []) (ts ++ body ∷ []) outs (transmit e.mouth (message_sent c (slice_index body 0) body)) true body in
-    by-test (is_listed e.stations (slice_index body 0)) (λ (b : Bool). After check messages ts outs (if b then HandedOut body ∷ [] else ForNoStation body ∷ []) (if b then listed else other))
-    (w.0, subst P (sym w.0) (wires-message (slave_hears check 250) (machine check 250) (rights check) messages ts outs e.mouth (awaits e.phase) true e.sending (own check body) body (message_sent check (slice_index body 0) body)
-    (next-is m laws e.host body holds begins.is_next, refl, refl) refl (own-bytes check body) (λ none. cc) (done-left e.mouth.left begins.done) w.1))
+    by-test (is_listed e.stations (slice_index body 0)) (λ (b : Bool). After check messages ts outs (if b then HandedOut body ∷ [] else ForNoStation body ∷ []) (if b then listed else other)) (
+      w.0,
+      subst P (sym w.0) (wires-message (slave_hears check 250) (machine check 250) (rights check) messages ts outs e.mouth (awaits e.phase) true e.sending (own check body) body (message_sent check (slice_index body 0) body)
+          (next-is m laws e.host body holds begins.is_next, refl, refl) refl (own-bytes check body) (λ none. cc) (done-left e.mouth.left begins.done) w.1),
+    )
     (same-after check messages ts outs other (w.0, w.1))
 
 take-wired : {H : Type 0} (m : Ghosts H) (check : Check) (messages ts : List (List ℕ)) (outs : List Out) (e : MasterState H) → Wired check messages ts outs e → Wired check messages ts (outs ++ option_to_list (take e.mouth).1) (given_next e)

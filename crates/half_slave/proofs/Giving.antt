@@ -96,17 +96,21 @@ offered-wired : {H : Type 0} (m : Ghosts H) (check : Check) (messages ts : List 
 offered-wired m check messages ts outs s None fits over w =
     (w.0, rw (append-nil messages) (wires-other (master_hears check 250) (machine check 250) (rights check) messages ts outs s.mouth (is_some s.held) s.sending (Pair 4) (unmarked (pair_bytes 4)) (inr (inr refl)) refl refl (λ none. cc) over w.1))
 offered-wired {H} m check messages ts outs s (Some body) fits over w =
-    let P : Check → Type 0 = λ c. Wires (master_hears check 250) (machine check 250) (rights check) (messages ++ body ∷ []) (ts ++ body ∷ []) outs (transmit s.mouth (reply_sent c body)) true body in
-    (w.0, subst P (sym w.0) (wires-message (master_hears check 250) (machine check 250) (rights check) messages ts outs s.mouth (is_some s.held) true s.sending (own check body) body (reply_sent check body) (fits, refl) refl
-    (sym (bytes_of-text body (check_of check body))) (reply-some check body) over w.1))
+    let P : Check → Type 0 = λ c. Wires (master_hears check 250) (machine check 250) (rights check) (messages ++ body ∷ []) (ts ++ body ∷ []) outs (transmit s.mouth (reply_sent c body)) true body in (
+      w.0,
+      subst P (sym w.0) (wires-message (master_hears check 250) (machine check 250) (rights check) messages ts outs s.mouth (is_some s.held) true s.sending (own check body) body (reply_sent check body) (fits, refl) refl
+          (sym (bytes_of-text body (check_of check body))) (reply-some check body) over w.1),
+    )
 
 answered-wired : {H : Type 0} (m : Ghosts H) (check : Check) (messages ts : List (List ℕ)) (outs : List Out) (s : SlaveState H) (held : Option Held) (next : Option (List ℕ)) → s.held ≡ held → m.next_body s.host ≡ next → HoldsBody held s.sending → IfSome next IsBody
     → IsOver s.mouth → Wired check messages ts outs s → After check messages ts outs (sending_begun held next) (answered m s held)
 answered-wired m check messages ts outs s (Some message) next is of_host holds fits over w =
     let P : Check → Type 0 = λ c. Wires (master_hears check 250) (machine check 250) (rights check) messages (with_again ts) outs (transmit s.mouth (reply_sent c s.sending)) (is_some s.held) s.sending in
-    let last : IsLast ts s.sending = w.1.held (ap is_some is) in
-    (w.0, rw (append-nil messages) (subst P (sym w.0) (wires-again (master_hears check 250) (machine check 250) (rights check) messages ts outs s.mouth (is_some s.held) (is_some s.held) s.sending (own check s.sending) (reply_sent check s.sending) (holds, refl) refl
-    (sym (bytes_of-text s.sending (check_of check s.sending))) (reply-some check s.sending) over last w.1)))
+    let last : IsLast ts s.sending = w.1.held (ap is_some is) in (
+      w.0,
+      rw (append-nil messages) (subst P (sym w.0) (wires-again (master_hears check 250) (machine check 250) (rights check) messages ts outs s.mouth (is_some s.held) (is_some s.held) s.sending (own check s.sending) (reply_sent check s.sending) (holds, refl) refl
+          (sym (bytes_of-text s.sending (check_of check s.sending))) (reply-some check s.sending) over last w.1)),
+    )
 answered-wired {H} m check messages ts outs s None next is of_host holds fits over w =
     let none : Wired check messages ts outs s = w in
     subst (λ (o : Option (List ℕ)). After check messages ts outs (sending_begun None next) (offered m s o)) (sym of_host) (offered-wired m check messages ts outs s next fits over w)
@@ -197,9 +201,11 @@ take-wired : {H : Type 0} (check : Check) (messages ts : List (List ℕ)) (outs 
 take-wired check messages ts outs s w =
     let g = mouth_at_take s.mouth s.responds in
     let now = response-wired check messages ts outs s s.responds (is_done s.mouth) refl w in
-    let given = wires-take (master_hears check 250) (machine check 250) (works check 250) (rights check) (may-end check) messages ts outs g (is_some s.held) s.sending now in
-    (w.0, wires-held (master_hears check 250) (machine check 250) (rights check) messages ts (outs ++ option_to_list (take g).1) (take g).0 (is_some s.held) (is_some (slave_after_take s).held) s.sending
-    (λ holds. sym (out-some (ends_here (out_at_take s)) s.held) ∙ holds) given)
+    let given = wires-take (master_hears check 250) (machine check 250) (works check 250) (rights check) (may-end check) messages ts outs g (is_some s.held) s.sending now in (
+      w.0,
+      wires-held (master_hears check 250) (machine check 250) (rights check) messages ts (outs ++ option_to_list (take g).1) (take g).0 (is_some s.held) (is_some (slave_after_take s).held) s.sending
+          (λ holds. sym (out-some (ends_here (out_at_take s)) s.held) ∙ holds) given,
+    )
 
 -- ---- a slave with its past
 

@@ -51,7 +51,7 @@ use Rattle.half_line.proofs.Wire.MasterEnd.{MasterGave, node_keeps}
 use Rattle.half_line.proofs.Wire.StationEnd.{StationGave}
 use Rattle.half_line.proofs.Wire.WholeRun.{Setting, LineGave, LinesGave, events-gave}
 
-slave_keeps : SlaveKeeps node_host
+pub slave_keeps : SlaveKeeps node_host
 slave_keeps = record { next_is = next_is_body; at_accept = bodies_at_accept; at_next = bodies_at_next; at_told = bodies_at_told; at_clear = bodies_at_clear }
 
 -- ---- parts of lists
@@ -127,15 +127,20 @@ plan-of-master : (ends : List EndPlan) (d : EndPlan) → AreHalfEnds ends → Is
 plan-of-master [] d h = absurd h
 plan-of-master (master ∷ stations) d h = h.0
 
+pub start-came : (script : Script) → IsHalfPlayable script → master_past.Came node_host master_past.no_past (start script).master
+start-came script playable =
+    let plan = plan_of_m script in
+    let of_m = plan-of-master script.ends (first_plan M 0) playable.ends in
+    master_past.begins (master_setup script.check plan) (numbers_of script.ends) (first_node plan) (record { ack_ticks = (of_m.settings AckTicks).0; poll_ticks = (of_m.settings PollTicks).0 }) (half-listed script.ends playable.ends) (first-holds plan of_m.block)
+
 start-master : (script : Script) (playable : IsHalfPlayable script) → MasterGave script.check (first_station (plan_of_m script)) (start script).master [] []
 start-master script playable =
     let plan = plan_of_m script in
-    let of_m = plan-of-master script.ends (first_plan M 0) playable.ends in
     record {
       past = master_past.no_past;
       messages = [];
       heard = [];
-      came = master_past.begins (master_setup script.check plan) (numbers_of script.ends) (first_node plan) (record { ack_ticks = (of_m.settings AckTicks).0; poll_ticks = (of_m.settings PollTicks).0 }) (half-listed script.ends playable.ends) (first-holds plan of_m.block);
+      came = start-came script playable;
       check_is = refl;
       gave = refl;
       hosts = hosts-start (first_station plan) (first_node plan) refl refl refl;
@@ -156,6 +161,11 @@ all-get : (plans : List EndPlan) (p : ℕ) (plan : EndPlan) → All IsStationPla
 all-get plans p plan all at =
     let inside = slice_get_within plans p plan at in
     subst IsStationPlan (get_or_from_slice_get plans p plan plan at) (all p plan inside)
+
+-- the station of a plan has done nothing at first
+pub station-came : (script : Script) (playable : IsHalfPlayable script) (p : ℕ) (plan : EndPlan) → slice_get (station_plans script.ends) p ≡ Some plan → slave_past.Came node_host slave_past.no_past (first_side script.check plan).slave
+station-came script playable p plan at =
+    slave_past.begins (slave_setup script.check plan) (first_node plan) (first-holds plan (all-get (station_plans script.ends) p plan (half-stations script.ends playable.ends) at).block)
 
 start-gave : (script : Script) (playable : IsHalfPlayable script) → LinesGave (setting_of script playable) (start script) []
 start-gave script playable = record {

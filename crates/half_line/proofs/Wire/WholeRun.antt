@@ -384,7 +384,7 @@ event-gave setting s e lines may g =
     (λ p side at.
     let who = S (slice_index setting.numbers p) in
     let was = from-map (λ (x : LineStationState). x.number) s.stations p side.number
-        (ap (λ (ns : List ℕ). slice_get ns p) g.numbers_are ∙ number-at setting (after_event s e) p side all.numbers_are at) in
+    (ap (λ (ns : List ℕ). slice_get ns p) g.numbers_are ∙ number-at setting (after_event s e) p side all.numbers_are at) in
     let same : was.0.number ≡ slice_index setting.numbers p = was.2 ∙ sym (index-is setting.numbers p side.number (number-at setting (after_event s e) p side all.numbers_are at)) in
     told-more who lines over sent (over_s p s steps) (steps-send-nothing who steps s) (subst (λ (n : ℕ). sent_by (S n) sent ≡ over_s p s steps) same (by.of_s p was.0 was.1)))
     all
@@ -411,7 +411,7 @@ may-take : (stations : List LineStationState) (who : Who) (n : ℕ) (o : Option 
 may-take stations who n None s = may-gives n s
 may-take stations who n (Some number) s = may-with (place_of stations number) _ s
 
-event-may : (numbers : List ℕ) (s : HalfState) (e : Event) → IsHalfPossible numbers e → IsUnspent s.master e → MayAll s (steps_of s e)
+pub event-may : (numbers : List ℕ) (s : HalfState) (e : Event) → IsHalfPossible numbers e → IsUnspent s.master e → MayAll s (steps_of s e)
 event-may numbers s (event.Issue who src dst payload) may few = ((may.2, few), tt)
 event-may numbers s (event.Take who n) may few = may-take s.stations who n (number_of who) s
 event-may numbers s (event.Deliver lane n) may few = may-with (place_of s.stations (station_between lane.from lane.to)) _ s
