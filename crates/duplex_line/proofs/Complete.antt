@@ -1,9 +1,15 @@
+-- A byte of a body is altered: the frame keeps its shape.
+pub mod AlteredBytes
 -- A byte arrives, in a run that nothing disturbs.
 pub mod ArrivalStep
 -- What a decoder hears of a frame's check bytes, and where an end chooses a response.
 pub mod CheckBytes
 -- A lane whose bytes are heard as what they were given as: nothing, ACKs, and whole frames at the bytes that end them.
 pub mod ClearLane
+-- What was done to the transmissions of an end, beside what its sender counts of them.
+pub mod DamageDone
+-- The run of a write that is damaged once.
+pub mod DamagedWitness
 -- A decoder that hears all that an end gives: where it stands, by what the end has still to give.
 pub mod DecoderPlace
 -- A command is issued, and a byte is given, in a run that nothing disturbs.

@@ -1,11 +1,13 @@
--- Scripts whose runs deceive no end: one command is issued, crosses the line, is executed and answered; and three of two sources.
-use Rattle.std.specs.Prelude.{ℕ, false, List, [], ◌∷◌, Some, None}
+-- Scripts whose runs deceive no end: one command is issued, crosses the line, is executed and answered; the same where a byte of it is altered; and three of two sources.
+use Rattle.std.specs.Prelude.{ℕ, Bool, true, false, List, [], ◌∷◌, Some, None}
 use Rattle.df1_base.specs.declared.file_type.FileType.TheVariants.{Integer}
 use Rattle.df1_check.specs.declared.Check.TheVariants.{Bcc}
 use Rattle.script_statement.specs.declared.who.Who.TheVariants.{A, B}
-use Rattle.script_parts.specs.declared.script.Event.TheVariants.{Issue, Take, Deliver}
+use Rattle.script_parts.specs.declared.script.Event.TheVariants.{Issue, Take, Deliver, Alter}
 use Rattle.script_parts.specs.declared.script.Script.{Script}
 use Rattle.script_parts.specs.Plans.{first_plan}
+use Rattle.replay_report.specs.declared.record.Line.{Line}
+use Rattle.replay_report.specs.declared.record.Line.TheVariants.{Damaged}
 
 -- a write of 1234 to word 0 of integer file 7, over a line that loses nothing
 abbrev pub one_write : Script
@@ -27,6 +29,27 @@ the_command = 0x01 ∷ 0x00 ∷ 0x0F ∷ 0x00 ∷ 0x01 ∷ 0x00 ∷ 0xAA ∷ 0x0
 
 abbrev pub the_reply : List ℕ
 the_reply = 0x00 ∷ 0x01 ∷ 0x4F ∷ 0x00 ∷ 0x01 ∷ 0x00 ∷ []
+
+-- the same write over a line that alters its DST once
+abbrev pub hit_write : Script
+hit_write = record {
+  half = false;
+  check = Bcc;
+  ends = first_plan A 0 ∷ record (first_plan B 1) { files = record { number = 7; kind = Integer; count = 16 } ∷ [] } ∷ [];
+  events =
+      Issue A None 1 (0x0F ∷ 0xAA ∷ 0x02 ∷ 0x07 ∷ 0x89 ∷ 0x00 ∷ 0x00 ∷ 0x34 ∷ 0x12 ∷ [])
+      ∷ Take A 19 ∷ Deliver (record { from = A; to = B }) 2 ∷ Alter (record { from = A; to = B }) 0x01 ∷ Deliver (record { from = A; to = B }) 17
+      ∷ Take B 2 ∷ Deliver (record { from = B; to = A }) 2
+      ∷ Take A 19 ∷ Deliver (record { from = A; to = B }) 19
+      ∷ Take B 15 ∷ Deliver (record { from = B; to = A }) 15
+      ∷ Take A 2 ∷ Deliver (record { from = A; to = B }) 2
+      ∷ [];
+}
+
+-- the line of a message that came damaged
+abbrev pub is_damage : Line → Bool
+is_damage (Damaged who) = true
+is_damage other = false
 
 -- two may be out, one of each source: node 0 writes 1234 and 5678 to words 0 and 1, and source 9 asks for an echo of 55
 abbrev pub two_sources : Script

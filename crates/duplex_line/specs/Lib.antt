@@ -6,6 +6,7 @@ pub mod Issues
 pub mod Once
 pub mod Plays
 pub mod Prompt
+pub mod Recoverable
 pub mod Run
 pub mod Steps
 pub mod Told

@@ -1,5 +1,6 @@
 //! Laws of the run of a script. The functions do nothing.
-ghost use Rattle.std.specs.Prelude.{◌≡◌, ◌∷◌, [], IsTrue};
+ghost use Rattle.std.specs.Prelude.{◌≡◌, ◌∷◌, [], true, IsTrue};
+ghost use Rattle.std.specs.List.{list_any};
 ghost use Rattle.script_parts.specs.declared.script.Script.{Script};
 ghost use Rattle.script_statement.specs.declared.who.Who.TheVariants.{A, B};
 ghost use Rattle.script_parts.specs.Playable.{IsPlayable};
@@ -12,9 +13,10 @@ ghost use Rattle.duplex_line.specs.Run.{start, last_state, lines_after, record_o
 ghost use Rattle.duplex_line.specs.Once.{EachOnce};
 ghost use Rattle.duplex_line.specs.Wire.{AreDf1Wires};
 ghost use Rattle.duplex_line.specs.Prompt.{IsPrompt, EndsQuiet, HasRooms, is_quiet};
+ghost use Rattle.duplex_line.specs.Recoverable.{IsRecoverable};
 ghost use Rattle.duplex_line.specs.Complete.{IsComplete};
 ghost use Rattle.each_once.specs.Tells.{executed_in, answers_in};
-ghost use Rattle.duplex_line.specs.Example.{one_write, the_command, the_reply, two_sources, second_command, second_reply, third_command, third_reply};
+ghost use Rattle.duplex_line.specs.Example.{hit_write, is_damage, one_write, the_command, the_reply, two_sources, second_command, second_reply, third_command, third_reply};
 
 /// A law: at each byte that arrives at an end in a run, a whole frame is heard exactly where the grammar of the line, over
 /// all bytes that arrived at that end so far, hears one at its last: so a deception is a frame by the grammar, which
@@ -71,6 +73,27 @@ pub fn an_undisturbed_run_is_complete()
 #[tactic(auto, unfolding(crate::specs::Run::record_of))]
 pub fn what_is_on_the_wire_is_df1()
     ensures { (script : Script) → IsPlayable script → AreDf1Wires script (record_of script) }
+{}
+
+/// A law: in a run that deceives no end, that loses and adds no byte and alters bytes of bodies alone, none of them to a DLE and
+/// of each message in at most `max_naks` of its transmissions, in which few ticks come while something is under way, whose ends
+/// have room for as many replies as the other may have commands out, and which ends with nothing under way, all commands of
+/// both ends are executed, each once, those of each source in their order, and answered, each by its own reply (manual topic:
+/// full-duplex protocol).
+#[tactic(auto, unfolding(crate::specs::Run::record_of))]
+pub fn a_damaged_run_recovers()
+    ensures { (script : Script) → IsPlayable script → IsRecoverable script → IsComplete script (record_of script) }
+{}
+
+/// A law: the premises of `a_damaged_run_recovers` are met, and its conclusion isn't empty, by a write of which a byte of the body
+/// is altered: it is refused by a NAK, sent again, executed and answered.
+#[tactic(auto, unfolding(crate::specs::Run::record_of))]
+pub fn a_hit_write_is_executed_and_answered()
+    ensures playable { IsPlayable hit_write }
+    ensures recoverable { IsRecoverable hit_write }
+    ensures damaged { list_any is_damage (record_of hit_write).lines ≡ true }
+    ensures executed { executed_in B (record_of hit_write).lines ≡ the_command ∷ [] }
+    ensures answered { answers_in A (record_of hit_write).lines ≡ (1, the_reply) ∷ [] }
 {}
 
 /// A law: the premises of `each_command_once` and of `an_undisturbed_run_is_complete` are met, and their conclusions aren't

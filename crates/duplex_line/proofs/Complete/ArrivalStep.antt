@@ -1,6 +1,6 @@
 -- A byte arrives, in a run that nothing disturbs.
 use Rattle.std.proofs.Common.{◌≡◌, ◌∙◌, ◌<◌, ℕ, suc, ◌+◌, ◌≤◌, Bool, true, false, List, [], ◌∷◌, ◌++◌, length, map, Option, Some, None, refl, ap, sym, subst, arith, length-append, inl, inr}
-use Rattle.std.specs.Prelude.{◌⊎◌, slice_get}
+use Rattle.std.specs.Prelude.{◌⊎◌, slice_get, not, ◌&&◌}
 use Rattle.std.specs.Option.{option_map}
 use Rattle.std.specs.List.{filter}
 use Rattle.std.specs.Str.{bytes_eq}
@@ -13,7 +13,7 @@ use Rattle.df1_base.specs.declared.link.Act.TheVariants as act
 use Rattle.df1_base.specs.HostAnswers.{news_of, host_told}
 use Rattle.df1_frame.specs.declared.heard.Heard.{Heard}
 use Rattle.df1_frame.specs.declared.heard.Heard.TheVariants as hears
-use Rattle.df1_frame.specs.Standing.{lent_at}
+use Rattle.df1_frame.specs.Standing.{Decoding, lent_at}
 use Rattle.df1_frame.specs.Step.{next}
 use Rattle.pccc_envelope.specs.declared.key.Key.{Key}
 use Rattle.pccc_envelope.specs.Envelope.{is_reply, key_of}
@@ -22,9 +22,11 @@ use Rattle.df1_node.specs.Answer.{StationState}
 use Rattle.df1_node.specs.Initiator.{answered_place, is_reply_to}
 use Rattle.df1_node.specs.Node.{NodeState, has_room, after_accept, after_told}
 use Rattle.duplex_sender.specs.declared.Limits.{Limits}
-use Rattle.duplex_sender.specs.Sender.{Activity, Idle, Sending, Waiting, ack_fate}
+use Rattle.duplex_sender.specs.Sender.{Activity, Idle, Sending, Waiting, phase_of, on_ack, on_nak, ack_fate, nak_fate}
 use Rattle.duplex_receiver.specs.Receiver.{act_of, is_good}
-use Rattle.duplex_end.specs.End.{EndState, act_of_byte}
+use Rattle.duplex_end.specs.End.{EndState, act_of_byte, is_waiting}
+use Rattle.embedded_response.specs.Giving.{offer}
+use Rattle.df1_base.specs.declared.link.Resp.TheVariants as resp
 use Rattle.script_statement.specs.declared.who.Who.{Who}
 use Rattle.replay_report.specs.declared.record.Line.{Line}
 use Rattle.lane_cells.specs.Cells.{LaneCell, Ending}
@@ -42,7 +44,9 @@ use Rattle.duplex_line.proofs.Once.Invariant.{AreTwo}
 use Rattle.duplex_line.proofs.Once.ArrivingCell.{told_at, coming, arrived}
 use Rattle.duplex_line.specs.Prompt.{Late}
 use Rattle.duplex_line.proofs.Complete.ClearLane.{end_of, IsTrueEnd}
-use Rattle.duplex_line.proofs.Complete.MessageUnderWay.{awaits, heard_by, byte-acts, flow-silent, far-silent, flow-acked, far-acked, good-end, good-arrives, flow-accepted, far-accepted}
+use Rattle.duplex_line.specs.Recoverable.{Damage, Damages, hits_of}
+use Rattle.duplex_line.proofs.Complete.DamageDone.{IsDamage, damage-leaves}
+use Rattle.duplex_line.proofs.Complete.MessageUnderWay.{Marks, May, awaits, heard_by, byte-acts, begun-same, flow-silent, far-silent, flow-acked, far-acked, flow-naked, far-naked, good-end, bad-end, good-arrives, flow-accepted, far-accepted, flow-refused, far-refused}
 use Rattle.each_once.proofs.CommandsUnderWay.{each_body, under-way-reply}
 use Rattle.each_once.proofs.HandedOut.{is_command, Hosts}
 use Rattle.each_once.proofs.TwoNodes.{answer-fits, few-replies, key-is-new}
@@ -52,14 +56,16 @@ use Rattle.duplex_line.proofs.Complete.Invariant.{IsAllowed, IsAhead, Flows, all
 
 -- ---- what is heard
 
--- nothing, an ACK, or a whole frame
-heard-cases : (end : Option (List ℕ)) (h : Option Heard) (lent : List ℕ) → IsTrueEnd end h lent → (h ≡ None) ⊎ ((h ≡ Some hears.Ack) ⊎ (h ≡ Some hears.Good))
-heard-cases None None lent t = inl refl
-heard-cases None (Some hears.Ack) lent t = inr (inl refl)
-heard-cases (Some body) (Some hears.Good) lent t = inr (inr refl)
-heard-cases (Some body) None lent t = absurd t
-heard-cases None (Some other) lent t = absurd t
-heard-cases (Some body) (Some other) lent t = absurd t
+-- nothing, a response, or a frame's end
+heard-cases : (P : Type 0) (end : Option (List ℕ)) (h : Option Heard) (lent : List ℕ) → IsTrueEnd P end h lent → (h ≡ None) ⊎ ((h ≡ Some hears.Ack) ⊎ ((h ≡ Some hears.Nak) ⊎ ((h ≡ Some hears.BadCheck) ⊎ (h ≡ Some hears.Good))))
+heard-cases P None None lent t = inl refl
+heard-cases P None (Some hears.Ack) lent t = inr (inl refl)
+heard-cases P None (Some hears.Nak) lent t = inr (inr (inl refl))
+heard-cases P (Some body) (Some hears.BadCheck) lent t = inr (inr (inr (inl refl)))
+heard-cases P (Some body) (Some hears.Good) lent t = inr (inr (inr (inr refl)))
+heard-cases P (Some body) None lent t = absurd t
+heard-cases P None (Some other) lent t = absurd t
+heard-cases P (Some body) (Some other) lent t = absurd t
 
 -- the act of each
 silent-act : (kept : Option Key) (h : Option Heard) (body : List ℕ) (room : Bool) → h ≡ None → act_of kept (record { heard = h; body = body; has_room = room }) ≡ act.Nothing
@@ -67,6 +73,12 @@ silent-act kept h body room is = rw is refl
 
 ack-act : (kept : Option Key) (h : Option Heard) (body : List ℕ) (room : Bool) → h ≡ Some hears.Ack → act_of kept (record { heard = h; body = body; has_room = room }) ≡ act.PeerAck
 ack-act kept h body room is = rw is refl
+
+nak-act : (kept : Option Key) (h : Option Heard) (body : List ℕ) (room : Bool) → h ≡ Some hears.Nak → act_of kept (record { heard = h; body = body; has_room = room }) ≡ act.PeerNak
+nak-act kept h body room is = rw is refl
+
+bad-act : (kept : Option Key) (h : Option Heard) (body : List ℕ) (room : Bool) → h ≡ Some hears.BadCheck → act_of kept (record { heard = h; body = body; has_room = room }) ≡ act.Damaged
+bad-act kept h body room is = rw is refl
 
 good-act : (kept : Option Key) (h : Option Heard) (body : List ℕ) (room : Bool) → h ≡ Some hears.Good → is_kept kept (key_of body) ≡ false → room ≡ true → act_of kept (record { heard = h; body = body; has_room = room }) ≡ act.Accept
 good-act kept h body room is new has = rw (is, new, has) refl
@@ -87,7 +99,26 @@ whole-sent h (Some ending) body is =
     none true = refl
     none false = refl
 
+-- the other way round: where a frame is heard whole that deceives nobody, it is the one that ends there
+honest-end : (h : Option Heard) (end : Option Ending) (body other : List ℕ) → h ≡ Some hears.Good → option_map (λ (e : Ending). e.body) end ≡ Some other → deceptions (is_good h) end body ≡ 0 → body ≡ other
+honest-end h None body other good is none = absurd cc
+honest-end h (Some ending) body other good is none =
+    let same : ending.body ≡ other = cc in
+    by-test (bytes_eq ending.body body) refl ∙ same
+  where
+    by-test : (equal : Bool) → bytes_eq ending.body body ≡ equal → body ≡ ending.body
+    by-test true e = sym ((bytes_eq-Decides ending.body body).0 e)
+    by-test false e = absurd (let one : deceptions (is_good h) (Some ending) body ≡ 1 = rw (good, e) refl in omega (arith, one, none))
+
 -- ---- the end at which it arrives
+
+-- the head of the lane from end a is gone
+abbrev pub leaves : Damages → Damages
+leaves dam = record { a = record dam.a { touched = false }; b = dam.b }
+
+-- what was done to the transmissions of the end at which it arrives stays
+far-stays : (dam : Damage) (marks : Marks) (begun after most : ℕ) (decoding : Decoding) (lane : List LaneCell) → after ≡ begun → IsDamage dam marks begun most decoding lane → IsDamage dam marks after most decoding lane
+far-stays dam marks begun after most decoding lane same h = subst (λ (n : ℕ). IsDamage dam marks n most decoding lane) (sym same) h
 
 -- the line after a cell has arrived with this act
 abbrev reached : EndState NodeState → LaneCell → List LaneCell → LineEndState → ℕ → Act → LineState
@@ -97,10 +128,10 @@ abbrev lent_after : LineEndState → LaneCell → List ℕ
 lent_after b cell = lent_at (next 250 b.end.receiver.decoding cell.byte).0.standing
 
 -- nothing is heard
-reach-silent : (near far : Who) (first far_first : StationState) (end : EndState NodeState) (cell : LaneCell) (cells : List LaneCell) (b : LineEndState) (count after : ℕ) (late : Late) (lines : List Line)
-    → act_of_byte node_host b.end cell.byte ≡ act.Nothing → (next 250 b.end.receiver.decoding cell.byte).1 ≡ None → after ≡ 0 → Flows near far first far_first (coming end cell cells b count) late lines
-    → Flows near far first far_first (reached end cell cells b after act.Nothing) late (lines ++ told_at far act.Nothing b.end.sender b.end.host (lent_after b cell))
-reach-silent near far first far_first end cell cells b count after late lines acts is none h = record {
+reach-silent : (near far : Who) (first far_first : StationState) (end : EndState NodeState) (cell : LaneCell) (cells : List LaneCell) (b : LineEndState) (count after : ℕ) (late : Late) (dam : Damages) (lines : List Line)
+    → act_of_byte node_host b.end cell.byte ≡ act.Nothing → (next 250 b.end.receiver.decoding cell.byte).1 ≡ None → after ≡ 0 → Flows near far first far_first (coming end cell cells b count) late dam lines
+    → Flows near far first far_first (reached end cell cells b after act.Nothing) late (leaves dam) (lines ++ told_at far act.Nothing b.end.sender b.end.host (lent_after b cell))
+reach-silent near far first far_first end cell cells b count after late dam lines acts is none h = record {
   sent = h.sent;
   heard = h.heard;
   far_sent = h.far_sent;
@@ -119,10 +150,48 @@ reach-silent near far first far_first end cell cells b count after late lines ac
     block = h.far_end.block;
     few = h.far_end.few;
   };
-  flow = flow-silent node_host end b.end cell cells b.lane h.sent h.far_heard late.a is h.flow;
-  far_flow = far-silent node_host end b.end cell cells b.lane h.far_sent h.heard late.b is h.far_flow;
+  marks = h.marks;
+  far_marks = h.far_marks;
+  damage = damage-leaves dam.a h.marks end.mouth.begun end.sender.limits.max_naks b.end.receiver.decoding _ (cell ∷ cells) cells h.damage;
+  far_damage = far-stays dam.b h.far_marks b.end.mouth.begun (heard_by node_host b.end cell.byte act.Nothing).mouth.begun b.end.sender.limits.max_naks end.receiver.decoding b.lane (begun-same (is_waiting (phase_of b.end.sender) && not (is_waiting (phase_of b.end.sender))) b.end.mouth) h.far_damage;
+  flow = flow-silent node_host end b.end cell cells b.lane h.sent h.far_heard late.a h.marks is h.flow;
+  far_flow = far-silent node_host end b.end cell cells b.lane h.far_sent h.heard late.b h.far_marks is h.far_flow;
   tells = tells-silent near h.heard lines [] refl h.tells;
   far_tells = tells-silent far h.far_heard lines [] refl h.far_tells;
+  honest = none;
+}
+
+-- a frame is heard whose check differs
+reach-damaged : (near far : Who) (first far_first : StationState) (end : EndState NodeState) (cell : LaneCell) (cells : List LaneCell) (b : LineEndState) (count after : ℕ) (late : Late) (dam : Damages) (lines : List Line)
+    → act_of_byte node_host b.end cell.byte ≡ act.Damaged → (next 250 b.end.receiver.decoding cell.byte).1 ≡ Some hears.BadCheck → (body : List ℕ) → end_of cell ≡ Some body → ((marks : Marks) → IsTrueEnd (May end.sender.activity marks.hits) (end_of cell) (next 250 b.end.receiver.decoding cell.byte).1 (lent_after b cell) → May end.sender.activity marks.hits) → after ≡ 0 → Flows near far first far_first (coming end cell cells b count) late dam lines
+    → Flows near far first far_first (reached end cell cells b after act.Damaged) late (leaves dam) (lines ++ told_at far act.Damaged b.end.sender b.end.host (lent_after b cell))
+reach-damaged near far first far_first end cell cells b count after late dam lines acts is body ends may none h = record {
+  sent = h.sent;
+  heard = h.heard;
+  far_sent = h.far_sent;
+  far_heard = h.far_heard;
+  allowed = h.allowed;
+  far_allowed = h.far_allowed;
+  rooms = h.rooms;
+  end = h.end;
+  far_end = record {
+    hosts = h.far_end.hosts;
+    sends = subst (λ (e : EndState NodeState). Sends e h.far_sent) (byte-acts node_host b.end cell.byte act.Damaged acts) (sends-byte node_host b.end cell.byte h.far_end.sends);
+    ahead = h.far_end.ahead;
+    bodies = h.far_end.bodies;
+    commands = h.far_end.commands;
+    allowed = h.far_end.allowed;
+    block = h.far_end.block;
+    few = h.far_end.few;
+  };
+  marks = h.marks;
+  far_marks = h.far_marks;
+  damage = damage-leaves dam.a h.marks end.mouth.begun end.sender.limits.max_naks b.end.receiver.decoding _ (cell ∷ cells) cells h.damage;
+  far_damage = far-stays dam.b h.far_marks b.end.mouth.begun (heard_by node_host b.end cell.byte act.Damaged).mouth.begun b.end.sender.limits.max_naks end.receiver.decoding b.lane (begun-same (is_waiting (phase_of b.end.sender) && not (is_waiting (phase_of b.end.sender))) (offer b.end.mouth resp.Nak)) h.far_damage;
+  flow = flow-refused node_host end b.end cell cells b.lane h.sent h.far_heard late.a h.marks body ends (may h.marks h.flow.clear.0.0) h.flow;
+  far_flow = far-refused node_host end b.end cell cells b.lane h.far_sent h.heard late.b h.far_marks is h.far_flow;
+  tells = tells-silent near h.heard lines _ refl h.tells;
+  far_tells = tells-silent far h.far_heard lines _ refl h.far_tells;
   honest = none;
 }
 
@@ -132,11 +201,11 @@ delivered limits Idle one = absurd (omega (arith, one))
 delivered limits (Sending body naks enqs) one = absurd (omega (arith, one))
 delivered limits (Waiting body naks enqs left) one = refl
 
-reach-ack : (near far : Who) (first far_first : StationState) (end : EndState NodeState) (cell : LaneCell) (cells : List LaneCell) (b : LineEndState) (count after : ℕ) (late : Late) (lines : List Line)
-    → act_of_byte node_host b.end cell.byte ≡ act.PeerAck → (next 250 b.end.receiver.decoding cell.byte).1 ≡ Some hears.Ack → after ≡ 0 → Flows near far first far_first (coming end cell cells b count) late lines
-    → Flows near far first far_first (reached end cell cells b after act.PeerAck) late (lines ++ told_at far act.PeerAck b.end.sender b.end.host (lent_after b cell))
-reach-ack near far first far_first end cell cells b count after late lines acts is none h =
-    let acked = far-acked node_host end b.end cell cells b.lane h.far_sent h.heard late.b is h.far_flow in
+reach-ack : (near far : Who) (first far_first : StationState) (end : EndState NodeState) (cell : LaneCell) (cells : List LaneCell) (b : LineEndState) (count after : ℕ) (late : Late) (dam : Damages) (lines : List Line)
+    → act_of_byte node_host b.end cell.byte ≡ act.PeerAck → (next 250 b.end.receiver.decoding cell.byte).1 ≡ Some hears.Ack → after ≡ 0 → Flows near far first far_first (coming end cell cells b count) late dam lines
+    → Flows near far first far_first (reached end cell cells b after act.PeerAck) late (leaves dam) (lines ++ told_at far act.PeerAck b.end.sender b.end.host (lent_after b cell))
+reach-ack near far first far_first end cell cells b count after late dam lines acts is none h =
+    let acked = far-acked node_host end b.end cell cells b.lane h.far_sent h.heard late.b h.far_marks is h.far_flow in
     let is_fate = delivered b.end.sender.limits b.end.sender.activity acked.1 in
     let told : NodeState = after_told b.end.host fate.Delivered in
     let is_host : told ≡ host_told node_host (ack_fate b.end.sender) b.end.host = ap (λ (o : Option Fate). host_told node_host o b.end.host) (sym is_fate) in
@@ -161,8 +230,52 @@ reach-ack near far first far_first end cell cells b count after late lines acts 
         block = h.far_end.block;
         few = subst (λ (node : NodeState). length node.initiator.issued ≤ 65535) is_host h.far_end.few;
       };
-      flow = flow-acked node_host end b.end cell cells b.lane h.sent h.far_heard late.a is h.flow;
+      marks = h.marks;
+      far_marks = h.far_marks;
+      damage = damage-leaves dam.a h.marks end.mouth.begun end.sender.limits.max_naks b.end.receiver.decoding _ (cell ∷ cells) cells h.damage;
+      far_damage = far-stays dam.b h.far_marks b.end.mouth.begun (heard_by node_host b.end cell.byte act.PeerAck).mouth.begun b.end.sender.limits.max_naks end.receiver.decoding b.lane (begun-same (is_waiting (phase_of b.end.sender) && not (is_waiting (phase_of (on_ack b.end.sender)))) b.end.mouth) h.far_damage;
+      flow = flow-acked node_host end b.end cell cells b.lane h.sent h.far_heard late.a h.marks is h.flow;
       far_flow = acked.0;
+      tells = tells-silent near h.heard lines news (ap (executed_in near) no_news) h.tells;
+      far_tells = tells-silent far h.far_heard lines news (ap (executed_in far) no_news) h.far_tells;
+      honest = none;
+    }
+
+-- a NAK is heard, and the message is sent again
+reach-nak : (near far : Who) (first far_first : StationState) (end : EndState NodeState) (cell : LaneCell) (cells : List LaneCell) (b : LineEndState) (count after : ℕ) (late : Late) (dam : Damages) (lines : List Line)
+    → act_of_byte node_host b.end cell.byte ≡ act.PeerNak → (next 250 b.end.receiver.decoding cell.byte).1 ≡ Some hears.Nak → after ≡ 0 → Flows near far first far_first (coming end cell cells b count) late dam lines
+    → Flows near far first far_first (reached end cell cells b after act.PeerNak) late (leaves dam) (lines ++ told_at far act.PeerNak b.end.sender b.end.host (lent_after b cell))
+reach-nak near far first far_first end cell cells b count after late dam lines acts is none h =
+    let again = far-naked node_host end b.end cell cells b.lane h.far_sent h.heard late.b h.far_marks is h.far_damage.few h.far_flow in
+    let is_fate = again.1 in
+    let is_host : b.end.host ≡ host_told node_host (nak_fate b.end.sender) b.end.host = ap (λ (o : Option Fate). host_told node_host o b.end.host) (sym is_fate) in
+    let news = news_lines far (news_of node_host (nak_fate b.end.sender) b.end.host) in
+    let no_news : news ≡ [] = ap (λ (o : Option Fate). news_lines far (news_of node_host o b.end.host)) is_fate in
+    record {
+      sent = h.sent;
+      heard = h.heard;
+      far_sent = h.far_sent;
+      far_heard = h.far_heard;
+      allowed = h.allowed;
+      far_allowed = h.far_allowed;
+      rooms = h.rooms;
+      end = h.end;
+      far_end = record {
+        hosts = hosts-fate (nak_fate b.end.sender) far_first b.end.host h.far_sent h.far_heard h.far_end.hosts;
+        sends = subst (λ (e : EndState NodeState). Sends e h.far_sent) (byte-acts node_host b.end cell.byte act.PeerNak acts) (sends-byte node_host b.end cell.byte h.far_end.sends);
+        ahead = subst (λ (node : NodeState). IsAhead node.initiator (filter is_command h.far_sent) h.far_heard late.b) is_host (record { done = h.far_end.ahead.done; under_way = h.far_end.ahead.under_way; answers = h.far_end.ahead.answers });
+        bodies = h.far_end.bodies;
+        commands = subst (λ (node : NodeState). AreBodies (map (λ c. c.body) node.initiator.issued)) is_host h.far_end.commands;
+        allowed = subst (λ (node : NodeState). IsAllowed h.far_allowed node) is_host (record { room = h.far_end.allowed.room; window = h.far_end.allowed.window; per_source = h.far_end.allowed.per_source });
+        block = h.far_end.block;
+        few = subst (λ (node : NodeState). length node.initiator.issued ≤ 65535) is_host h.far_end.few;
+      };
+      marks = h.marks;
+      far_marks = h.far_marks;
+      damage = damage-leaves dam.a h.marks end.mouth.begun end.sender.limits.max_naks b.end.receiver.decoding _ (cell ∷ cells) cells h.damage;
+      far_damage = far-stays dam.b h.far_marks b.end.mouth.begun (heard_by node_host b.end cell.byte act.PeerNak).mouth.begun b.end.sender.limits.max_naks end.receiver.decoding b.lane (begun-same (is_waiting (phase_of b.end.sender) && not (is_waiting (phase_of (on_nak b.end.sender)))) b.end.mouth) h.far_damage;
+      flow = flow-naked node_host end b.end cell cells b.lane h.sent h.far_heard late.a h.marks is h.flow;
+      far_flow = again.0;
       tells = tells-silent near h.heard lines news (ap (executed_in near) no_news) h.tells;
       far_tells = tells-silent far h.far_heard lines news (ap (executed_in far) no_news) h.far_tells;
       honest = none;
@@ -191,34 +304,34 @@ command-ahead node commands heard body late command a = rw command (record {
   answers = ap length (filter-drops is_reply heard body command) ∙ a.answers;
 })
 
-accepted-ahead : (near far : Who) (first far_first : StationState) (end : EndState NodeState) (cell : LaneCell) (cells : List LaneCell) (b : LineEndState) (count : ℕ) (late : Late) (lines : List Line) (body : List ℕ) → (h : Flows near far first far_first (coming end cell cells b count) late lines)
+accepted-ahead : (near far : Who) (first far_first : StationState) (end : EndState NodeState) (cell : LaneCell) (cells : List LaneCell) (b : LineEndState) (count : ℕ) (late : Late) (dam : Damages) (lines : List Line) (body : List ℕ) → (h : Flows near far first far_first (coming end cell cells b count) late dam lines)
     → h.sent ≡ h.far_heard ++ body ∷ [] → (reply : Bool) → is_reply body ≡ reply → IsAhead (after_accept b.end.host body).initiator (filter is_command h.far_sent) (h.far_heard ++ body ∷ []) late.b
-accepted-ahead near far first far_first end cell cells b count late lines body h arrives true reply =
+accepted-ahead near far first far_first end cell cells b count late dam lines body h arrives true reply =
     let a = h.far_end.ahead in
     let fits = answer-fits h.end.hosts h.far_end.hosts body arrives _ h.far_flow.flight reply a.done a.answers in
     reply-ahead far_first b.end.host h.far_sent h.far_heard body late.b fits.0 reply h.far_end.hosts h.far_end.few a fits.1 fits.2
-accepted-ahead near far first far_first end cell cells b count late lines body h arrives false command = command-ahead b.end.host (filter is_command h.far_sent) h.far_heard body late.b command h.far_end.ahead
+accepted-ahead near far first far_first end cell cells b count late dam lines body h arrives false command = command-ahead b.end.host (filter is_command h.far_sent) h.far_heard body late.b command h.far_end.ahead
 
 -- there is room for it
-has-room : (near far : Who) (first far_first : StationState) (end : EndState NodeState) (cell : LaneCell) (cells : List LaneCell) (b : LineEndState) (count : ℕ) (late : Late) (lines : List Line) (body : List ℕ) → (h : Flows near far first far_first (coming end cell cells b count) late lines)
+has-room : (near far : Who) (first far_first : StationState) (end : EndState NodeState) (cell : LaneCell) (cells : List LaneCell) (b : LineEndState) (count : ℕ) (late : Late) (dam : Damages) (lines : List Line) (body : List ℕ) → (h : Flows near far first far_first (coming end cell cells b count) late dam lines)
     → h.sent ≡ h.far_heard ++ body ∷ [] → (reply : Bool) → is_reply body ≡ reply → has_room b.end.host body ≡ true
-has-room near far first far_first end cell cells b count late lines body h arrives true reply = rw reply refl
-has-room near far first far_first end cell cells b count late lines body h arrives false command =
+has-room near far first far_first end cell cells b count late dam lines body h arrives true reply = rw reply refl
+has-room near far first far_first end cell cells b count late dam lines body h arrives false command =
     let a = h.end.ahead in
     let few = few-replies h.far_end.hosts h.end.hosts body arrives command _ h.far_flow.flight a.done late.a a.answers a.under_way in
     let fewer : length b.end.host.replies < b.end.host.room = omega (arith, few, h.end.allowed.window, h.far_end.allowed.room, h.rooms.far_room) in
     rw command (lt-ltb (length b.end.host.replies) b.end.host.room fewer)
 
 -- its key is new
-new-key : (near far : Who) (first far_first : StationState) (end : EndState NodeState) (cell : LaneCell) (cells : List LaneCell) (b : LineEndState) (count : ℕ) (late : Late) (lines : List Line) (body : List ℕ) → (h : Flows near far first far_first (coming end cell cells b count) late lines)
+new-key : (near far : Who) (first far_first : StationState) (end : EndState NodeState) (cell : LaneCell) (cells : List LaneCell) (b : LineEndState) (count : ℕ) (late : Late) (dam : Damages) (lines : List Line) (body : List ℕ) → (h : Flows near far first far_first (coming end cell cells b count) late dam lines)
     → h.sent ≡ h.far_heard ++ body ∷ [] → is_kept b.end.receiver.kept (key_of body) ≡ false
-new-key near far first far_first end cell cells b count late lines body h arrives =
+new-key near far first far_first end cell cells b count late dam lines body h arrives =
     ap (λ (kept : Option Key). is_kept kept (key_of body)) h.flow.kept ∙ key-is-new h.far_end.hosts h.end.hosts body arrives _ h.far_flow.flight h.far_end.few h.end.few
 
-reach-good : (near far : Who) → AreTwo near far → (first far_first : StationState) (end : EndState NodeState) (cell : LaneCell) (cells : List LaneCell) (b : LineEndState) (count after : ℕ) (late : Late) (lines : List Line)
-    → act_of_byte node_host b.end cell.byte ≡ act.Accept → (next 250 b.end.receiver.decoding cell.byte).1 ≡ Some hears.Good → after ≡ 0 → (h : Flows near far first far_first (coming end cell cells b count) late lines) → h.sent ≡ h.far_heard ++ lent_after b cell ∷ []
-    → Flows near far first far_first (reached end cell cells b after act.Accept) late (lines ++ told_at far act.Accept b.end.sender b.end.host (lent_after b cell))
-reach-good near far two first far_first end cell cells b count after late lines acts is none h arrives =
+reach-good : (near far : Who) → AreTwo near far → (first far_first : StationState) (end : EndState NodeState) (cell : LaneCell) (cells : List LaneCell) (b : LineEndState) (count after : ℕ) (late : Late) (dam : Damages) (lines : List Line)
+    → act_of_byte node_host b.end cell.byte ≡ act.Accept → (next 250 b.end.receiver.decoding cell.byte).1 ≡ Some hears.Good → end_of cell ≡ Some (lent_after b cell) → after ≡ 0 → (h : Flows near far first far_first (coming end cell cells b count) late dam lines) → h.sent ≡ h.far_heard ++ lent_after b cell ∷ []
+    → Flows near far first far_first (reached end cell cells b after act.Accept) late (leaves dam) (lines ++ told_at far act.Accept b.end.sender b.end.host (lent_after b cell))
+reach-good near far two first far_first end cell cells b count after late dam lines acts is ends none h arrives =
     let body = lent_after b cell in
     let place = answered_place b.end.host.initiator.issued body in
     record {
@@ -233,15 +346,19 @@ reach-good near far two first far_first end cell cells b count after late lines 
       far_end = record {
         hosts = hosts-act act.Accept far_first b.end.host h.far_sent h.far_heard body h.far_end.hosts;
         sends = subst (λ (e : EndState NodeState). Sends e h.far_sent) (byte-acts node_host b.end cell.byte act.Accept acts) (sends-byte node_host b.end cell.byte h.far_end.sends);
-        ahead = accepted-ahead near far first far_first end cell cells b count late lines body h arrives (is_reply body) refl;
+        ahead = accepted-ahead near far first far_first end cell cells b count late dam lines body h arrives (is_reply body) refl;
         bodies = h.far_end.bodies;
         commands = subst AreBodies (sym (bodies-accept b.end.host body)) h.far_end.commands;
         allowed = allowed-accept h.far_allowed b.end.host body h.far_end.allowed;
         block = h.far_end.block;
         few = let same = byte-commands b.end cell.byte in subst (λ (x : EndState NodeState). length x.host.initiator.issued ≤ 65535) (byte-acts node_host b.end cell.byte act.Accept acts) (omega (arith, same, h.far_end.few));
       };
-      flow = flow-accepted node_host end b.end cell cells b.lane h.sent h.far_heard late.a is h.flow;
-      far_flow = far-accepted node_host end b.end cell cells b.lane h.far_sent h.heard late.b is h.far_flow;
+      marks = h.marks;
+      far_marks = h.far_marks;
+      damage = damage-leaves dam.a h.marks end.mouth.begun end.sender.limits.max_naks b.end.receiver.decoding _ (cell ∷ cells) cells h.damage;
+      far_damage = far-stays dam.b h.far_marks b.end.mouth.begun (heard_by node_host b.end cell.byte act.Accept).mouth.begun b.end.sender.limits.max_naks end.receiver.decoding b.lane (begun-same (is_waiting (phase_of b.end.sender) && not (is_waiting (phase_of b.end.sender))) (offer b.end.mouth resp.Ack)) h.far_damage;
+      flow = flow-accepted node_host end b.end cell cells b.lane h.sent h.far_heard late.a h.marks ends h.flow;
+      far_flow = far-accepted node_host end b.end cell cells b.lane h.far_sent h.heard late.b h.far_marks is h.far_flow;
       tells = tells-silent near h.heard lines _ (none-accepted near far two.other body place (is_reply body)) h.tells;
       far_tells = tells-accept far two.far_itself h.far_heard lines body place (is_reply body) refl h.far_tells;
       honest = none;
@@ -249,31 +366,67 @@ reach-good near far two first far_first end cell cells b count after late lines 
 
 -- ---- whichever
 
-pub flows-arrival : (near far : Who) → AreTwo near far → (first far_first : StationState) (end : EndState NodeState) (cell : LaneCell) (cells : List LaneCell) (b : LineEndState) (count : ℕ) (late : Late) (lines : List Line)
-    → Flows near far first far_first (coming end cell cells b count) late lines → Flows near far first far_first (arrived end cell cells b (count + deceptions_at b cell)) late (lines ++ cell_lines far b cell)
-flows-arrival near far two first far_first end cell cells b count late lines h = elim (heard-cases (end_of cell) (next 250 b.end.receiver.decoding cell.byte).1 (lent_after b cell) h.flow.clear.0) [
+-- no end is deceived from here on, or nothing was altered
+abbrev pub IsSure : ℕ → Damages → Type 0
+IsSure count dam = (count ≡ 0) ⊎ (dam.a.hits ≡ [])
+
+-- a frame that is heard whole is the one that ends there
+ends-so : (hits : ℕ) (d : Damage) (a : Activity) (h : Option Heard) (cell : LaneCell) (body lent : List ℕ) → hits ≡ hits_of d (length d.firsts) → h ≡ Some hears.Good → end_of cell ≡ Some body → (lent ≡ body) ⊎ May a hits → (deceptions (is_good h) cell.ends lent ≡ 0) ⊎ (d.hits ≡ []) → lent ≡ body
+ends-so hits d a h cell body lent are good ends (inl same) sure = same
+ends-so hits d a h cell body lent are good ends (inr may) (inl none) = honest-end h cell.ends lent body good ends none
+ends-so hits d a h cell body lent are good ends (inr may) (inr none) = absurd (let zero : hits_of d (length d.firsts) ≡ 0 = rw none refl in omega (arith, may, are, zero))
+
+pub flows-arrival : (near far : Who) → AreTwo near far → (first far_first : StationState) (end : EndState NodeState) (cell : LaneCell) (cells : List LaneCell) (b : LineEndState) (count : ℕ) (late : Late) (dam : Damages) (lines : List Line) → IsSure (count + deceptions_at b cell) dam
+    → Flows near far first far_first (coming end cell cells b count) late dam lines → Flows near far first far_first (arrived end cell cells b (count + deceptions_at b cell)) late (leaves dam) (lines ++ cell_lines far b cell)
+flows-arrival near far two first far_first end cell cells b count late dam lines sure h = elim (heard-cases (May end.sender.activity h.marks.hits) (end_of cell) heard body h.flow.clear.0.0) [
   | inl none ↦
-      let acts = silent-act b.end.receiver.kept (next 250 b.end.receiver.decoding cell.byte).1 (lent_after b cell) (has_room b.end.host (lent_after b cell)) none in
-      let honest = honest-sum (not-whole (next 250 b.end.receiver.decoding cell.byte).1 cell.ends (lent_after b cell) (ap is_good none)) in
-      by-act act.Nothing acts (reach-silent near far first far_first end cell cells b count (count + deceptions_at b cell) late lines acts none honest h)
+      let acts = silent-act kept heard body room none in
+      by-act act.Nothing acts (reach-silent near far first far_first end cell cells b count (count + deceptions_at b cell) late dam lines acts none (honest-sum (not-whole heard cell.ends body (ap is_good none))) h)
   | inr other ↦ elim other [
     | inl ack ↦
-        let acts = ack-act b.end.receiver.kept (next 250 b.end.receiver.decoding cell.byte).1 (lent_after b cell) (has_room b.end.host (lent_after b cell)) ack in
-        let honest = honest-sum (not-whole (next 250 b.end.receiver.decoding cell.byte).1 cell.ends (lent_after b cell) (ap is_good ack)) in
-        by-act act.PeerAck acts (reach-ack near far first far_first end cell cells b count (count + deceptions_at b cell) late lines acts ack honest h)
-    | inr good ↦
-        let body = lent_after b cell in
-        let arrives = good-arrives end b.end cell cells b.lane h.sent h.far_heard late.a good h.flow in
-        let acts = good-act b.end.receiver.kept (next 250 b.end.receiver.decoding cell.byte).1 body (has_room b.end.host body) good (new-key near far first far_first end cell cells b count late lines body h arrives)
-        (has-room near far first far_first end cell cells b count late lines body h arrives (is_reply body) refl) in
-        let honest = honest-sum (whole-sent (next 250 b.end.receiver.decoding cell.byte).1 cell.ends body (good-end (end_of cell) (next 250 b.end.receiver.decoding cell.byte).1 body good h.flow.clear.0)) in
-        by-act act.Accept acts (reach-good near far two first far_first end cell cells b count (count + deceptions_at b cell) late lines acts good honest h arrives)
+        let acts = ack-act kept heard body room ack in
+        by-act act.PeerAck acts (reach-ack near far first far_first end cell cells b count (count + deceptions_at b cell) late dam lines acts ack (honest-sum (not-whole heard cell.ends body (ap is_good ack))) h)
+    | inr more ↦ elim more [
+      | inl nak ↦
+          let acts = nak-act kept heard body room nak in
+          by-act act.PeerNak acts (reach-nak near far first far_first end cell cells b count (count + deceptions_at b cell) late dam lines acts nak (honest-sum (not-whole heard cell.ends body (ap is_good nak))) h)
+      | inr frame ↦ elim frame [
+        | inl bad ↦
+            let acts = bad-act kept heard body room bad in
+            let ended = bad-end (May end.sender.activity h.marks.hits) (end_of cell) heard body bad h.flow.clear.0.0 in
+            by-act act.Damaged acts (reach-damaged near far first far_first end cell cells b count (count + deceptions_at b cell) late dam lines acts bad ended.0 ended.1
+            (λ marks t. (bad-end (May end.sender.activity marks.hits) (end_of cell) heard body bad t).2) (honest-sum (not-whole heard cell.ends body (ap is_good bad))) h)
+        | inr good ↦
+            let ended = good-end (May end.sender.activity h.marks.hits) (end_of cell) heard body good h.flow.clear.0.0 in
+            let same = ends-so h.marks.hits dam.a end.sender.activity heard cell ended.0 body h.damage.hits_are good ended.1 ended.2 (no-more sure) in
+            let ends : end_of cell ≡ Some body = ended.1 ∙ ap Some (sym same) in
+            let arrives = good-arrives end b.end cell cells b.lane h.sent h.far_heard late.a h.marks ends h.flow in
+            let acts = good-act kept heard body room good (new-key near far first far_first end cell cells b count late dam lines body h arrives) (has-room near far first far_first end cell cells b count late dam lines body h arrives (is_reply body) refl) in
+            by-act act.Accept acts (reach-good near far two first far_first end cell cells b count (count + deceptions_at b cell) late dam lines acts good ends (honest-sum (whole-sent heard cell.ends body ends)) h arrives)
+      ]
+    ]
   ]
 ]
   where
+    heard : Option Heard
+    heard = (next 250 b.end.receiver.decoding cell.byte).1
+
+    body : List ℕ
+    body = lent_after b cell
+
+    kept : Option Key
+    kept = b.end.receiver.kept
+
+    room : Bool
+    room = has_room b.end.host body
+
+    no-more : IsSure (count + deceptions_at b cell) dam → (deceptions (is_good heard) cell.ends body ≡ 0) ⊎ (dam.a.hits ≡ [])
+    no-more (inl none) = inl (omega (arith, none))
+    no-more (inr none) = inr none
+
     honest-sum : deceptions_at b cell ≡ 0 → count + deceptions_at b cell ≡ 0
     honest-sum none = omega (arith, none, h.honest)
 
-    by-act : (what : Act) → act_of_byte node_host b.end cell.byte ≡ what → Flows near far first far_first (reached end cell cells b (count + deceptions_at b cell) what) late (lines ++ told_at far what b.end.sender b.end.host (lent_after b cell))
-        → Flows near far first far_first (arrived end cell cells b (count + deceptions_at b cell)) late (lines ++ cell_lines far b cell)
-    by-act what acts after = subst (λ (w : Act). Flows near far first far_first (reached end cell cells b (count + deceptions_at b cell) w) late (lines ++ told_at far w b.end.sender b.end.host (lent_after b cell))) (sym acts) after
+    by-act : (what : Act) → act_of_byte node_host b.end cell.byte ≡ what → Flows near far first far_first (reached end cell cells b (count + deceptions_at b cell) what) late (leaves dam) (lines ++ told_at far what b.end.sender b.end.host (lent_after b cell))
+        → Flows near far first far_first (arrived end cell cells b (count + deceptions_at b cell)) late (leaves dam) (lines ++ cell_lines far b cell)
+    by-act what acts after = subst (λ (w : Act). Flows near far first far_first (reached end cell cells b (count + deceptions_at b cell) w) late (leaves dam) (lines ++ told_at far w b.end.sender b.end.host (lent_after b cell))) (sym acts) after

@@ -10,13 +10,13 @@ use Rattle.df1_check.specs.declared.Check.TheVariants as kind
 use Rattle.df1_check.specs.Checks.{check_value}
 use Rattle.df1_frame.specs.declared.heard.Heard.TheVariants as heard
 use Rattle.df1_frame.specs.declared.framer.Unit.{Unit as Given}
-use Rattle.df1_frame.specs.Spelling.{check_of, check_len, covered}
+use Rattle.df1_frame.specs.Spelling.{check_of, check_len, covered, same}
 use Rattle.df1_frame.specs.Grammar.{frame_heard}
 use Rattle.df1_frame.specs.Units.{check_units}
 use Rattle.df1_frame.specs.Gathered.{gathered_whole}
 use Rattle.df1_frame.specs.Standing.{Ended, AtCheck}
 use Rattle.df1_frame.specs.Step.{step}
-use Rattle.df1_frame.proofs.SpellingLemmas.{length-check, same-same}
+use Rattle.df1_frame.proofs.SpellingLemmas.{length-check}
 use Rattle.df1_frame.proofs.GatheredLemmas.{verdict-gathered, left_by-gathered}
 use Rattle.embedded_response.specs.Giving.{Giving, Second, Respond, Give, Enquire, is_begun, first_there, chosen}
 
@@ -40,24 +40,26 @@ checks-left [] some e = some refl
 checks-left (b ∷ []) some e = cc
 checks-left (b ∷ c ∷ more) some e = cc
 
--- at one that isn't the last nothing is heard
-pub check-goes : (check : Check) (body done more : List ℕ) (b c : ℕ) → check_of check body ≡ done ++ b ∷ c ∷ more
-    → step check 250 (AtCheck (gathered_whole check 250 body) done) b ≡ (AtCheck (gathered_whole check 250 body) (done ++ b ∷ []), None)
-check-goes check body done more b c e =
+-- at one that isn't the last nothing is heard, whatever was heard of the body
+pub check-goes : (check : Check) (body seen done more : List ℕ) (b c : ℕ) → check_of check body ≡ done ++ b ∷ c ∷ more
+    → step check 250 (AtCheck (gathered_whole check 250 seen) done) b ≡ (AtCheck (gathered_whole check 250 seen) (done ++ b ∷ []), None)
+check-goes check body seen done more b c e =
     let all : length (done ++ b ∷ c ∷ more) ≡ check_len check = ap length (sym e) ∙ check-length check body in
     rw (lt-ltb (length done + 1) (check_len check) (omega (arith, all, length-append done (b ∷ c ∷ more)))) refl
 
--- a body of 6 to 250 bytes with its own check is good
-frame-good : (check : Check) (body : List ℕ) → 6 ≤ length body → length body ≤ 250 → frame_heard check 250 body (check_of check body) ≡ heard.Good
-frame-good check body least most = rw (le-ltb 250 (length body) most, same-same (check_of check body), le-ltb (length body) 6 least) refl
+-- a frame in which 6 to 250 bytes were heard of a body is good where the check bytes are those of what was heard
+frame-verdict : (check : Check) (seen bytes : List ℕ) → 6 ≤ length seen → length seen ≤ 250 → frame_heard check 250 seen bytes ≡ (if same bytes (check_of check seen) then heard.Good else heard.BadCheck)
+frame-verdict check seen bytes least most = rw (le-ltb 250 (length seen) most, le-ltb (length seen) 6 least) refl
 
--- at the last the frame is good, and its body is lent
-pub check-ends : (check : Check) (body done : List ℕ) (b : ℕ) → 6 ≤ length body → length body ≤ 250 → check_of check body ≡ done ++ b ∷ []
-    → step check 250 (AtCheck (gathered_whole check 250 body) done) b ≡ (Ended body, Some heard.Good)
-check-ends check body done b least most e =
+-- at the last the body that was heard is lent
+pub check-ends : (check : Check) (body seen done : List ℕ) (b : ℕ) → 6 ≤ length body → length body ≤ 250 → length seen ≡ length body → check_of check body ≡ done ++ b ∷ []
+    → step check 250 (AtCheck (gathered_whole check 250 seen) done) b ≡ (Ended seen, Some (if same (check_of check body) (check_of check seen) then heard.Good else heard.BadCheck))
+check-ends check body seen done b least most many e =
     let all : length (done ++ b ∷ []) ≡ check_len check = ap length (sym e) ∙ check-length check body in
     let enough : check_len check ≤ length done + 1 = omega (arith, all, length-append done (b ∷ [])) in
-    rw (le-ltb (length done + 1) (check_len check) enough, left_by-gathered check 250 body, verdict-gathered check 250 body (done ++ b ∷ []), ← e, frame-good check body least most, le-ltb 250 (length body) most) refl
+    let few : length seen ≤ 250 = omega (arith, many, most) in
+    let some : 6 ≤ length seen = omega (arith, many, least) in
+    rw (le-ltb (length done + 1) (check_len check) enough, left_by-gathered check 250 seen, verdict-gathered check 250 seen (done ++ b ∷ []), ← e, frame-verdict check seen (check_of check body) some few, le-ltb 250 (length seen) few) refl
 
 -- ---- where a response is chosen
 

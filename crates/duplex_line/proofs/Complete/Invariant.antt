@@ -15,7 +15,9 @@ use Rattle.duplex_line.specs.Acts.{LineState, swapped}
 use Rattle.duplex_line.proofs.Once.SentMessages.{Sends}
 use Rattle.each_once.proofs.HandedOut.{is_command, Hosts}
 use Rattle.duplex_line.specs.Prompt.{Late}
-use Rattle.duplex_line.proofs.Complete.MessageUnderWay.{Flow}
+use Rattle.duplex_line.specs.Recoverable.{Damages}
+use Rattle.duplex_line.proofs.Complete.MessageUnderWay.{Flow, Marks}
+use Rattle.duplex_line.proofs.Complete.DamageDone.{IsDamage}
 use Rattle.duplex_line.proofs.Complete.ToldMessages.{TellsOf}
 use Rattle.each_once.proofs.CommandsUnderWay.{AreUnderWay, each_body, under-way-hand_out}
 use Rattle.each_once.proofs.InitiatorSteps.{next-is-command}
@@ -59,7 +61,7 @@ pub record IsEnd (first : StationState) (may : Allowance) (e : EndState NodeStat
   pub few : length e.host.initiator.issued ≤ 65535
 
 -- both ends, both directions, and what was told of the accepted messages
-pub record Flows (near far : Who) (first far_first : StationState) (s : LineState) (late : Late) (lines : List Line) : Type 0 where
+pub record Flows (near far : Who) (first far_first : StationState) (s : LineState) (late : Late) (dam : Damages) (lines : List Line) : Type 0 where
   pub sent : List (List ℕ)
   pub heard : List (List ℕ)
   pub far_sent : List (List ℕ)
@@ -69,8 +71,12 @@ pub record Flows (near far : Who) (first far_first : StationState) (s : LineStat
   pub rooms : HaveRoom allowed far_allowed
   pub end : IsEnd first allowed s.a.end sent heard late.a
   pub far_end : IsEnd far_first far_allowed s.b.end far_sent far_heard late.b
-  pub flow : Flow s.a.end s.b.end s.a.lane s.b.lane sent far_heard late.a
-  pub far_flow : Flow s.b.end s.a.end s.b.lane s.a.lane far_sent heard late.b
+  pub marks : Marks
+  pub far_marks : Marks
+  pub flow : Flow s.a.end s.b.end s.a.lane s.b.lane sent far_heard late.a marks
+  pub far_flow : Flow s.b.end s.a.end s.b.lane s.a.lane far_sent heard late.b far_marks
+  pub damage : IsDamage dam.a marks s.a.end.mouth.begun s.a.end.sender.limits.max_naks s.b.end.receiver.decoding s.a.lane
+  pub far_damage : IsDamage dam.b far_marks s.b.end.mouth.begun s.b.end.sender.limits.max_naks s.a.end.receiver.decoding s.b.lane
   pub tells : TellsOf near heard lines
   pub far_tells : TellsOf far far_heard lines
   pub honest : s.deceived ≡ 0
@@ -78,8 +84,11 @@ pub record Flows (near far : Who) (first far_first : StationState) (s : LineStat
 abbrev pub late_swapped : Late → Late
 late_swapped late = record { a = late.b; b = late.a }
 
-pub flows-swapped : (near far : Who) (first far_first : StationState) (s : LineState) (late : Late) (lines : List Line) → Flows near far first far_first s late lines → Flows far near far_first first (swapped s) (late_swapped late) lines
-flows-swapped near far first far_first s late lines h = record {
+abbrev pub damages_swapped : Damages → Damages
+damages_swapped d = record { a = d.b; b = d.a }
+
+pub flows-swapped : (near far : Who) (first far_first : StationState) (s : LineState) (late : Late) (dam : Damages) (lines : List Line) → Flows near far first far_first s late dam lines → Flows far near far_first first (swapped s) (late_swapped late) (damages_swapped dam) lines
+flows-swapped near far first far_first s late dam lines h = record {
   sent = h.far_sent;
   heard = h.far_heard;
   far_sent = h.sent;
@@ -89,8 +98,12 @@ flows-swapped near far first far_first s late lines h = record {
   rooms = record { near_room = h.rooms.far_room; far_room = h.rooms.near_room; near_some = h.rooms.far_some; far_some = h.rooms.near_some };
   end = h.far_end;
   far_end = h.end;
+  marks = h.far_marks;
+  far_marks = h.marks;
   flow = h.far_flow;
   far_flow = h.flow;
+  damage = h.far_damage;
+  far_damage = h.damage;
   tells = h.far_tells;
   far_tells = h.tells;
   honest = h.honest;

@@ -1,7 +1,8 @@
 -- An end that gives nothing, on a line on which nothing is on its way.
-use Rattle.std.proofs.Common.{◌≡◌, ◌∙◌, ℕ, Bool, true, false, List, [], ◌++◌, Option, Some, None, is_none, refl, ap, sym, arith, append-nil}
+use Rattle.std.proofs.Common.{◌≡◌, ◌∙◌, ℕ, ◌+◌, Bool, true, false, List, [], ◌++◌, Option, Some, None, is_none, refl, ap, sym, arith, append-nil}
 use Rattle.std.specs.Prelude.{if◌then◌else◌}
 use Rattle.df1_base.specs.declared.host.Host.{Ghosts}
+use Rattle.df1_base.specs.declared.link.Resp.TheVariants as resp
 use Rattle.duplex_sender.specs.declared.Limits.{Limits}
 use Rattle.duplex_sender.specs.declared.Phase.{Phase}
 use Rattle.duplex_sender.specs.declared.Phase.TheVariants as phase
@@ -11,9 +12,9 @@ use Rattle.duplex_end.specs.End.{EndState, begun_next, prepared, begun_at, out_a
 use Rattle.duplex_end.proofs.Joining.{none-left}
 use Rattle.duplex_end.proofs.Order.{out-is}
 use Rattle.lane_cells.specs.Cells.{LaneCell}
-use Rattle.duplex_line.proofs.Complete.DecoderPlace.{owed, sync-quiet}
+use Rattle.duplex_line.proofs.Complete.DecoderPlace.{owed, quiet-owes}
 use Rattle.duplex_line.proofs.Complete.ClearLane.{goods}
-use Rattle.duplex_line.proofs.Complete.MessageUnderWay.{Flow, awaits, in_flight}
+use Rattle.duplex_line.proofs.Complete.MessageUnderWay.{Flow, Marks, awaits, due, in_flight}
 use Rattle.each_once.proofs.Sublists.{none-is}
 
 -- what is so of an end that gives nothing
@@ -45,10 +46,11 @@ pub gives-nothing : {H : Type 0} (m : Ghosts H) (e : EndState H) → out_at_take
 gives-nothing m e none = prepared-nothing m e (is_none (chosen e.mouth)) refl (none-chosen (prepared m e).mouth (chosen (prepared m e).mouth) (sym (out-is m e) ∙ none))
 
 -- a sender of which no frame and no response is on its way awaits none
-pub awaits-none : {H : Type 0} (a b : EndState H) (back_sent back_heard sent heard : List (List ℕ)) (late far_late : ℕ) → Flow a b [] [] sent heard late → Flow b a [] [] back_sent back_heard far_late → chosen b.mouth ≡ None → awaits a.sender.activity ≡ 0
-awaits-none a b back_sent back_heard sent heard late far_late f far none =
-    let owes : owed b.mouth ≡ 0 = sync-quiet none far.clear in
-    omega (arith, f.responses, owes)
+pub awaits-none : {H : Type 0} (a b : EndState H) (back_sent back_heard sent heard : List (List ℕ)) (late far_late : ℕ) (marks far_marks : Marks) → Flow a b [] [] sent heard late marks → Flow b a [] [] back_sent back_heard far_late far_marks → chosen b.mouth ≡ None → awaits a.sender.activity ≡ 0
+awaits-none a b back_sent back_heard sent heard late far_late marks far_marks f far none =
+    let ack = quiet-owes b.mouth none resp.Ack in
+    let nak = quiet-owes b.mouth none resp.Nak in
+    omega (arith, f.responses, ack, nak)
 
 not-waiting : (limits : Limits) (a : Activity) → awaits a ≡ 0 → phase_of (record { limits = limits; activity = a }) ≡ phase.Waiting → ⊥
 not-waiting limits Idle none is = cc
@@ -64,5 +66,5 @@ idle-flight limits (Sending body naks enqs) n is = absurd cc
 idle-flight limits (Waiting body naks enqs left) n is = absurd cc
 
 -- of an idle sender all messages were heard
-pub all-heard : {H : Type 0} (a b : EndState H) (lane back : List LaneCell) (sent heard : List (List ℕ)) (late : ℕ) → phase_of a.sender ≡ phase.Idle → Flow a b lane back sent heard late → sent ≡ heard
-all-heard a b lane back sent heard late idle f = f.flight ∙ ap (λ (m : List (List ℕ)). heard ++ m) (idle-flight a.sender.limits a.sender.activity (goods lane) idle) ∙ append-nil heard
+pub all-heard : {H : Type 0} (a b : EndState H) (lane back : List LaneCell) (sent heard : List (List ℕ)) (late : ℕ) (marks : Marks) → phase_of a.sender ≡ phase.Idle → Flow a b lane back sent heard late marks → sent ≡ heard
+all-heard a b lane back sent heard late marks idle f = f.flight ∙ ap (λ (m : List (List ℕ)). heard ++ m) (idle-flight a.sender.limits a.sender.activity (goods lane + due resp.Nak b a back) idle) ∙ append-nil heard

@@ -29,7 +29,8 @@ use Rattle.each_once.proofs.NodeSteps.{hosts-tick}
 use Rattle.each_once.proofs.CommandBodies.{bodies-after_tick}
 use Rattle.duplex_line.proofs.Once.LineSteps.{tick-silent}
 use Rattle.duplex_line.specs.Prompt.{Late, none_late, is_idle, is_quiet, late_with, late_after, AreFew, patience}
-use Rattle.duplex_line.proofs.Complete.MessageUnderWay.{Flow, awaits, IsPatient, IsSteady, ticked, steadied, tick-steady, ticked-awaits, flow-ticks, far-ticks, flow-late}
+use Rattle.duplex_line.specs.Recoverable.{Damages}
+use Rattle.duplex_line.proofs.Complete.MessageUnderWay.{Flow, Marks, awaits, IsPatient, IsSteady, ticked, steadied, tick-steady, ticked-awaits, flow-ticks, far-ticks, flow-late}
 use Rattle.duplex_line.proofs.Complete.QuietEnd.{GivesNothing, gives-nothing, awaits-none, never-waits, all-heard}
 use Rattle.each_once.proofs.CommandsUnderWay.{AreUnderWay, each_body, under-way-tick, under-way-later, under-way-rests}
 use Rattle.each_once.proofs.TwoNodes.{all-answered}
@@ -100,7 +101,7 @@ awaits-steady (Sending body naks enqs) none = tt
 awaits-steady (Awaiting body naks enqs left) none = absurd (omega (arith, none))
 
 -- neither end awaits a response or has a message to send, all messages were heard, and no command is out
-pub record AreAtRest (near far : Who) (first far_first : StationState) (s : LineState) (late : Late) (lines : List Line) (h : Flows near far first far_first s late lines) : Type 0 where
+pub record AreAtRest (near far : Who) (first far_first : StationState) (s : LineState) (late : Late) (dam : Damages) (lines : List Line) (h : Flows near far first far_first s late dam lines) : Type 0 where
   pub awaits_none : awaits s.a.end.sender.activity ≡ 0
   pub far_awaits_none : awaits s.b.end.sender.activity ≡ 0
   pub none_out : h.end.ahead.done ≡ length (filter is_command h.sent)
@@ -111,21 +112,21 @@ pub record AreAtRest (near far : Who) (first far_first : StationState) (s : Line
   pub far_nothing_waits : (s.b.end.host.replies ≡ []) × (next_command s.b.end.host.initiator ≡ None)
 
 -- two ends of which nothing is on its way and that choose nothing
-lanes-empty : (a b : EndState NodeState) (lane back : List LaneCell) (sent heard : List (List ℕ)) (late : ℕ) → lane ≡ [] → back ≡ [] → Flow a b lane back sent heard late → Flow a b [] [] sent heard late
-lanes-empty a b lane back sent heard late is is_back f = subst (λ (x : List LaneCell). Flow a b x [] sent heard late) is (subst (λ (x : List LaneCell). Flow a b lane x sent heard late) is_back f)
+lanes-empty : (a b : EndState NodeState) (lane back : List LaneCell) (sent heard : List (List ℕ)) (late : ℕ) (marks : Marks) → lane ≡ [] → back ≡ [] → Flow a b lane back sent heard late marks → Flow a b [] [] sent heard late marks
+lanes-empty a b lane back sent heard late marks is is_back f = subst (λ (x : List LaneCell). Flow a b x [] sent heard late marks) is (subst (λ (x : List LaneCell). Flow a b lane x sent heard late marks) is_back f)
 
-pub at-rest : (near far : Who) (first far_first : StationState) (s : LineState) (late : Late) (lines : List Line) (h : Flows near far first far_first s late lines) → IsStill s → AreAtRest near far first far_first s late lines h
-at-rest near far first far_first s late lines h still =
+pub at-rest : (near far : Who) (first far_first : StationState) (s : LineState) (late : Late) (dam : Damages) (lines : List Line) (h : Flows near far first far_first s late dam lines) → IsStill s → AreAtRest near far first far_first s late dam lines h
+at-rest near far first far_first s late dam lines h still =
     let a = s.a.end in
     let b = s.b.end in
-    let f = lanes-empty a b s.a.lane s.b.lane h.sent h.far_heard late.a still.lane still.back h.flow in
-    let g = lanes-empty b a s.b.lane s.a.lane h.far_sent h.heard late.b still.back still.lane h.far_flow in
-    let none = awaits-none a b h.far_sent h.heard h.sent h.far_heard late.a late.b f g still.far_gives.chooses in
-    let far_none = awaits-none b a h.sent h.far_heard h.far_sent h.heard late.b late.a g f still.gives.chooses in
+    let f = lanes-empty a b s.a.lane s.b.lane h.sent h.far_heard late.a h.marks still.lane still.back h.flow in
+    let g = lanes-empty b a s.b.lane s.a.lane h.far_sent h.heard late.b h.far_marks still.back still.lane h.far_flow in
+    let none = awaits-none a b h.far_sent h.heard h.sent h.far_heard late.a late.b h.marks h.far_marks f g still.far_gives.chooses in
+    let far_none = awaits-none b a h.sent h.far_heard h.far_sent h.heard late.b late.a h.far_marks h.marks g f still.gives.chooses in
     let idle = still.gives.idle (never-waits a.sender none) in
     let far_idle = still.far_gives.idle (never-waits b.sender far_none) in
-    let all = all-heard a b [] [] h.sent h.far_heard late.a idle.0 f in
-    let far_all = all-heard b a [] [] h.far_sent h.heard late.b far_idle.0 g in
+    let all = all-heard a b [] [] h.sent h.far_heard late.a h.marks idle.0 f in
+    let far_all = all-heard b a [] [] h.far_sent h.heard late.b h.far_marks far_idle.0 g in
     record {
       awaits_none = none;
       far_awaits_none = far_none;
@@ -151,9 +152,9 @@ later-end first allowed e sent heard late later h all = record {
 }
 
 -- where nothing is under way, any number of late ticks will do
-pub flows-late : (near far : Who) (first far_first : StationState) (s : LineState) (late later : Late) (lines : List Line) → IsStill s → Flows near far first far_first s late lines → Flows near far first far_first s later lines
-flows-late near far first far_first s late later lines still h =
-    let rest = at-rest near far first far_first s late lines h still in
+pub flows-late : (near far : Who) (first far_first : StationState) (s : LineState) (late later : Late) (dam : Damages) (lines : List Line) → IsStill s → Flows near far first far_first s late dam lines → Flows near far first far_first s later dam lines
+flows-late near far first far_first s late later dam lines still h =
+    let rest = at-rest near far first far_first s late dam lines h still in
     record {
       sent = h.sent;
       heard = h.heard;
@@ -164,8 +165,12 @@ flows-late near far first far_first s late later lines still h =
       rooms = h.rooms;
       end = later-end first h.allowed s.a.end h.sent h.heard late.a later.a h.end rest.none_out;
       far_end = later-end far_first h.far_allowed s.b.end h.far_sent h.far_heard late.b later.b h.far_end rest.far_none_out;
-      flow = flow-late s.a.end s.b.end s.a.lane s.b.lane h.sent h.far_heard late.a later.a (awaits-trivial s.a.end.sender.activity s.a.end.sender.limits.ack_ticks later.a rest.awaits_none) h.flow;
-      far_flow = flow-late s.b.end s.a.end s.b.lane s.a.lane h.far_sent h.heard late.b later.b (awaits-trivial s.b.end.sender.activity s.b.end.sender.limits.ack_ticks later.b rest.far_awaits_none) h.far_flow;
+      marks = h.marks;
+      far_marks = h.far_marks;
+      damage = h.damage;
+      far_damage = h.far_damage;
+      flow = flow-late s.a.end s.b.end s.a.lane s.b.lane h.sent h.far_heard late.a later.a h.marks (awaits-trivial s.a.end.sender.activity s.a.end.sender.limits.ack_ticks later.a rest.awaits_none) h.flow;
+      far_flow = flow-late s.b.end s.a.end s.b.lane s.a.lane h.far_sent h.heard late.b later.b h.far_marks (awaits-trivial s.b.end.sender.activity s.b.end.sender.limits.ack_ticks later.b rest.far_awaits_none) h.far_flow;
       tells = h.tells;
       far_tells = h.far_tells;
       honest = h.honest;
@@ -184,20 +189,20 @@ ticked-idle limits (Sending body naks enqs) is = absurd cc
 ticked-idle limits (Awaiting body naks enqs left) is = absurd cc
 
 -- where nothing is under way after it, nothing was before
-ready-after : (near far : Who) (first far_first : StationState) (s : LineState) (late : Late) (lines : List Line) (h : Flows near far first far_first s late lines) → IsStill (after_deed s Tick) → IsReady s.a.end.sender.activity (length (filter is_command h.sent)) h.end.ahead.done late.a s.a.end.host.initiator.reply_ticks
-ready-after near far first far_first s late lines h still =
+ready-after : (near far : Who) (first far_first : StationState) (s : LineState) (late : Late) (dam : Damages) (lines : List Line) (h : Flows near far first far_first s late dam lines) → IsStill (after_deed s Tick) → IsReady s.a.end.sender.activity (length (filter is_command h.sent)) h.end.ahead.done late.a s.a.end.host.initiator.reply_ticks
+ready-after near far first far_first s late dam lines h still =
     let a = s.a.end in
     let b = s.b.end in
-    let f = lanes-empty a b s.a.lane s.b.lane h.sent h.far_heard late.a still.lane still.back h.flow in
-    let g = lanes-empty b a s.b.lane s.a.lane h.far_sent h.heard late.b still.back still.lane h.far_flow in
-    let none = awaits-none a b h.far_sent h.heard h.sent h.far_heard late.a late.b f g still.far_gives.chooses in
+    let f = lanes-empty a b s.a.lane s.b.lane h.sent h.far_heard late.a h.marks still.lane still.back h.flow in
+    let g = lanes-empty b a s.b.lane s.a.lane h.far_sent h.heard late.b h.far_marks still.back still.lane h.far_flow in
+    let none = awaits-none a b h.far_sent h.heard h.sent h.far_heard late.a late.b h.marks h.far_marks f g still.far_gives.chooses in
     let steady = awaits-steady a.sender.activity none in
     let gives = subst (λ (e : EndState NodeState). GivesNothing node_host e) (tick-steady node_host a steady) still.gives in
-    let far_none = awaits-none b a h.sent h.far_heard h.far_sent h.heard late.b late.a g f gives.chooses in
+    let far_none = awaits-none b a h.sent h.far_heard h.far_sent h.heard late.b late.a h.far_marks h.marks g f gives.chooses in
     let idle = gives.idle (never-waits (steadied node_host a).sender (ticked-awaits a.sender.activity ∙ none)) in
     let far_idle = still.far_gives.idle (never-waits b.sender far_none) in
-    let all = all-heard a b [] [] h.sent h.far_heard late.a (ticked-idle a.sender.limits a.sender.activity idle.0) f in
-    let far_all = all-heard b a [] [] h.far_sent h.heard late.b far_idle.0 g in
+    let all = all-heard a b [] [] h.sent h.far_heard late.a h.marks (ticked-idle a.sender.limits a.sender.activity idle.0) f in
+    let far_all = all-heard b a [] [] h.far_sent h.heard late.b h.far_marks far_idle.0 g in
     record {
       steady = steady;
       out_steady = inl (none-out far_first first b.host a.host h.far_sent h.far_heard h.sent h.heard late.a h.far_end.hosts h.end.hosts all far_all (next-parts b.host far_idle.1).0 h.end.ahead);
@@ -219,9 +224,9 @@ told-ticks (Some fate.Undelivered) node = last-ticks node.last
     last-ticks handed.Reply = refl
     last-ticks (handed.Command place) = refl
 
-ready-few : (near far : Who) (first far_first : StationState) (s : LineState) (late : Late) (lines : List Line) (h : Flows near far first far_first s late lines) → late.a + 1 < patience (after_deed s Tick).a
+ready-few : (near far : Who) (first far_first : StationState) (s : LineState) (late : Late) (dam : Damages) (lines : List Line) (h : Flows near far first far_first s late dam lines) → late.a + 1 < patience (after_deed s Tick).a
     → IsReady s.a.end.sender.activity (length (filter is_command h.sent)) h.end.ahead.done late.a s.a.end.host.initiator.reply_ticks
-ready-few near far first far_first s late lines h few =
+ready-few near far first far_first s late dam lines h few =
     let same = told-ticks (fate_of_tick (tick_turn s.a.end.sender)) s.a.end.host in
     let fewer : late.a + 1 < min s.a.end.sender.limits.ack_ticks s.a.end.host.initiator.reply_ticks = subst (λ (n : ℕ). late.a + 1 < min s.a.end.sender.limits.ack_ticks n) same few in
     record {
@@ -229,13 +234,13 @@ ready-few near far first far_first s late lines h few =
       out_steady = inr (omega (arith, fewer));
     }
 
-tick-ready : (near far : Who) (first far_first : StationState) (s : LineState) (late : Late) (lines : List Line) (h : Flows near far first far_first s late lines) → (quiet after : Bool) → is_quiet s ≡ quiet → is_quiet (after_deed s Tick) ≡ after
+tick-ready : (near far : Who) (first far_first : StationState) (s : LineState) (late : Late) (dam : Damages) (lines : List Line) (h : Flows near far first far_first s late dam lines) → (quiet after : Bool) → is_quiet s ≡ quiet → is_quiet (after_deed s Tick) ≡ after
     → AreFew (if after then none_late else late_with late quiet Tick) (after_deed s Tick) → IsReady s.a.end.sender.activity (length (filter is_command h.sent)) h.end.ahead.done late.a s.a.end.host.initiator.reply_ticks
-tick-ready near far first far_first s late lines h true after is is_after few =
-    let rest = at-rest near far first far_first s late lines h (quiet-still s is) in
+tick-ready near far first far_first s late dam lines h true after is is_after few =
+    let rest = at-rest near far first far_first s late dam lines h (quiet-still s is) in
     record { steady = awaits-steady s.a.end.sender.activity rest.awaits_none; out_steady = inl rest.none_out }
-tick-ready near far first far_first s late lines h false true is is_after few = ready-after near far first far_first s late lines h (quiet-still (after_deed s Tick) is_after)
-tick-ready near far first far_first s late lines h false false is is_after few = ready-few near far first far_first s late lines h few.0
+tick-ready near far first far_first s late dam lines h false true is is_after few = ready-after near far first far_first s late dam lines h (quiet-still (after_deed s Tick) is_after)
+tick-ready near far first far_first s late dam lines h false false is is_after few = ready-few near far first far_first s late dam lines h few.0
 
 -- the waits are shorter by it
 ticked-patient : (a : Activity) (ticks late : ℕ) → IsPatient ticks late a → IsSteady a → IsPatient ticks (late + 1) (ticked a)
@@ -246,10 +251,10 @@ ticked-patient (Awaiting body naks enqs left) ticks late patient steady = omega 
 ticked-trivial : (a : Activity) (ticks late : ℕ) → awaits a ≡ 0 → IsPatient ticks late (ticked a)
 ticked-trivial a ticks late none = awaits-trivial (ticked a) ticks late (ticked-awaits a ∙ none)
 
-later-patient : (near far : Who) (first far_first : StationState) (s : LineState) (late : Late) (lines : List Line) (h : Flows near far first far_first s late lines) → (quiet : Bool) → is_quiet s ≡ quiet → IsSteady s.a.end.sender.activity
+later-patient : (near far : Who) (first far_first : StationState) (s : LineState) (late : Late) (dam : Damages) (lines : List Line) (h : Flows near far first far_first s late dam lines) → (quiet : Bool) → is_quiet s ≡ quiet → IsSteady s.a.end.sender.activity
     → IsPatient s.a.end.sender.limits.ack_ticks (late_with late quiet Tick).a (ticked s.a.end.sender.activity)
-later-patient near far first far_first s late lines h true is steady = ticked-trivial s.a.end.sender.activity s.a.end.sender.limits.ack_ticks late.a (at-rest near far first far_first s late lines h (quiet-still s is)).awaits_none
-later-patient near far first far_first s late lines h false is steady = ticked-patient s.a.end.sender.activity s.a.end.sender.limits.ack_ticks late.a h.flow.patient steady
+later-patient near far first far_first s late dam lines h true is steady = ticked-trivial s.a.end.sender.activity s.a.end.sender.limits.ack_ticks late.a (at-rest near far first far_first s late dam lines h (quiet-still s is)).awaits_none
+later-patient near far first far_first s late dam lines h false is steady = ticked-patient s.a.end.sender.activity s.a.end.sender.limits.ack_ticks late.a h.flow.patient steady
 
 ticked-ahead : (node : NodeState) (commands heard : List (List ℕ)) (late later : ℕ) (a : IsAhead node.initiator commands heard late) → (a.done ≡ length commands) ⊎ ((late + 1 < node.initiator.reply_ticks) × (later ≡ late + 1)) → IsAhead (node_ticked node).initiator commands heard later
 ticked-ahead node commands heard late later a (inl all) = record { done = a.done; under_way = under-way-rests each_body node.initiator commands a.done late later all a.under_way; answers = a.answers }
@@ -259,12 +264,12 @@ ticked-ahead node commands heard late later a (inr more) = record {
   answers = a.answers;
 }
 
-later-ready : (near far : Who) (first far_first : StationState) (s : LineState) (late : Late) (lines : List Line) (h : Flows near far first far_first s late lines) → (quiet : Bool) → is_quiet s ≡ quiet
+later-ready : (near far : Who) (first far_first : StationState) (s : LineState) (late : Late) (dam : Damages) (lines : List Line) (h : Flows near far first far_first s late dam lines) → (quiet : Bool) → is_quiet s ≡ quiet
     → (h.end.ahead.done ≡ length (filter is_command h.sent)) ⊎ (late.a + 1 < s.a.end.host.initiator.reply_ticks)
     → (h.end.ahead.done ≡ length (filter is_command h.sent)) ⊎ ((late.a + 1 < s.a.end.host.initiator.reply_ticks) × ((late_with late quiet Tick).a ≡ late.a + 1))
-later-ready near far first far_first s late lines h quiet is (inl all) = inl all
-later-ready near far first far_first s late lines h true is (inr more) = inl (at-rest near far first far_first s late lines h (quiet-still s is)).none_out
-later-ready near far first far_first s late lines h false is (inr more) = inr (more, refl)
+later-ready near far first far_first s late dam lines h quiet is (inl all) = inl all
+later-ready near far first far_first s late dam lines h true is (inr more) = inl (at-rest near far first far_first s late dam lines h (quiet-still s is)).none_out
+later-ready near far first far_first s late dam lines h false is (inr more) = inr (more, refl)
 
 tells-tick : (who near : Who) (e : EndState NodeState) (heard : List (List ℕ)) (lines : List Line) → TellsOf who heard lines → TellsOf who heard (lines ++ ((turn_lines near (turn_at_tick node_host e) ++ gone_lines near (gone_at_tick node_host e)) ++ []))
 tells-tick who near e heard lines t =
@@ -272,14 +277,14 @@ tells-tick who near e heard lines t =
     let silent = tick-silent who who near e in
     rw (append-nil more) (tells-silent who heard lines more silent.executes t)
 
-pub flows-tick : (near far : Who) (first far_first : StationState) (s : LineState) (late : Late) (lines : List Line) → AreFew (late_after late s Tick) (after_deed s Tick) → Flows near far first far_first s late lines
-    → Flows near far first far_first (after_deed s Tick) (late_with late (is_quiet s) Tick) (lines ++ lines_at near far s Tick)
-flows-tick near far first far_first s late lines few h =
+pub flows-tick : (near far : Who) (first far_first : StationState) (s : LineState) (late : Late) (dam : Damages) (lines : List Line) → AreFew (late_after late s Tick) (after_deed s Tick) → Flows near far first far_first s late dam lines
+    → Flows near far first far_first (after_deed s Tick) (late_with late (is_quiet s) Tick) dam (lines ++ lines_at near far s Tick)
+flows-tick near far first far_first s late dam lines few h =
     let a = s.a.end in
     let later = late_with late (is_quiet s) Tick in
-    let ready = tick-ready near far first far_first s late lines h (is_quiet s) (is_quiet (after_deed s Tick)) refl refl few in
+    let ready = tick-ready near far first far_first s late dam lines h (is_quiet s) (is_quiet (after_deed s Tick)) refl refl few in
     let same = tick-steady node_host a ready.steady in
-    subst (λ (e : EndState NodeState). Flows near far first far_first (record { a = record { end = e; lane = s.a.lane }; b = s.b; deceived = s.deceived }) later (lines ++ lines_at near far s Tick)) (sym same) (record {
+    subst (λ (e : EndState NodeState). Flows near far first far_first (record { a = record { end = e; lane = s.a.lane }; b = s.b; deceived = s.deceived }) later dam (lines ++ lines_at near far s Tick)) (sym same) (record {
       sent = h.sent;
       heard = h.heard;
       far_sent = h.far_sent;
@@ -290,7 +295,7 @@ flows-tick near far first far_first s late lines few h =
       end = record {
         hosts = hosts-tick h.end.hosts;
         sends = subst (λ (e : EndState NodeState). Sends e h.sent) same (sends-tick node_host a h.end.sends);
-        ahead = ticked-ahead a.host (filter is_command h.sent) h.heard late.a later.a h.end.ahead (later-ready near far first far_first s late lines h (is_quiet s) refl ready.out_steady);
+        ahead = ticked-ahead a.host (filter is_command h.sent) h.heard late.a later.a h.end.ahead (later-ready near far first far_first s late dam lines h (is_quiet s) refl ready.out_steady);
         bodies = h.end.bodies;
         commands = subst AreBodies (sym (bodies-after_tick a.host)) h.end.commands;
         allowed = record { room = h.end.allowed.room; window = h.end.allowed.window; per_source = h.end.allowed.per_source };
@@ -298,8 +303,12 @@ flows-tick near far first far_first s late lines few h =
         few = let count = tick-commands a in subst (λ (e : EndState NodeState). length e.host.initiator.issued ≤ 65535) same (omega (arith, count, h.end.few));
       };
       far_end = h.far_end;
-      flow = flow-ticks node_host a s.b.end s.a.lane s.b.lane h.sent h.far_heard late.a later.a (later-patient near far first far_first s late lines h (is_quiet s) refl ready.steady) h.flow;
-      far_flow = far-ticks node_host a s.b.end s.b.lane s.a.lane h.far_sent h.heard late.b h.far_flow;
+      marks = h.marks;
+      far_marks = h.far_marks;
+      damage = h.damage;
+      far_damage = h.far_damage;
+      flow = flow-ticks node_host a s.b.end s.a.lane s.b.lane h.sent h.far_heard late.a later.a h.marks (later-patient near far first far_first s late dam lines h (is_quiet s) refl ready.steady) h.flow;
+      far_flow = far-ticks node_host a s.b.end s.b.lane s.a.lane h.far_sent h.heard late.b h.far_marks h.far_flow;
       tells = tells-tick near near a h.heard lines h.tells;
       far_tells = tells-tick far near a h.far_heard lines h.far_tells;
       honest = h.honest;

@@ -24,11 +24,11 @@ use Rattle.duplex_line.specs.Example.{one_write, the_command, the_reply, two_sou
 use Rattle.each_once.proofs.Sublists.{none-is}
 use Rattle.duplex_line.proofs.Complete.TickStep.{both}
 
-abbrev ArePossible : List Event → Type 0
+abbrev pub ArePossible : List Event → Type 0
 ArePossible [] = Unit {0}
 ArePossible (e ∷ events) = IsPossible e × ArePossible events
 
-all-possible : (events : List Event) → ArePossible events → All IsPossible events
+pub all-possible : (events : List Event) → ArePossible events → All IsPossible events
 all-possible [] possible = All-nil IsPossible
 all-possible (e ∷ events) possible = All-cons IsPossible e events possible.0 (all-possible events possible.1)
 
@@ -68,7 +68,7 @@ is_gentle side (Alter mask) = is_none (slice_get side.lane 0)
 is_gentle side (Foreign byte) = false
 is_gentle side Tick = true
 
-abbrev are_few : Late → LineState → Bool
+abbrev pub are_few : Late → LineState → Bool
 are_few late s = nat_lt late.a (patience s.a) && nat_lt late.b (patience s.b)
 
 abbrev prompt_over : Late → LineState → List Deed → Bool
@@ -89,7 +89,7 @@ gentle-is side (Alter mask) h = none-is (slice_get side.lane 0) h
 gentle-is side (Foreign byte) h = absurd cc
 gentle-is side Tick h = tt
 
-few-are : (late : Late) (s : LineState) → are_few late s ≡ true → AreFew late s
+pub few-are : (late : Late) (s : LineState) → are_few late s ≡ true → AreFew late s
 few-are late s h = let parts = both (nat_lt late.a (patience s.a)) (nat_lt late.b (patience s.b)) h in (ltb-true late.a (patience s.a) parts.0, ltb-true late.b (patience s.b) parts.1)
 
 prompt-over : (late : Late) (s : LineState) (deeds : List Deed) → prompt_over late s deeds ≡ true → IsPromptOver late s deeds

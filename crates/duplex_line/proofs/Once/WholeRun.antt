@@ -50,7 +50,7 @@ Kept near far first far_first s lines = s.deceived ≡ 0 → Holds near far firs
 abbrev Goes : LineState → List Deed → Type 0
 Goes s deeds = (near far : Who) → AreTwo near far → (first far_first : StationState) (lines : List Line) → Kept near far first far_first s lines → Kept near far first far_first (after_deeds s deeds) (lines ++ lines_over near far s deeds)
 
-earlier : (count : ℕ) (b : LineEndState) (cell : Option LaneCell) → deceived_after count b cell ≡ 0 → count ≡ 0
+pub earlier : (count : ℕ) (b : LineEndState) (cell : Option LaneCell) → deceived_after count b cell ≡ 0 → count ≡ 0
 earlier count b None none = none
 earlier count b (Some cell) none = omega (arith, none)
 
