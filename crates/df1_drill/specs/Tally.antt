@@ -1,4 +1,4 @@
--- What a drill came to: counts over the record of its run, and the line that tells them.
+-- What a drill or a storm came to: counts over the record of its run, and the line that tells them.
 use Rattle.std.specs.Prelude.{ℕ, Bool, true, false, List, ◌++◌, codes, count_by, decimal}
 use Rattle.df1_check.specs.Checks.{crc}
 use Rattle.script_parts.specs.declared.script.Script.{Script}
@@ -48,9 +48,13 @@ tally_of script r = record {
   report = crc (report r);
 }
 
--- those of the run of the drill's script
+-- those of the run of a script
+abbrev pub run_tally : Script → Drilled
+run_tally script = tally_of script (record_of script)
+
+-- and of that of the drill's script
 unfoldable pub drilled : ℕ → ℕ → Drilled
-drilled seed count = tally_of (drill_script seed count) (record_of (drill_script seed count))
+drilled seed count = run_tally (drill_script seed count)
 
 -- ---- the line
 

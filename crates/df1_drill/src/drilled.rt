@@ -1,23 +1,26 @@
-//! A drill that was run: what it came to, and the line that tells it.
+//! A drill or a storm that was run: what it came to, and the line that tells it.
 ghost use Rattle.std.specs.Prelude.{◌≡◌, ◌≤◌, ◌+◌, ◌++◌, IfOk, decimal, length};
 ghost use Rattle.arrayvec.specs.ArrayVec.{array_vec_len};
 ghost use Rattle.replay_report.specs.Report.{word_digits};
-ghost use Rattle.df1_drill.specs.Tally.{drilled, line_of};
+ghost use Rattle.script_parts.specs.HalfPlayable.{CanBePlayed};
+ghost use Rattle.df1_drill.specs.Tally.{drilled, line_of, run_tally as the_tally};
 
 use crate::report_text::text_of;
-use crate::script::{MOST_ROUNDS, drill_script};
+use crate::script::drill_script;
 use crate::tally::{answered, damaged, enquiries, executed, issued, repeats};
 use arrayvec::ArrayVec;
 use df1_base::NoMemory;
 use df1_check::crc;
 use line_world::replay;
 use replay_report::pair;
+use round_scripts::MOST_ROUNDS;
+use script_parts::Script;
 use std::alloc::Global;
 
 /// Room for the line, in bytes: seven numbers of at most 20 digits, four hexadecimal digits, and the words.
 pub const LINE: usize = 219;
 
-/// What a drill came to.
+/// What the run of a script came to.
 #[derive(Clone, Copy, Debug, PartialEq, Eq)]
 pub struct Drilled {
     /// The commands that the script issues.
@@ -44,8 +47,15 @@ pub fn drill(alloc: Global, seed: u32, count: u32) -> Result<Drilled, NoMemory>
     requires { count ≤ MOST_ROUNDS }
     ensures { IfOk result (λ d. d ≡ drilled seed count) }
 {
-    let script = drill_script(alloc, seed, count)?;
-    let record = replay(alloc, &script)?;
+    run_tally(alloc, &drill_script(alloc, seed, count)?)
+}
+
+/// Runs a script that can be played: what its report tells is counted. An error is want of memory.
+pub(crate) fn run_tally(alloc: Global, script: &Script) -> Result<Drilled, NoMemory>
+    requires { CanBePlayed script.now }
+    ensures { IfOk result (λ d. d ≡ the_tally script.now) }
+{
+    let record = replay(alloc, script)?;
     let report = text_of(alloc, &record)?;
     let lines = record.lines.as_slice();
     Ok(Drilled {

@@ -1,4 +1,5 @@
-//! The drill: a full-duplex script that is made from two numbers, its run, and one line that tells what the run came to.
+//! The drill: a full-duplex script that is made from two numbers, its run, and one line that tells what the run came to. The
+//! storm's script is run so too.
 #![tactic(auto)]
 
 mod course;
@@ -9,5 +10,6 @@ mod tally;
 mod telling;
 
 pub use drilled::{Drilled, LINE, drill};
-pub use script::{MOST_ROUNDS, drill_script, each_drill_can_be_played};
-pub use telling::{DrillFault, write_drill};
+pub use round_scripts::MOST_ROUNDS;
+pub use script::{drill_script, each_drill_can_be_played};
+pub use telling::{DrillFault, write_drill, write_storm};

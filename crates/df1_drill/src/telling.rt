@@ -1,14 +1,18 @@
-//! A drill is run, and its line is written.
+//! A drill or a storm is run, and its line is written.
 ghost use Rattle.std.specs.Prelude.{◌≡◌, ◌≤◌};
-ghost use Rattle.df1_drill.specs.Telling.{DrillEnd};
+ghost use Rattle.script_parts.specs.HalfPlayable.{CanBePlayed};
+ghost use Rattle.df1_drill.specs.Telling.{LineEnd, drill_line, run_line, storm_line};
 
-use crate::drilled::drill;
-use crate::script::MOST_ROUNDS;
+use crate::drilled::run_tally;
+use crate::script::drill_script;
 use df1_base::{Failed, NoMemory, Sink, write_all};
+use recovery_laws::storm;
+use round_scripts::MOST_ROUNDS;
+use script_parts::Script;
 use std::alloc::Global;
 use thiserror::Error;
 
-/// Why the line of a drill isn't written.
+/// Why the line of a drill or a storm isn't written.
 #[derive(Clone, Copy, Debug, PartialEq, Eq, Error)]
 pub enum DrillFault {
     /// The output has failed.
@@ -28,9 +32,36 @@ pub fn write_drill<K: Sink>(
     out: &mut K,
 ) -> Result<(), DrillFault>
     requires { count ≤ MOST_ROUNDS }
-    ensures { DrillEnd seed count (K.held out.old) (K.held out.new) (K.faults out.old) (K.faults out.new) result }
+    ensures { LineEnd (drill_line seed count) (K.held out.old) (K.held out.new) (K.faults out.old) (K.faults out.new) result }
 {
-    match drill(alloc, seed, count) {
+    match drill_script(alloc, seed, count) {
+        Ok(script) => write_run(alloc, &script, out),
+        Err(NoMemory) => Err(DrillFault::NoMemory),
+    }
+}
+
+/// Runs the storm of `count` rounds, at most 20,000, and writes its line to the output, as `write_drill` does that of a drill.
+pub fn write_storm<K: Sink>(
+    alloc: Global,
+    seed: u32,
+    count: u32,
+    out: &mut K,
+) -> Result<(), DrillFault>
+    requires { count ≤ MOST_ROUNDS }
+    ensures { LineEnd (storm_line seed count) (K.held out.old) (K.held out.new) (K.faults out.old) (K.faults out.new) result }
+{
+    match storm(alloc, seed, count) {
+        Ok(script) => write_run(alloc, &script, out),
+        Err(NoMemory) => Err(DrillFault::NoMemory),
+    }
+}
+
+/// Runs a script that can be played, and writes the line that tells what it came to.
+fn write_run<K: Sink>(alloc: Global, script: &Script, out: &mut K) -> Result<(), DrillFault>
+    requires { CanBePlayed script.now }
+    ensures { LineEnd (run_line script.now) (K.held out.old) (K.held out.new) (K.faults out.old) (K.faults out.new) result }
+{
+    match run_tally(alloc, script) {
         Ok(drilled) => match write_all(out, &drilled.line()) {
             Ok(()) => Ok(()),
             Err(Failed) => Err(DrillFault::Output),

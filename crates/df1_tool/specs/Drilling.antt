@@ -1,7 +1,6 @@
--- What a run of `drill` shows: its status, what it wrote, and its note.
+-- What a run of `drill` or `storm` shows: its status, what it wrote, and its note.
 use Rattle.std.specs.Prelude.{◌≡◌, ◌≢◌, ◌⊎◌, ℕ, List, Option}
 use Rattle.df1_base.specs.Outside.{Rose, Put, WroteLess}
-use Rattle.df1_drill.specs.Telling.{drill_line}
 use Rattle.df1_drill.specs.declared.telling.DrillFault.{DrillFault}
 use Rattle.df1_drill.specs.declared.telling.DrillFault.TheVariants as fault
 use Rattle.df1_tool.specs.Notes.{IsNoted, no_memory, output_failed}
@@ -21,15 +20,15 @@ pub record Sinks : Type 0 where
   pub noted : Option (List ℕ)
   pub note_faults : ℕ
 
--- What a run of `drill` with these numbers shows, by its status.
+-- What a run of `drill` or `storm` shows that is to write this line, by its status.
 --
--- 0: the line for the run of the drill's script is written, and nothing has failed.
+-- 0: the line is written, and nothing has failed.
 -- 5: the output has failed: a first part of the line is written, not all, and the note tells it.
 -- 7: no memory: nothing is written, and the note tells it.
-pub record DrillRun (seed count : ℕ) (before after : Sinks) (status : ℕ) : Type 0 where
+pub record LineRun (line : List ℕ) (before after : Sinks) (status : ℕ) : Type 0 where
   pub statuses : (status ≡ 0) ⊎ (status ≡ 5) ⊎ (status ≡ 7)
-  pub done : status ≡ 0 → Put before.held after.held (drill_line seed count) × (after.noted ≡ before.noted) × (after.note_faults ≡ before.note_faults)
-  pub cut : status ≡ 5 → Rose before.out_faults after.out_faults × WroteLess before.held after.held (drill_line seed count)
+  pub done : status ≡ 0 → Put before.held after.held line × (after.noted ≡ before.noted) × (after.note_faults ≡ before.note_faults)
+  pub cut : status ≡ 5 → Rose before.out_faults after.out_faults × WroteLess before.held after.held line
       × IsNoted before.noted after.noted before.note_faults after.note_faults output_failed
   pub wanting : status ≡ 7 → (after.held ≡ before.held) × IsNoted before.noted after.noted before.note_faults after.note_faults no_memory
   pub steady : status ≢ 5 → after.out_faults ≡ before.out_faults

@@ -6,7 +6,8 @@ use Rattle.std.specs.Char.{is_ascii_digit}
 use Rattle.std.specs.List.{list_all}
 use Rattle.script_statement.specs.Words.{within}
 use Rattle.df1_tool.specs.declared.form.Form.{Form}
-use Rattle.df1_tool.specs.declared.form.Form.TheVariants.{Replay, Serve, Issue, Dissect, Check as Count, Drill, Vectors}
+use Rattle.df1_tool.specs.declared.form.Form.TheVariants.{Replay, Serve, Issue, Dissect, Check as Count, Drill, Storm, Vectors}
+use Rattle.df1_tool.specs.declared.form.Rounds.{Rounds}
 use Rattle.df1_capture.specs.declared.capture.Capture.{Capture}
 use Rattle.df1_check.specs.declared.Check.{Check}
 use Rattle.df1_check.specs.declared.Check.TheVariants.{Bcc, Crc}
@@ -38,14 +39,14 @@ capture_of side check = captured (side_of side) (check_of check)
 unfoldable pub number_of : List ℕ → Option ℕ
 number_of word = if nat_lt 0 (length word) && nat_le (length word) 10 && list_all is_ascii_digit word then Some (digits_value 10 word) else None
 
--- what the last words of `drill` ask for: a seed of 32 bits, and 1 to 20,000 rounds
-abbrev pub drill_by : Option ℕ → Option ℕ → Option Form
-drill_by None count = None
-drill_by (Some seed) None = None
-drill_by (Some seed) (Some count) = Some (Drill seed count)
+-- the rounds that the last words of `drill` and `storm` name: a seed of 32 bits, and 1 to 20,000 of them
+abbrev pub rounds_by : Option ℕ → Option ℕ → Option Rounds
+rounds_by None count = None
+rounds_by (Some seed) None = None
+rounds_by (Some seed) (Some count) = Some (record { seed = seed; count = count })
 
-abbrev pub drill_of : List ℕ → List ℕ → Option Form
-drill_of seed count = drill_by (within 0 4294967295 (number_of seed)) (within 1 20000 (number_of count))
+abbrev pub rounds_of : List ℕ → List ℕ → Option Rounds
+rounds_of seed count = rounds_by (within 0 4294967295 (number_of seed)) (within 1 20000 (number_of count))
 
 -- what one word asks for
 abbrev pub form_of_one : List ℕ → Option Form
@@ -61,7 +62,8 @@ form_of_three word second third =
     if bytes_eq word (codes "serve") then mode_of third
     else if bytes_eq word (codes "dissect") then option_map Dissect (capture_of second third)
     else if bytes_eq word (codes "check") then option_map Count (capture_of second third)
-    else if bytes_eq word (codes "drill") then drill_of second third
+    else if bytes_eq word (codes "drill") then option_map Drill (rounds_of second third)
+    else if bytes_eq word (codes "storm") then option_map Storm (rounds_of second third)
     else None
 
 -- what the words ask for
@@ -78,7 +80,8 @@ service_of (Serve timed) = Some (record { timed = timed; issues = false })
 service_of Issue = Some (record { timed = true; issues = true })
 service_of (Dissect capture) = None
 service_of (Count capture) = None
-service_of (Drill seed count) = None
+service_of (Drill rounds) = None
+service_of (Storm rounds) = None
 service_of Vectors = None
 
 -- the same of the words

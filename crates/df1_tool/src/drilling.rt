@@ -1,4 +1,4 @@
-//! The command `drill`: how a drill ends whose line is to be written.
+//! The commands `drill` and `storm`: how a run ends whose line is to be written.
 //!
 //! | Status | Comes | Note |
 //! |---|---|---|
@@ -6,30 +6,50 @@
 //! | 5 | the output has failed, and a first part of the line is written | `df1: output cannot be written` |
 //! | 7 | want of memory, before anything is written | `df1: no memory` |
 ghost use Rattle.std.specs.Prelude.{◌≡◌, ◌≤◌};
-ghost use Rattle.df1_tool.specs.Drilling.{DrillRun};
+ghost use Rattle.df1_drill.specs.Telling.{drill_line, storm_line};
+ghost use Rattle.df1_tool.specs.Drilling.{LineRun};
 
+use crate::form::Rounds;
 use crate::note::{Note, no_memory, output_failed};
 use crate::refusal::{Refusal, refuse};
 use df1_base::Sink;
-use df1_drill::{DrillFault, MOST_ROUNDS, write_drill};
+use df1_drill::{DrillFault, MOST_ROUNDS, write_drill, write_storm};
 use std::alloc::Global;
 
-/// Runs the drill of `count` rounds, at most 20,000, writes its line to the output, and answers the status. Where it isn't
-/// 0, the note is written.
-pub(crate) fn run<K: Sink, N: Sink>(
+/// Runs the drill of these rounds, at most 20,000, writes its line to the output, and answers the status. Where it isn't 0,
+/// the note is written.
+pub(crate) fn drill<K: Sink, N: Sink>(
     alloc: Global,
-    seed: u32,
-    count: u32,
+    rounds: Rounds,
     out: &mut K,
     note: &mut N,
 ) -> u8
-    requires { count ≤ MOST_ROUNDS }
-    ensures { DrillRun seed count
+    requires { rounds.count ≤ MOST_ROUNDS }
+    ensures { LineRun (drill_line rounds.seed rounds.count)
         (record { held = K.held out.old; out_faults = K.faults out.old; noted = N.held note.old; note_faults = N.faults note.old })
         (record { held = K.held out.new; out_faults = K.faults out.new; noted = N.held note.new; note_faults = N.faults note.new })
         result }
 {
-    match write_drill(alloc, seed, count, out) {
+    match write_drill(alloc, rounds.seed, rounds.count, out) {
+        Ok(()) => 0,
+        Err(fault) => refuse(&fault, note),
+    }
+}
+
+/// Runs the storm of these rounds, at most 20,000, and writes its line, as `drill` does that of a drill.
+pub(crate) fn storm<K: Sink, N: Sink>(
+    alloc: Global,
+    rounds: Rounds,
+    out: &mut K,
+    note: &mut N,
+) -> u8
+    requires { rounds.count ≤ MOST_ROUNDS }
+    ensures { LineRun (storm_line rounds.seed rounds.count)
+        (record { held = K.held out.old; out_faults = K.faults out.old; noted = N.held note.old; note_faults = N.faults note.old })
+        (record { held = K.held out.new; out_faults = K.faults out.new; noted = N.held note.new; note_faults = N.faults note.new })
+        result }
+{
+    match write_storm(alloc, rounds.seed, rounds.count, out) {
         Ok(()) => 0,
         Err(fault) => refuse(&fault, note),
     }

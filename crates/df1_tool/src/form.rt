@@ -1,6 +1,6 @@
 //! What the words of a call ask for.
 ghost use Rattle.std.specs.Prelude.{◌≡◌, ◌≤◌, IfSome, IsSome, length, map, string_bytes};
-ghost use Rattle.df1_tool.specs.Forms.{capture_of as the_capture, captured, check_of as the_check, drill_by as the_drill, drill_of as drill_asked, form_of as the_form, form_of_one as of_one, form_of_three as of_three, form_of_two as of_two, mode_of as the_mode, service_of, side_of as the_side};
+ghost use Rattle.df1_tool.specs.Forms.{capture_of as the_capture, captured, check_of as the_check, form_of as the_form, form_of_one as of_one, form_of_three as of_three, form_of_two as of_two, mode_of as the_mode, rounds_by, rounds_of as the_rounds, service_of, side_of as the_side};
 
 use crate::note::{Note, noted};
 use crate::number::number_within;
@@ -27,14 +27,20 @@ pub(crate) enum Form {
     /// `check SIDE CHECK`: tells how much of that is a fault of the line.
     Check(Capture),
     /// `drill SEED COUNT`: runs a script that is made from the two numbers, and tells what it came to.
-    Drill {
-        /// Where its patterns and words begin.
-        seed: u32,
-        /// Its rounds, 1 to 20,000.
-        count: u32,
-    },
+    Drill(Rounds),
+    /// `storm SEED COUNT`: the same of a script in which bodies are damaged.
+    Storm(Rounds),
     /// `vectors`: runs the forty conformance cases, and tells whether one differs.
     Vectors,
+}
+
+/// The two numbers of a script of rounds.
+#[derive(Clone, Copy, Debug, PartialEq, Eq)]
+pub(crate) struct Rounds {
+    /// Where its patterns, or its hits, and its words begin.
+    pub seed: u32,
+    /// How many rounds, 1 to 20,000.
+    pub count: u32,
 }
 
 /// The words are none of the forms.
@@ -55,7 +61,7 @@ impl Refusal for NoForm {
 
     fn note(&self) -> Note {
         noted(
-            b"df1: usage: df1 replay | serve PLAN raw|timed | issue PLAN | dissect SIDE CHECK | check SIDE CHECK | drill SEED COUNT | vectors\n",
+            b"df1: usage: df1 replay | serve PLAN raw|timed | issue PLAN | dissect SIDE CHECK | check SIDE CHECK | drill SEED COUNT | vectors | storm SEED COUNT\n",
         )
     }
 }
@@ -103,7 +109,8 @@ fn form_of_three(word: &str, second: &str, third: &str) -> Option<Form>
         "serve" => mode_of(third),
         "dissect" => Some(Form::Dissect(capture_of(second, third)?)),
         "check" => Some(Form::Check(capture_of(second, third)?)),
-        "drill" => drill_of(second, third),
+        "drill" => Some(Form::Drill(rounds_of(second, third)?)),
+        "storm" => Some(Form::Storm(rounds_of(second, third)?)),
         _ => None,
     }
 }
@@ -119,22 +126,22 @@ fn mode_of(word: &str) -> Option<Form>
     }
 }
 
-/// What the last words of `drill` ask for, if each is a number of its own.
-fn drill_of(seed: &str, count: &str) -> Option<Form>
-    ensures { result ≡ drill_asked seed.now count.now }
+/// The rounds that these words name, if each is a number of its own.
+fn rounds_of(seed: &str, count: &str) -> Option<Rounds>
+    ensures { result ≡ the_rounds seed.now count.now }
 {
-    drill_by(
+    rounds_by(
         number_within(seed, 0, u32::MAX),
         number_within(count, 1, MOST_ROUNDS),
     )
 }
 
-/// The drill of both numbers.
-fn drill_by(seed: Option<u32>, count: Option<u32>) -> Option<Form>
-    ensures { result ≡ the_drill seed count }
+/// The rounds of both numbers.
+fn rounds_by(seed: Option<u32>, count: Option<u32>) -> Option<Rounds>
+    ensures { result ≡ rounds_by seed count }
 {
     match (seed, count) {
-        (Some(seed), Some(count)) => Some(Form::Drill { seed, count }),
+        (Some(seed), Some(count)) => Some(Rounds { seed, count }),
         _ => None,
     }
 }

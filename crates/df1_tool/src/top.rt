@@ -2,7 +2,7 @@
 //!
 //! | Status | Comes |
 //! |---|---|
-//! | 0 | the input was read to its end, which `drill` and `vectors` don't touch, and all text was written |
+//! | 0 | the input was read to its end, which `drill`, `storm` and `vectors` don't touch, and all text was written |
 //! | 1 | `check`: the same, and something that is heard is a fault of the line, or an item is unfinished; `vectors`: a case differs |
 //! | 2 | exactly where the words are none of the forms |
 //! | 3 | the script, the plan or a timed record is refused: the note tells which and why |
@@ -21,10 +21,12 @@ ghost use Rattle.df1_replay.specs.Replayed.{Replayed};
 ghost use Rattle.df1_tool.specs.Notes.{IsNoted, usage};
 ghost use Rattle.df1_tool.specs.Served.{ServiceRun};
 ghost use Rattle.df1_tool.specs.Captures.{CheckRun, DissectRun};
-ghost use Rattle.df1_tool.specs.Drilling.{DrillRun};
+ghost use Rattle.df1_drill.specs.Telling.{drill_line, storm_line};
+ghost use Rattle.df1_tool.specs.Drilling.{LineRun};
 ghost use Rattle.df1_tool.specs.Vectors.{VectorsRun};
 ghost use Rattle.df1_capture.specs.declared.capture.Capture.{Capture as OneCapture};
-ghost use Rattle.df1_tool.specs.declared.form.Form.TheVariants.{Replay, Dissect, Check as Count, Drill, Vectors};
+ghost use Rattle.df1_tool.specs.declared.form.Form.TheVariants.{Replay, Dissect, Check as Count, Drill, Storm, Vectors};
+ghost use Rattle.df1_tool.specs.declared.form.Rounds.{Rounds as TwoNumbers};
 ghost use Rattle.df1_tool.specs.Forms.{form_of as the_form, plan_name, service_for};
 ghost use Rattle.df1_tool.specs.Replays.{line_note, note_at, status_for, IsReplayStatus};
 ghost use Rattle.df1_service.specs.declared.service.Service.{Service as OneService};
@@ -101,12 +103,17 @@ pub fn run<H: Shelf, S: Source, K: Sink, N: Sink>(
         (record { left = S.left result.input; input_faults = S.faults result.input; held = K.held result.out; out_faults = K.faults result.out; noted = N.held result.note; note_faults = N.faults result.note })
         result.status }
 
-    // `drill`. It leaves the input.
-    ensures drills { (seed count : ℕ) → the_form (map string_bytes words.now) ≡ Some (Drill seed count) → DrillRun seed count
+    // `drill` and `storm`. They leave the input.
+    ensures drills { (rounds : TwoNumbers) → the_form (map string_bytes words.now) ≡ Some (Drill rounds) → LineRun (drill_line rounds.seed rounds.count)
         (record { held = K.held out; out_faults = K.faults out; noted = N.held note; note_faults = N.faults note })
         (record { held = K.held result.out; out_faults = K.faults result.out; noted = N.held result.note; note_faults = N.faults result.note })
         result.status }
-    ensures same_input { (seed count : ℕ) → the_form (map string_bytes words.now) ≡ Some (Drill seed count) → result.input ≡ input }
+    ensures same_input { (rounds : TwoNumbers) → the_form (map string_bytes words.now) ≡ Some (Drill rounds) → result.input ≡ input }
+    ensures storms { (rounds : TwoNumbers) → the_form (map string_bytes words.now) ≡ Some (Storm rounds) → LineRun (storm_line rounds.seed rounds.count)
+        (record { held = K.held out; out_faults = K.faults out; noted = N.held note; note_faults = N.faults note })
+        (record { held = K.held result.out; out_faults = K.faults result.out; noted = N.held result.note; note_faults = N.faults result.note })
+        result.status }
+    ensures left_input { (rounds : TwoNumbers) → the_form (map string_bytes words.now) ≡ Some (Storm rounds) → result.input ≡ input }
 
     // `vectors`. It leaves the input too.
     ensures conforms { the_form (map string_bytes words.now) ≡ Some Vectors → VectorsRun
@@ -191,8 +198,12 @@ pub fn run<H: Shelf, S: Source, K: Sink, N: Sink>(
             let status = checking::run(capture, &mut input, &mut out, &mut note);
             Ran::new(status, shelf, input, out, note)
         }
-        Form::Drill { seed, count } => {
-            let status = drilling::run(alloc, seed, count, &mut out, &mut note);
+        Form::Drill(rounds) => {
+            let status = drilling::drill(alloc, rounds, &mut out, &mut note);
+            Ran::new(status, shelf, input, out, note)
+        }
+        Form::Storm(rounds) => {
+            let status = drilling::storm(alloc, rounds, &mut out, &mut note);
             Ran::new(status, shelf, input, out, note)
         }
         Form::Vectors => {

@@ -1,4 +1,4 @@
-//! Drills against the replays of their texts.
+//! Drills and storms against the replays of their texts.
 
 ghost use Rattle.script_parts.specs.HalfPlayable.{CanBePlayed};
 
@@ -6,6 +6,7 @@ use df1_base::Collected;
 use df1_check::crc;
 use df1_drill::{MOST_ROUNDS, drill, drill_script};
 use line_replay::{read_script, replay};
+use recovery_laws::storm;
 use replay_report::{pair, print};
 use script_parts::Script;
 use std::alloc::{AllocError, Global};
@@ -19,24 +20,40 @@ const COURSES: [&str; 4] = [
     "\nak 23\nad 23\nbk 2\nbx 2\nbn 1015\nak 23\nad 23\nbk 15\nbd 15\nak 2\nad 2\n",
 ];
 
-/// The text of a drill's script.
-fn text_of(alloc: Global, seed: u32, count: u32) -> Result<Vec<u8>, AllocError> {
+/// The lines of a hit before those behind a command, by the place of the byte that is altered.
+const HITS: [&str; 4] = [
+    "\nak 23\nad 2\nac 01\nad 23\nbk 2\nbd 2",
+    "\nak 23\nad 3\nac 01\nad 23\nbk 2\nbd 2",
+    "\nak 23\nad 4\nac 01\nad 23\nbk 2\nbd 2",
+    "\nak 23\nad 5\nac 01\nad 23\nbk 2\nbd 2",
+];
+
+/// The text of a drill's script, or of a storm's.
+fn text_of(alloc: Global, stormy: bool, seed: u32, count: u32) -> Result<Vec<u8>, AllocError> {
     let mut text = Vec::from_slice(alloc, b"file b 7 89 16\n")?;
     for round in 1..count.min(MOST_ROUNDS) + 1 {
-        put_round(&mut text, u64::from(seed) + u64::from(round), round)?;
+        let turn = u64::from(seed) + u64::from(round);
+        put_command(&mut text, turn, round)?;
+        if stormy {
+            for hit in 1..turn % 4 + 1 {
+                text.extend_from_slice(HITS[((turn + hit) % 4) as usize].as_bytes())?;
+            }
+            text.extend_from_slice(COURSES[0].as_bytes())?;
+        } else {
+            text.extend_from_slice(COURSES[(turn % 4) as usize].as_bytes())?;
+        }
     }
     text.extend_from_slice(b"end\n")?;
     Ok(text)
 }
 
-/// Adds the lines of a round, which is this one by its pattern and its word.
-fn put_round(text: &mut Vec<u8>, turn: u64, round: u32) -> Result<(), AllocError> {
+/// Adds the line of a round's command.
+fn put_command(text: &mut Vec<u8>, turn: u64, round: u32) -> Result<(), AllocError> {
     text.extend_from_slice(b"ai 0FAA020789")?;
     text.extend_from_slice(&pair((round % 16) as u8))?;
     text.extend_from_slice(b"00")?;
     text.extend_from_slice(&pair((turn % 256) as u8))?;
-    text.extend_from_slice(&pair((turn / 256 % 256) as u8))?;
-    text.extend_from_slice(COURSES[(turn % 4) as usize].as_bytes())
+    text.extend_from_slice(&pair((turn / 256 % 256) as u8))
 }
 
 /// The report of the run that a text says.
@@ -82,7 +99,7 @@ fn a_line_tells_the_replay_of_the_text(rt: HostRuntime) -> Result<(), Fail> {
         let line = drill(rt.alloc(), seed, count)?.line();
         let (told, digits) = line.as_slice().split_at(counts.len().min(line.len()));
         assert_eq!(rt; told, counts.as_bytes());
-        let text = text_of(rt.alloc(), seed, count)?;
+        let text = text_of(rt.alloc(), false, seed, count)?;
         let report = report_of(rt.alloc(), &text)?;
         assert_eq!(rt; digits, ending(crc(report.bytes())).as_slice());
     }
@@ -92,9 +109,19 @@ fn a_line_tells_the_replay_of_the_text(rt: HostRuntime) -> Result<(), Fail> {
 #[test]
 fn a_text_says_the_script_of_its_drill(rt: HostRuntime) -> Result<(), Fail> {
     for seed in 0..4 {
-        let script = drill_script(rt.alloc(), seed, 8)?;
-        let made = printed(rt.alloc(), &script)?;
-        let text = text_of(rt.alloc(), seed, 8)?;
+        let made = printed(rt.alloc(), &drill_script(rt.alloc(), seed, 8)?)?;
+        let text = text_of(rt.alloc(), false, seed, 8)?;
+        let said = report_of(rt.alloc(), &text)?;
+        assert_eq!(rt; made.bytes(), said.bytes());
+    }
+    Ok(())
+}
+
+#[test]
+fn a_text_says_the_script_of_its_storm(rt: HostRuntime) -> Result<(), Fail> {
+    for seed in 0..4 {
+        let made = printed(rt.alloc(), &storm(rt.alloc(), seed, 8)?)?;
+        let text = text_of(rt.alloc(), true, seed, 8)?;
         let said = report_of(rt.alloc(), &text)?;
         assert_eq!(rt; made.bytes(), said.bytes());
     }

@@ -1,8 +1,9 @@
-use Rattle.std.proofs.Common.{refl}
-use Rattle.df1_drill.specs.Tally.{drilled}
+use Rattle.std.proofs.Common.{◌≡◌, subst}
+use Rattle.std.specs.Prelude.{IfOk}
+use Rattle.script_parts.specs.declared.script.Script.{Script}
+use Rattle.df1_drill.specs.Tally.{drilled, run_tally}
 use Rattle.df1_drill.proofs.drilled.drill.Goals as goal
 
 pub returns : goal.returns
 unfolding drilled
-returns c =
-    rw (c.issued.ensures, c.executed.ensures, c.answered.ensures, c.damaged.ensures, c.repeats.ensures, c.enquiries.ensures, c.crc.ensures, c.bytes.ensures, c.as_slice.ensures, c.as_slice-lines.ensures, c.in_ok-report.ensures, c.in_ok-record.ensures.record, c.in_ok-script.ensures.script) refl
+returns c = subst (λ (s : Script). IfOk c.run_tally.result (λ d. d ≡ run_tally s)) c.in_ok-drill_script.ensures.script c.run_tally.ensures

@@ -3,29 +3,30 @@ use Rattle.std.proofs.Common.{◌≡◌, ◌∙◌, ◌+◌, ◌-◌, ◌++◌, 
 use Rattle.script_parts.specs.declared.script.Event.{Event}
 use Rattle.script_parts.specs.declared.script.Script.{Script}
 use Rattle.script_parts.specs.HalfPlayable.{CanBePlayed}
-use Rattle.df1_drill.specs.Drill.{drill_events, drill_script, round_of, setup}
+use Rattle.round_scripts.specs.Rounds.{parts, script_of, setup}
+use Rattle.round_scripts.proofs.Parts.{parts-next}
+use Rattle.df1_drill.specs.Drill.{drill_script, round_of}
 use Rattle.df1_drill.proofs.Playing.{drill-playable}
-use Rattle.df1_drill.proofs.Rounds.{rounds-next}
 use Rattle.df1_drill.proofs.script.drill_script.Goals as goal
 
 pub loop-round-preserved : goal.loop-round-preserved
 loop-round-preserved c =
-    let seed = c.args.seed in
+    let f = round_of c.args.seed in
     let round = c.loop-round.round in
     let was = c.loop-round.invariant in
-    let events : c.put_round.new.events ≡ drill_events seed (round + 1 - 1) =
-    c.in_ok-put_round.ensures ∙ ap (λ (s : Script). s.events ++ round_of seed round) was ∙ sym (rounds-next seed round c.loop-round.auto.round) in
+    let events : c.put_round.new.events ≡ parts f (round + 1 - 1) =
+    c.in_ok-put_round.ensures ∙ ap (λ (s : Script). s.events ++ f round) was ∙ sym (parts-next f round c.loop-round.auto.round) in
     ap (λ (s : Script). record s { events = c.put_round.new.events }) was ∙ ap (λ (l : List Event). record setup { events = l }) events
 
 pub returns-clause-script : goal.returns-clause-script
 unfolding drill_script
 returns-clause-script c =
     let all : c.loop-round.round - 1 ≡ c.args.count = omega arith in
-    c.loop-round.invariant ∙ ap (λ n. record setup { events = drill_events c.args.seed n }) all
+    c.loop-round.invariant ∙ ap (script_of (round_of c.args.seed)) all
 
 pub returns-clause-playable : goal.returns-clause-playable
 unfolding drill_script
 returns-clause-playable c =
     let all : c.loop-round.round - 1 ≡ c.args.count = omega arith in
-    let is : c.loop-round.script ≡ drill_script c.args.seed c.args.count = c.loop-round.invariant ∙ ap (λ n. record setup { events = drill_events c.args.seed n }) all in
+    let is : c.loop-round.script ≡ drill_script c.args.seed c.args.count = c.loop-round.invariant ∙ ap (script_of (round_of c.args.seed)) all in
     subst CanBePlayed (sym is) (drill-playable c.args.seed c.args.count c.requires)

@@ -1,9 +1,9 @@
 -- The words ask for at most 20,000 rounds.
 use Rattle.std.proofs.Common.{◌≡◌, Some, map}
 use Rattle.std.specs.Prelude.{string_bytes}
-use Rattle.df1_tool.specs.declared.form.Form.TheVariants.{Drill}
+use Rattle.df1_tool.specs.declared.form.Form.TheVariants.{Drill, Storm}
 use Rattle.df1_tool.specs.Forms.{form_of}
-use Rattle.df1_tool.proofs.Drills.{few-rounds}
+use Rattle.df1_tool.proofs.Drills.{few-drill, few-storm}
 use Rattle.df1_tool.proofs.top.run.Goals as goal
 
 pub run-status-requires-in-Drill : goal.run-status-requires-in-Drill
@@ -12,5 +12,5 @@ run-status-requires-in-Drill g c =
     let value = c.form_of.ensures.value in
     let some = c.in-Some.is in
     let drill = c.in-Drill.is in
-    let asked : form_of words ≡ Some (Drill c.in-Drill.seed c.in-Drill.count) = cc in
-    few-rounds words c.in-Drill.seed c.in-Drill.count asked
+    let asked : form_of words ≡ Some (Drill c.in-Drill.rounds) = cc in
+    few-drill words c.in-Drill.rounds asked
