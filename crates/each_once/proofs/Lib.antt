@@ -15,6 +15,7 @@ pub mod KeptCommands
 pub mod MessageLengths
 pub mod NodeSteps
 pub mod OneDirection
+pub mod OwnKeys
 pub mod RisingPlaces
 pub mod SentAndExecuted
 pub mod StationAnswers

@@ -33,7 +33,7 @@ found-of first executed s commands heard reply i within r =
 
 -- ---- where the command was given up
 
-executed-differ : (executed : List (List ℕ)) (s : InitiatorState) (commands heard : List (List ℕ)) → Initiates s commands heard → length s.issued ≤ 65535 → IsWithin executed commands → Differ (map tns_of executed)
+pub executed-differ : (executed : List (List ℕ)) (s : InitiatorState) (commands heard : List (List ℕ)) → Initiates s commands heard → length s.issued ≤ 65535 → IsWithin executed commands → Differ (map tns_of executed)
 executed-differ executed s commands heard i few within =
     differ-within tns_of executed commands within (handed-differ s commands heard i few)
 

@@ -5,4 +5,5 @@ pub mod Exchanges
 pub mod NodeHost
 pub mod OfStation
 pub mod Once
+pub mod OwnKeys
 pub mod Tells

@@ -7,7 +7,8 @@ ghost use Rattle.half_line.specs.Wire.{AreDf1Wires};
 /// A law: in every run, also in one that deceives an end, what the master sent and what each station sent, joined from the
 /// lines of the report, is DF1: whole messages, polls, responses and EOTs, with at the end perhaps the begin of one more, and
 /// nothing else. Its messages, each perhaps several times running, are those that the end's host handed out: commands that the
-/// script issues there, and replies that its station made (manual topic: half-duplex protocol).
+/// script issues there, and replies that its station made; where no end is deceived, no two of them
+/// have the same key (manual topic: half-duplex protocol).
 #[tactic(auto, unfolding(crate::specs::Run::record_of))]
 pub fn what_is_on_the_wire_is_df1()
     ensures { (script : Script) → IsHalfPlayable script → AreDf1Wires script (record_of script) }

@@ -7,7 +7,7 @@ use Rattle.std.proofs.lemmas.List.Elements.{All-nil}
 use Rattle.std.proofs.lemmas.Option.{slice_get-map, slice_get-get_or, get_or_from_slice_get, slice_get_within}
 use Rattle.df1_check.specs.declared.Check.{Check}
 use Rattle.end_settings.specs.declared.key.Key.TheVariants.{AckTicks, PollTicks}
-use Rattle.pccc_envelope.specs.Envelope.{is_reply}
+use Rattle.pccc_envelope.specs.Envelope.{is_reply, tns_of}
 use Rattle.df1_node.specs.Answer.{StationState}
 use Rattle.df1_node.specs.Node.{NodeState, holds_bodies}
 use Rattle.half_frame.specs.MasterGives.{IsGivenByMaster}
@@ -27,6 +27,7 @@ use Rattle.script_parts.specs.Plans.{first_plan}
 use Rattle.script_parts.specs.Playable.{IsPlanOf}
 use Rattle.script_parts.specs.HalfPlayable.{AreHalfEnds, IsHalfPlayable, IsStationPlan, station_plans, numbers_of}
 use Rattle.replay_report.specs.declared.record.Line.{Line}
+use Rattle.replay_report.specs.declared.record.Record.{Record}
 use Rattle.outset.specs.Outset.{first_station, first_node}
 use Rattle.report_lines.specs.SentBytes.{sent_by}
 use Rattle.each_once.specs.BySource.{AreOnceOf}
@@ -35,12 +36,15 @@ use Rattle.each_once.specs.Direction.{AreSomeOf}
 use Rattle.each_once.specs.Exchanges.{replies_to}
 use Rattle.each_once.specs.NodeHost.{node_host}
 use Rattle.each_once.specs.Tells.{executed_in}
+use Rattle.each_once.proofs.AcceptedReplies.{handed-differ}
 use Rattle.each_once.proofs.AnsweringStation.{Serves, serves-start, sent-within, sent-replies, within-through}
 use Rattle.each_once.proofs.HandedOrder.{none-in-turn}
 use Rattle.each_once.proofs.HandedOut.{Hosts, waits_of}
 use Rattle.each_once.proofs.NodeSteps.{hosts-start}
+use Rattle.each_once.proofs.OwnKeys.{own-keys}
 use Rattle.each_once.proofs.RisingPlaces.{some-of, some-in-turn}
-use Rattle.each_once.proofs.Sublists.{Has, IsWithin, nothing, skips, keeps, within-all, within-front, within-filter, from-map}
+use Rattle.each_once.proofs.StationReplies.{exchanges-tns}
+use Rattle.each_once.proofs.Sublists.{Has, IsWithin, nothing, skips, keeps, within-all, within-front, within-filter, from-map, Differ, differ-within}
 use Rattle.half_line.specs.Acts.{LineStationState}
 use Rattle.half_line.specs.Issues.{commands_of_m, issued_of}
 use Rattle.half_line.specs.Run.{master_setup, slave_setup, first_side, plan_of_m, start, last_state, lines_after, record_from}
@@ -48,6 +52,7 @@ use Rattle.half_line.specs.Wire.{IsDf1Wire, IsStationWire, AreDf1Wires}
 use Rattle.half_line.proofs.Once.EachStation.{side-numbers}
 use Rattle.half_line.proofs.Steps.FirstState.{half-listed, half-stations}
 use Rattle.half_line.proofs.Wire.MasterEnd.{MasterGave, node_keeps}
+use Rattle.half_line.proofs.Wire.OwnKeys.{run-numbered}
 use Rattle.half_line.proofs.Wire.StationEnd.{StationGave}
 use Rattle.half_line.proofs.Wire.WholeRun.{Setting, LineGave, LinesGave, events-gave}
 
@@ -74,34 +79,51 @@ no-commands (x ∷ xs) all =
 
 -- ---- the ends
 
-master-wire : (check : Check) (first : StationState) (e : MasterState NodeState) (lines : List Line) → MasterGave check first e lines (sent_by M lines) → IsDf1Wire (IsGivenByMaster check) M (map (λ c. c.body) (issued_of e)) first lines
-master-wire check first e lines g =
+-- replies to nothing are none; and those to commands with different numbers have different numbers
+no-replies : (first : StationState) (replies executed : List (List ℕ)) → IsWithin replies (replies_to first executed) → executed ≡ [] → Differ (map tns_of replies)
+no-replies first replies executed within none =
+    differ-within tns_of replies [] (subst (λ (l : List (List ℕ)). IsWithin replies (replies_to first l)) none within) tt
+
+replies-differ : (first : StationState) (replies executed : List (List ℕ)) → IsWithin replies (replies_to first executed) → Differ (map tns_of executed) → Differ (map tns_of replies)
+replies-differ first replies executed within differ =
+    differ-within tns_of replies (replies_to first executed) within (subst Differ (sym (exchanges-tns first executed)) differ)
+
+master-wire : (check : Check) (first : StationState) (e : MasterState NodeState) (r : Record) → (r.deceived ≡ 0 → (length (issued_of e) ≤ 65535) × (executed_in M r.lines ≡ [])) → MasterGave check first e r.lines (sent_by M r.lines)
+    → IsDf1Wire (IsGivenByMaster check) M (map (λ c. c.body) (issued_of e)) first r
+master-wire check first e r undeceived g =
     let past = g.past in
     let handed = master_past.handed_out past.events in
+    let executed = filter is_command g.heard in
     let wire = master_giving.came-wire node_host node_keeps past e g.came in
+    let commands = within-filter is_command handed g.messages g.within in
+    let made : IsWithin (filter is_reply g.messages) (replies_to first executed) =
+    subst (λ (l : List (List ℕ)). IsWithin (filter is_reply g.messages) l) (sym g.hosts.replies) (within-front (filter is_reply g.messages) (filter is_reply g.messages) e.host.replies (within-all (filter is_reply g.messages))) in
+    let replies = within-through (filter is_reply handed) (filter is_reply g.messages) (replies_to first executed) (within-filter is_reply handed g.messages g.within) made in
     record {
       messages = handed;
       df1 = rw (g.check_is, g.gave) at wire;
-      commands_once = some-in-turn (filter is_command handed) (filter is_command g.messages) (map (λ c. c.body) (issued_of e)) (waits_of (issued_of e)) (within-filter is_command handed g.messages g.within) g.hosts.initiates.in_order;
-      replies_in_order =
-          let made = subst (λ (l : List (List ℕ)). IsWithin (filter is_reply g.messages) l) (sym g.hosts.replies) (within-front (filter is_reply g.messages) (filter is_reply g.messages) e.host.replies (within-all (filter is_reply g.messages))) in
-          subst (λ (l : List (List ℕ)). AreSomeOf (filter is_reply handed) (replies_to first l)) (sym g.executed)
-          (some-of (filter is_reply handed) (replies_to first (filter is_command g.heard)) (within-through (filter is_reply handed) (filter is_reply g.messages) (replies_to first (filter is_command g.heard)) (within-filter is_reply handed g.messages g.within) made));
+      commands_once = some-in-turn (filter is_command handed) (filter is_command g.messages) (map (λ c. c.body) (issued_of e)) (waits_of (issued_of e)) commands g.hosts.initiates.in_order;
+      replies_in_order = subst (λ (l : List (List ℕ)). AreSomeOf (filter is_reply handed) (replies_to first l)) (sym g.executed) (some-of (filter is_reply handed) (replies_to first executed) replies);
+      own_keys = λ zero. own-keys handed
+          (differ-within tns_of (filter is_command handed) (filter is_command g.messages) commands (handed-differ e.host.initiator (filter is_command g.messages) g.heard g.hosts.initiates (undeceived zero).0))
+          (no-replies first (filter is_reply handed) executed replies (sym g.executed ∙ (undeceived zero).1));
     }
 
-station-wire : (check : Check) (first : StationState) (side : LineStationState) (lines : List Line) → StationGave check first side.number side.slave lines (sent_by (S side.number) lines)
-    → IsDf1Wire (IsGivenBySlave check) (S side.number) [] first lines
-station-wire check first side lines g =
+station-wire : (check : Check) (first : StationState) (side : LineStationState) (r : Record) → (r.deceived ≡ 0 → Differ (map tns_of (executed_in (S side.number) r.lines)))
+    → StationGave check first side.number side.slave r.lines (sent_by (S side.number) r.lines) → IsDf1Wire (IsGivenBySlave check) (S side.number) [] first r
+station-wire check first side r undeceived g =
     let past = g.past in
     let handed = slave_past.handed_out past.events in
+    let executed = executed_in (S side.number) r.lines in
     let wire = slave_giving.came-wire node_host slave_keeps past side.slave g.came in
     let none = no-commands handed (λ x has. (sent-replies x g.serves has).is_a_reply) in
+    let replies = within-through (filter is_reply handed) handed (replies_to first executed) (filter-within is_reply handed) (sent-within g.serves) in
     record {
       messages = handed;
       df1 = rw (g.check_is, g.gave) at wire;
       commands_once = subst (λ (l : List (List ℕ)). AreOnceOf l []) (sym none) (some-in-turn [] [] [] [] nothing none-in-turn);
-      replies_in_order = some-of (filter is_reply handed) (replies_to first (executed_in (S side.number) lines))
-          (within-through (filter is_reply handed) handed (replies_to first (executed_in (S side.number) lines)) (filter-within is_reply handed) (sent-within g.serves));
+      replies_in_order = some-of (filter is_reply handed) (replies_to first executed) replies;
+      own_keys = λ zero. own-keys handed (subst (λ (l : List (List ℕ)). Differ (map tns_of l)) (sym none) tt) (replies-differ first (filter is_reply handed) executed replies (undeceived zero));
     }
 
 -- ---- the beginning
@@ -183,28 +205,32 @@ start-gave script playable = record {
 -- ---- the whole
 
 -- the station of a plan
-at-plan : (script : Script) (playable : IsHalfPlayable script) (stations : List LineStationState) (lines : List Line) (p : ℕ) (plan : EndPlan) → map (λ (side : LineStationState). side.number) stations ≡ numbers_of script.ends → slice_get (station_plans script.ends) p ≡ Some plan
-    → ((p : ℕ) (side : LineStationState) → slice_get stations p ≡ Some side → StationGave script.check (first_station (plan_at script p)) side.number side.slave lines (sent_by (S (slice_index (numbers_of script.ends) p)) lines))
-    → IsDf1Wire (IsGivenBySlave script.check) (S plan.node) [] (first_station plan) lines
-at-plan script playable stations lines p plan are at all =
+at-plan : (script : Script) (playable : IsHalfPlayable script) (stations : List LineStationState) (r : Record) (p : ℕ) (plan : EndPlan) → map (λ (side : LineStationState). side.number) stations ≡ numbers_of script.ends → slice_get (station_plans script.ends) p ≡ Some plan
+    → (r.deceived ≡ 0 → (p : ℕ) (side : LineStationState) → slice_get stations p ≡ Some side → Differ (map tns_of (executed_in (S side.number) r.lines)))
+    → ((p : ℕ) (side : LineStationState) → slice_get stations p ≡ Some side → StationGave script.check (first_station (plan_at script p)) side.number side.slave r.lines (sent_by (S (slice_index (numbers_of script.ends) p)) r.lines))
+    → IsStationWire script r plan
+at-plan script playable stations r p plan are at undeceived all =
     let plans = station_plans script.ends in
     let number : slice_get (numbers_of script.ends) p ≡ Some plan.node = slice_get-map (λ (x : EndPlan). x.node) plans p ∙ ap (option_map (λ (x : EndPlan). x.node)) at in
     let side = from-map (λ (x : LineStationState). x.number) stations p plan.node (ap (λ ns. slice_get ns p) are ∙ number) in
     let index : slice_index (numbers_of script.ends) p ≡ side.0.number = get_or_from_slice_get (numbers_of script.ends) p plan.node 0 number ∙ sym side.2 in
     let first : plan_at script p ≡ plan = get_or_from_slice_get plans p plan (first_plan M 0) at in
-    let gave = subst (λ (n : ℕ). StationGave script.check (first_station (plan_at script p)) side.0.number side.0.slave lines (sent_by (S n) lines)) index (all p side.0 side.1) in
-    let wire = station-wire script.check (first_station (plan_at script p)) side.0 lines gave in
-    subst (λ (n : ℕ). IsDf1Wire (IsGivenBySlave script.check) (S n) [] (first_station plan) lines) side.2
-    (subst (λ (x : EndPlan). IsDf1Wire (IsGivenBySlave script.check) (S side.0.number) [] (first_station x) lines) first wire)
+    let gave = subst (λ (n : ℕ). StationGave script.check (first_station (plan_at script p)) side.0.number side.0.slave r.lines (sent_by (S n) r.lines)) index (all p side.0 side.1) in
+    let wire = station-wire script.check (first_station (plan_at script p)) side.0 r (λ zero. undeceived zero p side.0 side.1) gave in
+    subst (λ (n : ℕ). IsDf1Wire (IsGivenBySlave script.check) (S n) [] (first_station plan) r) side.2
+    (subst (λ (x : EndPlan). IsDf1Wire (IsGivenBySlave script.check) (S side.0.number) [] (first_station x) r) first wire)
 
 pub all-df1 : (script : Script) → IsHalfPlayable script → map (λ c. c.body) (issued_of (last_state script).master) ≡ commands_of_m script → AreDf1Wires script (record_from (last_state script) (lines_after (start script) script.events))
 all-df1 script playable bodies =
     let s = last_state script in
     let lines = lines_after (start script) script.events in
+    let r = record_from s lines in
     let plans = station_plans script.ends in
     let setting = setting_of script playable in
+    let first = first_station (plan_of_m script) in
     let g = events-gave setting (numbers_of script.ends) script.events (start script) [] playable.events (omega (arith, playable.commands)) (start-gave script playable) in
     record {
-      of_master = subst (λ (all : List (List ℕ)). IsDf1Wire (IsGivenByMaster script.check) M all (first_station (plan_of_m script)) lines) bodies (master-wire script.check (first_station (plan_of_m script)) s.master lines g.master);
-      of_stations = λ k d inside. at-plan script playable s.stations lines k (slice_index_or plans k d) g.numbers_are (slice_get-get_or plans k d inside) g.stations;
+      of_master = subst (λ (all : List (List ℕ)). IsDf1Wire (IsGivenByMaster script.check) M all first r) bodies
+          (master-wire script.check first s.master r (λ zero. ((run-numbered script playable zero).few, (run-numbered script playable zero).none)) g.master);
+      of_stations = λ k d inside. at-plan script playable s.stations r k (slice_index_or plans k d) g.numbers_are (slice_get-get_or plans k d inside) (λ zero. (run-numbered script playable zero).differ) g.stations;
     }
