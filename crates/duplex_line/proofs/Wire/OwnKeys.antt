@@ -11,11 +11,10 @@ use Rattle.replay_report.specs.declared.record.Line.{Line}
 use Rattle.each_once.specs.Tells.{executed_in}
 use Rattle.each_once.specs.Exchanges.{replies_to}
 use Rattle.each_once.proofs.AcceptedReplies.{handed-differ}
-use Rattle.each_once.proofs.AnsweringStation.{within-all}
 use Rattle.each_once.proofs.HandedOut.{is_command, Hosts}
 use Rattle.each_once.proofs.OneDirection.{way-within}
 use Rattle.each_once.proofs.StationReplies.{exchanges-tns}
-use Rattle.each_once.proofs.Sublists.{IsWithin, IsOther, Differ, differ-at, differ-within, within-filter, within-front}
+use Rattle.each_once.proofs.Sublists.{IsWithin, IsOther, Differ, differ-at, differ-within, within-all, within-filter, within-front}
 use Rattle.df1_node.specs.Node.{NodeState}
 use Rattle.duplex_line.specs.Acts.{LineState}
 use Rattle.duplex_line.specs.Wire.{HaveOwnKeys}
