@@ -16,7 +16,7 @@ use Rattle.line_world.specs.Wire.{AreDf1Wires}
 -- accepted reply is what it answered to that very command. Where nothing disturbs the line and nothing is under way in the end,
 -- where on a full-duplex line each end has room for what the other may have out, and on a half-duplex line one command is out at
 -- a time and no reply is left at a station, no end was deceived, and all commands were executed and answered. Whatever was heard,
--- what each end of a full-duplex line sent is DF1, and carries its own commands and replies.
+-- what each end sent is DF1, and carries its own commands and replies.
 pub record Replayed (left left' held held' : Option (List ℕ)) : Type 0 where
   pub input : List ℕ
   pub script : Script

@@ -1,7 +1,6 @@
 -- What an end has given consists of whole frames, responses and ENQs, and of one that is begun.
 use Rattle.std.proofs.Common.{◌≡◌, ℕ, Bool, true, false, List, [], ◌∷◌, ◌++◌, map, Option, Some, None, IfSome, is_some, refl, sym, ap, subst, ◌∙◌, append_assoc, option_to_list}
 use Rattle.std.specs.Prelude.{not, ◌&&◌, nat_lt, if◌then◌else◌}
-use Rattle.std.specs.List.{flat_map}
 use Rattle.std.proofs.lemmas.List.{append-nil}
 use Rattle.std.proofs.lemmas.List.Concat.{flat_map-append}
 use Rattle.df1_base.specs.Host.{IsBody}
@@ -13,7 +12,7 @@ use Rattle.df1_base.specs.declared.link.Out.{Out}
 use Rattle.df1_check.specs.declared.Check.{Check}
 use Rattle.df1_frame.specs.Line.{Splits}
 use Rattle.df1_frame.specs.Grammar.{Item, Front, Nothing, full_duplex}
-use Rattle.df1_frame.specs.Wire.{AreRight, IsRight, bodies_at, bodies_in, IsLast, IsDf1}
+use Rattle.df1_frame.specs.Wire.{AreRight, bodies_in, IsLast, IsDf1}
 use Rattle.df1_frame.proofs.Sendings.{Sends, nothing, takes_up, sends, are-sendings}
 use Rattle.df1_frame.proofs.LineLemmas.{Splits-more}
 use Rattle.df1_frame.proofs.GrammarLemmas.{machine, works, advance}
@@ -25,7 +24,7 @@ use Rattle.duplex_receiver.specs.Receiver.{ReceiverState, Response, Offers, Forg
 use Rattle.embedded_response.specs.Giving.{Giving, Choice, Second, Respond, Give, Enquire, offer, forget, answer_enq, unask, begin, chosen, given, take}
 use Rattle.embedded_response.proofs.GivenOnWire.{IsAt, Ended, Gives, takes-on, begins-on, at-nothing, begun-at}
 use Rattle.duplex_end.specs.declared.Setup.{Setup}
-use Rattle.duplex_end.specs.End.{EndState, Place, new_end, with_host, sender_after, fate_at, fate_of_tick, responded, asked, is_waiting, act_of_byte, receiver_after, next_place, taken, gives, after_out, transmitted, loaded}
+use Rattle.duplex_end.specs.End.{EndState, Place, new_end, with_host, sender_after, fate_at, fate_of_tick, responded, asked, is_waiting, act_of_byte, next_place, taken, gives, after_out, transmitted, loaded}
 use Rattle.duplex_end.specs.Emission.{Letter, Byte, Tick, Take, end_after}
 use Rattle.duplex_end.specs.Fates.{handed_out, events_at, told}
 use Rattle.duplex_end.specs.Moves.{Move, Signal, Change, end_after_moves, HoldBodies, bytes_at, bytes_given, messages_of, messages_over}

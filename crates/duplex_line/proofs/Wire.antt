@@ -1,4 +1,4 @@
--- Which lines tell of no byte that was sent, and of no command that an end executed.
+-- Which lines of a step tell of no byte that was sent, and of no command that an end executed.
 pub mod SilentLines
 -- At each point of a run, of one end: what it gave is DF1, and its messages are its own.
 pub mod OneEnd
@@ -12,3 +12,5 @@ pub mod AllHeard
 pub mod FirstState
 -- In every run: the transmissions that end in a lane are those that its end began, and their numbers rise.
 pub mod Transmissions
+-- A front of the events of a script that can be played is played in a run of its own.
+pub mod Fronts

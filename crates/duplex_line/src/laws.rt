@@ -1,6 +1,7 @@
 //! Laws of the run of a script. The functions do nothing.
-ghost use Rattle.std.specs.Prelude.{◌≡◌, ◌∷◌, [], true, IsTrue};
+ghost use Rattle.std.specs.Prelude.{◌≡◌, ◌∷◌, ◌++◌, [], List, true, IsTrue};
 ghost use Rattle.std.specs.List.{list_any};
+ghost use Rattle.script_parts.specs.declared.script.Event.{Event};
 ghost use Rattle.script_parts.specs.declared.script.Script.{Script};
 ghost use Rattle.script_statement.specs.declared.who.Who.TheVariants.{A, B};
 ghost use Rattle.script_parts.specs.Playable.{IsPlayable};
@@ -11,6 +12,7 @@ ghost use Rattle.duplex_line.specs.Arrivals.{arrivals_in, heard_in};
 ghost use Rattle.duplex_line.specs.Issues.{commands_of_a, commands_of_b, issued_of, bodies_of};
 ghost use Rattle.duplex_line.specs.Run.{start, last_state, lines_after, record_of};
 ghost use Rattle.duplex_line.specs.Once.{EachOnce};
+ghost use Rattle.duplex_line.specs.Transmissions.{AreCounted, begun_in, ended_in};
 ghost use Rattle.duplex_line.specs.Wire.{AreDf1Wires};
 ghost use Rattle.duplex_line.specs.Prompt.{IsPrompt, EndsQuiet, HasRooms, is_quiet};
 ghost use Rattle.duplex_line.specs.Recoverable.{IsRecoverable};
@@ -32,6 +34,20 @@ pub fn whole_frames_are_heard_by_the_grammar()
 pub fn all_is_heard_by_the_grammar()
     ensures at_a { (script : Script) → IsPlayable script → Stands script.check 250 (bytes_arrived (arrivals_in A (start script) script.events)) (heard_in A (start script) script.events) (last_state script).a.end.receiver }
     ensures at_b { (script : Script) → IsPlayable script → Stands script.check 250 (bytes_arrived (arrivals_in B (start script) script.events)) (heard_in B (start script) script.events) (last_state script).b.end.receiver }
+{}
+
+/// A law: in every run, the transmissions that end in an end's lane are ones that it began: their numbers rise strictly, above
+/// the last of its transmissions that ended at the other end, and at most to the last that it began; and a cell that ends
+/// transmission n carries the body of that one.
+pub fn transmissions_are_counted()
+    ensures of_a { (script : Script) → IsPlayable script → AreCounted (begun_in A (start script) script.events) (ended_in A 0 (start script) script.events) (last_state script).a }
+    ensures of_b { (script : Script) → IsPlayable script → AreCounted (begun_in B (start script) script.events) (ended_in B 0 (start script) script.events) (last_state script).b }
+{}
+
+/// A law: what holds of every script that can be played holds after each of its events too, since the events up to there are
+/// those of a script that can be played.
+pub fn a_front_of_a_script_can_be_played()
+    ensures { (script : Script) (front rest : List Event) → IsPlayable script → script.events ≡ front ++ rest → IsPlayable (record script { events = front }) }
 {}
 
 /// A law: before the first event of a script nothing is under way.

@@ -2,8 +2,7 @@
 use Rattle.std.proofs.Common.{◌≡◌, ℕ, ◌+◌, ◌<◌, ◌≤◌, Bool, true, false, eqb, List, [], ◌∷◌, ◌++◌, length, map, Option, Some, None, is_some, inl, inr, refl, sym, ap, subst, ◌∙◌, append_assoc, arith, length-append}
 use Rattle.std.specs.Prelude.{◌⊎◌, slice_get, not, ◌&&◌, ◌==◌, if◌then◌else◌}
 use Rattle.std.specs.Option.{option_map}
-use Rattle.std.specs.List.{flat_map}
-use Rattle.std.proofs.lemmas.List.{append-nil, length_push}
+use Rattle.std.proofs.lemmas.List.{append-nil}
 use Rattle.std.proofs.lemmas.List.Concat.{flat_map-append}
 use Rattle.std.proofs.lemmas.Bool.{eqb-true, lt-ltb, le-ltb}
 use Rattle.df1_base.specs.Host.{IsBody}
@@ -15,12 +14,12 @@ use Rattle.df1_check.specs.declared.Check.TheVariants as kinds
 use Rattle.df1_check.specs.Checks.{check_value}
 use Rattle.df1_frame.specs.declared.framer.Unit.{Unit as Given}
 use Rattle.df1_frame.specs.Spelling.{Piece, Plain, Doubled, Response, body_of, check_of, check_bytes, check_len, covered}
-use Rattle.df1_frame.specs.Units.{pair_unit, byte_unit, body_unit, check_units, closing_units, units}
-use Rattle.df1_frame.specs.Grammar.{Item, Stray, Pair, Frame, Broken, Restart, Front, Nothing, Dle, Opened, OpenedDle, Closed}
+use Rattle.df1_frame.specs.Units.{pair_unit, byte_unit, body_unit, check_units, closing_units}
+use Rattle.df1_frame.specs.Grammar.{Item, Front, Nothing, Dle, Opened, OpenedDle, Closed}
 use Rattle.df1_frame.specs.Wire.{IsResponse, AreRightPieces, IsRightPiece, AreRight, bodies_in, IsLast, IsBegun}
 use Rattle.df1_frame.proofs.SpellingLemmas.{length-check}
 use Rattle.df1_frame.proofs.GrammarLemmas.{advance}
-use Rattle.embedded_response.specs.Giving.{Giving, Choice, Second, Respond, Give, Enquire, may_embed, first_there, begin, chosen, given, take, unit_out, plain, code_of}
+use Rattle.embedded_response.specs.Giving.{Giving, Choice, Second, Respond, Give, Enquire, first_there, begin, chosen, given, take, unit_out, plain, code_of}
 
 -- ---- where a mouth stands
 

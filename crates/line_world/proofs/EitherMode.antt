@@ -21,6 +21,8 @@ use Rattle.half_line.specs.Complete.{IsComplete as HalfComplete}
 use Rattle.half_line.proofs.Complete.WholeRun.{is-complete as polled-is-complete}
 use Rattle.half_line.proofs.Once.EachStation.{each-once as polled-each-once}
 use Rattle.half_line.proofs.Once.MasterCommands.{issued-run}
+use Rattle.half_line.specs.Wire.{AreDf1Wires as PolledWires}
+use Rattle.half_line.proofs.Wire.Told.{all-df1}
 use Rattle.half_line.proofs.Once.MasterOutcomes.{outcomes-run}
 use Rattle.half_line.proofs.Steps.EventsToCome.{event-numbers, start-numbers}
 use Rattle.duplex_line.specs.Acts.{LineState}
@@ -236,8 +238,15 @@ duplex-wires : (script : Script) → IsPlayable script → DuplexWires script (r
 unfolding duplex.record_of
 duplex-wires script playable = subst (DuplexWires script) (sym (duplex-record script playable.mode)) (wires script playable)
 
+polled-sent : (script : Script) → IsHalfPlayable script → PolledWires script (polled.record_of script)
+unfolding polled.record_of
+polled-sent script playable = all-df1 script playable (issued-run script).bodies
+
+polled-wires : (script : Script) → IsHalfPlayable script → PolledWires script (record_of script)
+polled-wires script playable = subst (PolledWires script) (sym (polled-record script playable.mode)) (polled-sent script playable)
+
 wires-in : (half : Bool) (script : Script) → script.half ≡ half → CanBePlayed script → AreDf1WiresIn half script (record_of script)
-wires-in true script mode h = tt
+wires-in true script mode h = polled-wires script (h.half mode)
 wires-in false script mode h = duplex-wires script (h.full mode)
 
 pub all-wires : (script : Script) → CanBePlayed script → AreDf1Wires script (record_of script)

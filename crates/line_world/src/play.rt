@@ -16,8 +16,8 @@ use std::alloc::Global;
 /// Plays a script that can be read, and answers the record of its run. Where no end was deceived, each command of the script was
 /// executed once at most, by the station that it was issued to, and those of each source in their order, the words are those
 /// that the executed ones make, and each accepted reply was the one to that very command. Where nothing disturbed the line, no
-/// end was deceived, and all commands were executed and answered. Whatever was heard, what each end of a full-duplex line sent
-/// is DF1, and carries its own commands and replies.
+/// end was deceived, and all commands were executed and answered. Whatever was heard, what each end sent is DF1, and carries
+/// its own commands and replies.
 pub fn replay(alloc: Global, script: &Script) -> Result<Record, NoMemory>
     requires { CanBePlayed script.now }
     ensures record { IfOk result (λ r. r ≡ record_of script.now) }

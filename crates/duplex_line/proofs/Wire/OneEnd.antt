@@ -1,14 +1,15 @@
 -- At each point of a run, of one end: what it gave is DF1, and its messages are its own.
-use Rattle.std.proofs.Common.{◌≡◌, ◌∙◌, ℕ, ◌<◌, ◌≤◌, true, false, List, [], ◌∷◌, ◌++◌, length, map, Option, Some, None, is_none, refl, sym, ap, subst, append-nil, append_assoc, arith, option_map}
-use Rattle.std.specs.Prelude.{IsTrue, All, option_to_list, unwrap_or, if◌then◌else◌}
+use Rattle.std.proofs.Common.{◌≡◌, ◌∙◌, ℕ, ◌<◌, ◌≤◌, true, List, [], ◌++◌, length, map, Option, Some, None, is_none, refl, sym, ap, subst, append-nil, append_assoc, option_map}
+use Rattle.std.specs.Prelude.{IsTrue, option_to_list, unwrap_or, if◌then◌else◌}
 use Rattle.std.specs.Option.{option_map_or}
 use Rattle.std.specs.List.{filter}
 use Rattle.std.proofs.lemmas.List.Elements.{All-push, All-nil}
 use Rattle.df1_base.specs.Host.{IsBody}
 use Rattle.df1_base.specs.declared.host.Fate.{Fate}
+use Rattle.df1_base.specs.declared.link.Act.{Act}
 use Rattle.df1_base.specs.declared.link.Out.{Out}
+use Rattle.df1_base.specs.HostAnswers.{did_at}
 use Rattle.df1_check.specs.declared.Check.{Check}
-use Rattle.df1_frame.specs.Wire.{IsDf1}
 use Rattle.df1_node.specs.Answer.{StationState}
 use Rattle.df1_node.specs.HostLaws.{next_is_body, bodies_at_accept, bodies_at_next, bodies_at_told, bodies_at_tick}
 use Rattle.df1_node.specs.Initiator.{Issued, Waiting, next_issued}
@@ -18,10 +19,10 @@ use Rattle.duplex_sender.specs.declared.Phase.TheVariants as phase
 use Rattle.duplex_sender.specs.Sender.{SenderState, phase_of, tick_turn}
 use Rattle.embedded_response.specs.Giving.{Choice, chosen}
 use Rattle.duplex_end.specs.declared.Setup.{Setup}
-use Rattle.duplex_end.specs.End.{EndState, Place, new_end, with_host, end_after_take, out_at_take, next_place, act_of_byte, fate_at, fate_of_tick, host_at_byte}
-use Rattle.duplex_end.specs.Emission.{Letter, Byte, Tick, Take, end_after}
-use Rattle.duplex_end.specs.Fates.{handed_out, events_at, told}
-use Rattle.duplex_end.specs.Moves.{bytes_at, messages_of}
+use Rattle.duplex_end.specs.End.{EndState, Place, new_end, end_after_take, out_at_take, next_place, act_of_byte, fate_at, fate_of_tick, host_at_byte}
+use Rattle.duplex_end.specs.Emission.{Byte, Tick, Take}
+use Rattle.duplex_end.specs.Fates.{handed_out, told}
+use Rattle.duplex_end.specs.Moves.{messages_of}
 use Rattle.duplex_end.specs.Reached.{Reached, begins, goes_on, changes}
 use Rattle.duplex_end.proofs.Order.{place_after, frame_at, next-is}
 use Rattle.duplex_end.proofs.Reaching.{KeepsBodies, reached-carries}
@@ -33,8 +34,9 @@ use Rattle.report_lines.specs.NodeLines.{act_lines, news_lines}
 use Rattle.each_once.specs.NodeHost.{node_host}
 use Rattle.each_once.specs.Tells.{is_who, executed_in, executed_at}
 use Rattle.each_once.proofs.HandedOut.{is_command, Hosts}
-use Rattle.each_once.proofs.MessageLengths.{payload-fits}
+use Rattle.each_once.proofs.MessageLengths.{issue-holds}
 use Rattle.each_once.proofs.NodeSteps.{hosts-issue, hosts-tick, hosts-start}
+use Rattle.each_once.proofs.SentAndExecuted.{ExecuteNothing, step-own}
 use Rattle.each_once.proofs.ToldLines.{adds-none}
 use Rattle.lane_cells.specs.Cells.{LaneCell}
 use Rattle.duplex_line.specs.Acts.{LineEndState, Deed, Issue as Issues, Take as Takes, Deliver, Lose, Alter, Foreign, Tick as Ticks, near_after, after_issue, after_cell, after_arrival, given_at, near_lines, cell_lines, arrival_lines, step_of, body_heard}
@@ -43,7 +45,7 @@ use Rattle.duplex_line.proofs.Once.ArrivingCell.{news-silent}
 use Rattle.duplex_line.proofs.Once.EndSteps.{heard_after, hosts-act, hosts-fate, hosts-handed}
 use Rattle.duplex_line.proofs.Once.LineSteps.{payload-command}
 use Rattle.duplex_line.proofs.Once.SentMessages.{handed_in, handed_at, take-host, take-handed}
-use Rattle.duplex_line.proofs.Wire.SilentLines.{ExecuteNothing, near-executes, act-executes}
+use Rattle.duplex_line.proofs.Wire.SilentLines.{near-executes, commands-heard}
 
 pub node_keeps : KeepsBodies node_host
 node_keeps = record { next_is = next_is_body; at_accept = bodies_at_accept; at_next = bodies_at_next; at_told = bodies_at_told; at_tick = bodies_at_tick }
@@ -89,11 +91,6 @@ gave-silent who check first side lines more bytes none g = record {
   executed = adds-none (executed_at who) lines more none ∙ g.executed;
   reached = g.reached;
 }
-
-issue-holds : (node : NodeState) (src dst : ℕ) (payload : List ℕ) → IsTrue (is_payload payload) → holds_bodies node → holds_bodies (after_node_issue node src dst payload)
-issue-holds node src dst payload may holds =
-    let new : Issued = record { body = next_issued node.initiator src dst payload; standing = Waiting } in
-    (holds.0, All-push (λ (c : Issued). IsBody c.body) node.initiator.issued new holds.1 (payload-fits node.initiator src dst payload may), holds.2)
 
 -- a step may be done: what is issued is a payload, and not the 65,536th
 abbrev pub May : LineEndState → Deed → Type 0
@@ -193,17 +190,13 @@ gave-cell who itself check first side cell lines bytes g =
     let body = body_heard side cell in
     let fate = fate_at what e.sender in
     let step = step_of side cell in
-    let first_lines = act_lines who step.act step.did body in
-    let second = news_lines who step.news in
     let on = signal-on-wire node_host node_keeps check g.messages bytes e (Byte cell.byte) (reached-carries node_host node_keeps e g.reached).holds g.on_wire in
     record {
       messages = g.messages;
       heard = heard_after what g.heard body;
       on_wire = rw (told-none fate, append-nil g.messages, append-nil bytes) at on;
       hosts = hosts-fate fate first (host_at_byte node_host e cell.byte) g.messages (heard_after what g.heard body) (hosts-act what first e.host g.messages g.heard body g.hosts);
-      executed = ap (executed_in who) (sym (append_assoc lines first_lines second))
-          ∙ adds-none (executed_at who) (lines ++ first_lines) second (news-silent who who who step.news).executes
-          ∙ act-executes who itself what e.host body g.heard lines g.executed;
+      executed = step-own who itself step e.host body lines (filter is_command g.heard) (λ is. ap (λ (a : Act). did_at node_host a e.host body) is) g.executed ∙ commands-heard what g.heard body;
       reached = goes_on e (Byte cell.byte) g.reached;
     }
 

@@ -1,6 +1,6 @@
 -- Where no end is deceived, no two messages of an end have the same key.
 use Rattle.std.proofs.Common.{◌≡◌, ◌∙◌, ℕ, ◌≤◌, Bool, true, false, cond, not, List, [], ◌∷◌, ◌++◌, length, map, refl, sym, ap, subst}
-use Rattle.std.specs.Prelude.{◌==◌, if◌then◌else◌}
+use Rattle.std.specs.Prelude.{◌==◌}
 use Rattle.std.specs.Int.{bit_at}
 use Rattle.std.specs.List.{filter}
 use Rattle.pccc_envelope.specs.declared.key.Key.{Key}
@@ -14,7 +14,7 @@ use Rattle.each_once.proofs.AcceptedReplies.{handed-differ}
 use Rattle.each_once.proofs.HandedOut.{is_command, Hosts}
 use Rattle.each_once.proofs.OneDirection.{way-within}
 use Rattle.each_once.proofs.StationReplies.{exchanges-tns}
-use Rattle.each_once.proofs.Sublists.{IsWithin, IsOther, Differ, differ-at, differ-within, within-all, within-filter, within-front}
+use Rattle.each_once.proofs.Sublists.{IsOther, Differ, differ-at, differ-within, within-all, within-filter, within-front}
 use Rattle.df1_node.specs.Node.{NodeState}
 use Rattle.duplex_line.specs.Acts.{LineState}
 use Rattle.duplex_line.specs.Wire.{HaveOwnKeys}

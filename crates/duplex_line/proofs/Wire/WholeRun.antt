@@ -1,5 +1,5 @@
 -- Over a whole run: what each end sent is DF1, and its messages are its own.
-use Rattle.std.proofs.Common.{◌≡◌, ◌∙◌, ℕ, zero, suc, ◌+◌, ◌<◌, ◌≤◌, List, [], ◌∷◌, ◌++◌, length, map, Option, Some, None, refl, sym, ap, subst, append-nil, append_assoc, arith}
+use Rattle.std.proofs.Common.{◌≡◌, ◌∙◌, ℕ, ◌+◌, ◌≤◌, List, [], ◌∷◌, ◌++◌, length, map, refl, sym, ap, subst, append-nil, append_assoc, arith}
 use Rattle.std.specs.Prelude.{IsTrue, All, replicate, count_by, slice_index_or}
 use Rattle.std.specs.List.{filter}
 use Rattle.std.proofs.lemmas.List.Elements.{All-head, All-tail}
@@ -13,29 +13,30 @@ use Rattle.script_parts.specs.declared.script.EndPlan.{EndPlan}
 use Rattle.script_parts.specs.declared.script.Event.{Event}
 use Rattle.script_parts.specs.declared.script.Event.TheVariants as event
 use Rattle.script_parts.specs.declared.script.Script.{Script}
-use Rattle.script_parts.specs.Playable.{IsPossible, IsPlayable, IsPlanOf, AreEnds, issues, is_end}
+use Rattle.script_parts.specs.Playable.{IsPossible, IsPlayable, AreEnds, issues, is_end}
 use Rattle.replay_report.specs.declared.record.Line.{Line}
 use Rattle.replay_report.specs.declared.record.Record.{Record}
 use Rattle.replay_report.specs.Report.{sent_lines}
 use Rattle.report_lines.specs.SentBytes.{sent_by}
-use Rattle.each_once.specs.Tells.{is_who, executed_in}
+use Rattle.each_once.specs.Tells.{executed_in}
 use Rattle.each_once.specs.Exchanges.{replies_to}
 use Rattle.each_once.proofs.Sublists.{within-all}
 use Rattle.each_once.proofs.HandedOut.{is_command, waits_of}
 use Rattle.each_once.proofs.RisingPlaces.{some-in-turn}
+use Rattle.each_once.proofs.SentAndExecuted.{sent-more, own-sent, other-sent, sent-execute}
 use Rattle.each_once.proofs.Sublists.{Differ}
 use Rattle.duplex_line.specs.Acts.{LineEndState, LineState, swapped, Deed, Issue, Take, Deliver, Lose, Alter, Foreign, Tick, near_after, arriving, after_deed, after_deeds, near_lines, arrival_lines, lines_at, lines_over, given_at, given_over}
 use Rattle.duplex_line.specs.Issues.{bodies_of}
 use Rattle.duplex_line.specs.Plays.{issued_by, IsUnspent}
-use Rattle.duplex_line.specs.Run.{first_station, setup_of, first_node, first_side, plan_of_a, plan_of_b, start, who_of, seen_from, after_event, deed_lines, lines_of, state_after, lines_after, last_state, record_from}
+use Rattle.duplex_line.specs.Run.{first_station, setup_of, first_node, plan_of_a, plan_of_b, start, who_of, seen_from, after_event, deed_lines, lines_of, state_after, lines_after, last_state, record_from}
 use Rattle.duplex_line.specs.Wire.{IsDf1Wire, AreDf1Wires}
 use Rattle.duplex_line.proofs.Steps.EventsToCome.{room-of-a, room-of-b, unspent}
 use Rattle.duplex_line.proofs.Once.Invariant.{AreTwo, two-swapped, a-and-b, joins-end, holds-swapped}
 use Rattle.duplex_line.proofs.Once.ToldCommands.{recounts-run}
-use Rattle.duplex_line.proofs.Once.WholeRun.{IsPlain, ArePlain, plain-again, plain-foreign, sent-silent, holds-run}
+use Rattle.duplex_line.proofs.Once.WholeRun.{IsPlain, ArePlain, plain-again, plain-foreign, holds-run}
 use Rattle.duplex_line.proofs.Wire.OneEnd.{Gave, May, gave-near, gave-arrival, gave-other, gave-start}
 use Rattle.duplex_line.proofs.Wire.OwnKeys.{own-keys, executed-differ}
-use Rattle.duplex_line.proofs.Wire.SilentLines.{sent-more, steps-send-nothing, own-sent, other-sent, arrival-other, near-executes}
+use Rattle.duplex_line.proofs.Wire.SilentLines.{steps-send-nothing, arrival-other, near-executes}
 
 -- both ends, and the bytes that they gave
 record BothGave (near far : Who) (check : Check) (first far_first : StationState) (s : LineState) (lines : List Line) (bytes far_bytes : List ℕ) : Type 0 where
@@ -108,8 +109,8 @@ sent-deeds near far two check first far_first s deeds lines may b =
     rw (own, other)
     (subst (λ (all : List Line). BothGave near far check first far_first (after_deeds s deeds) all (sent_by near lines ++ bytes) (sent_by far lines)) (append_assoc lines over sent)
     (record {
-      of_near = gave-other near check first (after_deeds s deeds).a (lines ++ over) sent (sent_by near lines ++ bytes) (sent-silent near near near bytes).executes now.of_near;
-      of_far = gave-other far check far_first (after_deeds s deeds).b (lines ++ over) sent (sent_by far lines) (sent-silent far far near bytes).executes now.of_far;
+      of_near = gave-other near check first (after_deeds s deeds).a (lines ++ over) sent (sent_by near lines ++ bytes) (sent-execute near near bytes) now.of_near;
+      of_far = gave-other far check far_first (after_deeds s deeds).b (lines ++ over) sent (sent_by far lines) (sent-execute far near bytes) now.of_far;
     }))
 
 seen-sent : (who : Who) → IsTrue (is_end who) → (check : Check) (first_a first_b : StationState) (s : LineState) (deeds : List Deed) (lines : List Line) → AllMay (seen_from who s) deeds → BothSent A B check first_a first_b s lines
