@@ -31,10 +31,10 @@ use Rattle.script_parts.specs.declared.script.Script.{Script}
 use Rattle.script_parts.specs.HalfPlayable.{IsHalfPossible, IsHalfPlayable, is_issue, half_count_of, master_weight, take_count, numbers_of, station_plans}
 use Rattle.lane_cells.specs.Cells.{LaneCell, Ending, altered}
 use Rattle.each_once.specs.NodeHost.{node_host}
-use Rattle.each_once.proofs.AnsweringStation.{within-all, within-through}
+use Rattle.each_once.proofs.AnsweringStation.{within-through}
 use Rattle.each_once.proofs.MessageLengths.{issue-holds}
 use Rattle.each_once.proofs.RisingPlaces.{RiseFrom, rise-lower, increasing}
-use Rattle.each_once.proofs.Sublists.{Has, IsWithin, nothing, skips, keeps, within-has, same-some, from-map}
+use Rattle.each_once.proofs.Sublists.{Has, IsWithin, nothing, skips, keeps, within-has, same-some, from-map, within-all}
 use Rattle.half_line.specs.declared.way.Way.TheVariants.{ToStation, ToMaster}
 use Rattle.half_line.specs.Acts.{LineStationState, HalfState, LinkState, link_state, MasterDeed, Issue, Give, Tick, LinkDeed, StationGives, OnLane, LaneDeed, Deliver, Lose, Alter, Foreign, arriving, lane_after, joined, cells_given, after_issue, after_arrival, after_link_deed}
 use Rattle.half_line.specs.Steps.{UnitStep, AtMaster, AtStation, link_of, after_with, after_step, after_steps}
