@@ -22,11 +22,41 @@ fn reads(rt: &impl Abort, file: u16, words: u16, j: u16, wanted: Option<&[u8]>)
 
 #[test]
 fn orders_that_read_have_their_offset_the_total_and_a_size(rt: HostRuntime) {
-    reads(&rt, 7, 2, 1, Some(b"\x0F\x01\x00\x00\x02\x00\x06\x07\x00\x04"));
-    reads(&rt, 999, 1, 1, Some(b"\x0F\x01\x00\x00\x01\x00\x06\xFF\xE7\x03\x00\x02"));
-    reads(&rt, 255, 100, 1, Some(b"\x0F\x01\x00\x00\x64\x00\x06\xFF\xFF\x00\x00\xC8"));
-    reads(&rt, 254, 101, 2, Some(b"\x0F\x01\x64\x00\x65\x00\x06\xFE\x00\x02"));
-    reads(&rt, 0, 3000, 30, Some(b"\x0F\x01\x54\x0B\xB8\x0B\x06\x00\x00\xC8"));
+    reads(
+        &rt,
+        7,
+        2,
+        1,
+        Some(b"\x0F\x01\x00\x00\x02\x00\x06\x07\x00\x04"),
+    );
+    reads(
+        &rt,
+        999,
+        1,
+        1,
+        Some(b"\x0F\x01\x00\x00\x01\x00\x06\xFF\xE7\x03\x00\x02"),
+    );
+    reads(
+        &rt,
+        255,
+        100,
+        1,
+        Some(b"\x0F\x01\x00\x00\x64\x00\x06\xFF\xFF\x00\x00\xC8"),
+    );
+    reads(
+        &rt,
+        254,
+        101,
+        2,
+        Some(b"\x0F\x01\x64\x00\x65\x00\x06\xFE\x00\x02"),
+    );
+    reads(
+        &rt,
+        0,
+        3000,
+        30,
+        Some(b"\x0F\x01\x54\x0B\xB8\x0B\x06\x00\x00\xC8"),
+    );
     reads(&rt, 7, 100, 0, None);
     reads(&rt, 7, 100, 2, None);
     reads(&rt, 7, 101, 3, None);
@@ -46,13 +76,23 @@ fn writes(rt: &impl Abort, bytes: &[u8], j: u16, wanted: Option<&[u8]>)
 
 #[test]
 fn orders_that_write_have_their_words(rt: HostRuntime) {
-    writes(&rt, b"\x34\x12", 1, Some(b"\x0F\x00\x00\x00\x01\x00\x06\x07\x00\x34\x12"));
+    writes(
+        &rt,
+        b"\x34\x12",
+        1,
+        Some(b"\x0F\x00\x00\x00\x01\x00\x06\x07\x00\x34\x12"),
+    );
     writes(&rt, b"\x34\x12", 0, None);
     writes(&rt, b"\x34\x12", 2, None);
     let mut data = [0; 202];
     data[200] = 0xCD;
     data[201] = 0xAB;
-    writes(&rt, &data, 2, Some(b"\x0F\x00\x64\x00\x65\x00\x06\x07\x00\xCD\xAB"));
+    writes(
+        &rt,
+        &data,
+        2,
+        Some(b"\x0F\x00\x64\x00\x65\x00\x06\x07\x00\xCD\xAB"),
+    );
     writes(&rt, &data, 3, None);
 }
 
@@ -102,8 +142,22 @@ fn a_transfer_tells_the_lowest_fault(rt: HostRuntime) -> Result<(), Fail> {
         (&[done, next], Bulk::Whole),
         (&[next, done], Bulk::Whole),
         (&[done, other], Bulk::Odd(2)),
-        (&[refused, illegal], Bulk::Refused { number: 1, sts: 0xF0, ext: 0x06 }),
-        (&[done, illegal], Bulk::Refused { number: 2, sts: 0x10, ext: 0 }),
+        (
+            &[refused, illegal],
+            Bulk::Refused {
+                number: 1,
+                sts: 0xF0,
+                ext: 0x06,
+            },
+        ),
+        (
+            &[done, illegal],
+            Bulk::Refused {
+                number: 2,
+                sts: 0x10,
+                ext: 0,
+            },
+        ),
     ];
     for (replies, wanted) in &cases {
         let node = node_with(&rt, rt.alloc(), replies)?;
