@@ -1,10 +1,10 @@
 -- What each end of a full-duplex line sent, as the report tells it.
-use Rattle.std.specs.Prelude.{◌≡◌, ℕ, List, ◌++◌, slice_get, Some}
+use Rattle.std.specs.Prelude.{◌≡◌, ℕ, List, ◌++◌}
 use Rattle.std.specs.List.{filter}
 use Rattle.df1_check.specs.declared.Check.{Check}
 use Rattle.df1_frame.specs.Wire.{IsDf1}
 use Rattle.df1_node.specs.Answer.{StationState}
-use Rattle.pccc_envelope.specs.Envelope.{is_reply, key_of}
+use Rattle.pccc_envelope.specs.Envelope.{is_reply}
 use Rattle.script_statement.specs.declared.who.Who.{Who}
 use Rattle.script_statement.specs.declared.who.Who.TheVariants.{A, B}
 use Rattle.script_parts.specs.declared.script.Script.{Script}
@@ -13,13 +13,10 @@ use Rattle.report_lines.specs.SentBytes.{sent_by}
 use Rattle.each_once.specs.BySource.{AreOnceOf}
 use Rattle.each_once.specs.Commands.{is_command}
 use Rattle.each_once.specs.Exchanges.{replies_to}
+use Rattle.each_once.specs.OwnKeys.{HaveOwnKeys}
 use Rattle.each_once.specs.Tells.{executed_in}
 use Rattle.duplex_line.specs.Issues.{commands_of_a, commands_of_b}
 use Rattle.duplex_line.specs.Run.{first_station, plan_of_a, plan_of_b}
-
--- no two of the messages have the same key
-abbrev pub HaveOwnKeys : List (List ℕ) → Type 0
-HaveOwnKeys messages = (p q : ℕ) (x y : List ℕ) → slice_get messages p ≡ Some x → slice_get messages q ≡ Some y → key_of x ≡ key_of y → p ≡ q
 
 -- What an end sent is DF1, and the messages that its frames carry are its own: some of these commands, each handed out once, those of
 -- each source in their order, and the first of the replies that its station made to what it is told to have executed, in their order.
