@@ -1,8 +1,9 @@
 -- Before the first event nothing is under way.
-use Rattle.std.proofs.Common.{◌≡◌, ℕ, Bool, true, false, List, [], ◌∷◌, map, Option, None, is_none, refl, ap, sym, subst}
+use Rattle.std.proofs.Common.{◌≡◌, ◌∙◌, ℕ, Bool, true, false, List, [], ◌∷◌, map, Option, None, is_none, refl, ap, sym, subst}
 use Rattle.std.specs.Prelude.{IsTrue, nat_lt, ◌&&◌, if◌then◌else◌}
 use Rattle.std.specs.List.{list_all}
 use Rattle.df1_check.specs.declared.Check.{Check}
+use Rattle.df1_node.specs.HostLaws.{command-found}
 use Rattle.df1_node.specs.Node.{NodeState, next_body}
 use Rattle.half_mouth.specs.Giving.{take}
 use Rattle.half_master.specs.declared.MasterSetup.{MasterSetup}
@@ -21,7 +22,7 @@ either-none false o none = none
 
 -- a node without commands and replies hands out nothing
 first-body : (plan : EndPlan) → next_body (first_node plan) ≡ None
-first-body plan = either-none (nat_lt 0 plan.window) None refl
+first-body plan = command-found (first_node plan).initiator ∙ either-none (nat_lt 0 plan.window) None refl
 
 new-gives : (setup : MasterSetup) (numbers : List ℕ) (node : NodeState) → next_body node ≡ None → is_none (out_at_take node_host (new_master setup numbers node)) ≡ true
 new-gives setup numbers node none =
