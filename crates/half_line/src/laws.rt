@@ -1,8 +1,11 @@
 //! Laws of the run of a half-duplex script. The functions do nothing.
-ghost use Rattle.std.specs.Prelude.{◌≡◌, ℕ, IsTrue};
+ghost use Rattle.std.specs.Prelude.{◌≡◌, ℕ, [], ◌∷◌, ◌++◌, IsTrue, slice_get, Some};
 ghost use Rattle.script_parts.specs.declared.script.Script.{Script};
-ghost use Rattle.half_slave.specs.Arrived.{HeardByGrammar as HeardAtStation};
-ghost use Rattle.half_master.specs.Arrived.{HeardByGrammar as HeardAtMaster};
+ghost use Rattle.half_slave.specs.Arrived.{HeardByGrammar as HeardAtStation, Hears as StationHears, bytes_arrived as bytes_at_station};
+ghost use Rattle.half_slave.specs.Slave.{heard_at as heard_at_station};
+ghost use Rattle.half_master.specs.Arrived.{HeardByGrammar as HeardAtMaster, Hears as MasterHears, bytes_arrived as bytes_at_master};
+ghost use Rattle.half_master.specs.Master.{heard_at as heard_at_master};
+ghost use Rattle.half_line.specs.Acts.{LineStationState};
 ghost use Rattle.half_line.specs.Arrivals.{master_arrivals_in, station_arrivals_in};
 ghost use Rattle.half_line.specs.Issues.{bodies_of, commands_of_m};
 ghost use Rattle.half_line.specs.Prompt.{is_quiet};
@@ -15,6 +18,15 @@ ghost use Rattle.half_line.specs.Run.{last_state, start};
 pub fn whole_messages_are_heard_by_the_grammar()
     ensures at_stations { (script : Script) (place : ℕ) → HeardAtStation script.check (station_arrivals_in place (start script) script.events) }
     ensures at_master { (script : Script) → HeardAtMaster script.check (master_arrivals_in (start script) script.events) }
+{}
+
+/// A law: what is heard at a byte that comes after the events of a script, be it a message, a poll, ACK, NAK, EOT, damage or
+/// nothing, is what the grammar hears at the last of all bytes that arrived at that end, and so at each byte of a run, since
+/// a script may end before any of them (manual topic: half-duplex protocol).
+pub fn all_is_heard_by_the_grammar()
+    ensures at_stations { (script : Script) (place : ℕ) (side : LineStationState) (b : ℕ) → slice_get (last_state script).stations place ≡ Some side
+        → StationHears script.check (bytes_at_station (station_arrivals_in place (start script) script.events) ++ b ∷ []) (heard_at_station side.slave b) }
+    ensures at_master { (script : Script) (b : ℕ) → MasterHears script.check (bytes_at_master (master_arrivals_in (start script) script.events) ++ b ∷ []) (heard_at_master (last_state script).master b) }
 {}
 
 /// A law: in every run, whatever is heard, the commands that the master has issued are those of the script (manual topic:
