@@ -1,6 +1,6 @@
 -- That messages have the length that a message may have: 6 to 250 bytes.
 use Rattle.std.proofs.Common.{◌≡◌, ◌∙◌, ℕ, zero, suc, ◌≤◌, Bool, true, false, IsTrue, ◌&&◌, ◌==◌, List, [], ◌∷◌, ◌++◌, length, map, Some, option_map, refl, ap, sym, subst, arith}
-use Rattle.std.specs.Prelude.{All, slice_get, bit_and, nat_le}
+use Rattle.std.specs.Prelude.{slice_get, bit_and, nat_le}
 use Rattle.std.proofs.lemmas.List.Elements.{All-push}
 use Rattle.std.specs.List.{filter}
 use Rattle.std.specs.Option.{option_or}

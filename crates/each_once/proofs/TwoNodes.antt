@@ -4,16 +4,14 @@ use Rattle.std.specs.Prelude.{slice_get, ◌==◌}
 use Rattle.std.specs.Int.{bit_at}
 use Rattle.std.specs.List.{filter}
 use Rattle.std.proofs.lemmas.Bool.{and_parts, eqb-true, false_from_ne_true}
-use Rattle.std.proofs.lemmas.List.{length-map}
 use Rattle.std.proofs.lemmas.List.Elements.{filter-append}
-use Rattle.std.proofs.lemmas.Option.{slice_get-map}
 use Rattle.pccc_envelope.specs.Envelope.{is_reply, tns_of, key_of}
 use Rattle.pccc_envelope.specs.Accepted.{is_kept, last_key}
 use Rattle.df1_node.specs.Answer.{StationState}
 use Rattle.df1_node.specs.Initiator.{is_reply_to}
 use Rattle.df1_node.specs.Node.{NodeState}
 use Rattle.each_once.specs.Exchanges.{exchanges}
-use Rattle.each_once.proofs.Sublists.{Differ, differ-front, differ-last, get-more, has-filter, from-map, filter-keeps, get-seam}
+use Rattle.each_once.proofs.Sublists.{Differ, differ-front, differ-last, get-more, has-filter, filter-keeps, get-seam}
 use Rattle.each_once.proofs.AnsweringStation.{reply-at}
 use Rattle.each_once.proofs.StationReplies.{exchanges-length, exchanges-tns}
 use Rattle.each_once.proofs.AcceptedReplies.{handed-differ}

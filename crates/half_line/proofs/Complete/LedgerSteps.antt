@@ -1,5 +1,5 @@
 -- What a station changes of the dealings with it in an undisturbed run: it hears what passes it over, executes a command, gives a reply, and the master accepts that.
-use Rattle.std.proofs.Common.{◌≡◌, ◌∙◌, ℕ, ◌+◌, ◌≤◌, Bool, true, false, List, [], ◌∷◌, ◌++◌, length, Option, Some, None, refl, ap, sym, subst}
+use Rattle.std.proofs.Common.{◌≡◌, ◌∙◌, ℕ, ◌≤◌, true, false, List, [], ◌∷◌, ◌++◌, length, Option, Some, refl, ap, sym, subst}
 use Rattle.std.specs.Prelude.{slice_get, slice_set}
 use Rattle.std.specs.Option.{option_and_then}
 use Rattle.std.proofs.lemmas.Bool.{eq-eqb, ne_eqb}
@@ -18,7 +18,6 @@ use Rattle.each_once.specs.Exchanges.{station_after}
 use Rattle.each_once.specs.OfStation.{is_from, lines_of}
 use Rattle.each_once.specs.Tells.{answers_in, executed_in}
 use Rattle.each_once.proofs.CommandBodies.{bodies-reply}
-use Rattle.each_once.proofs.CommandsUnderWay.{Answers}
 use Rattle.each_once.proofs.HandedOut.{AreNumbered}
 use Rattle.each_once.proofs.MessageLengths.{AreBodies}
 use Rattle.half_line.specs.Acts.{LineStationState}

@@ -1,7 +1,6 @@
 -- A cell arrives at the master in an undisturbed run: the reply that it is of goes on, or ends; a message that ends so is the answer to a command that is out.
-use Rattle.std.proofs.Common.{◌≡◌, ◌∙◌, ℕ, suc, ◌+◌, Bool, true, false, List, [], ◌∷◌, ◌++◌, Option, Some, None, refl, ap, sym, subst, inl, inr, append-nil}
+use Rattle.std.proofs.Common.{◌≡◌, ◌∙◌, ℕ, ◌+◌, Bool, true, false, List, [], ◌∷◌, ◌++◌, Option, Some, None, refl, ap, sym, subst, inl, inr, append-nil}
 use Rattle.std.specs.Prelude.{◌⊎◌, slice_get, slice_set, slice_index, ◌==◌}
-use Rattle.std.specs.Option.{option_and_then}
 use Rattle.std.proofs.lemmas.Bool.{eqb-true, eqb-false}
 use Rattle.df1_base.specs.declared.host.Did.{Did}
 use Rattle.df1_base.specs.declared.host.Did.TheVariants as did
@@ -9,7 +8,6 @@ use Rattle.df1_base.specs.declared.host.News.TheVariants as news
 use Rattle.df1_base.specs.declared.link.Act.{Act}
 use Rattle.df1_base.specs.declared.link.Act.TheVariants as act
 use Rattle.df1_base.specs.declared.link.Step.{Step}
-use Rattle.pccc_envelope.specs.declared.key.Key.{Key}
 use Rattle.pccc_envelope.specs.Envelope.{is_reply, key_of}
 use Rattle.pccc_envelope.specs.Accepted.{is_kept}
 use Rattle.df1_node.specs.Initiator.{InitiatorState, answered_place, after_reply as initiator_after}
@@ -41,7 +39,7 @@ use Rattle.half_line.proofs.Complete.Dealings.{same-node, reply-new}
 use Rattle.half_line.proofs.Complete.Ledger.{Ledger, going, back, ledger-now}
 use Rattle.half_line.proofs.Complete.LedgerSteps.{kept_in, answer_lines, comes-here, accepts-here, ledger-side, ledger-answers}
 use Rattle.half_line.proofs.Complete.Invariant.{Course}
-use Rattle.half_line.proofs.Complete.LineFacts.{Known, elsewhere, not-theirs, answer-from, from-here, from-elsewhere}
+use Rattle.half_line.proofs.Complete.LineFacts.{elsewhere, not-theirs, answer-from, from-here, from-elsewhere}
 use Rattle.half_line.proofs.Complete.CallStep.{At}
 
 -- what is told of the cell

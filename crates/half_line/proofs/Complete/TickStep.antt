@@ -1,12 +1,11 @@
 -- A unit of time passes in an undisturbed run: a wait goes on, and an idle master polls, or has a message to give.
-use Rattle.std.proofs.Common.{◌≡◌, ◌∙◌, ℕ, ◌+◌, ◌<◌, Bool, true, false, List, [], ◌++◌, map, min, Option, Some, None, refl, ap, ap₂, sym, subst, append-nil, arith}
+use Rattle.std.proofs.Common.{◌≡◌, ◌∙◌, ℕ, ◌+◌, ◌<◌, Bool, true, false, List, [], ◌++◌, map, min, Option, Some, None, refl, ap, ap₂, sym, subst, arith}
 use Rattle.std.specs.Prelude.{slice_get, if◌then◌else◌}
 use Rattle.std.specs.Option.{option_map}
 use Rattle.std.proofs.Math.Nat.{min-le_left, min-le_right}
 use Rattle.std.proofs.lemmas.Option.{slice_get-map}
 use Rattle.std.specs.List.{list_all}
 use Rattle.std.specs.Prelude.{is_none, ◌&&◌}
-use Rattle.df1_base.specs.declared.link.Turn.{Turn}
 use Rattle.df1_node.specs.Node.{NodeState, next_body, after_tick}
 use Rattle.half_frame.specs.Spelling.{poll_bytes, unmarked}
 use Rattle.half_mouth.specs.Giving.{give, is_done}
@@ -22,7 +21,6 @@ use Rattle.script_statement.specs.declared.who.Who.TheVariants.{M}
 use Rattle.replay_report.specs.declared.record.Line.{Line}
 use Rattle.each_once.specs.NodeHost.{node_host}
 use Rattle.each_once.proofs.Sublists.{from-map}
-use Rattle.report_lines.specs.NodeLines.{turn_lines, gone_lines}
 use Rattle.half_line.specs.Acts.{LineStationState, HalfState, Tick, master_lines, after_master_deed}
 use Rattle.half_line.specs.Steps.{AtMaster}
 use Rattle.half_line.specs.Prompt.{is_idle, is_quiet, late_after, patience}
