@@ -1,8 +1,8 @@
 -- Runs of which a line recovers: no byte is lost or foreign, bytes of bodies alone are altered, in few transmissions of each message, and few ticks come between two states in which nothing is under way.
-use Rattle.std.specs.Prelude.{◌≡◌, ◌≢◌, ◌⊎◌, ℕ, ◌≤◌, Bool, true, false, ◌&&◌, List, [], ◌∷◌, ◌++◌, length, slice_get, is_none, is_some, nat_le, ◌==◌, count_by, bit_xor, Option, None, Some, IsTrue, if◌then◌else◌}
+use Rattle.std.specs.Prelude.{◌≡◌, ◌≢◌, ◌⊎◌, ℕ, ◌≤◌, Bool, true, false, ◌&&◌, List, [], ◌∷◌, ◌++◌, slice_get, is_none, is_some, nat_le, ◌==◌, count_by, bit_xor, Option, None, Some, IsTrue, if◌then◌else◌}
 use Rattle.std.specs.List.{list_any}
 use Rattle.embedded_response.specs.Giving.{chosen}
-use Rattle.duplex_end.specs.End.{end_after_take, sent_new}
+use Rattle.duplex_end.specs.End.{sent_new}
 use Rattle.script_statement.specs.declared.who.Who.{Who}
 use Rattle.script_statement.specs.declared.who.Who.TheVariants.{A, B, M, S}
 use Rattle.script_parts.specs.declared.script.Event.{Event}

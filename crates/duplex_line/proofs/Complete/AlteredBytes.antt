@@ -1,6 +1,6 @@
 -- A byte of a body is altered: the frame keeps its shape, so a decoder stands at each later byte where it would have stood, but for what it heard of the body.
 use Rattle.std.proofs.Common.{◌≡◌, ◌∙◌, ℕ, ◌+◌, ◌≤◌, Bool, true, false, List, [], ◌∷◌, ◌++◌, length, cond, ltb, take, Option, Some, None, refl, ap, sym, subst, arith, length-append, inl, inr}
-use Rattle.std.specs.Prelude.{◌⊎◌, ◌==◌, if◌then◌else◌, nat_lt, bit_xor}
+use Rattle.std.specs.Prelude.{◌==◌, if◌then◌else◌, nat_lt}
 use Rattle.std.proofs.lemmas.Bool.{cases_lt, lt-ltb, le-ltb}
 use Rattle.std.proofs.lemmas.List.{take_all}
 use Rattle.df1_base.specs.declared.link.Resp.{Resp}
@@ -9,7 +9,7 @@ use Rattle.df1_check.specs.declared.Check.{Check}
 use Rattle.df1_frame.specs.declared.heard.Heard.{Heard}
 use Rattle.df1_frame.specs.declared.heard.Heard.TheVariants as heard
 use Rattle.df1_frame.specs.Spelling.{response, check_len, check_of, check_bytes, same}
-use Rattle.df1_frame.specs.Grammar.{frame_heard, stray_pair_heard}
+use Rattle.df1_frame.specs.Grammar.{stray_pair_heard}
 use Rattle.df1_frame.specs.Gathered.{Gathered, gathered, gathered_whole, nothing_gathered, gather, close, verdict}
 use Rattle.df1_frame.specs.Standing.{Standing, Outside, Ended, AfterDle, Inside, InsideDle, AtCheck, Decoding, lent_at}
 use Rattle.df1_frame.specs.Step.{step, next, left_by, outside_next, response_next}
@@ -17,7 +17,7 @@ use Rattle.df1_frame.proofs.GatheredLemmas.{gathered-nothing, gather-gathered, c
 use Rattle.embedded_response.specs.Giving.{Giving}
 use Rattle.lane_cells.specs.Cells.{LaneCell, bare}
 use Rattle.duplex_line.proofs.Complete.DecoderPlace.{InSync, Progress, Done, Whole, Among, Closing, Pending, NoPair, Response, Opening, Doubling, Ending, StandsAt, IsProgress, IsOutside, IsFrame, IsBodyUnit, done_of, resps_heard}
-use Rattle.duplex_line.proofs.Complete.ClearLane.{end_of, IsTrueEnd, IsTrueCell, IsClear, resps, verdict-ends}
+use Rattle.duplex_line.proofs.Complete.ClearLane.{end_of, IsTrueEnd, IsClear, resps, verdict-ends}
 
 -- as many bytes of a body were gathered by both, perhaps others
 pub record AreLike (make : List ℕ → Gathered) (x y : Gathered) : Type 0 where

@@ -1,18 +1,15 @@
 -- What was done to the transmissions of an end, beside what its sender counts of them.
-use Rattle.std.proofs.Common.{◌≡◌, ◌∙◌, ℕ, zero, suc, ◌+◌, ◌<◌, ◌≤◌, Bool, true, false, List, [], ◌∷◌, ◌++◌, length, Option, Some, None, cond, refl, ap, sym, subst, arith, length-append, inl, inr}
-use Rattle.std.specs.Prelude.{◌⊎◌, ◌≢◌, ◌==◌, IsTrue, is_some, nat_le, count_by, bit_xor, if◌then◌else◌}
+use Rattle.std.proofs.Common.{◌≡◌, ◌∙◌, ℕ, ◌+◌, ◌<◌, ◌≤◌, Bool, true, false, List, [], ◌∷◌, ◌++◌, length, Option, Some, None, cond, refl, ap, sym, subst, arith, inl, inr}
+use Rattle.std.specs.Prelude.{◌⊎◌, ◌≢◌, ◌==◌, nat_le, count_by}
 use Rattle.std.specs.Option.{option_map}
 use Rattle.std.specs.List.{list_any}
 use Rattle.std.proofs.lemmas.Bool.{eqb-true, eq-eqb, le-leb}
 use Rattle.std.proofs.lemmas.List.Sums.{sum_by-append}
-use Rattle.df1_frame.specs.Standing.{Decoding, Inside, is_inside, lent_at}
+use Rattle.df1_frame.specs.Standing.{Decoding, lent_at}
 use Rattle.df1_frame.specs.declared.heard.Heard.{Heard}
-use Rattle.df1_frame.specs.declared.heard.Heard.TheVariants as heard
-use Rattle.df1_frame.specs.Gathered.{gathered}
-use Rattle.df1_frame.specs.Step.{next}
 use Rattle.embedded_response.specs.Giving.{Giving}
 use Rattle.lane_cells.specs.Cells.{LaneCell, Ending, bare}
-use Rattle.duplex_line.specs.Recoverable.{Damage, no_damage, message_of, hits_of, with_hit, hit_by, with_alter, IsBodyHit}
+use Rattle.duplex_line.specs.Recoverable.{Damage, no_damage, message_of, hits_of, with_alter}
 use Rattle.duplex_line.proofs.Complete.AlteredBytes.{IsWithin, byte-inside}
 use Rattle.duplex_line.proofs.Complete.DecoderPlace.{IsBodyUnit}
 use Rattle.duplex_line.proofs.Complete.ClearLane.{end_of, IsTrueEnd, IsClear, goods, inside-left}

@@ -17,7 +17,7 @@ use Rattle.lane_cells.specs.Cells.{LaneCell}
 use Rattle.duplex_line.specs.Acts.{LineEndState, LineState, Deed, Issue, Take, Deliver, Lose, Alter, Foreign, Tick, after_deed}
 use Rattle.duplex_line.specs.Run.{start, who_of, deeds_of, seen_from, after_event, last_state, lines_after}
 use Rattle.duplex_line.specs.Prompt.{Late, none_late, late_seen, late_after, late_event, EndsQuiet, HasRooms}
-use Rattle.duplex_line.specs.Recoverable.{Damage, Damages, no_damages, hits_of, message_of, IsBodyHit, IsMild, AreFewHits, damage_seen, damage_after, damage_event, IsMildOver, AreFewOver, IsMildAfter, HasFewTicksAfter, IsRecoverable}
+use Rattle.duplex_line.specs.Recoverable.{Damage, Damages, no_damages, message_of, IsBodyHit, IsMild, AreFewHits, damage_seen, damage_after, damage_event, IsMildOver, AreFewOver, IsMildAfter, HasFewTicksAfter, IsRecoverable}
 use Rattle.each_once.specs.Tells.{executed_in, answers_in}
 use Rattle.duplex_line.specs.Example.{hit_write, is_damage, the_command, the_reply}
 use Rattle.each_once.proofs.Sublists.{none-is}

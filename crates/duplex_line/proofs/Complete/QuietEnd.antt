@@ -12,7 +12,7 @@ use Rattle.duplex_end.specs.End.{EndState, begun_next, prepared, begun_at, out_a
 use Rattle.duplex_end.proofs.Joining.{none-left}
 use Rattle.duplex_end.proofs.Order.{out-is}
 use Rattle.lane_cells.specs.Cells.{LaneCell}
-use Rattle.duplex_line.proofs.Complete.DecoderPlace.{owed, quiet-owes}
+use Rattle.duplex_line.proofs.Complete.DecoderPlace.{quiet-owes}
 use Rattle.duplex_line.proofs.Complete.ClearLane.{goods}
 use Rattle.duplex_line.proofs.Complete.MessageUnderWay.{Flow, Marks, awaits, due, in_flight}
 use Rattle.each_once.proofs.Sublists.{none-is}

@@ -1,15 +1,13 @@
 -- Over a whole run that nothing disturbs, and that ends with nothing under way: each command executed and answered.
 use Rattle.std.proofs.Common.{◌≡◌, ◌∙◌, ℕ, zero, suc, ◌+◌, ◌-◌, ◌^◌, ◌<◌, ◌≤◌, Bool, true, false, not, List, [], ◌∷◌, ◌++◌, map, Option, Some, None, refl, ap, sym, subst, arith, append-nil, append_assoc, length, is_none, is_some, inl, inr}
-use Rattle.std.specs.Prelude.{IsTrue, All, ◌⊎◌, ◌&&◌, bit_xor, replicate, count_by, sum_by, slice_get, slice_index_or, ◌==◌, if◌then◌else◌}
+use Rattle.std.specs.Prelude.{IsTrue, All, ◌⊎◌, ◌&&◌, bit_xor, replicate, count_by, sum_by, slice_get, slice_index_or, if◌then◌else◌}
 use Rattle.std.specs.List.{filter}
-use Rattle.std.proofs.lemmas.Bool.{eqb-true}
 use Rattle.std.proofs.lemmas.List.{length-map, length-replicate}
 use Rattle.std.proofs.lemmas.List.Sums.{sum_by-append}
 use Rattle.std.proofs.lemmas.List.Elements.{All-head, All-tail}
-use Rattle.std.proofs.lemmas.Option.{same_Some}
 use Rattle.df1_check.specs.declared.Check.{Check}
 use Rattle.df1_node.specs.Answer.{StationState}
-use Rattle.df1_node.specs.Initiator.{Issued, Standing, Answered, Undelivered, Unanswered, next_command}
+use Rattle.df1_node.specs.Initiator.{Issued, next_command}
 use Rattle.df1_node.specs.Node.{NodeState, next_body}
 use Rattle.duplex_sender.specs.declared.Phase.{Phase}
 use Rattle.duplex_sender.specs.declared.Phase.TheVariants as phase
@@ -31,17 +29,16 @@ use Rattle.script_parts.specs.Plans.{first_plan}
 use Rattle.script_statement.specs.Statements.{is_payload}
 use Rattle.script_parts.specs.Playable.{IsPlanOf, IsPossible, IsPlayable, AreEnds, issues, is_end, count_of}
 use Rattle.replay_report.specs.declared.record.Line.{Line}
-use Rattle.replay_report.specs.declared.record.Line.TheVariants as line
 use Rattle.replay_report.specs.Report.{sent_lines}
 use Rattle.lane_cells.specs.Cells.{LaneCell}
 use Rattle.lane_cells.specs.Cells.{altered}
 use Rattle.duplex_line.specs.Acts.{LineEndState, LineState, swapped, Deed, Issue, Take, Deliver, Lose, Alter, Foreign, Tick, after_leaving, near_after, after_arrival, arriving, after_deed, after_deeds, lines_at, lines_over, given_over}
 use Rattle.duplex_line.specs.Run.{first_station, first_side, first_node, setup_of, plan_of_a, plan_of_b, start, who_of, deeds_of, other, seen_from, after_event, deed_lines, lines_of, state_after, lines_after, last_state, record_from}
 use Rattle.duplex_line.specs.Plays.{issued_by, IsUnspent}
-use Rattle.each_once.specs.Commands.{AreOutcomesTold, told_of}
+use Rattle.each_once.specs.Commands.{AreOutcomesTold}
 use Rattle.each_once.specs.Exchanges.{exchanges}
 use Rattle.each_once.specs.Once.{Once, IsReplyTo, IsAnswered}
-use Rattle.each_once.specs.Tells.{is_who, where_of_command, executed_in, answers_in, outcome_at, outcomes_in}
+use Rattle.each_once.specs.Tells.{executed_in, answers_in}
 use Rattle.duplex_line.proofs.Steps.EventsToCome.{room-of-a, room-of-b, unspent}
 use Rattle.duplex_line.proofs.Steps.NothingToGive.{leave-none}
 use Rattle.duplex_line.proofs.Once.SentMessages.{sends-start}
