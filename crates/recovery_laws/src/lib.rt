@@ -1,6 +1,9 @@
-//! Damage from which a full-duplex line recovers: a script that is made from two numbers, in which bytes of bodies are altered.
+//! Damage from which a full-duplex line recovers: playing a script of which it does, and a script that is made from two numbers, in
+//! which bytes of bodies are altered.
 #![tactic(auto)]
 
+mod replaying;
 mod storm_script;
 
+pub use replaying::replay_recovering;
 pub use storm_script::{each_storm_can_be_played, storm};
