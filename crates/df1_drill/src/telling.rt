@@ -1,6 +1,10 @@
 //! A drill or a storm is run, and its line is written.
 ghost use Rattle.std.specs.Prelude.{◌≡◌, ◌≤◌};
 ghost use Rattle.script_parts.specs.HalfPlayable.{CanBePlayed};
+ghost use Rattle.line_world.specs.Recovery.{Recovers};
+ghost use Rattle.line_world.specs.Runs.{record_of};
+ghost use Rattle.recovery_laws.specs.Storm.{storm_script};
+ghost use Rattle.df1_drill.specs.Drill.{drill_script as the_drill};
 ghost use Rattle.df1_drill.specs.Telling.{LineEnd, drill_line, run_line, storm_line};
 
 use crate::drilled::run_tally;
@@ -24,7 +28,8 @@ pub enum DrillFault {
 }
 
 /// Runs the drill of `count` rounds, at most 20,000, and writes its line to the output. `Output` comes only where the output's count
-/// of faults rose; a first part of the line is written then. With `NoMemory` nothing is.
+/// of faults rose; a first part of the line is written then. With `NoMemory` nothing is. Where its line recovers from what the
+/// drill does to the bytes, all its commands are executed and answered.
 pub fn write_drill<K: Sink>(
     alloc: Global,
     seed: u32,
@@ -32,7 +37,8 @@ pub fn write_drill<K: Sink>(
     out: &mut K,
 ) -> Result<(), DrillFault>
     requires { count ≤ MOST_ROUNDS }
-    ensures { LineEnd (drill_line seed count) (K.held out.old) (K.held out.new) (K.faults out.old) (K.faults out.new) result }
+    ensures recovers { Recovers (the_drill seed count) (record_of (the_drill seed count)) }
+    ensures line { LineEnd (drill_line seed count) (K.held out.old) (K.held out.new) (K.faults out.old) (K.faults out.new) result }
 {
     match drill_script(alloc, seed, count) {
         Ok(script) => write_run(alloc, &script, out),
@@ -48,7 +54,8 @@ pub fn write_storm<K: Sink>(
     out: &mut K,
 ) -> Result<(), DrillFault>
     requires { count ≤ MOST_ROUNDS }
-    ensures { LineEnd (storm_line seed count) (K.held out.old) (K.held out.new) (K.faults out.old) (K.faults out.new) result }
+    ensures recovers { Recovers (storm_script seed count) (record_of (storm_script seed count)) }
+    ensures line { LineEnd (storm_line seed count) (K.held out.old) (K.held out.new) (K.faults out.old) (K.faults out.new) result }
 {
     match storm(alloc, seed, count) {
         Ok(script) => write_run(alloc, &script, out),

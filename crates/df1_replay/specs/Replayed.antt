@@ -1,5 +1,5 @@
 -- What a run of `replay` shows that ended well: its script, the report, each command once, all of them where nothing disturbs
--- the line, and what is on the wire.
+-- the line or it recovers, and what is on the wire.
 use Rattle.std.specs.Prelude.{◌≡◌, ℕ, List, Option, Ok}
 use Rattle.std.specs.Io.KnownBytes.{IsAtEnd}
 use Rattle.df1_base.specs.Outside.{Took, Put}
@@ -8,15 +8,17 @@ use Rattle.line_script.specs.ScriptText.{script_of}
 use Rattle.replay_report.specs.Report.{report}
 use Rattle.line_world.specs.Complete.{IsUndisturbed, IsComplete}
 use Rattle.line_world.specs.Once.{EachCommandOnce}
+use Rattle.line_world.specs.Recovery.{Recovers}
 use Rattle.line_world.specs.Runs.{record_of}
 use Rattle.line_world.specs.Wire.{AreDf1Wires}
 
 -- The input was read to its end and is a script. The report of its run is written, and nothing else. Where no end was
 -- deceived, each station executed commands that were issued to it, each once, those of each source in their order, and each
 -- accepted reply is what it answered to that very command. Where nothing disturbs the line and nothing is under way in the end,
--- where on a full-duplex line each end has room for what the other may have out, and on a half-duplex line one command is out at
--- a time and no reply is left at a station, no end was deceived, and all commands were executed and answered. Whatever was heard,
--- what each end sent is DF1, and carries its own commands and replies.
+-- where each end, or each station, has room for what the other end, or the master, may have out, and no reply is left at a
+-- station, no end was deceived, and all commands were executed and answered. They were too on a full-duplex line that altered
+-- bytes of bodies alone, in few transmissions of each message, and deceived no end. Whatever was heard, what each end sent is
+-- DF1, and carries its own commands and replies.
 pub record Replayed (left left' held held' : Option (List ℕ)) : Type 0 where
   pub input : List ℕ
   pub script : Script
@@ -26,4 +28,5 @@ pub record Replayed (left left' held held' : Option (List ℕ)) : Type 0 where
   pub put : Put held held' (report (record_of script))
   pub once : (record_of script).deceived ≡ 0 → EachCommandOnce script (record_of script)
   pub complete : IsUndisturbed script → IsComplete script (record_of script)
+  pub recovered : Recovers script (record_of script)
   pub wires : AreDf1Wires script (record_of script)

@@ -6,6 +6,10 @@
 //! | 5 | the output has failed, and a first part of the line is written | `df1: output cannot be written` |
 //! | 7 | want of memory, before anything is written | `df1: no memory` |
 ghost use Rattle.std.specs.Prelude.{◌≡◌, ◌≤◌};
+ghost use Rattle.line_world.specs.Recovery.{Recovers};
+ghost use Rattle.line_world.specs.Runs.{record_of};
+ghost use Rattle.recovery_laws.specs.Storm.{storm_script};
+ghost use Rattle.df1_drill.specs.Drill.{drill_script};
 ghost use Rattle.df1_drill.specs.Telling.{drill_line, storm_line};
 ghost use Rattle.df1_tool.specs.Drilling.{LineRun};
 
@@ -25,7 +29,8 @@ pub(crate) fn drill<K: Sink, N: Sink>(
     note: &mut N,
 ) -> u8
     requires { rounds.count ≤ MOST_ROUNDS }
-    ensures { LineRun (drill_line rounds.seed rounds.count)
+    ensures recovers { Recovers (drill_script rounds.seed rounds.count) (record_of (drill_script rounds.seed rounds.count)) }
+    ensures line { LineRun (drill_line rounds.seed rounds.count)
         (record { held = K.held out.old; out_faults = K.faults out.old; noted = N.held note.old; note_faults = N.faults note.old })
         (record { held = K.held out.new; out_faults = K.faults out.new; noted = N.held note.new; note_faults = N.faults note.new })
         result }
@@ -44,7 +49,8 @@ pub(crate) fn storm<K: Sink, N: Sink>(
     note: &mut N,
 ) -> u8
     requires { rounds.count ≤ MOST_ROUNDS }
-    ensures { LineRun (storm_line rounds.seed rounds.count)
+    ensures recovers { Recovers (storm_script rounds.seed rounds.count) (record_of (storm_script rounds.seed rounds.count)) }
+    ensures line { LineRun (storm_line rounds.seed rounds.count)
         (record { held = K.held out.old; out_faults = K.faults out.old; noted = N.held note.old; note_faults = N.faults note.old })
         (record { held = K.held out.new; out_faults = K.faults out.new; noted = N.held note.new; note_faults = N.faults note.new })
         result }

@@ -21,6 +21,10 @@ ghost use Rattle.df1_replay.specs.Replayed.{Replayed};
 ghost use Rattle.df1_tool.specs.Notes.{IsNoted, usage};
 ghost use Rattle.df1_tool.specs.Served.{ServiceRun};
 ghost use Rattle.df1_tool.specs.Captures.{CheckRun, DissectRun};
+ghost use Rattle.line_world.specs.Recovery.{Recovers};
+ghost use Rattle.line_world.specs.Runs.{record_of};
+ghost use Rattle.recovery_laws.specs.Storm.{storm_script};
+ghost use Rattle.df1_drill.specs.Drill.{drill_script};
 ghost use Rattle.df1_drill.specs.Telling.{drill_line, storm_line};
 ghost use Rattle.df1_tool.specs.Drilling.{LineRun};
 ghost use Rattle.df1_tool.specs.Vectors.{VectorsRun};
@@ -103,16 +107,19 @@ pub fn run<H: Shelf, S: Source, K: Sink, N: Sink>(
         (record { left = S.left result.input; input_faults = S.faults result.input; held = K.held result.out; out_faults = K.faults result.out; noted = N.held result.note; note_faults = N.faults result.note })
         result.status }
 
-    // `drill` and `storm`. They leave the input.
+    // `drill` and `storm`. They leave the input. Where the line recovers from what happens to the bytes, all commands are
+    // executed and answered.
     ensures drills { (rounds : TwoNumbers) → the_form (map string_bytes words.now) ≡ Some (Drill rounds) → LineRun (drill_line rounds.seed rounds.count)
         (record { held = K.held out; out_faults = K.faults out; noted = N.held note; note_faults = N.faults note })
         (record { held = K.held result.out; out_faults = K.faults result.out; noted = N.held result.note; note_faults = N.faults result.note })
         result.status }
     ensures same_input { (rounds : TwoNumbers) → the_form (map string_bytes words.now) ≡ Some (Drill rounds) → result.input ≡ input }
+    ensures drill_recovers { (rounds : TwoNumbers) → the_form (map string_bytes words.now) ≡ Some (Drill rounds) → Recovers (drill_script rounds.seed rounds.count) (record_of (drill_script rounds.seed rounds.count)) }
     ensures storms { (rounds : TwoNumbers) → the_form (map string_bytes words.now) ≡ Some (Storm rounds) → LineRun (storm_line rounds.seed rounds.count)
         (record { held = K.held out; out_faults = K.faults out; noted = N.held note; note_faults = N.faults note })
         (record { held = K.held result.out; out_faults = K.faults result.out; noted = N.held result.note; note_faults = N.faults result.note })
         result.status }
+    ensures storm_recovers { (rounds : TwoNumbers) → the_form (map string_bytes words.now) ≡ Some (Storm rounds) → Recovers (storm_script rounds.seed rounds.count) (record_of (storm_script rounds.seed rounds.count)) }
     ensures left_input { (rounds : TwoNumbers) → the_form (map string_bytes words.now) ≡ Some (Storm rounds) → result.input ≡ input }
 
     // `vectors`. It leaves the input too.
@@ -131,7 +138,7 @@ pub fn run<H: Shelf, S: Source, K: Sink, N: Sink>(
     // 0 of `replay`: the input is read to its end, and the report of its script's run is written; nothing has failed, and no
     // note is written. Unless an end was deceived, each station executed commands that were issued to it, each once, those of
     // each source in their order, and accepted replies are what it answered to that very command. Where nothing disturbs the
-    // line, all commands were executed and answered. Whatever was heard, what each end sent is DF1.
+    // line, or it recovers, all commands were executed and answered. Whatever was heard, what each end sent is DF1.
     ensures done { the_form (map string_bytes words.now) ≡ Some Replay → result.status ≡ 0 → Answered replayed
         (S.left input) (S.left result.input) (K.held out) (K.held result.out) }
     ensures calm { the_form (map string_bytes words.now) ≡ Some Replay → result.status ≡ 0 → (S.faults result.input ≡ S.faults input) × (result.note ≡ note) }

@@ -30,8 +30,9 @@ use Rattle.duplex_line.specs.Plays.{Played}
 use Rattle.duplex_line.specs.Run as duplex
 use Rattle.duplex_line.specs.Once.{EachOnce}
 use Rattle.duplex_line.specs.Prompt.{IsPrompt, EndsQuiet, HasRooms}
+use Rattle.duplex_line.specs.Recoverable.{IsRecoverable}
 use Rattle.duplex_line.specs.Complete.{IsComplete as DuplexComplete}
-use Rattle.duplex_line.proofs.Complete.WholeRun.{is-complete as duplex-is-complete}
+use Rattle.duplex_line.proofs.Complete.WholeRun.{is-complete as duplex-is-complete, recovers}
 use Rattle.duplex_line.proofs.Once.WholeRun.{each-once}
 use Rattle.duplex_line.specs.Wire.{AreDf1Wires as DuplexWires}
 use Rattle.duplex_line.proofs.Wire.WholeRun.{wires}
@@ -39,6 +40,7 @@ use Rattle.line_world.specs.declared.world.World.{World}
 use Rattle.line_world.specs.declared.world.World.TheVariants.{Duplex, Polled}
 use Rattle.line_world.specs.Complete.{IsUndisturbed, IsUndisturbedIn, IsComplete, IsCompleteIn}
 use Rattle.line_world.specs.Once.{EachCommandOnce, EachOnceIn}
+use Rattle.line_world.specs.Recovery.{Recovers, RecoversIn}
 use Rattle.line_world.specs.Wire.{AreDf1Wires, AreDf1WiresIn}
 use Rattle.line_world.specs.Runs.{after_event, after_events, all_lines, begun, begun_in, last_world, lines_in, lines_of, lines_after, played, printed, record_from, record_of, IsNext}
 
@@ -231,6 +233,16 @@ complete-in false script mode h undisturbed = duplex-complete script (h.full mod
 
 pub all-complete : (script : Script) → CanBePlayed script → IsUndisturbed script → IsComplete script (record_of script)
 all-complete script h = complete-in script.half script refl h
+
+-- ---- damage of which the line recovers
+
+recovers-in : (half : Bool) (script : Script) → script.half ≡ half → CanBePlayed script → RecoversIn half script (record_of script)
+unfolding duplex.record_of
+recovers-in true script mode h = tt
+recovers-in false script mode h = subst (λ (r : Record). IsRecoverable script → DuplexComplete script r) (sym (duplex-record script mode)) (recovers script (h.full mode))
+
+pub all-recover : (script : Script) → CanBePlayed script → Recovers script (record_of script)
+all-recover script h = recovers-in script.half script refl h
 
 -- ---- what the ends sent
 

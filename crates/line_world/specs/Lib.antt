@@ -1,4 +1,5 @@
 pub mod Complete
 pub mod Once
+pub mod Recovery
 pub mod Runs
 pub mod Wire

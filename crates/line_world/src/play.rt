@@ -4,6 +4,7 @@ ghost use Rattle.std.specs.Prelude.{◌≡◌, IfOk};
 ghost use Rattle.script_parts.specs.HalfPlayable.{CanBePlayed};
 ghost use Rattle.line_world.specs.Complete.{IsUndisturbed, IsComplete};
 ghost use Rattle.line_world.specs.Once.{EachCommandOnce};
+ghost use Rattle.line_world.specs.Recovery.{Recovers};
 ghost use Rattle.line_world.specs.Runs.{record_of};
 ghost use Rattle.line_world.specs.Wire.{AreDf1Wires};
 
@@ -16,12 +17,13 @@ use std::alloc::Global;
 /// Plays a script that can be read, and answers the record of its run. Where no end was deceived, each command of the script was
 /// executed once at most, by the station that it was issued to, and those of each source in their order, the words are those
 /// that the executed ones make, and each accepted reply was the one to that very command. Where nothing disturbed the line, no
-/// end was deceived, and all commands were executed and answered. Whatever was heard, what each end sent is DF1, and carries
-/// its own commands and replies.
+/// end was deceived, and all commands were executed and answered; and so they were where a full-duplex line recovers from what
+/// the script does to the bytes. Whatever was heard, what each end sent is DF1, and carries its own commands and replies.
 pub fn replay(alloc: Global, script: &Script) -> Result<Record, NoMemory>
     requires { CanBePlayed script.now }
     ensures record { IfOk result (λ r. r ≡ record_of script.now) }
     ensures complete { IfOk result (λ r. IsUndisturbed script.now → IsComplete script.now r) }
+    ensures recovered { IfOk result (λ r. Recovers script.now r) }
     ensures once { IfOk result (λ r. r.deceived ≡ 0 → EachCommandOnce script.now r) }
     ensures wires { IfOk result (λ r. AreDf1Wires script.now r) }
 {

@@ -3,9 +3,9 @@ ghost use Rattle.std.specs.Prelude.{◌≡◌, IfOk};
 ghost use Rattle.script_parts.specs.HalfPlayable.{CanBePlayed};
 ghost use Rattle.line_world.specs.Complete.{IsUndisturbed, IsComplete};
 ghost use Rattle.line_world.specs.Once.{EachCommandOnce};
+ghost use Rattle.line_world.specs.Recovery.{Recovers};
 ghost use Rattle.line_world.specs.Runs.{record_of};
 ghost use Rattle.line_world.specs.Wire.{AreDf1Wires};
-ghost use Rattle.recovery_laws.specs.Recovery.{Recovers};
 
 use df1_base::NoMemory;
 use line_world::replay;

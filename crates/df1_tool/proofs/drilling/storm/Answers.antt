@@ -4,8 +4,8 @@ use Rattle.df1_drill.specs.Telling.{storm_line}
 use Rattle.df1_tool.proofs.Drills.{line-ended}
 use Rattle.df1_tool.proofs.drilling.storm.Goals as goal
 
-pub returns-in-Ok : goal.returns-in-Ok
-returns-in-Ok g c = line-ended (storm_line c.args.rounds.seed c.args.rounds.count) _ _ 0 (Ok tt) (refl, refl, refl) c.in-Ok.ensures
+pub returns-in-Ok-clause-line : goal.returns-in-Ok-clause-line
+returns-in-Ok-clause-line g c = line-ended (storm_line c.args.rounds.seed c.args.rounds.count) _ _ 0 (Ok tt) (refl, refl, refl) c.in-Ok.ensures.line
 
-pub returns-in-Err : goal.returns-in-Err
-returns-in-Err g c = line-ended (storm_line c.args.rounds.seed c.args.rounds.count) _ _ c.refuse.result (Err c.in-Err.fault) (c.refuse.ensures.status, c.refuse.ensures.note) c.in-Err.ensures
+pub returns-in-Err-clause-line : goal.returns-in-Err-clause-line
+returns-in-Err-clause-line g c = line-ended (storm_line c.args.rounds.seed c.args.rounds.count) _ _ c.refuse.result (Err c.in-Err.fault) (c.refuse.ensures.status, c.refuse.ensures.note) c.in-Err.ensures.line

@@ -3,10 +3,11 @@ use Rattle.replay_report.specs.declared.record.Record.{Record}
 use Rattle.line_world.specs.declared.world.World.{World}
 use Rattle.line_world.specs.Complete.{IsUndisturbed, IsComplete}
 use Rattle.line_world.specs.Once.{EachCommandOnce}
+use Rattle.line_world.specs.Recovery.{Recovers}
 use Rattle.line_world.specs.Runs.{IsNext, record_of}
 use Rattle.line_world.specs.Wire.{AreDf1Wires}
 use Rattle.line_world.proofs.Next.{next-at}
-use Rattle.line_world.proofs.EitherMode.{all-complete, all-wires, each-command-once, events-next, lines-more, printed-next, record-at-end, world-more}
+use Rattle.line_world.proofs.EitherMode.{all-complete, all-recover, all-wires, each-command-once, events-next, lines-more, printed-next, record-at-end, world-more}
 use Rattle.line_world.proofs.play.replay.Goals as goal
 
 pub step-requires : goal.step-requires
@@ -52,6 +53,13 @@ returns-clause-complete c =
     let over = rw c.as_slice-event-items.ensures at c.loop-event-test.false in
     record-at-end (λ (r : Record). IsUndisturbed script → IsComplete script r) script c.loop-event.event-index c.loop-event.world over c.loop-event.invariant.world c.loop-event.invariant.lines c.finish.result c.finish.ensures
     (all-complete script c.requires)
+
+pub returns-clause-recovered : goal.returns-clause-recovered
+returns-clause-recovered c =
+    let script = c.args.script.now in
+    let over = rw c.as_slice-event-items.ensures at c.loop-event-test.false in
+    record-at-end (Recovers script) script c.loop-event.event-index c.loop-event.world over c.loop-event.invariant.world c.loop-event.invariant.lines c.finish.result c.finish.ensures
+    (all-recover script c.requires)
 
 pub returns-clause-wires : goal.returns-clause-wires
 returns-clause-wires c =

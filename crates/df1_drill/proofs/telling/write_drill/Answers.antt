@@ -1,0 +1,10 @@
+use Rattle.df1_drill.specs.Drill.{drill_script}
+use Rattle.df1_drill.proofs.Playing.{drill-playable}
+use Rattle.line_world.proofs.EitherMode.{all-recover}
+use Rattle.df1_drill.proofs.telling.write_drill.Goals as goal
+
+pub returns-in-Ok-clause-recovers : goal.returns-in-Ok-clause-recovers
+returns-in-Ok-clause-recovers g c = all-recover (drill_script c.args.seed c.args.count) (drill-playable c.args.seed c.args.count c.requires)
+
+pub returns-in-Err-clause-recovers : goal.returns-in-Err-clause-recovers
+returns-in-Err-clause-recovers g c = all-recover (drill_script c.args.seed c.args.count) (drill-playable c.args.seed c.args.count c.requires)
