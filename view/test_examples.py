@@ -24,14 +24,20 @@ ARROWS = {
     "both-ends-at-once": [
         WRITE, f"b>a {ECHO}", "b>a ACK, embedded", "a>b ACK", f"a>b {ECHOED}", "b>a reply, done, TNS 0001", "a>b ACK, embedded", "b>a ACK",
     ],
+    "byte-becomes-dle": ["a>b echo 03, TNS 0001; byte 9: 00 → 10", "b>a NAK"],
     "compatibility-file": [
         *exchange("status", "01 02", 1), *exchange("unprotected read byte 2, 2 bytes", "78 56", 2),
         *exchange("unprotected write byte 2 = CD AB", "done", 3),
         *exchange("unprotected read byte 32, 2 bytes", "refused: no such address", 4),
     ],
     "crc": exchange("echo 55", "55", 1),
+    "damage-both-ways": [
+        f"{WRITE}; byte 3: 01 → 00", "b>a NAK", f"{WRITE}; byte 6: 00 → FF, byte 6: FF → 0F", "b>a NAK", WRITE, "b>a ACK",
+        "b>a reply, done, TNS 0001; byte 3: 00 → 80", "a>b NAK", *ACKS[1:],
+    ],
     "damage-that-bcc-misses": [f"{WRITE}; byte 15: 34 → 35, byte 16: 12 → 11", *ACKS],
     "damage-that-crc-catches": [f"{WRITE}; byte 15: 34 → 35, byte 16: 12 → 11", "b>a NAK", WRITE, *ACKS],
+    "damaged-etx": [f"{WRITE}; byte 18: 03 → 01", "b>a NAK"],
     "damaged-frame-and-lost-nak": [
         f"{WRITE}; byte 3: 01 → 00", "b>a NAK; 2 of 2 bytes lost", "a>b ENQ", "b>a NAK", WRITE, *ACKS
     ],
@@ -45,6 +51,7 @@ ARROWS = {
         named("echo 51"), "b>a ACK", named("echo 91", 4), "b>a ACK", named("reply, 51", 1, "b>a"), "a>b ACK",
         named("echo 52", 2), "b>a ACK", named("reply, 91", 4, "b>a"),
     ],
+    "foreign-ack": [f"{WRITE}; byte 3: 01 → 00", "foreign>a ACK", "b>a NAK"],
     "foreign-frame": ["foreign>b write N7:0 = 1234", *ACKS],
     "foreign-reset": [f"m>3 {ECHO}", "3>m ACK", "foreign>3 NAK, a reset", "m>3 poll 3", "3>m EOT"],
     "late-reply": exchange("echo 55", "55", 1),
@@ -56,6 +63,7 @@ ARROWS = {
     ],
     "nak-turned-into-ack": [f"{WRITE}; byte 3: 01 → 00", "b>a NAK; byte 2: 15 → 06"],
     "no-room": [named("echo 55", 1), "b>a ACK", named("echo 55", 2), "b>a ACK", named("echo 55", 3), "b>a NAK; under way"],
+    "one-hit-too-many": [f"{WRITE}; byte 3: 01 → 00", "b>a NAK"],
     "one-write": [WRITE],
     "ordinary-exchange": [WRITE, *ACKS],
     "polled-write": [
@@ -170,6 +178,10 @@ FEET = {
 }
 
 
+# where a frame seems to end before its arrow does
+EARLY = ("byte-becomes-dle", "damaged-etx")
+
+
 class Examples(unittest.TestCase):
     def test_each_has_its_arrows(self):
         for script in EXAMPLES:
@@ -208,10 +220,11 @@ class Examples(unittest.TestCase):
         for script in EXAMPLES:
             with self.subTest(script.stem):
                 seen = Seen(picture(script))
-                arrivals = [(arrow.text.split(" ")[0].split(">")[1], arrow.end[1]) for arrow in seen.flights]
+                first = {arrow: arrow.begin[1] if script.stem in EARLY else arrow.end[1] - 24 for arrow in seen.flights}
                 for end, label in seen.beside:
                     if label.words.split(" ")[0] in ("exec", "answered", "stray", "repeat", "full", "damaged"):
-                        self.assertTrue(any(at == end and abs(height - label.place[1]) < 24 for at, height in arrivals), label)
+                        near = [arrow for arrow in seen.flights if first[arrow] < label.place[1] < arrow.end[1] + 24]
+                        self.assertTrue(any(arrow.text.split(" ")[0].endswith(f">{end}") for arrow in near), label)
 
     def test_each_has_its_stored_picture_and_its_place_in_the_index(self):
         index = (TOP / "examples" / "README.md").read_text()
