@@ -26,7 +26,7 @@ played p e = record { state = after_event p.state e; lines = p.lines ++ lines_of
 abbrev pub printed : Played → Played
 printed p = record p { lines = [] }
 
--- what the events of a world may sum to; those of a script sum to 4,000,000 at most, so all of them may come
+-- what the events of a world may sum to, as those of a script that can be played
 abbrev pub most_events : ℕ
 most_events = 5000000
 

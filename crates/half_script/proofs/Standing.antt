@@ -357,7 +357,7 @@ closes d events h =
       );
       events = subst (λ (ns : List ℕ). All (IsHalfPossible ns) events) (sym same) h.possible;
       commands = let sum = h.commands in omega arith;
-      sum = subst (λ (ns : List ℕ). sum_by (half_count_of ns) events ≤ 4000000) (sym same) (let sum = h.sum in omega arith);
+      sum = subst (λ (ns : List ℕ). sum_by (half_count_of ns) events ≤ 5000000) (sym same) (let sum = h.sum in omega arith);
     }
 
 pub read_is_playable : (statements : List Statement) → All IsSaid statements → IfOk (after_statements fresh [] statements) (λ read. IsHalfPlayable (script_with read.0 read.1))

@@ -73,7 +73,7 @@ parts-sum part bound pays first (suc count) =
 
 -- ---- a script
 
-rounds-play : (round : ℕ → List Event) (count : ℕ) → ((i : ℕ) → HasCommands (round i) 1) → count ≤ 20000 → sum_by count_of (parts round count) ≤ 4000000 → IsPlayable (script_of round count)
+rounds-play : (round : ℕ → List Event) (count : ℕ) → ((i : ℕ) → HasCommands (round i) 1) → count ≤ 20000 → sum_by count_of (parts round count) ≤ 5000000 → IsPlayable (script_of round count)
 rounds-play round count each most sum =
     let commands = rounds-commands round 1 count each in
     let a = commands.of_a in
@@ -90,5 +90,5 @@ rounds-play round count each most sum =
       sum = sum;
     }
 
-pub rounds-playable : (round : ℕ → List Event) (count : ℕ) → ((i : ℕ) → HasCommands (round i) 1) → count ≤ 20000 → sum_by count_of (parts round count) ≤ 4000000 → CanBePlayed (script_of round count)
+pub rounds-playable : (round : ℕ → List Event) (count : ℕ) → ((i : ℕ) → HasCommands (round i) 1) → count ≤ 20000 → sum_by count_of (parts round count) ≤ 5000000 → CanBePlayed (script_of round count)
 rounds-playable round count each most sum = record { full = λ mode. rounds-play round count each most sum; half = λ mode. absurd (false≢true mode) }

@@ -99,13 +99,13 @@ half_count_of numbers (Alter lane mask) = 1
 half_count_of numbers (Foreign lane bytes) = length bytes
 half_count_of numbers (Tick who n) = n
 
--- a half-duplex script whose ends are set up rightly, whose events may all happen, with at most 65,535 commands and 4,000,000 events
+-- a half-duplex script whose ends are set up rightly, whose events may all happen, with at most 65,535 commands and 5,000,000 events
 pub record IsHalfPlayable (script : Script) : Type 0 where
   pub mode : script.half ≡ true
   pub ends : AreHalfEnds script.ends
   pub events : All (IsHalfPossible (numbers_of script.ends)) script.events
   pub commands : count_by is_issue script.events ≤ 65535
-  pub sum : sum_by (half_count_of (numbers_of script.ends)) script.events ≤ 4000000
+  pub sum : sum_by (half_count_of (numbers_of script.ends)) script.events ≤ 5000000
 
 -- ---- either mode
 

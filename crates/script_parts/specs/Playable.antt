@@ -78,11 +78,12 @@ count_of (Alter lane mask) = 1
 count_of (Foreign lane bytes) = length bytes
 count_of (Tick who n) = n
 
--- a full-duplex script whose ends are set up rightly, whose events may all happen, with at most 65,535 commands of each end and 4,000,000 events
+-- a full-duplex script whose ends are set up rightly, whose events may all happen, with at most 65,535 commands of each end and 5,000,000 events:
+-- those of a text are 4,000,000 at most, and commands may be put in front of them
 pub record IsPlayable (script : Script) : Type 0 where
   pub mode : script.half ≡ false
   pub ends : AreEnds script.ends
   pub events : All IsPossible script.events
   pub commands_of_a : count_by (issues A) script.events ≤ 65535
   pub commands_of_b : count_by (issues B) script.events ≤ 65535
-  pub sum : sum_by count_of script.events ≤ 4000000
+  pub sum : sum_by count_of script.events ≤ 5000000

@@ -22,5 +22,5 @@ front-plays script front rest playable is = record {
   events = all-front front rest (subst (λ (l : List Event). All IsPossible l) is playable.events);
   commands_of_a = count-front (issues A) front rest 65535 (subst (λ (l : List Event). count_by (issues A) l ≤ 65535) is playable.commands_of_a);
   commands_of_b = count-front (issues B) front rest 65535 (subst (λ (l : List Event). count_by (issues B) l ≤ 65535) is playable.commands_of_b);
-  sum = let all : sum_by count_of (front ++ rest) ≤ 4000000 = subst (λ (l : List Event). sum_by count_of l ≤ 4000000) is playable.sum in omega (arith, all, sum_by-append count_of front rest);
+  sum = let all : sum_by count_of (front ++ rest) ≤ 5000000 = subst (λ (l : List Event). sum_by count_of l ≤ 5000000) is playable.sum in omega (arith, all, sum_by-append count_of front rest);
 }

@@ -398,7 +398,7 @@ begun-over-few side (deed ∷ deeds) =
 
 -- so many transmissions and steps come in a run
 abbrev AreFew : List (List ℕ) → ℕ → Type 0
-AreFew begun more = length begun + more ≤ 4000000
+AreFew begun more = length begun + more ≤ 5000000
 
 counts-deeds : (begun far_begun : List (List ℕ)) (heard far_heard : ℕ) (s : LineState) (deeds : List Deed) → AreFew begun (length deeds) → BothCount begun far_begun heard far_heard s
     → BothCount (begun ++ begun_over s.a deeds) far_begun (ended_over heard s.a deeds) far_heard (after_deeds s deeds)

@@ -369,10 +369,10 @@ event-most numbers s (event.Tick who n) = let same = length-map (replicate n Tic
 -- ---- events
 
 line-events : (numbers : List ℕ) (events : List Event) (s : HalfState) (of_m : List master_fates.Event) (of_s : ℕ → List slave_fates.Event) (to from : ℕ → List LaneCell) (most : ℕ) → All (IsHalfPossible numbers) events → issued_by s.master + count_by is_issue events ≤ 65535
-    → most + sum_by (half_count_of numbers) events ≤ 4000000 → LineEnds s of_m of_s to from most
-    → LineEnds (state_after s events) (of_m ++ over_events master_events s events) (λ p. of_s p ++ over_events (station_events p) s events) (λ p. to p ++ over_events (arrived ToStation p) s events) (λ p. from p ++ over_events (arrived ToMaster p) s events) 4000000
+    → most + sum_by (half_count_of numbers) events ≤ 5000000 → LineEnds s of_m of_s to from most
+    → LineEnds (state_after s events) (of_m ++ over_events master_events s events) (λ p. of_s p ++ over_events (station_events p) s events) (λ p. to p ++ over_events (arrived ToStation p) s events) (λ p. from p ++ over_events (arrived ToMaster p) s events) 5000000
 line-events numbers [] s of_m of_s to from most possible few small h =
-    same-ends s of_m (of_m ++ []) of_s (λ p. of_s p ++ []) to (λ p. to p ++ []) from (λ p. from p ++ []) most 4000000 (sym (append-nil of_m)) (λ p. sym (append-nil (of_s p))) (λ p. sym (append-nil (to p))) (λ p. sym (append-nil (from p))) (omega (arith, small)) h
+    same-ends s of_m (of_m ++ []) of_s (λ p. of_s p ++ []) to (λ p. to p ++ []) from (λ p. from p ++ []) most 5000000 (sym (append-nil of_m)) (λ p. sym (append-nil (of_s p))) (λ p. sym (append-nil (to p))) (λ p. sym (append-nil (from p))) (omega (arith, small)) h
 line-events numbers (e ∷ events) s of_m of_s to from most possible few small h =
     let next = after_event s e in
     let steps = steps_of s e in
@@ -380,7 +380,7 @@ line-events numbers (e ∷ events) s of_m of_s to from most possible few small h
     let sum = sum_by-cons (half_count_of numbers) e events in
     let one = line-steps steps s of_m of_s to from most (event-may numbers s e (All-head (IsHalfPossible numbers) e events possible) (unspent s e events few)) (omega (arith, small, sum, weight)) h in
     let rest = line-events numbers events next _ _ _ _ (most + length steps) (All-tail (IsHalfPossible numbers) e events possible) (room-of-m s e events few) (omega (arith, small, sum, weight)) one in
-    same-ends (state_after next events) _ _ _ _ _ _ _ _ 4000000 4000000 (append_assoc of_m (over_steps master_events s steps) (over_events master_events next events))
+    same-ends (state_after next events) _ _ _ _ _ _ _ _ 5000000 5000000 (append_assoc of_m (over_steps master_events s steps) (over_events master_events next events))
     (λ p. append_assoc (of_s p) (over_steps (station_events p) s steps) (over_events (station_events p) next events)) (λ p. append_assoc (to p) (over_steps (arrived ToStation p) s steps) (over_events (arrived ToStation p) next events))
     (λ p. append_assoc (from p) (over_steps (arrived ToMaster p) s steps) (over_events (arrived ToMaster p) next events)) (omega arith) rest
 
@@ -425,8 +425,8 @@ pub all-in-order : (script : Script) → IsHalfPlayable script → AreAllInOrder
 all-in-order script playable place side at =
     let h = line-events (numbers_of script.ends) script.events (start script) [] (λ p. []) (λ p. []) (λ p. []) 0 playable.events (omega (arith, playable.commands)) (omega (arith, playable.sum)) (start-ends script playable) in
     let this = h.sides place side at in
-    let of_m = master-numbers (last_state script).master (over_events master_events (start script) script.events) 4000000 h.given (omega arith) h.master in
-    let of_s = station-numbers side (over_events (station_events place) (start script) script.events) 4000000 this.given (omega arith) this.station in
+    let of_m = master-numbers (last_state script).master (over_events master_events (start script) script.events) 5000000 h.given (omega arith) h.master in
+    let of_s = station-numbers side (over_events (station_events place) (start script) script.events) 5000000 this.given (omega arith) this.station in
     record {
       to_it = in-order (transmissions_of_m script) (over_events (arrived ToStation place) (start script) script.events) side.to_it h.given of_m.0 of_m.1 h.master.carry this.to_it;
       from_it = in-order (transmissions_of script place) (over_events (arrived ToMaster place) (start script) script.events) side.from_it this.given of_s.0 of_s.1 this.station.carry this.from_it;
