@@ -39,8 +39,9 @@ ARROWS = {
     "damage-that-crc-catches": [f"{WRITE}; byte 15: 34 → 35, byte 16: 12 → 11", "b>a NAK", WRITE, *ACKS],
     "damage-with-two-out": [
         f"{WRITE}; byte 3: 01 → 00", "b>a NAK", WRITE, "b>a ACK",
-        f"{named('write N7:1 = 5678', 2)}; byte 6: 00 → FF", "b>a reply, done, TNS 0001; byte 5: 4F → CF", "a>b NAK", "b>a NAK",
-        named("write N7:1 = 5678", 2), named("reply, done", 1, "b>a"), "a>b ACK", "b>a ACK", named("reply, done", 2, "b>a"), "a>b ACK",
+        f"{named('write N7:1 = 5678', 2)}; byte 6: 00 → FF", "b>a NAK", named("write N7:1 = 5678", 2),
+        "b>a reply, done, TNS 0001; byte 5: 4F → CF", "a>b NAK", "b>a ACK",
+        named("reply, done", 1, "b>a"), "a>b ACK", named("reply, done", 2, "b>a"), "a>b ACK",
     ],
     "damaged-etx": [f"{WRITE}; byte 18: 03 → 01", "b>a NAK"],
     "damaged-frame-and-lost-nak": [
