@@ -1,5 +1,5 @@
 //! A sink before another one, to which it hands on what it takes by pieces of 4,096 bytes.
-ghost use Rattle.std.specs.Prelude.{◌≡◌, ◌<◌, ◌≤◌, ◌-◌, ◌++◌, [], IsOk, OnOk, OnErr, IfOk, length, min, take, drop};
+ghost use Rattle.std.specs.Prelude.{◌≡◌, ◌≢◌, ◌<◌, ◌≤◌, ◌-◌, ◌++◌, [], IsOk, OnOk, OnErr, IfOk, length, min, take, drop};
 ghost use Rattle.std.specs.Io.KnownBytes.{Keeps};
 ghost use Rattle.df1_base.specs.Outside.{Rose, Put, Later};
 
@@ -32,10 +32,13 @@ impl<'a, K: Sink> Buffered<'a, K> {
         }
     }
 
-    /// Hands on all that waits. Where the sink fails, what it didn't take still waits.
+    /// Hands on all that waits. Where the sink fails, what it didn't take still waits: some bytes. Where nothing waits, it
+    /// succeeds, and nothing happens.
     #[inline(never)]
     pub fn flush(&mut self) -> Result<(), Failed>
         ensures none { OnOk result (buffer_waiting self.new ≡ []) }
+        ensures waits { OnErr result (buffer_waiting self.new ≢ []) }
+        ensures idle { buffer_waiting self.old ≡ [] → IsOk result × (self.new ≡ self.old) }
         ensures kept { Keeps (buffer_held K.held self.old) (buffer_held K.held self.new) }
         ensures calm { OnOk result (buffer_faults K.faults self.new ≡ buffer_faults K.faults self.old) }
         ensures later { Later (buffer_mark K.held K.mark self.old) (buffer_mark K.held K.mark self.new) (buffer_faults K.faults self.old) (buffer_faults K.faults self.new) }
