@@ -4,8 +4,9 @@ use Rattle.std.specs.Prelude.{slice_index}
 use Rattle.std.specs.List.{flat_map}
 use Rattle.std.proofs.KnownBytes.{Appends-trans}
 use Rattle.hex.specs.Hex.{encode_upper, encode_with, upper_digits}
-use Rattle.df1_base.specs.Outside.{Put, Wrote, WrotePart}
-use Rattle.df1_base.proofs.Laws.{part_of_more, part_rest, wrote_all}
+use Rattle.df1_base.specs.Outside.{Put, Wrote, WroteLess}
+use Rattle.df1_base.proofs.Laws.{wrote_all}
+use Rattle.replay_report.proofs.Writing.{less_of_more, less_rest}
 
 -- the two digits of a byte
 abbrev pub pair_of : ℕ → List ℕ
@@ -37,11 +38,11 @@ piece_put a b c bytes rest n w put =
       put = Appends-trans a b c w.part (encode_upper (take n rest)) w.put put;
     }
 
--- or a part of it
-pub piece_part : (a b c : Option (List ℕ)) (bytes rest : List ℕ) (n : ℕ) → Wrote a b (encode_upper bytes) (encode_upper rest) → WrotePart b c (encode_upper (take n rest)) → WrotePart a c (encode_upper bytes)
-piece_part a b c bytes rest n w part =
+-- or less than it
+pub piece_less : (a b c : Option (List ℕ)) (bytes rest : List ℕ) (n : ℕ) → Wrote a b (encode_upper bytes) (encode_upper rest) → WroteLess b c (encode_upper (take n rest)) → WroteLess a c (encode_upper bytes)
+piece_less a b c bytes rest n w less =
     let cut : encode_upper (take n rest) ++ encode_upper (drop n rest) ≡ encode_upper rest = sym (digits-behind (take n rest) (drop n rest)) ∙ ap encode_upper (take-append-drop n rest) in
-    part_rest a b c (encode_upper bytes) (encode_upper rest) w (subst (WrotePart b c) cut (part_of_more b c (encode_upper (take n rest)) (encode_upper (drop n rest)) part))
+    less_rest a b c (encode_upper bytes) (encode_upper rest) w (subst (WroteLess b c) cut (less_of_more b c (encode_upper (take n rest)) (encode_upper (drop n rest)) less))
 
 no-digits : encode_upper [] ≡ []
 unfolding encode_with

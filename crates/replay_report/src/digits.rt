@@ -1,7 +1,7 @@
 //! Bytes as pairs of hexadecimal digits, high digit first, letters in upper case.
 ghost use Rattle.std.specs.Prelude.{◌≡◌, ◌≤◌, ◌+◌, ◌*◌, ◌++◌, [], ◌∷◌, OnOk, OnErr, length};
 ghost use Rattle.arrayvec.specs.ArrayVec.{array_vec_len};
-ghost use Rattle.df1_base.specs.Outside.{Rose, Put, WrotePart, Later};
+ghost use Rattle.df1_base.specs.Outside.{Rose, Put, WroteLess, Later};
 ghost use Rattle.hex.specs.Hex.{encode_upper};
 
 use crate::short::{ROOM, Short};
@@ -17,7 +17,7 @@ const PIECE: usize = 32;
 /// Writes bytes as two digits each.
 pub(crate) fn put_hex<K: Sink>(sink: &mut K, bytes: &[u8]) -> Result<(), Failed>
     ensures ok { OnOk result (Put (K.held sink.old) (K.held sink.new) (encode_upper bytes.now)) }
-    ensures part { WrotePart (K.held sink.old) (K.held sink.new) (encode_upper bytes.now) }
+    ensures missing { OnErr result (WroteLess (K.held sink.old) (K.held sink.new) (encode_upper bytes.now)) }
     ensures calm { OnOk result (K.faults sink.new ≡ K.faults sink.old) }
     ensures later { Later (K.mark sink.old) (K.mark sink.new) (K.faults sink.old) (K.faults sink.new) }
     ensures cause { OnErr result (Rose (K.faults sink.old) (K.faults sink.new)) }

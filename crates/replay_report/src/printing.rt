@@ -18,7 +18,7 @@
 ghost use Rattle.std.specs.Prelude.{◌≡◌, ◌≤◌, ◌+◌, ◌++◌, ◌∷◌, [], codes, decimal, length, OnOk, OnErr};
 ghost use Rattle.arrayvec.specs.ArrayVec.{array_vec_len};
 ghost use Rattle.std.specs.List.{flat_map};
-ghost use Rattle.df1_base.specs.Outside.{Rose, Put, WrotePart, Later};
+ghost use Rattle.df1_base.specs.Outside.{Rose, Put, WroteLess, Later};
 ghost use Rattle.hex.specs.Hex.{encode_upper};
 ghost use Rattle.replay_report.specs.Report.{report, line_text, who_text, word_text};
 
@@ -31,10 +31,10 @@ use script_parts::WordOf;
 use script_statement::Who;
 
 /// Writes the report of a record: its lines, its words and its count of deceptions. `Failed` comes where the sink
-/// failed; then it holds a first part of the text.
+/// failed; then it holds a first part of the text, and not all.
 pub fn print<K: Sink>(record_of: &Record, sink: &mut K) -> Result<(), Failed>
     ensures ok { OnOk result (Put (K.held sink.old) (K.held sink.new) (report record_of.now)) }
-    ensures part { WrotePart (K.held sink.old) (K.held sink.new) (report record_of.now) }
+    ensures missing { OnErr result (WroteLess (K.held sink.old) (K.held sink.new) (report record_of.now)) }
     ensures calm { OnOk result (K.faults sink.new ≡ K.faults sink.old) }
     ensures later { Later (K.mark sink.old) (K.mark sink.new) (K.faults sink.old) (K.faults sink.new) }
     ensures cause { OnErr result (Rose (K.faults sink.old) (K.faults sink.new)) }
@@ -44,10 +44,12 @@ pub fn print<K: Sink>(record_of: &Record, sink: &mut K) -> Result<(), Failed>
     write_all(sink, &deceived_line(record_of.deceived))
 }
 
-/// Writes the text of lines of a report. `Failed` comes where the sink failed; then it holds a first part of the text.
+/// Writes the text of lines of a report, where there are any. `Failed` comes where the sink failed; then it holds a first part of
+/// the text, and not all.
 pub fn print_lines<K: Sink>(lines: &[Line], sink: &mut K) -> Result<(), Failed>
     ensures ok { OnOk result (Put (K.held sink.old) (K.held sink.new) (flat_map line_text lines.now)) }
-    ensures part { WrotePart (K.held sink.old) (K.held sink.new) (flat_map line_text lines.now) }
+    ensures missing { OnErr result (WroteLess (K.held sink.old) (K.held sink.new) (flat_map line_text lines.now)) }
+    ensures untouched { lines.now ≡ [] → sink.new ≡ sink.old }
     ensures calm { OnOk result (K.faults sink.new ≡ K.faults sink.old) }
     ensures later { Later (K.mark sink.old) (K.mark sink.new) (K.faults sink.old) (K.faults sink.new) }
     ensures cause { OnErr result (Rose (K.faults sink.old) (K.faults sink.new)) }
@@ -58,10 +60,10 @@ pub fn print_lines<K: Sink>(lines: &[Line], sink: &mut K) -> Result<(), Failed>
     Ok(())
 }
 
-/// Writes one line of a report. `Failed` comes where the sink failed; then it holds a first part of the line.
+/// Writes one line of a report. `Failed` comes where the sink failed; then it holds a first part of the line, and not all.
 pub fn put_line<K: Sink>(sink: &mut K, line: &Line) -> Result<(), Failed>
     ensures ok { OnOk result (Put (K.held sink.old) (K.held sink.new) (line_text line.now)) }
-    ensures part { WrotePart (K.held sink.old) (K.held sink.new) (line_text line.now) }
+    ensures missing { OnErr result (WroteLess (K.held sink.old) (K.held sink.new) (line_text line.now)) }
     ensures calm { OnOk result (K.faults sink.new ≡ K.faults sink.old) }
     ensures later { Later (K.mark sink.old) (K.mark sink.new) (K.faults sink.old) (K.faults sink.new) }
     ensures cause { OnErr result (Rose (K.faults sink.old) (K.faults sink.new)) }
@@ -82,10 +84,10 @@ pub fn put_line<K: Sink>(sink: &mut K, line: &Line) -> Result<(), Failed>
 }
 
 /// Writes the line of bytes that an end gave at one event. `Failed` comes where the sink failed; then it holds a first part of the
-/// line.
+/// line, and not all.
 pub fn put_sent<K: Sink>(sink: &mut K, who: Who, bytes: &[u8]) -> Result<(), Failed>
     ensures ok { OnOk result (Put (K.held sink.old) (K.held sink.new) (line_text (Line.Sent who bytes.now))) }
-    ensures part { WrotePart (K.held sink.old) (K.held sink.new) (line_text (Line.Sent who bytes.now)) }
+    ensures missing { OnErr result (WroteLess (K.held sink.old) (K.held sink.new) (line_text (Line.Sent who bytes.now))) }
     ensures calm { OnOk result (K.faults sink.new ≡ K.faults sink.old) }
     ensures later { Later (K.mark sink.old) (K.mark sink.new) (K.faults sink.old) (K.faults sink.new) }
     ensures cause { OnErr result (Rose (K.faults sink.old) (K.faults sink.new)) }
@@ -100,7 +102,7 @@ pub fn put_sent<K: Sink>(sink: &mut K, who: Who, bytes: &[u8]) -> Result<(), Fai
 /// Writes the line of one byte that an end gave, by the letter of the end: these are the commonest lines of all.
 fn put_byte<K: Sink>(sink: &mut K, end: u8, byte: u8) -> Result<(), Failed>
     ensures ok { OnOk result (Put (K.held sink.old) (K.held sink.new) (end ∷ codes " sent " ++ encode_upper (byte ∷ []) ++ codes "\n")) }
-    ensures part { WrotePart (K.held sink.old) (K.held sink.new) (end ∷ codes " sent " ++ encode_upper (byte ∷ []) ++ codes "\n") }
+    ensures missing { OnErr result (WroteLess (K.held sink.old) (K.held sink.new) (end ∷ codes " sent " ++ encode_upper (byte ∷ []) ++ codes "\n")) }
     ensures calm { OnOk result (K.faults sink.new ≡ K.faults sink.old) }
     ensures later { Later (K.mark sink.old) (K.mark sink.new) (K.faults sink.old) (K.faults sink.new) }
     ensures cause { OnErr result (Rose (K.faults sink.old) (K.faults sink.new)) }
@@ -116,7 +118,7 @@ fn put_byte<K: Sink>(sink: &mut K, end: u8, byte: u8) -> Result<(), Failed>
 fn put_bytes<K: Sink>(sink: &mut K, who: Who, what: &[u8], bytes: &[u8]) -> Result<(), Failed>
     requires { length what.now ≤ 16 }
     ensures ok { OnOk result (Put (K.held sink.old) (K.held sink.new) (who_text who ++ what.now ++ encode_upper bytes.now ++ codes "\n")) }
-    ensures part { WrotePart (K.held sink.old) (K.held sink.new) (who_text who ++ what.now ++ encode_upper bytes.now ++ codes "\n") }
+    ensures missing { OnErr result (WroteLess (K.held sink.old) (K.held sink.new) (who_text who ++ what.now ++ encode_upper bytes.now ++ codes "\n")) }
     ensures calm { OnOk result (K.faults sink.new ≡ K.faults sink.old) }
     ensures later { Later (K.mark sink.old) (K.mark sink.new) (K.faults sink.old) (K.faults sink.new) }
     ensures cause { OnErr result (Rose (K.faults sink.old) (K.faults sink.new)) }
@@ -130,7 +132,7 @@ fn put_bytes<K: Sink>(sink: &mut K, who: Who, what: &[u8], bytes: &[u8]) -> Resu
 #[inline(never)]
 fn put_answer<K: Sink>(sink: &mut K, who: Who, n: u32, body: &[u8]) -> Result<(), Failed>
     ensures ok { OnOk result (Put (K.held sink.old) (K.held sink.new) (who_text who ++ codes " answered " ++ decimal n ++ codes " " ++ encode_upper body.now ++ codes "\n")) }
-    ensures part { WrotePart (K.held sink.old) (K.held sink.new) (who_text who ++ codes " answered " ++ decimal n ++ codes " " ++ encode_upper body.now ++ codes "\n") }
+    ensures missing { OnErr result (WroteLess (K.held sink.old) (K.held sink.new) (who_text who ++ codes " answered " ++ decimal n ++ codes " " ++ encode_upper body.now ++ codes "\n")) }
     ensures calm { OnOk result (K.faults sink.new ≡ K.faults sink.old) }
     ensures later { Later (K.mark sink.old) (K.mark sink.new) (K.faults sink.old) (K.faults sink.new) }
     ensures cause { OnErr result (Rose (K.faults sink.old) (K.faults sink.new)) }
@@ -147,7 +149,7 @@ fn put_answer<K: Sink>(sink: &mut K, who: Who, n: u32, body: &[u8]) -> Result<()
 fn put_number<K: Sink>(sink: &mut K, who: Who, what: &[u8], n: u32) -> Result<(), Failed>
     requires { length what.now ≤ 16 }
     ensures ok { OnOk result (Put (K.held sink.old) (K.held sink.new) (who_text who ++ what.now ++ decimal n ++ codes "\n")) }
-    ensures part { WrotePart (K.held sink.old) (K.held sink.new) (who_text who ++ what.now ++ decimal n ++ codes "\n") }
+    ensures missing { OnErr result (WroteLess (K.held sink.old) (K.held sink.new) (who_text who ++ what.now ++ decimal n ++ codes "\n")) }
     ensures calm { OnOk result (K.faults sink.new ≡ K.faults sink.old) }
     ensures later { Later (K.mark sink.old) (K.mark sink.new) (K.faults sink.old) (K.faults sink.new) }
     ensures cause { OnErr result (Rose (K.faults sink.old) (K.faults sink.new)) }
@@ -164,7 +166,7 @@ fn put_number<K: Sink>(sink: &mut K, who: Who, what: &[u8], n: u32) -> Result<()
 fn put_said<K: Sink>(sink: &mut K, who: Who, what: &[u8]) -> Result<(), Failed>
     requires { length what.now ≤ 16 }
     ensures ok { OnOk result (Put (K.held sink.old) (K.held sink.new) (who_text who ++ what.now)) }
-    ensures part { WrotePart (K.held sink.old) (K.held sink.new) (who_text who ++ what.now) }
+    ensures missing { OnErr result (WroteLess (K.held sink.old) (K.held sink.new) (who_text who ++ what.now)) }
     ensures calm { OnOk result (K.faults sink.new ≡ K.faults sink.old) }
     ensures later { Later (K.mark sink.old) (K.mark sink.new) (K.faults sink.old) (K.faults sink.new) }
     ensures cause { OnErr result (Rose (K.faults sink.old) (K.faults sink.new)) }
@@ -178,7 +180,7 @@ fn put_said<K: Sink>(sink: &mut K, who: Who, what: &[u8]) -> Result<(), Failed>
 fn put_behind<K: Sink>(sink: &mut K, line: &mut Short, bytes: &[u8]) -> Result<(), Failed>
     requires { array_vec_len line.old + 1 ≤ ROOM }
     ensures ok { OnOk result (Put (K.held sink.old) (K.held sink.new) (line.old.items ++ encode_upper bytes.now ++ codes "\n")) }
-    ensures part { WrotePart (K.held sink.old) (K.held sink.new) (line.old.items ++ encode_upper bytes.now ++ codes "\n") }
+    ensures missing { OnErr result (WroteLess (K.held sink.old) (K.held sink.new) (line.old.items ++ encode_upper bytes.now ++ codes "\n")) }
     ensures calm { OnOk result (K.faults sink.new ≡ K.faults sink.old) }
     ensures later { Later (K.mark sink.old) (K.mark sink.new) (K.faults sink.old) (K.faults sink.new) }
     ensures cause { OnErr result (Rose (K.faults sink.old) (K.faults sink.new)) }
@@ -195,7 +197,7 @@ fn put_behind<K: Sink>(sink: &mut K, line: &mut Short, bytes: &[u8]) -> Result<(
 #[inline(never)]
 fn put_pieces<K: Sink>(sink: &mut K, head: &[u8], bytes: &[u8]) -> Result<(), Failed>
     ensures ok { OnOk result (Put (K.held sink.old) (K.held sink.new) (head.now ++ encode_upper bytes.now ++ codes "\n")) }
-    ensures part { WrotePart (K.held sink.old) (K.held sink.new) (head.now ++ encode_upper bytes.now ++ codes "\n") }
+    ensures missing { OnErr result (WroteLess (K.held sink.old) (K.held sink.new) (head.now ++ encode_upper bytes.now ++ codes "\n")) }
     ensures calm { OnOk result (K.faults sink.new ≡ K.faults sink.old) }
     ensures later { Later (K.mark sink.old) (K.mark sink.new) (K.faults sink.old) (K.faults sink.new) }
     ensures cause { OnErr result (Rose (K.faults sink.old) (K.faults sink.new)) }
@@ -208,7 +210,7 @@ fn put_pieces<K: Sink>(sink: &mut K, head: &[u8], bytes: &[u8]) -> Result<(), Fa
 /// Writes the lines of words.
 fn put_words<K: Sink>(sink: &mut K, words: &[WordOf]) -> Result<(), Failed>
     ensures ok { OnOk result (Put (K.held sink.old) (K.held sink.new) (flat_map word_text words.now)) }
-    ensures part { WrotePart (K.held sink.old) (K.held sink.new) (flat_map word_text words.now) }
+    ensures missing { OnErr result (WroteLess (K.held sink.old) (K.held sink.new) (flat_map word_text words.now)) }
     ensures calm { OnOk result (K.faults sink.new ≡ K.faults sink.old) }
     ensures later { Later (K.mark sink.old) (K.mark sink.new) (K.faults sink.old) (K.faults sink.new) }
     ensures cause { OnErr result (Rose (K.faults sink.old) (K.faults sink.new)) }
@@ -222,7 +224,7 @@ fn put_words<K: Sink>(sink: &mut K, words: &[WordOf]) -> Result<(), Failed>
 /// Writes the line of a word.
 fn put_word<K: Sink>(sink: &mut K, word: WordOf) -> Result<(), Failed>
     ensures ok { OnOk result (Put (K.held sink.old) (K.held sink.new) (word_text word)) }
-    ensures part { WrotePart (K.held sink.old) (K.held sink.new) (word_text word) }
+    ensures missing { OnErr result (WroteLess (K.held sink.old) (K.held sink.new) (word_text word)) }
     ensures calm { OnOk result (K.faults sink.new ≡ K.faults sink.old) }
     ensures later { Later (K.mark sink.old) (K.mark sink.new) (K.faults sink.old) (K.faults sink.new) }
     ensures cause { OnErr result (Rose (K.faults sink.old) (K.faults sink.new)) }

@@ -1,21 +1,23 @@
 use Rattle.std.proofs.Common.{◌≡◌, ◌∙◌}
 use Rattle.std.specs.List.{flat_map}
-use Rattle.std.proofs.lemmas.Result.{on_ok_weaker}
+use Rattle.std.proofs.lemmas.Result.{on_err_weaker, on_ok_weaker}
+use Rattle.df1_base.proofs.Feeding.{on-err}
 use Rattle.replay_report.specs.Report.{report, line_text, word_text, deceived_text}
-use Rattle.replay_report.proofs.Writing.{put_three, part_first, part_second, part_third}
+use Rattle.replay_report.proofs.Writing.{put_three, less_first, less_second, less_third}
 use Rattle.replay_report.proofs.printing.print.Goals as goal
 
-pub returns-in_err-print_lines-clause-part : goal.returns-in_err-print_lines-clause-part
+pub returns-in_err-print_lines-clause-missing : goal.returns-in_err-print_lines-clause-missing
 unfolding report
-returns-in_err-print_lines-clause-part g c =
+returns-in_err-print_lines-clause-missing g c =
     let r = c.args.record_of.now in
-    part_first _ _ (flat_map line_text r.lines) (flat_map word_text r.words) (deceived_text r.deceived) (rw c.as_slice.ensures at c.print_lines.ensures.part)
+    on-err c.from_residual.result (less_first _ _ (flat_map line_text r.lines) (flat_map word_text r.words) (deceived_text r.deceived) (rw c.as_slice.ensures at c.in_err-print_lines.ensures.missing))
 
-pub returns-in_err-put_words-clause-part : goal.returns-in_err-put_words-clause-part
+pub returns-in_err-put_words-clause-missing : goal.returns-in_err-put_words-clause-missing
 unfolding report
-returns-in_err-put_words-clause-part g c =
+returns-in_err-put_words-clause-missing g c =
     let r = c.args.record_of.now in
-    part_second _ _ _ (flat_map line_text r.lines) (flat_map word_text r.words) (deceived_text r.deceived) (rw c.as_slice.ensures at c.in_ok-print_lines.ensures.ok) (rw c.as_slice-2.ensures at c.put_words.ensures.part)
+    on-err c.from_residual-in_err-put_words.result
+    (less_second _ _ _ (flat_map line_text r.lines) (flat_map word_text r.words) (deceived_text r.deceived) (rw c.as_slice.ensures at c.in_ok-print_lines.ensures.ok) (rw c.as_slice-2.ensures at c.in_err-put_words.ensures.missing))
 
 pub returns-clause-ok : goal.returns-clause-ok
 unfolding report
@@ -25,9 +27,10 @@ returns-clause-ok g c =
     on_ok_weaker c.write_all.result
     (λ put. put_three _ _ _ _ (flat_map line_text r.lines) (flat_map word_text r.words) (deceived_text r.deceived) (rw c.as_slice.ensures at c.in_ok-print_lines.ensures.ok) (rw c.as_slice-2.ensures at c.in_ok-put_words.ensures.ok) (rw same at put)) c.write_all.ensures.ok
 
-pub returns-clause-part : goal.returns-clause-part
+pub returns-clause-missing : goal.returns-clause-missing
 unfolding report
-returns-clause-part g c =
+returns-clause-missing g c =
     let r = c.args.record_of.now in
     let same : c.deref.result.now ≡ deceived_text r.deceived = c.deref.ensures.0 ∙ c.deceived_line.ensures in
-    part_third _ _ _ _ (flat_map line_text r.lines) (flat_map word_text r.words) (deceived_text r.deceived) (rw c.as_slice.ensures at c.in_ok-print_lines.ensures.ok) (rw c.as_slice-2.ensures at c.in_ok-put_words.ensures.ok) (rw same at c.write_all.ensures.part)
+    on_err_weaker c.write_all.result
+    (λ less. less_third _ _ _ _ (flat_map line_text r.lines) (flat_map word_text r.words) (deceived_text r.deceived) (rw c.as_slice.ensures at c.in_ok-print_lines.ensures.ok) (rw c.as_slice-2.ensures at c.in_ok-put_words.ensures.ok) (rw same at less)) c.write_all.ensures.missing
