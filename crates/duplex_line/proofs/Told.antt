@@ -3,13 +3,12 @@ use Rattle.std.proofs.Common.{◌≡◌, ◌∙◌, ℕ, ◌<◌, List, [], ◌�
 use Rattle.std.specs.List.{flat_map}
 use Rattle.std.proofs.KnownBytes.{Appends-trans}
 use Rattle.std.proofs.lemmas.Grind.{flat_map-append}
-use Rattle.df1_base.specs.Outside.{Put, WrotePart}
-use Rattle.df1_base.proofs.Laws.{part_of_more}
+use Rattle.df1_base.specs.Outside.{Put, WroteLess}
 use Rattle.script_statement.specs.declared.who.Who.{Who}
 use Rattle.replay_report.specs.declared.record.Line.{Line}
 use Rattle.replay_report.specs.declared.record.Line.TheVariants as line
 use Rattle.replay_report.specs.Report.{line_text, sent_lines}
-use Rattle.replay_report.proofs.Writing.{part_behind}
+use Rattle.replay_report.proofs.Writing.{less_behind, less_of_more}
 use Rattle.duplex_line.specs.declared.sent.Sent.{Sent}
 use Rattle.duplex_line.specs.Told.{with_sent}
 
@@ -50,14 +49,23 @@ one-text who (byte ∷ bytes) some = append-nil (line_text (line.Sent who (byte 
 text-of : (lines : List Line) (sent : Sent) → flat_map line_text (with_sent lines sent) ≡ flat_map line_text lines ++ flat_map line_text (sent_lines sent.who sent.bytes)
 text-of lines sent = flat_map-append line_text lines (sent_lines sent.who sent.bytes)
 
+none-kept : (who : Who) (bytes : List ℕ) → sent_lines who bytes ≡ [] → bytes ≡ []
+none-kept who [] none = refl
+none-kept who (byte ∷ bytes) none = cc
+
 pub all-put : (a b c : Option (List ℕ)) (lines : List Line) (sent : Sent) → Put a b (flat_map line_text lines) → Put b c (flat_map line_text (sent_lines sent.who sent.bytes)) → Put a c (flat_map line_text (with_sent lines sent))
 all-put a b c lines sent first second =
     subst (Put a c) (sym (text-of lines sent)) (Appends-trans a b c (flat_map line_text lines) (flat_map line_text (sent_lines sent.who sent.bytes)) first second)
 
-pub part-of-lines : (a b : Option (List ℕ)) (lines : List Line) (sent : Sent) → WrotePart a b (flat_map line_text lines) → WrotePart a b (flat_map line_text (with_sent lines sent))
-part-of-lines a b lines sent part =
-    subst (WrotePart a b) (sym (text-of lines sent)) (part_of_more a b (flat_map line_text lines) (flat_map line_text (sent_lines sent.who sent.bytes)) part)
+pub less-of-lines : (a b : Option (List ℕ)) (lines : List Line) (sent : Sent) → WroteLess a b (flat_map line_text lines) → WroteLess a b (flat_map line_text (with_sent lines sent))
+less-of-lines a b lines sent less =
+    subst (WroteLess a b) (sym (text-of lines sent)) (less_of_more a b (flat_map line_text lines) (flat_map line_text (sent_lines sent.who sent.bytes)) less)
 
-pub part-of-sent : (a b c : Option (List ℕ)) (lines : List Line) (sent : Sent) → Put a b (flat_map line_text lines) → WrotePart b c (flat_map line_text (sent_lines sent.who sent.bytes)) → WrotePart a c (flat_map line_text (with_sent lines sent))
-part-of-sent a b c lines sent first part =
-    subst (WrotePart a c) (sym (text-of lines sent)) (part_behind a b c (flat_map line_text lines) (flat_map line_text (sent_lines sent.who sent.bytes)) first part)
+pub less-of-sent : (a b c : Option (List ℕ)) (lines : List Line) (sent : Sent) → Put a b (flat_map line_text lines) → WroteLess b c (flat_map line_text (sent_lines sent.who sent.bytes)) → WroteLess a c (flat_map line_text (with_sent lines sent))
+less-of-sent a b c lines sent first less =
+    subst (WroteLess a c) (sym (text-of lines sent)) (less_behind a b c (flat_map line_text lines) (flat_map line_text (sent_lines sent.who sent.bytes)) first less)
+
+-- there are no lines where none stood and no byte is kept
+pub none-stands : (lines : List Line) (sent : Sent) → with_sent lines sent ≡ [] → (lines ≡ []) × (sent.bytes ≡ [])
+none-stands [] sent none = (refl, none-kept sent.who sent.bytes none)
+none-stands (one ∷ lines) sent none = cc

@@ -2,7 +2,7 @@
 
 ghost use Rattle.std.specs.Prelude.{◌≡◌, ◌+◌, ◌≤◌, ◌<◌, ◌^◌, ◌++◌, [], OnOk, OnErr};
 ghost use Rattle.std.specs.List.{flat_map};
-ghost use Rattle.df1_base.specs.Outside.{Rose, Put, WrotePart, Later};
+ghost use Rattle.df1_base.specs.Outside.{Rose, Put, WroteLess, Later};
 ghost use Rattle.replay_report.specs.Report.{line_text};
 ghost use Rattle.duplex_line.specs.Acts.{after_cell, cell_lines, deceptions_at};
 
@@ -23,13 +23,14 @@ pub(crate) struct Reported {
 
 impl Reported {
     /// Writes the lines, if there are any, and drops them. `Failed` comes where the sink failed; then it holds a first part of
-    /// their text.
+    /// their text, and not all.
     #[inline(always)]
     pub fn print<K: Sink>(&mut self, sink: &mut K) -> Result<(), Failed>
         ensures none { OnOk result (self.new.lines ≡ []) }
         ensures count { self.new.deceived ≡ self.old.deceived }
         ensures ok { OnOk result (Put (K.held sink.old) (K.held sink.new) (flat_map line_text self.old.lines)) }
-        ensures part { WrotePart (K.held sink.old) (K.held sink.new) (flat_map line_text self.old.lines) }
+        ensures missing { OnErr result (WroteLess (K.held sink.old) (K.held sink.new) (flat_map line_text self.old.lines)) }
+        ensures untouched { self.old.lines ≡ [] → sink.new ≡ sink.old }
         ensures calm { OnOk result (K.faults sink.new ≡ K.faults sink.old) }
         ensures later { Later (K.mark sink.old) (K.mark sink.new) (K.faults sink.old) (K.faults sink.new) }
         ensures cause { OnErr result (Rose (K.faults sink.old) (K.faults sink.new)) }
@@ -47,7 +48,8 @@ impl Reported {
         ensures none { OnOk result (self.new.lines ≡ []) }
         ensures count { self.new.deceived ≡ self.old.deceived }
         ensures ok { OnOk result (Put (K.held sink.old) (K.held sink.new) (flat_map line_text self.old.lines)) }
-        ensures part { WrotePart (K.held sink.old) (K.held sink.new) (flat_map line_text self.old.lines) }
+        ensures missing { OnErr result (WroteLess (K.held sink.old) (K.held sink.new) (flat_map line_text self.old.lines)) }
+        ensures untouched { self.old.lines ≡ [] → sink.new ≡ sink.old }
         ensures calm { OnOk result (K.faults sink.new ≡ K.faults sink.old) }
         ensures later { Later (K.mark sink.old) (K.mark sink.new) (K.faults sink.old) (K.faults sink.new) }
         ensures cause { OnErr result (Rose (K.faults sink.old) (K.faults sink.new)) }

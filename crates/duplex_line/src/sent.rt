@@ -2,7 +2,7 @@
 
 ghost use Rattle.std.specs.Prelude.{◌≡◌, ◌<◌, [], length, OnOk, OnErr};
 ghost use Rattle.std.specs.List.{flat_map};
-ghost use Rattle.df1_base.specs.Outside.{Rose, Put, WrotePart, Later};
+ghost use Rattle.df1_base.specs.Outside.{Rose, Put, WroteLess, Later};
 ghost use Rattle.replay_report.specs.Report.{line_text, sent_lines};
 ghost use Rattle.duplex_line.specs.Told.{with_sent};
 
@@ -59,11 +59,12 @@ impl Sent {
     }
 
     /// Writes their line, if there are any, and drops them. `Failed` comes where the sink failed; then it holds a first part of
-    /// the line.
+    /// the line, and not all.
     pub fn print<K: Sink>(&mut self, sink: &mut K) -> Result<(), Failed>
         ensures none { OnOk result (self.new.bytes ≡ []) }
         ensures ok { OnOk result (Put (K.held sink.old) (K.held sink.new) (flat_map line_text (sent_lines self.old.who self.old.bytes))) }
-        ensures part { WrotePart (K.held sink.old) (K.held sink.new) (flat_map line_text (sent_lines self.old.who self.old.bytes)) }
+        ensures missing { OnErr result (WroteLess (K.held sink.old) (K.held sink.new) (flat_map line_text (sent_lines self.old.who self.old.bytes))) }
+        ensures untouched { self.old.bytes ≡ [] → sink.new ≡ sink.old }
         ensures calm { OnOk result (K.faults sink.new ≡ K.faults sink.old) }
         ensures later { Later (K.mark sink.old) (K.mark sink.new) (K.faults sink.old) (K.faults sink.new) }
         ensures cause { OnErr result (Rose (K.faults sink.old) (K.faults sink.new)) }

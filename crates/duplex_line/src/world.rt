@@ -1,8 +1,8 @@
 //! The world of a script: both ends, what is on its way between them, and what is told so far.
 
-ghost use Rattle.std.specs.Prelude.{◌≡◌, ◌≤◌, ◌++◌, IfOk, OnOk, OnErr, IsOk, IsTrue};
+ghost use Rattle.std.specs.Prelude.{◌≡◌, ◌≤◌, ◌++◌, [], IfOk, OnOk, OnErr, IsOk, IsTrue};
 ghost use Rattle.std.specs.List.{flat_map};
-ghost use Rattle.df1_base.specs.Outside.{Rose, Put, WrotePart, Later};
+ghost use Rattle.df1_base.specs.Outside.{Rose, Put, WroteLess, Later};
 ghost use Rattle.replay_report.specs.Report.{line_text};
 ghost use Rattle.script_parts.specs.Playable.{IsPlayable, IsPossible, count_of};
 ghost use Rattle.duplex_line.specs.Run.{record_from, all_words, who_of};
@@ -105,11 +105,12 @@ impl DuplexWorld {
     }
 
     /// Writes the lines of the report that stand since the last such call, and drops them. `Failed` comes where the sink
-    /// failed; then it holds a first part of their text, and the world is only dropped.
+    /// failed; then it holds a first part of their text, and not all, and the world is only dropped.
     pub fn print_lines<K: Sink>(&mut self, sink: &mut K) -> Result<(), Failed>
         ensures state { OnOk result (self.new ≡ printed self.old) }
         ensures ok { OnOk result (Put (K.held sink.old) (K.held sink.new) (flat_map line_text self.old.lines)) }
-        ensures part { WrotePart (K.held sink.old) (K.held sink.new) (flat_map line_text self.old.lines) }
+        ensures missing { OnErr result (WroteLess (K.held sink.old) (K.held sink.new) (flat_map line_text self.old.lines)) }
+        ensures untouched { self.old.lines ≡ [] → sink.new ≡ sink.old }
         ensures calm { OnOk result (K.faults sink.new ≡ K.faults sink.old) }
         ensures later { Later (K.mark sink.old) (K.mark sink.new) (K.faults sink.old) (K.faults sink.new) }
         ensures cause { OnErr result (Rose (K.faults sink.old) (K.faults sink.new)) }

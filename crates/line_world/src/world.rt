@@ -1,8 +1,8 @@
 //! The world of a script of either mode.
 
-ghost use Rattle.std.specs.Prelude.{◌≡◌, IfOk, IsOk, IsTrue, OnOk, OnErr};
+ghost use Rattle.std.specs.Prelude.{◌≡◌, [], IfOk, IsOk, IsTrue, OnOk, OnErr};
 ghost use Rattle.std.specs.List.{flat_map};
-ghost use Rattle.df1_base.specs.Outside.{Rose, Put, WrotePart, Later};
+ghost use Rattle.df1_base.specs.Outside.{Rose, Put, WroteLess, Later};
 ghost use Rattle.replay_report.specs.Report.{line_text};
 ghost use Rattle.script_parts.specs.HalfPlayable.{CanBePlayed};
 ghost use Rattle.line_world.specs.Runs.{IsNext, begun, lines_in, played, printed, record_from, takes_no_memory};
@@ -53,11 +53,12 @@ impl World {
     }
 
     /// Writes the lines of the report that stand since the last such call, and drops them. `Failed` comes where the sink
-    /// failed; then it holds a first part of their text, and the world is only dropped.
+    /// failed; then it holds a first part of their text, and not all, and the world is only dropped.
     pub fn print_lines<K: Sink>(&mut self, sink: &mut K) -> Result<(), Failed>
         ensures state { OnOk result (self.new ≡ printed self.old) }
         ensures ok { OnOk result (Put (K.held sink.old) (K.held sink.new) (flat_map line_text (lines_in self.old))) }
-        ensures part { WrotePart (K.held sink.old) (K.held sink.new) (flat_map line_text (lines_in self.old)) }
+        ensures missing { OnErr result (WroteLess (K.held sink.old) (K.held sink.new) (flat_map line_text (lines_in self.old))) }
+        ensures untouched { lines_in self.old ≡ [] → sink.new ≡ sink.old }
         ensures calm { OnOk result (K.faults sink.new ≡ K.faults sink.old) }
         ensures later { Later (K.mark sink.old) (K.mark sink.new) (K.faults sink.old) (K.faults sink.new) }
         ensures cause { OnErr result (Rose (K.faults sink.old) (K.faults sink.new)) }
