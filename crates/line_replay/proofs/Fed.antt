@@ -1,10 +1,10 @@
 -- What a replay shows, event by event and byte by byte.
 use Rattle.std.proofs.Common.{◌≡◌, inl, inr, Bool, true, false, ℕ, List, [], ◌∷◌, ◌++◌, Option, Some, None, Result, Ok, Err, refl, sym, ap, subst, ◌∙◌, arith, append_assoc, append-nil, take}
-use Rattle.std.specs.Prelude.{◌≢◌, unwrap_or, OnErr}
+use Rattle.std.specs.Prelude.{◌≢◌, unwrap_or, IfErr, IsErrOf, OnErr}
 use Rattle.std.specs.List.{flat_map}
 use Rattle.std.proofs.lemmas.Grind.{flat_map-append}
 use Rattle.std.proofs.lemmas.List.Elements.{All-nil}
-use Rattle.df1_base.specs.Outside.{Put, WrotePart}
+use Rattle.df1_base.specs.Outside.{Put, WroteLess}
 use Rattle.std.proofs.KnownBytes.{Appends-nil, Appends-trans}
 use Rattle.line_script.specs.declared.fault.Cause.{Cause}
 use Rattle.line_script.specs.declared.reader.Reader.{Reader}
@@ -23,13 +23,14 @@ use Rattle.line_script.specs.ScriptText.{script_of}
 use Rattle.line_script.proofs.Setup.{Extends, TellsEvents, script-accepted}
 use Rattle.line_script.proofs.Shown.{shown-script, script-at-end, tells, front-of, front-by-byte, front-at-end, playable, playable-at-end}
 use Rattle.replay_report.specs.Report.{line_text, report}
+use Rattle.replay_report.proofs.Writing.{no_back, no_front, some_report}
 use Rattle.line_world.specs.declared.world.World.{World}
-use Rattle.line_world.specs.Runs.{IsNext, after_event, after_events, all_lines, begun, begun_in, last_world, lines_in, lines_of, lines_after, played, record_of}
+use Rattle.line_world.specs.Runs.{IsNext, after_event, after_events, all_lines, begun, begun_in, last_world, lines_in, lines_of, lines_after, played, record_from, record_of}
 use Rattle.line_world.proofs.EitherMode.{after-behind, lines-behind, no-lines, report-from}
 use Rattle.line_world.proofs.Next.{next-at}
 use Rattle.line_replay.specs.declared.replayer.StreamFault.{StreamFault}
 use Rattle.line_replay.specs.declared.replayer.StreamFault.TheVariants as stream
-use Rattle.line_replay.specs.Fed.{Replaying, IsReplayOf, IsReplayAtEnd, IsWorldOf, IsDue, IsRefusedAs, IsRefusedHere, IsRefusedWith, ShowsFront, ShowsMore, event_text, events_text, rest_text, shown, stream_fault, told, told_by, world_for}
+use Rattle.line_replay.specs.Fed.{Replaying, IsReplayOf, IsReplayAtEnd, IsWorldOf, IsDue, IsRefusedAs, IsRefusedHere, IsRefusedWith, ShowsFront, ShowsLess, ShowsMore, event_text, events_text, rest_text, shown, stream_fault, told, told_by, world_for}
 
 -- ---- some events, and then others
 
@@ -128,6 +129,21 @@ is-next (Half d) events e h = next-at (script_with (Half d) (events ++ e ∷ [])
 pub lines-with : (d : Reader) (events : List Event) (e : Event) → lines_in (played (last_world (script_with d events)) e) ≡ lines_of (last_world (script_with d events)) e
 lines-with d events e = no-lines (script_with d events) e
 
+-- ---- no more is told
+
+none-behind : (before more rest : List ℕ) → before ++ more ++ rest ≡ before → (more ≡ []) × (rest ≡ [])
+none-behind [] more rest same = (no_front more rest same, no_back more rest same)
+none-behind (b ∷ before) more rest same = none-behind before more rest cc
+
+-- what is told of all is what is shown of more, where it is what is shown of less
+pub still-told : (text front rest bytes : List ℕ) (r : Replaying) (a b : Option (List ℕ)) → bytes ≡ front ++ rest → IsReplayOf (text ++ front) r × ShowsMore (shown text) (shown (text ++ front)) a b
+    → told (text ++ bytes) ≡ shown text → told ((text ++ front) ++ rest) ≡ shown (text ++ front)
+still-told text front rest bytes r a b is so_far same =
+    let tail = told-front (text ++ front) so_far.0.events r.text rest so_far.0.reads in
+    let all : told ((text ++ front) ++ rest) ≡ shown text = ap told (append_assoc text front rest ∙ ap (λ t. text ++ t) (sym is)) ∙ same in
+    let none = none-behind (shown text) so_far.1.more tail.0 (ap (λ t. t ++ tail.0) (sym so_far.1.shows) ∙ sym tail.1 ∙ all) in
+    all ∙ sym (append-nil (shown text)) ∙ ap (λ m. shown text ++ m) (sym none.0) ∙ sym so_far.1.shows
+
 -- ---- a byte more
 
 -- the world is the one that the event is played on
@@ -173,19 +189,29 @@ replay-with text r new b e fed held held' h reads played = (
   record { more = event_text (script_with fed.reader h.events) e; shows = shown-with text r b e fed h reads; put = played.2 },
 )
 
--- the front of the event's lines that a sink has taken
-pub front-with : (text : List ℕ) (r : Replaying) (b : ℕ) (e : Event) (new : Fed) (more : List ℕ) (held held' : Option (List ℕ)) (h : IsReplayOf text r) → StandsFor (text ++ b ∷ []) (h.events ++ e ∷ []) new
-    → WrotePart held held' (event_text (script_with new.reader h.events) e) → ShowsFront (shown text) (told (text ++ b ∷ more)) held held'
-front-with text r b e new more held held' h reads (rest, w) =
+-- less than the event's lines, where a sink has taken no more of them
+pub less-with : (text : List ℕ) (r : Replaying) (b : ℕ) (e : Event) (new : Fed) (more : List ℕ) (held held' : Option (List ℕ)) (h : IsReplayOf text r) → StandsFor (text ++ b ∷ []) (h.events ++ e ∷ []) new
+    → WroteLess held held' (event_text (script_with new.reader h.events) e) → ShowsLess (shown text) (told (text ++ b ∷ more)) held held'
+less-with text r b e new more held held' h reads (rest, some, w) =
+    let tail = told-front (text ++ b ∷ []) (h.events ++ e ∷ []) new more reads in (
+      record {
+        more = w.part;
+        rest = rest ++ tail.0;
+        shows =
+            ap told (sym (append_assoc text (b ∷ []) more)) ∙ tail.1 ∙ ap (λ t. t ++ tail.0) (shown-with text r b e new h reads ∙ ap (λ t. shown text ++ t) w.text_is)
+            ∙ append_assoc (shown text) (w.part ++ rest) tail.0 ∙ ap (λ t. shown text ++ t) (append_assoc w.part rest tail.0) ∙ sym (append_assoc (shown text) w.part (rest ++ tail.0));
+        put = w.put;
+      },
+      λ none. some (no_front rest tail.0 none),
+    )
+
+-- the event has no lines, where no more is told
+pub none-with : (text : List ℕ) (r : Replaying) (b : ℕ) (e : Event) (new : Fed) (more : List ℕ) (h : IsReplayOf text r) → StandsFor (text ++ b ∷ []) (h.events ++ e ∷ []) new
+    → told (text ++ b ∷ more) ≡ shown text → event_text (script_with new.reader h.events) e ≡ []
+none-with text r b e new more h reads same =
     let tail = told-front (text ++ b ∷ []) (h.events ++ e ∷ []) new more reads in
-    record {
-      more = w.part;
-      rest = rest ++ tail.0;
-      shows =
-          ap told (sym (append_assoc text (b ∷ []) more)) ∙ tail.1 ∙ ap (λ t. t ++ tail.0) (shown-with text r b e new h reads ∙ ap (λ t. shown text ++ t) w.text_is)
-          ∙ append_assoc (shown text) (w.part ++ rest) tail.0 ∙ ap (λ t. shown text ++ t) (append_assoc w.part rest tail.0) ∙ sym (append_assoc (shown text) w.part (rest ++ tail.0));
-      put = w.put;
-    }
+    (none-behind (shown text) (event_text (script_with new.reader h.events) e) tail.0
+    (ap (λ t. t ++ tail.0) (sym (shown-with text r b e new h reads)) ∙ sym tail.1 ∙ ap told (append_assoc text (b ∷ []) more) ∙ same)).0
 
 pub front-without : (text : List ℕ) (r : Replaying) (more : List ℕ) (held : Option (List ℕ)) → IsReplayOf text r → ShowsFront (shown text) (told (text ++ more)) held held
 front-without text r more held h =
@@ -281,18 +307,33 @@ shows-with text r e fed held held' h over put = record {
   put = put;
 }
 
-pub front-with-event : (text : List ℕ) (r : Replaying) (e : Event) (fed : Fed) (held held' : Option (List ℕ)) (h : IsReplayOf text r) → EndsFor text (h.events ++ e ∷ []) fed → WrotePart held held' (event_text (script_with fed.reader h.events) e)
-    → ShowsFront (shown text) (told text) held held'
-front-with-event text r e fed held held' h over (rest, w) =
+pub less-with-event : (text : List ℕ) (r : Replaying) (e : Event) (fed : Fed) (held held' : Option (List ℕ)) (h : IsReplayOf text r) → EndsFor text (h.events ++ e ∷ []) fed → WroteLess held held' (event_text (script_with fed.reader h.events) e)
+    → ShowsLess (shown text) (told text) held held'
+less-with-event text r e fed held held' h over (rest, some, w) =
+    let tail = told-at-end text (h.events ++ e ∷ []) fed over in (
+      record {
+        more = w.part;
+        rest = rest ++ tail.0;
+        shows =
+            tail.1 ∙ ap (λ t. t ++ tail.0) (with-event text r e fed h over ∙ ap (λ t. shown text ++ t) w.text_is)
+            ∙ append_assoc (shown text) (w.part ++ rest) tail.0 ∙ ap (λ t. shown text ++ t) (append_assoc w.part rest tail.0) ∙ sym (append_assoc (shown text) w.part (rest ++ tail.0));
+        put = w.put;
+      },
+      λ none. some (no_front rest tail.0 none),
+    )
+
+pub none-with-event : (text : List ℕ) (r : Replaying) (e : Event) (fed : Fed) (h : IsReplayOf text r) → EndsFor text (h.events ++ e ∷ []) fed → told text ≡ shown text → event_text (script_with fed.reader h.events) e ≡ []
+none-with-event text r e fed h over same =
     let tail = told-at-end text (h.events ++ e ∷ []) fed over in
-    record {
-      more = w.part;
-      rest = rest ++ tail.0;
-      shows =
-          tail.1 ∙ ap (λ t. t ++ tail.0) (with-event text r e fed h over ∙ ap (λ t. shown text ++ t) w.text_is)
-          ∙ append_assoc (shown text) (w.part ++ rest) tail.0 ∙ ap (λ t. shown text ++ t) (append_assoc w.part rest tail.0) ∙ sym (append_assoc (shown text) w.part (rest ++ tail.0));
-      put = w.put;
-    }
+    (none-behind (shown text) (event_text (script_with fed.reader h.events) e) tail.0 (ap (λ t. t ++ tail.0) (sym (with-event text r e fed h over)) ∙ sym tail.1 ∙ same)).0
+
+-- what is told is what the events showed, where it is what was shown before the last line
+pub still-open : (text : List ℕ) (r : Replaying) (a b : Option (List ℕ)) → IsReplayAtEnd text r × ShowsMore (shown text) (events_text (accepted_script text)) a b → told text ≡ shown text → told text ≡ events_text (accepted_script text)
+still-open text r a b first same =
+    let tail = told-at-end text first.0.events r.text first.0.reads in
+    let accepted = script-at-end text first.0.events r.text first.0.reads in
+    let none = none-behind (shown text) first.1.more tail.0 (ap (λ t. t ++ tail.0) (sym first.1.shows ∙ ap events_text accepted) ∙ sym tail.1 ∙ same) in
+    same ∙ sym (append-nil (shown text)) ∙ ap (λ m. shown text ++ m) (sym none.0) ∙ sym first.1.shows
 
 pub front-as-shown : (text : List ℕ) (r : Replaying) (held : Option (List ℕ)) → IsReplayOf text r → ShowsFront (shown text) (told text) held held
 front-as-shown text r held h = subst (λ t. ShowsFront (shown text) (told t) held held) (append-nil text) (front-without text r [] held h)
@@ -316,18 +357,29 @@ shows-rest text r held held' h is put = (
   },
 )
 
-pub front-rest : (text : List ℕ) (r : Replaying) (held held' : Option (List ℕ)) (h : IsReplayAtEnd text r) → script_of text ≡ Ok (script_with r.text.reader h.events) → WrotePart held held' (rest_text (script_with r.text.reader h.events))
-    → ShowsFront (events_text (accepted_script text)) (told text) held held'
+pub less-rest : (text : List ℕ) (r : Replaying) (held held' : Option (List ℕ)) (h : IsReplayAtEnd text r) → script_of text ≡ Ok (script_with r.text.reader h.events) → WroteLess held held' (rest_text (script_with r.text.reader h.events))
+    → ShowsLess (events_text (accepted_script text)) (told text) held held'
 unfolding told
-front-rest text r held held' h is (rest, w) = record {
-  more = w.part;
-  rest = rest;
-  shows =
-      ap (λ x. told_by x text) is ∙ report-parts (script_with r.text.reader h.events) ∙ ap (λ t. events_text (script_with r.text.reader h.events) ++ t) w.text_is
-      ∙ sym (append_assoc (events_text (script_with r.text.reader h.events)) w.part rest)
-      ∙ ap (λ s. events_text s ++ w.part ++ rest) (sym (script-at-end text h.events r.text h.reads));
-  put = w.put;
-}
+less-rest text r held held' h is (rest, some, w) = (
+  record {
+    more = w.part;
+    rest = rest;
+    shows =
+        ap (λ x. told_by x text) is ∙ report-parts (script_with r.text.reader h.events) ∙ ap (λ t. events_text (script_with r.text.reader h.events) ++ t) w.text_is
+        ∙ sym (append_assoc (events_text (script_with r.text.reader h.events)) w.part rest)
+        ∙ ap (λ s. events_text s ++ w.part ++ rest) (sym (script-at-end text h.events r.text h.reads));
+    put = w.put;
+  },
+  some,
+)
+
+-- something is told behind the events
+pub some-rest : (text : List ℕ) (r : Replaying) (h : IsReplayAtEnd text r) → script_of text ≡ Ok (script_with r.text.reader h.events) → told text ≢ events_text (accepted_script text)
+unfolding told
+some-rest text r h is same =
+    let script = script_with r.text.reader h.events in
+    let all : events_text script ++ rest_text script ≡ events_text script = sym (ap (λ x. told_by x text) is ∙ report-parts script) ∙ same ∙ ap events_text (script-at-end text h.events r.text h.reads) in
+    some_report (record_from (last_world script) []) (none-behind (events_text script) (rest_text script) [] (append-nil (events_text script ++ rest_text script) ∙ all)).0
 
 pub refused-open : (text : List ℕ) (r : Replaying) (fault : ScriptFault) (h : IsReplayAtEnd text r) → IsRefusedAtEnd text (script_with r.text.reader h.events) fault → IsRefusedAs text (told text ≡ events_text (accepted_script text)) (stream_fault fault)
 refused-open text r (script.At line cause) h refused = (refused.0, told-refused text (script_with r.text.reader h.events) (line, cause) refused.0 refused.1 ∙ ap events_text (sym refused.1))
@@ -353,6 +405,10 @@ front-behind before middle all a b c first second = record {
   put = Appends-trans a b c first.more second.more first.put second.put;
 }
 
+pub less-behind : (before middle all : List ℕ) (a b c : Option (List ℕ)) → ShowsMore before middle a b → ShowsLess middle all b c → ShowsLess before all a c
+unfolding front-behind
+less-behind before middle all a b c first second = (front-behind before middle all a b c first second.0, second.1)
+
 -- ---- bytes one after another
 
 pub shows-behind : (before middle after : List ℕ) (a b c : Option (List ℕ)) → ShowsMore before middle a b → ShowsMore middle after b c → ShowsMore before after a c
@@ -377,6 +433,17 @@ pub unchanged : {K : Type 0} (sink sink' : K) (fault : StreamFault) (held : K �
 unchanged sink sink' (stream.At line cause) held P same failed p = subst (λ k. P (held k)) (sym (same (λ is. cc))) p
 unchanged sink sink' stream.SinkFailed held P same failed p = failed refl
 unchanged sink sink' stream.NoMemory held P same failed p = subst (λ k. P (held k)) (sym (same (λ is. cc))) p
+
+pub front-on-err : {T K : Type 0} (result : Result T StreamFault) (sink sink' : K) (held : K → Option (List ℕ)) (before all : List ℕ) → IfErr result (λ fault. fault ≢ stream.SinkFailed → sink' ≡ sink)
+    → (IsErrOf result stream.SinkFailed → ShowsLess before all (held sink) (held sink')) → ShowsFront before all (held sink) (held sink) → OnErr result (ShowsFront before all (held sink) (held sink'))
+front-on-err (Ok value) sink sink' held before all same failed none = tt
+front-on-err (Err fault) sink sink' held before all same failed none =
+    unchanged sink sink' fault held (λ now. ShowsFront before all (held sink) now) same (λ is. (failed (ap Err is)).0) none
+
+-- a faulty line is no sink that failed
+pub no-sink-failed : (fault : ScriptFault) (e : StreamFault) → e ≡ stream_fault fault → e ≢ stream.SinkFailed
+no-sink-failed (script.At line cause) e is failed = cc
+no-sink-failed script.NoMemory e is failed = cc
 
 -- what is refused stays so, whatever follows
 pub refused-behind : (whole rest written : List ℕ) (fault : StreamFault) → IsRefusedHere whole written fault → IsRefusedHere (whole ++ rest) written fault

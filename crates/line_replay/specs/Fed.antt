@@ -102,6 +102,10 @@ pub record ShowsFront (before all : List ℕ) (held held' : Option (List ℕ)) :
   pub shows : all ≡ before ++ more ++ rest
   pub put : Put held held' more
 
+-- and not all of it
+abbrev pub ShowsLess : List ℕ → List ℕ → Option (List ℕ) → Option (List ℕ) → Type 0
+ShowsLess before all held held' = (front : ShowsFront before all held held') × (front.rest ≢ [])
+
 -- ---- faults
 
 abbrev pub stream_fault : ScriptFault → StreamFault

@@ -1,6 +1,6 @@
 //! Replaying while reading: a script comes byte by byte, and the report's lines of an event line are written where it ends.
 ghost use Rattle.std.specs.Prelude.{◌≡◌, ◌≢◌, ◌≤◌, ◌+◌, ◌∷◌, ◌++◌, ℕ, List, [], Some, OnOk, OnErr, IfOk, IfErr, IsErrOf, length, position, take, ◌==◌};
-ghost use Rattle.df1_base.specs.Outside.{Rose, Put, WrotePart, Later};
+ghost use Rattle.df1_base.specs.Outside.{Rose, Put, WroteLess, Later};
 ghost use Rattle.script_parts.specs.declared.script.Event.{Event as OneEvent};
 ghost use Rattle.line_replay.specs.declared.replayer.StreamFault.{StreamFault as Stopped};
 ghost use Rattle.line_script.specs.Fed.{HasNoFeed, accepted_script};
@@ -10,7 +10,7 @@ ghost use Rattle.line_script.specs.Unfinished.{unfinished};
 ghost use Rattle.line_world.specs.Runs.{IsNext, begun, lines_in, played, printed, record_from};
 ghost use Rattle.replay_report.specs.Report.{line_text, report};
 ghost use Rattle.std.specs.List.{flat_map};
-ghost use Rattle.line_replay.specs.Fed.{IsDue, IsEndedReplay, IsFromPlay, IsRefusedAs, IsRefusedHere, IsRefusedWith, IsReplay, IsReplayAtEnd, IsReplayOf, IsScript, IsWorldOf, ShowsFront, ShowsMore, event_text, events_text, rest_text, shown, told, world_for};
+ghost use Rattle.line_replay.specs.Fed.{IsDue, IsEndedReplay, IsFromPlay, IsRefusedAs, IsRefusedHere, IsRefusedWith, IsReplay, IsReplayAtEnd, IsReplayOf, IsScript, IsWorldOf, ShowsFront, ShowsLess, ShowsMore, event_text, events_text, rest_text, shown, told, world_for};
 
 use crate::{Cause, Event, World};
 use df1_base::{Failed, NoMemory, Sink};
@@ -123,13 +123,15 @@ impl Replayer {
 
     /// Takes the next byte of the script. Where it ends an event line, the event happens, and the report's lines of it are
     /// written. `At` comes where no text that begins so is a script, with its first faulty line and the first cause that
-    /// fits it; `SinkFailed` where the sink failed, which holds a first part of the lines then. With another fault the
-    /// sink is as it was.
+    /// fits it; `SinkFailed` where the sink failed, which holds a first part of the lines then, and not all. With
+    /// another fault, and where there are no lines, the sink is as it was.
     pub fn feed<K: Sink>(&mut self, b: u8, sink: &mut K) -> Result<(), StreamFault>
         requires { IsReplay self.old }
         ensures ok { (text : List ℕ) → IsReplayOf text self.old → OnOk result (IsReplayOf (text ++ b ∷ []) self.new × ShowsMore (shown text) (shown (text ++ b ∷ [])) (K.held sink.old) (K.held sink.new)) }
         ensures refused { (text : List ℕ) → IsReplayOf text self.old → IfErr result (IsRefusedHere (text ++ b ∷ []) (shown text)) }
         ensures front { (text : List ℕ) → IsReplayOf text self.old → (more : List ℕ) → OnErr result (ShowsFront (shown text) (told (text ++ b ∷ more)) (K.held sink.old) (K.held sink.new)) }
+        ensures missing { (text : List ℕ) → IsReplayOf text self.old → (more : List ℕ) → IsErrOf result StreamFault.SinkFailed → ShowsLess (shown text) (told (text ++ b ∷ more)) (K.held sink.old) (K.held sink.new) }
+        ensures untouched { (text : List ℕ) → IsReplayOf text self.old → (more : List ℕ) → told (text ++ b ∷ more) ≡ shown text → sink.new ≡ sink.old }
         ensures silent { IfErr result (λ fault. fault ≢ Stopped.SinkFailed → sink.new ≡ sink.old) }
         ensures calm { OnOk result (K.faults sink.new ≡ K.faults sink.old) }
         ensures later { Later (K.mark sink.old) (K.mark sink.new) (K.faults sink.old) (K.faults sink.new) }
@@ -149,6 +151,8 @@ impl Replayer {
         ensures ok { (text : List ℕ) → IsReplayOf text self.old → OnOk result (IsReplayOf (text ++ bytes.now) self.new × ShowsMore (shown text) (shown (text ++ bytes.now)) (K.held sink.old) (K.held sink.new)) }
         ensures refused { (text : List ℕ) → IsReplayOf text self.old → IfErr result (IsRefusedWith (text ++ bytes.now) (shown text) (K.held sink.old) (K.held sink.new)) }
         ensures front { (text : List ℕ) → IsReplayOf text self.old → OnErr result (ShowsFront (shown text) (told (text ++ bytes.now)) (K.held sink.old) (K.held sink.new)) }
+        ensures missing { (text : List ℕ) → IsReplayOf text self.old → IsErrOf result StreamFault.SinkFailed → ShowsLess (shown text) (told (text ++ bytes.now)) (K.held sink.old) (K.held sink.new) }
+        ensures untouched { (text : List ℕ) → IsReplayOf text self.old → told (text ++ bytes.now) ≡ shown text → sink.new ≡ sink.old }
         ensures calm { OnOk result (K.faults sink.new ≡ K.faults sink.old) }
         ensures steady { IfErr result (λ fault. fault ≢ Stopped.SinkFailed → K.faults sink.new ≡ K.faults sink.old) }
         ensures later { Later (K.mark sink.old) (K.mark sink.new) (K.faults sink.old) (K.faults sink.new) }
@@ -173,7 +177,8 @@ impl Replayer {
         ensures none { IfOk result (λ taken. taken ≡ 0 → HasNoFeed bytes.now) }
         ensures ok { (text : List ℕ) → IsReplayOf text self.old → IfOk result (λ taken. IsReplayOf (text ++ take taken bytes.now) self.new × ShowsMore (shown text) (shown (text ++ take taken bytes.now)) (K.held sink.old) (K.held sink.new)) }
         ensures refused { (text : List ℕ) → IsReplayOf text self.old → IfErr result (IsRefusedHere (text ++ bytes.now) (shown text)) }
-        ensures front { (text : List ℕ) → IsReplayOf text self.old → OnErr result (ShowsFront (shown text) (told (text ++ bytes.now)) (K.held sink.old) (K.held sink.new)) }
+        ensures missing { (text : List ℕ) → IsReplayOf text self.old → IsErrOf result StreamFault.SinkFailed → ShowsLess (shown text) (told (text ++ bytes.now)) (K.held sink.old) (K.held sink.new) }
+        ensures untouched { (text : List ℕ) → IsReplayOf text self.old → told (text ++ bytes.now) ≡ shown text → sink.new ≡ sink.old }
         ensures silent { IfErr result (λ fault. fault ≢ Stopped.SinkFailed → sink.new ≡ sink.old) }
         ensures calm { OnOk result (K.faults sink.new ≡ K.faults sink.old) }
         ensures later { Later (K.mark sink.old) (K.mark sink.new) (K.faults sink.old) (K.faults sink.new) }
@@ -196,7 +201,8 @@ impl Replayer {
         ensures none { IfOk result (λ taken. taken ≡ 0 → HasNoFeed bytes.now) }
         ensures ok { (text : List ℕ) → IsReplayOf text self.old → IfOk result (λ taken. IsReplayOf (text ++ take taken bytes.now) self.new × ShowsMore (shown text) (shown (text ++ take taken bytes.now)) (K.held sink.old) (K.held sink.new)) }
         ensures refused { (text : List ℕ) → IsReplayOf text self.old → IfErr result (IsRefusedHere (text ++ bytes.now) (shown text)) }
-        ensures front { (text : List ℕ) → IsReplayOf text self.old → OnErr result (ShowsFront (shown text) (told (text ++ bytes.now)) (K.held sink.old) (K.held sink.new)) }
+        ensures missing { (text : List ℕ) → IsReplayOf text self.old → IsErrOf result StreamFault.SinkFailed → ShowsLess (shown text) (told (text ++ bytes.now)) (K.held sink.old) (K.held sink.new) }
+        ensures untouched { (text : List ℕ) → IsReplayOf text self.old → told (text ++ bytes.now) ≡ shown text → sink.new ≡ sink.old }
         ensures silent { IfErr result (λ fault. fault ≢ Stopped.SinkFailed → sink.new ≡ sink.old) }
         ensures calm { OnOk result (K.faults sink.new ≡ K.faults sink.old) }
         ensures later { Later (K.mark sink.old) (K.mark sink.new) (K.faults sink.old) (K.faults sink.new) }
@@ -217,7 +223,8 @@ impl Replayer {
         requires line { HasNoFeed line.now }
         ensures ok { (text : List ℕ) → IsReplayOf text self.old → OnOk result (IsReplayOf ((text ++ line.now) ++ 10 ∷ []) self.new × ShowsMore (shown text) (shown ((text ++ line.now) ++ 10 ∷ [])) (K.held sink.old) (K.held sink.new)) }
         ensures refused { (text : List ℕ) → IsReplayOf text self.old → IfErr result (IsRefusedHere ((text ++ line.now) ++ 10 ∷ []) (shown text)) }
-        ensures front { (text : List ℕ) → IsReplayOf text self.old → (more : List ℕ) → OnErr result (ShowsFront (shown text) (told ((text ++ line.now) ++ 10 ∷ more)) (K.held sink.old) (K.held sink.new)) }
+        ensures missing { (text : List ℕ) → IsReplayOf text self.old → (more : List ℕ) → IsErrOf result StreamFault.SinkFailed → ShowsLess (shown text) (told ((text ++ line.now) ++ 10 ∷ more)) (K.held sink.old) (K.held sink.new) }
+        ensures untouched { (text : List ℕ) → IsReplayOf text self.old → (more : List ℕ) → told ((text ++ line.now) ++ 10 ∷ more) ≡ shown text → sink.new ≡ sink.old }
         ensures silent { IfErr result (λ fault. fault ≢ Stopped.SinkFailed → sink.new ≡ sink.old) }
         ensures calm { OnOk result (K.faults sink.new ≡ K.faults sink.old) }
         ensures later { Later (K.mark sink.old) (K.mark sink.new) (K.faults sink.old) (K.faults sink.new) }
@@ -246,12 +253,14 @@ impl Replayer {
     /// Ends the script, after which nothing is fed: the report's lines of a last event line that no line feed ends are written,
     /// then the words that aren't 0, and how often an end was deceived. `At` comes exactly where the whole text is no script,
     /// with its first faulty line and the first cause that fits it; `SinkFailed` where the sink failed, which holds a first
-    /// part then.
+    /// part then, and not all.
     pub fn finish<K: Sink>(&mut self, sink: &mut K) -> Result<(), StreamFault>
         requires { IsReplay self.old }
         ensures ok { (text : List ℕ) → IsReplayOf text self.old → OnOk result (IsScript text × ShowsMore (shown text) (told text) (K.held sink.old) (K.held sink.new)) }
         ensures refused { (text : List ℕ) → IsReplayOf text self.old → IfErr result (IsRefusedAs text (ShowsMore (shown text) (told text) (K.held sink.old) (K.held sink.new))) }
         ensures front { (text : List ℕ) → IsReplayOf text self.old → OnErr result (ShowsFront (shown text) (told text) (K.held sink.old) (K.held sink.new)) }
+        ensures missing { (text : List ℕ) → IsReplayOf text self.old → IsErrOf result StreamFault.SinkFailed → ShowsLess (shown text) (told text) (K.held sink.old) (K.held sink.new) }
+        ensures untouched { (text : List ℕ) → IsReplayOf text self.old → told text ≡ shown text → sink.new ≡ sink.old }
         ensures calm { OnOk result (K.faults sink.new ≡ K.faults sink.old) }
         ensures steady { IfErr result (λ fault. fault ≢ Stopped.SinkFailed → K.faults sink.new ≡ K.faults sink.old) }
         ensures later { Later (K.mark sink.old) (K.mark sink.new) (K.faults sink.old) (K.faults sink.new) }
@@ -269,7 +278,8 @@ impl Replayer {
         ensures ends { OnOk result (IsEndedReplay self.new) }
         ensures ok { (text : List ℕ) → IsReplayOf text self.old → OnOk result (IsReplayAtEnd text self.new × ShowsMore (shown text) (events_text (accepted_script text)) (K.held sink.old) (K.held sink.new)) }
         ensures refused { (text : List ℕ) → IsReplayOf text self.old → IfErr result (IsRefusedAs text (told text ≡ shown text)) }
-        ensures front { (text : List ℕ) → IsReplayOf text self.old → OnErr result (ShowsFront (shown text) (told text) (K.held sink.old) (K.held sink.new)) }
+        ensures missing { (text : List ℕ) → IsReplayOf text self.old → IsErrOf result StreamFault.SinkFailed → ShowsLess (shown text) (told text) (K.held sink.old) (K.held sink.new) }
+        ensures untouched { (text : List ℕ) → IsReplayOf text self.old → told text ≡ shown text → sink.new ≡ sink.old }
         ensures silent { IfErr result (λ fault. fault ≢ Stopped.SinkFailed → sink.new ≡ sink.old) }
         ensures calm { OnOk result (K.faults sink.new ≡ K.faults sink.old) }
         ensures later { Later (K.mark sink.old) (K.mark sink.new) (K.faults sink.old) (K.faults sink.new) }
@@ -287,7 +297,8 @@ impl Replayer {
         requires { IsEndedReplay self.old }
         ensures ok { (text : List ℕ) → IsReplayAtEnd text self.old → OnOk result (IsScript text × ShowsMore (events_text (accepted_script text)) (told text) (K.held sink.old) (K.held sink.new)) }
         ensures refused { (text : List ℕ) → IsReplayAtEnd text self.old → IfErr result (IsRefusedAs text (told text ≡ events_text (accepted_script text))) }
-        ensures front { (text : List ℕ) → IsReplayAtEnd text self.old → OnErr result (ShowsFront (events_text (accepted_script text)) (told text) (K.held sink.old) (K.held sink.new)) }
+        ensures missing { (text : List ℕ) → IsReplayAtEnd text self.old → IsErrOf result StreamFault.SinkFailed → ShowsLess (events_text (accepted_script text)) (told text) (K.held sink.old) (K.held sink.new) }
+        ensures untouched { (text : List ℕ) → IsReplayAtEnd text self.old → told text ≡ events_text (accepted_script text) → sink.new ≡ sink.old }
         ensures silent { IfErr result (λ fault. fault ≢ Stopped.SinkFailed → sink.new ≡ sink.old) }
         ensures calm { OnOk result (K.faults sink.new ≡ K.faults sink.old) }
         ensures later { Later (K.mark sink.old) (K.mark sink.new) (K.faults sink.old) (K.faults sink.new) }
@@ -304,8 +315,8 @@ impl Replayer {
         requires { CanBePlayed (script_with self.old.text.reader []) }
         ensures ok { (events : List OneEvent) → IsWorldOf (script_with self.old.text.reader events) self.old.world → OnOk result
             (Put (K.held sink.old) (K.held sink.new) (rest_text (script_with self.old.text.reader events))) }
-        ensures part { (events : List OneEvent) → IsWorldOf (script_with self.old.text.reader events) self.old.world →
-            WrotePart (K.held sink.old) (K.held sink.new) (rest_text (script_with self.old.text.reader events)) }
+        ensures missing { (events : List OneEvent) → IsWorldOf (script_with self.old.text.reader events) self.old.world →
+            IsErrOf result StreamFault.SinkFailed → WroteLess (K.held sink.old) (K.held sink.new) (rest_text (script_with self.old.text.reader events)) }
         ensures silent { IfErr result (λ fault. fault ≢ Stopped.SinkFailed → sink.new ≡ sink.old) }
         ensures known { IfErr result IsFromPlay }
         ensures calm { OnOk result (K.faults sink.new ≡ K.faults sink.old) }
@@ -327,8 +338,10 @@ impl Replayer {
         ensures ok { (events : List OneEvent) → IsWorldOf (script_with self.old.text.reader events) self.old.world → OnOk result
             ((self.new.text ≡ self.old.text) × IsWorldOf (script_with self.old.text.reader (events ++ event.now ∷ [])) self.new.world
             × Put (K.held sink.old) (K.held sink.new) (event_text (script_with self.old.text.reader events) event.now)) }
-        ensures part { (events : List OneEvent) → IsWorldOf (script_with self.old.text.reader events) self.old.world →
-            WrotePart (K.held sink.old) (K.held sink.new) (event_text (script_with self.old.text.reader events) event.now) }
+        ensures missing { (events : List OneEvent) → IsWorldOf (script_with self.old.text.reader events) self.old.world →
+            IsErrOf result StreamFault.SinkFailed → WroteLess (K.held sink.old) (K.held sink.new) (event_text (script_with self.old.text.reader events) event.now) }
+        ensures untouched { (events : List OneEvent) → IsWorldOf (script_with self.old.text.reader events) self.old.world →
+            event_text (script_with self.old.text.reader events) event.now ≡ [] → sink.new ≡ sink.old }
         ensures silent { IfErr result (λ fault. fault ≢ Stopped.SinkFailed → sink.new ≡ sink.old) }
         ensures known { IfErr result IsFromPlay }
         ensures calm { OnOk result (K.faults sink.new ≡ K.faults sink.old) }
@@ -374,7 +387,8 @@ impl Replayer {
 fn play_on<K: Sink>(world: &mut World, event: &Event, sink: &mut K) -> Result<(), StreamFault>
     requires { IsNext world.old event.now }
     ensures ok { OnOk result ((world.new ≡ printed (played world.old event.now)) × Put (K.held sink.old) (K.held sink.new) (flat_map line_text (lines_in (played world.old event.now)))) }
-    ensures part { WrotePart (K.held sink.old) (K.held sink.new) (flat_map line_text (lines_in (played world.old event.now))) }
+    ensures missing { IsErrOf result StreamFault.SinkFailed → WroteLess (K.held sink.old) (K.held sink.new) (flat_map line_text (lines_in (played world.old event.now))) }
+    ensures untouched { lines_in (played world.old event.now) ≡ [] → sink.new ≡ sink.old }
     ensures silent { IfErr result (λ fault. fault ≢ Stopped.SinkFailed → sink.new ≡ sink.old) }
     ensures known { IfErr result IsFromPlay }
     ensures calm { OnOk result (K.faults sink.new ≡ K.faults sink.old) }
@@ -389,7 +403,7 @@ fn play_on<K: Sink>(world: &mut World, event: &Event, sink: &mut K) -> Result<()
 /// Writes the report of a world: the lines that stand, the words that aren't 0, and how often an end was deceived.
 fn print_rest<K: Sink>(world: World, sink: &mut K) -> Result<(), StreamFault>
     ensures ok { OnOk result (Put (K.held sink.old) (K.held sink.new) (report (record_from world (lines_in world)))) }
-    ensures part { WrotePart (K.held sink.old) (K.held sink.new) (report (record_from world (lines_in world))) }
+    ensures missing { IsErrOf result StreamFault.SinkFailed → WroteLess (K.held sink.old) (K.held sink.new) (report (record_from world (lines_in world))) }
     ensures silent { IfErr result (λ fault. fault ≢ Stopped.SinkFailed → sink.new ≡ sink.old) }
     ensures known { IfErr result IsFromPlay }
     ensures calm { OnOk result (K.faults sink.new ≡ K.faults sink.old) }

@@ -1,12 +1,12 @@
 -- Line after line is fed, and then what stands behind the last line feed.
-use Rattle.std.proofs.Common.{◌∙◌, ℕ, List, [], ◌++◌, Option, ap, append-nil, refl, sym, subst, take}
+use Rattle.std.proofs.Common.{◌∙◌, ℕ, List, [], ◌++◌, Option, Err, ap, append-nil, refl, sym, subst, take}
 use Rattle.std.proofs.KnownBytes.{Appends-nil}
 use Rattle.std.proofs.lemmas.List.{take_rest}
 use Rattle.std.proofs.lemmas.Result.{IfErr-weaker, on_ok_weaker}
 use Rattle.df1_base.proofs.Laws.{later_same, later_then}
 use Rattle.line_replay.specs.declared.replayer.StreamFault.{StreamFault}
-use Rattle.line_replay.specs.Fed.{IsReplayOf, IsRefusedHere, IsRefusedWith, ShowsFront, ShowsMore, shown, told}
-use Rattle.line_replay.proofs.Fed.{at_err, front-behind, front-without, none-taken, some-taken, stops-here, unchanged}
+use Rattle.line_replay.specs.Fed.{IsReplayOf, IsRefusedHere, IsRefusedWith, ShowsFront, ShowsLess, ShowsMore, shown, told}
+use Rattle.line_replay.proofs.Fed.{at_err, front-behind, front-without, less-behind, none-taken, some-taken, still-told, stops-here, unchanged}
 use Rattle.line_replay.proofs.Runs.{all-behind, taken-here}
 use Rattle.line_replay.proofs.replayer.Replayer.feed_all.Goals as goal
 
@@ -26,6 +26,10 @@ loop-self-preserved g c =
       shows = λ text h.
           let so_far = l.invariant.shows text h in
           some-taken text front rest taken c.feed_front.new.self (g.K.Sink.held c.args.sink.now) (g.K.Sink.held l.sink) (g.K.Sink.held c.feed_front.new.sink) so_far.1 (c.in-Ok.ensures.ok (text ++ front) so_far.0);
+      untouched = λ text h same.
+          let so_far = l.invariant.shows text h in
+          c.in-Ok.ensures.untouched (text ++ front) so_far.0
+          (still-told text front rest c.args.bytes.now l.self (g.K.Sink.held c.args.sink.now) (g.K.Sink.held l.sink) l.invariant.bytes_are so_far same) ∙ l.invariant.untouched text h same;
       calm = c.in-Ok.ensures.calm ∙ l.invariant.calm;
       later = later_then _ _ _ _ _ _ l.invariant.later c.in-Ok.ensures.later;
     }
@@ -53,8 +57,30 @@ returns-in-Err-clause-front g c text h =
     let held = g.K.Sink.held l.sink in
     let held' = g.K.Sink.held c.feed_front.new.sink in
     let all = all-behind text front l.rest.now c.args.bytes.now l.invariant.bytes_are in
+    let whole = (text ++ front) ++ l.rest.now in
     front-behind (shown text) (shown (text ++ front)) (told (text ++ c.args.bytes.now)) (g.K.Sink.held c.args.sink.now) held held' so_far.1
-    (subst (λ (t : List ℕ). ShowsFront (shown (text ++ front)) (told t) held held') (sym all) (c.in-Err.ensures.front (text ++ front) so_far.0))
+    (subst (λ (t : List ℕ). ShowsFront (shown (text ++ front)) (told t) held held') (sym all)
+    (unchanged l.sink c.feed_front.new.sink c.in-Err.fault g.K.Sink.held (λ now. ShowsFront (shown (text ++ front)) (told whole) held now) c.in-Err.ensures.silent
+    (λ is. (c.in-Err.ensures.missing (text ++ front) so_far.0 (ap Err is)).0) (front-without (text ++ front) l.self l.rest.now held so_far.0)))
+
+pub returns-in-Err-clause-missing : goal.returns-in-Err-clause-missing
+returns-in-Err-clause-missing g c text h failed =
+    let l = c.loop-self in
+    let front = l.invariant.front in
+    let so_far = l.invariant.shows text h in
+    let held = g.K.Sink.held l.sink in
+    let held' = g.K.Sink.held c.feed_front.new.sink in
+    let all = all-behind text front l.rest.now c.args.bytes.now l.invariant.bytes_are in
+    less-behind (shown text) (shown (text ++ front)) (told (text ++ c.args.bytes.now)) (g.K.Sink.held c.args.sink.now) held held' so_far.1
+    (subst (λ (t : List ℕ). ShowsLess (shown (text ++ front)) (told t) held held') (sym all) (c.in-Err.ensures.missing (text ++ front) so_far.0 cc))
+
+pub returns-in-Err-clause-untouched : goal.returns-in-Err-clause-untouched
+returns-in-Err-clause-untouched g c text h same =
+    let l = c.loop-self in
+    let front = l.invariant.front in
+    let so_far = l.invariant.shows text h in
+    c.in-Err.ensures.untouched (text ++ front) so_far.0
+    (still-told text front l.rest.now c.args.bytes.now l.self (g.K.Sink.held c.args.sink.now) (g.K.Sink.held l.sink) l.invariant.bytes_are so_far same) ∙ l.invariant.untouched text h same
 
 -- ---- what stands behind the last line feed
 
@@ -68,6 +94,7 @@ loop-self-init g c = record {
         subst (λ (t : List ℕ). IsReplayOf t c.args.self.now) none h,
         record { more = []; shows = ap shown (append-nil text) ∙ sym (append-nil (shown text)); put = Appends-nil (g.K.Sink.held c.args.sink.now) },
       );
+  untouched = λ text h same. refl;
   calm = refl;
   later = later_same _ _;
 }
@@ -118,3 +145,11 @@ returns-in-Ok-eq0-clause-front g c text h =
     let held = g.K.Sink.held c.feed_front.new.sink in
     at_err c.feed_run.result (front-behind (shown text) (shown (text ++ front)) (told (text ++ c.args.bytes.now)) (g.K.Sink.held c.args.sink.now) held held so_far.1
     (subst (λ (t : List ℕ). ShowsFront (shown (text ++ front)) (told t) held held) (sym all) (front-without (text ++ front) c.feed_front.new.self rest held so_far.0)))
+
+pub returns-in-Ok-eq0-clause-untouched : goal.returns-in-Ok-eq0-clause-untouched
+returns-in-Ok-eq0-clause-untouched g c text h same =
+    let l = c.loop-self in
+    let front = l.invariant.front in
+    let so_far = l.invariant.shows text h in
+    c.in-Ok-eq0.ensures.untouched (text ++ front) so_far.0
+    (still-told text front l.rest.now c.args.bytes.now l.self (g.K.Sink.held c.args.sink.now) (g.K.Sink.held l.sink) l.invariant.bytes_are so_far same) ∙ l.invariant.untouched text h same

@@ -3,8 +3,8 @@ use Rattle.std.proofs.Common.{◌≡◌, ◌∙◌, ◌++◌, ◌∷◌, [], Lis
 use Rattle.script_parts.specs.declared.script.Event.{Event}
 use Rattle.line_script.specs.Fed.{Fed, StandsFor}
 use Rattle.line_world.specs.declared.world.World.{World}
-use Rattle.line_replay.specs.Fed.{IsReplay, IsReplayOf, Replaying, ShowsFront, ShowsMore, shown, told}
-use Rattle.line_replay.proofs.Fed.{due-by, plays-by, replay-with, front-with}
+use Rattle.line_replay.specs.Fed.{IsReplay, IsReplayOf, Replaying, ShowsLess, ShowsMore, shown, told}
+use Rattle.line_replay.proofs.Fed.{due-by, less-with, none-with, plays-by, replay-with}
 use Rattle.line_replay.proofs.Runs.{line-and-rest, line-whole, shows-no-more, stands-with}
 use Rattle.line_replay.proofs.replayer.Replayer.feed_front.Goals as goal
 
@@ -38,8 +38,8 @@ returns-in-Ok-clause-ok g c text h' =
           (subst (λ (s : List ℕ). ShowsMore s (shown ((text ++ line.0) ++ 10 ∷ [])) held held') (shows-no-more text line.0 _ line.2 h) now.1),
     )
 
-pub returns-in-Some-clause-front : goal.returns-in-Some-clause-front
-returns-in-Some-clause-front g c text h' =
+pub returns-in-Some-clause-missing : goal.returns-in-Some-clause-missing
+returns-in-Some-clause-missing g c text h' failed =
     let bytes = c.args.bytes.now in
     let h = subst (IsReplayOf text) (sym c.self.view_is) h' in
     let line = c.feed_step.ensures.line (c.in-Some.step, c.in-Some.taken) c.in-Some.is in
@@ -50,10 +50,36 @@ returns-in-Some-clause-front g c text h' =
     let held = g.K.Sink.held c.args.sink.now in
     let held' = g.K.Sink.held c.play.new.sink in
     let rest = drop c.in-Some.taken bytes in
-    subst (λ (t : List ℕ). ShowsFront (shown text) (told t) held held') (sym (line-and-rest text bytes line.0 c.in-Some.taken line.1))
-    (subst (λ (s : List ℕ). ShowsFront s (told ((text ++ line.0) ++ 10 ∷ rest)) held held') (shows-no-more text line.0 _ line.2 h)
-    (front-with (text ++ line.0) _ 10 c.event.result c.feed_step.new.self rest held held' with reads
-    (c.play.ensures.part h.events (plays-by (text ++ line.0) _ 10 c.event.result c.feed_step.new.self with reads))))
+    subst (λ (t : List ℕ). ShowsLess (shown text) (told t) held held') (sym (line-and-rest text bytes line.0 c.in-Some.taken line.1))
+    (subst (λ (s : List ℕ). ShowsLess s (told ((text ++ line.0) ++ 10 ∷ rest)) held held') (shows-no-more text line.0 _ line.2 h)
+    (less-with (text ++ line.0) _ 10 c.event.result c.feed_step.new.self rest held held' with reads
+    (c.in-Err.ensures.missing h.events (plays-by (text ++ line.0) _ 10 c.event.result c.feed_step.new.self with reads) cc)))
+
+pub returns-in-Some-clause-untouched : goal.returns-in-Some-clause-untouched
+returns-in-Some-clause-untouched g c text h' same =
+    let bytes = c.args.bytes.now in
+    let h = subst (IsReplayOf text) (sym c.self.view_is) h' in
+    let line = c.feed_step.ensures.line (c.in-Some.step, c.in-Some.taken) c.in-Some.is in
+    let reads' = c.feed_step.ensures.stands text h.events h.reads (c.in-Some.step, c.in-Some.taken) c.in-Some.is in
+    let reads = subst (λ (t : List ℕ). StandsFor t (h.events ++ c.event.result ∷ []) c.feed_step.new.self) (line-whole text bytes line.0 c.in-Some.taken line.1)
+    (subst (λ (e : Event). StandsFor (text ++ take c.in-Some.taken bytes) (h.events ++ e ∷ []) c.feed_step.new.self) (sym c.event.ensures) reads') in
+    let with = stands-with text line.0 _ line.2 h in
+    let rest = drop c.in-Some.taken bytes in
+    let all : told ((text ++ line.0) ++ 10 ∷ rest) ≡ shown (text ++ line.0) = ap told (sym (line-and-rest text bytes line.0 c.in-Some.taken line.1)) ∙ same ∙ sym (shows-no-more text line.0 _ line.2 h) in
+    c.play.ensures.untouched h.events (plays-by (text ++ line.0) _ 10 c.event.result c.feed_step.new.self with reads) (none-with (text ++ line.0) _ 10 c.event.result c.feed_step.new.self rest with reads all)
+
+pub returns-in-Ok-clause-untouched : goal.returns-in-Ok-clause-untouched
+returns-in-Ok-clause-untouched g c text h' same =
+    let bytes = c.args.bytes.now in
+    let h = subst (IsReplayOf text) (sym c.self.view_is) h' in
+    let line = c.feed_step.ensures.line (c.in-Some.step, c.in-Some.taken) c.in-Some.is in
+    let reads' = c.feed_step.ensures.stands text h.events h.reads (c.in-Some.step, c.in-Some.taken) c.in-Some.is in
+    let reads = subst (λ (t : List ℕ). StandsFor t (h.events ++ c.event.result ∷ []) c.feed_step.new.self) (line-whole text bytes line.0 c.in-Some.taken line.1)
+    (subst (λ (e : Event). StandsFor (text ++ take c.in-Some.taken bytes) (h.events ++ e ∷ []) c.feed_step.new.self) (sym c.event.ensures) reads') in
+    let with = stands-with text line.0 _ line.2 h in
+    let rest = drop c.in-Some.taken bytes in
+    let all : told ((text ++ line.0) ++ 10 ∷ rest) ≡ shown (text ++ line.0) = ap told (sym (line-and-rest text bytes line.0 c.in-Some.taken line.1)) ∙ same ∙ sym (shows-no-more text line.0 _ line.2 h) in
+    c.play.ensures.untouched h.events (plays-by (text ++ line.0) _ 10 c.event.result c.feed_step.new.self with reads) (none-with (text ++ line.0) _ 10 c.event.result c.feed_step.new.self rest with reads all)
 
 -- ---- another line
 
@@ -72,6 +98,10 @@ pub returns-clause-refused : goal.returns-clause-refused
 returns-clause-refused g c text h =
     c.feed_first.ensures.refused text (subst (IsReplayOf text) (sym (same c.feed_step.new.self c.self.inside.text c.self.inside.world c.args.self.now (c.feed_step.ensures.left c.in-None.is) c.self.view_is)) h)
 
-pub returns-clause-front : goal.returns-clause-front
-returns-clause-front g c text h =
-    c.feed_first.ensures.front text (subst (IsReplayOf text) (sym (same c.feed_step.new.self c.self.inside.text c.self.inside.world c.args.self.now (c.feed_step.ensures.left c.in-None.is) c.self.view_is)) h)
+pub returns-clause-missing : goal.returns-clause-missing
+returns-clause-missing g c text h =
+    c.feed_first.ensures.missing text (subst (IsReplayOf text) (sym (same c.feed_step.new.self c.self.inside.text c.self.inside.world c.args.self.now (c.feed_step.ensures.left c.in-None.is) c.self.view_is)) h)
+
+pub returns-clause-untouched : goal.returns-clause-untouched
+returns-clause-untouched g c text h =
+    c.feed_first.ensures.untouched text (subst (IsReplayOf text) (sym (same c.feed_step.new.self c.self.inside.text c.self.inside.world c.args.self.now (c.feed_step.ensures.left c.in-None.is) c.self.view_is)) h)
