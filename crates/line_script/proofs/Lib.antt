@@ -1,6 +1,7 @@
 pub mod Cuts
 pub mod Reading
 pub mod Standing
+mod Profiles
 pub mod LongTexts
 pub mod Counts
 pub mod Unfinished

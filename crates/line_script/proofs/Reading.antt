@@ -9,23 +9,25 @@ use Rattle.line_script.specs.declared.fault.LineFault.TheVariants.{Faulty, NoMem
 use Rattle.line_script.specs.declared.reader.Reader.{Reader}
 use Rattle.script_parts.specs.declared.script.Event.{Event}
 use Rattle.line_script.specs.Lines.{text_line, lines_from, last_line, after_line, after_words, reaches_limit, is_long, content}
+use Rattle.line_script.specs.declared.profile.Profile.{Profile}
+use Rattle.line_script.specs.Profiles.{line_for, lines_for}
 use Rattle.line_script.specs.Refusal.{IsFaulty, IsRefused, fault_at}
-use Rattle.line_script.specs.ScriptText.{with_event, script_from, parts}
+use Rattle.line_script.specs.ScriptText.{with_event, parts}
 use Rattle.script_statement.specs.Words.{words}
 use Rattle.line_script.proofs.Cuts.{split-first}
 
 -- the lines from one that was read on
-pub goes_on : (d e : Reader) (events more_events : List Event) (number start : ℕ) (bytes more : List ℕ) → with_event events (after_line d (text_line start bytes true)) ≡ Ok (e, more_events) → script_from d events number (lines_from start (bytes ∷ parts more)) ≡ script_from e more_events (number + 1) (lines_from (start + (length bytes + 1)) (parts more))
-goes_on d e events more_events number start bytes more h =
+pub goes_on : (profile : Profile) (d e : Reader) (events more_events : List Event) (number start : ℕ) (bytes more : List ℕ) → with_event events (line_for profile d (text_line start bytes true)) ≡ Ok (e, more_events) → lines_for profile d events number (lines_from start (bytes ∷ parts more)) ≡ lines_for profile e more_events (number + 1) (lines_from (start + (length bytes + 1)) (parts more))
+goes_on profile d e events more_events number start bytes more h =
     let cut = split-first (λ b. eqb b 10) more in
     rw (cut.2, h) refl
 
 -- a text that is refused at a line is refused
-pub refused_at : (fault : LineFault) (d : Reader) (events : List Event) (number start : ℕ) (bytes more : List ℕ) → IsFaulty fault (with_event events (after_line d (text_line start bytes true))) → IsRefused (fault_at number fault) (script_from d events number (lines_from start (bytes ∷ parts more)))
-refused_at NoMemory d events number start bytes more h = tt
-refused_at (Faulty cause) d events number start bytes more h =
+pub refused_at : (profile : Profile) (fault : LineFault) (d : Reader) (events : List Event) (number start : ℕ) (bytes more : List ℕ) → IsFaulty fault (with_event events (line_for profile d (text_line start bytes true))) → IsRefused (fault_at number fault) (lines_for profile d events number (lines_from start (bytes ∷ parts more)))
+refused_at profile NoMemory d events number start bytes more h = tt
+refused_at profile (Faulty cause) d events number start bytes more h =
     let cut = split-first (λ b. eqb b 10) more in
-    let err : with_event events (after_line d (text_line start bytes true)) ≡ Err cause = h in
+    let err : with_event events (line_for profile d (text_line start bytes true)) ≡ Err cause = h in
     rw (cut.2, err) refl
 
 -- where anything stands behind the last line feed, it is a line
@@ -34,10 +36,10 @@ one_line start [] h = cc
 one_line start (byte ∷ more) h = refl
 
 -- a text whose last line is refused is refused
-pub refused_at_last : (fault : LineFault) (d : Reader) (events : List Event) (number start : ℕ) (rest : List ℕ) → eqb (length rest) 0 ≡ false → IsFaulty fault (with_event events (after_line d (text_line start rest false))) → IsRefused (fault_at number fault) (script_from d events number (last_line start rest))
-refused_at_last NoMemory d events number start rest some h = tt
-refused_at_last (Faulty cause) d events number start rest some h =
-    let err : with_event events (after_line d (text_line start rest false)) ≡ Err cause = h in
+pub refused_at_last : (profile : Profile) (fault : LineFault) (d : Reader) (events : List Event) (number start : ℕ) (rest : List ℕ) → eqb (length rest) 0 ≡ false → IsFaulty fault (with_event events (line_for profile d (text_line start rest false))) → IsRefused (fault_at number fault) (lines_for profile d events number (last_line start rest))
+refused_at_last profile NoMemory d events number start rest some h = tt
+refused_at_last profile (Faulty cause) d events number start rest some h =
+    let err : with_event events (line_for profile d (text_line start rest false)) ≡ Err cause = h in
     rw (one_line start rest some, err) refl
 
 -- a line with an answer is neither past the limit nor long

@@ -3,6 +3,7 @@ pub mod Lines
 pub mod Refusal
 pub mod Steps
 pub mod ScriptText
+pub mod Profiles
 pub mod Left
 pub mod Unfinished
 pub mod Fed

@@ -4,6 +4,7 @@ ghost use Rattle.std.specs.Prelude.{◌≡◌, ◌≤◌, [], ◌∷◌, ◌+◌
 ghost use Rattle.end_drafts.specs.Flaws.{IsFlawed};
 ghost use Rattle.line_script.specs.Readers.{after_statement, begins_half as the_half_test, fresh, in_mode, stage_of as the_stage};
 ghost use Rattle.line_script.specs.Lines.{after_line, after_said, cause_of as the_cause, with_cause, after_words, finished, reaches_limit as the_limit_test, script_with, content as the_content, is_ended as the_end_test, is_passed_over as the_passed, line_fault as the_line_fault, text_line};
+ghost use Rattle.line_script.specs.Profiles.{line_for, rehearsed_form, rehearsed_line, rehearsed_words};
 ghost use Rattle.line_script.specs.Refusal.{IsFaulty};
 ghost use Rattle.line_script.specs.Steps.{step_before};
 ghost use Rattle.line_script.specs.declared.step.TimesEvent.{TimesEvent as OneStep};
@@ -15,6 +16,7 @@ ghost use Rattle.script_statement.specs.declared.statement.Verb.{Verb as Happeni
 
 use crate::given_command::{GivenCommand, given_command};
 use crate::given_word::{GivenWord, given_word};
+use crate::profile::{Profile, is_half_form, issues_at_a};
 use crate::step::{TimesEvent, step_of};
 use crate::{Cause, Event, Events, LineFault, Script};
 use df1_base::NoMemory;
@@ -74,6 +76,45 @@ impl Reader {
                 None => self.read_words(alloc, &first_words(said)),
             },
         }
+    }
+
+    /// Reads the next line for a profile: for a replay as `read` does, and for a rehearsal by its words.
+    pub(crate) fn read_for(
+        &mut self,
+        alloc: Global,
+        start: usize,
+        line: &[u8],
+        is_ended: bool,
+        profile: Profile,
+    ) -> Result<Option<Event>, LineFault>
+        ensures { MatchResult result (λ event. line_for profile self.old (text_line start line.now is_ended) ≡ Ok (self.new, event))
+            (λ fault. IsFaulty fault (line_for profile self.old (text_line start line.now is_ended))) }
+    {
+        match profile {
+            Profile::Replay => self.read(alloc, start, line, is_ended),
+            Profile::Rehearse => self.read_rehearsed(alloc, start, line, is_ended),
+        }
+    }
+
+    /// Reads the next line of a rehearsal.
+    fn read_rehearsed(
+        &mut self,
+        alloc: Global,
+        start: usize,
+        line: &[u8],
+        is_ended: bool,
+    ) -> Result<Option<Event>, LineFault>
+        ensures { MatchResult result (λ event. rehearsed_line self.old (text_line start line.now is_ended) ≡ Ok (self.new, event))
+            (λ fault. IsFaulty fault (rehearsed_line self.old (text_line start line.now is_ended))) }
+    {
+        if reaches_limit(start, line, is_ended) {
+            return Err(LineFault::Faulty(Cause::Size));
+        }
+        if line.len() > LINE {
+            return Err(LineFault::Faulty(Cause::Long));
+        }
+        let said = content(line, is_ended);
+        self.read_rehearsed_words(alloc, &first_words(said))
     }
 
     /// Takes the next line, which a line feed ends, as `read` reads it, if it is a step that may follow the lines so far; its
@@ -174,6 +215,45 @@ impl Reader {
             Some(statement) => self.take(alloc, statement),
             None => Err(LineFault::Faulty(Cause::Form)),
         }
+    }
+
+    /// Reads the first words of the next line of a rehearsal.
+    fn read_rehearsed_words(
+        &mut self,
+        alloc: Global,
+        words: &[&[u8]],
+    ) -> Result<Option<Event>, LineFault>
+        ensures { MatchResult result (λ event. rehearsed_words self.old (map (λ x. x.now) words.now) ≡ Ok (self.new, event))
+            (λ fault. IsFaulty fault (rehearsed_words self.old (map (λ x. x.now) words.now))) }
+    {
+        if is_passed_over(words) {
+            return Ok(None);
+        }
+        if self.is_ended() {
+            return Err(LineFault::Faulty(Cause::After));
+        }
+        match statement_of(alloc, words)? {
+            Some(statement) => self.take_rehearsed(alloc, statement),
+            None => Err(LineFault::Faulty(Cause::Form)),
+        }
+    }
+
+    /// Takes a statement of a rehearsal, if it isn't kept out and nothing is wrong with it.
+    fn take_rehearsed(
+        &mut self,
+        alloc: Global,
+        statement: Statement,
+    ) -> Result<Option<Event>, LineFault>
+        ensures { MatchResult result (λ event. rehearsed_form self.old (Some statement) ≡ Ok (self.new, event))
+            (λ fault. IsFaulty fault (rehearsed_form self.old (Some statement))) }
+    {
+        if is_half_form(&statement) {
+            return Err(LineFault::Faulty(Cause::Form));
+        }
+        if issues_at_a(&statement) {
+            return Err(LineFault::Faulty(Cause::Place));
+        }
+        self.take(alloc, statement)
     }
 
     /// Takes a statement, if nothing is wrong with it. One that is refused takes no memory.

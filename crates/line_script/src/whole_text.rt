@@ -1,11 +1,14 @@
 //! Reading a script from a whole text, line by line.
 ghost use Rattle.std.specs.Prelude.{◌≡◌, ◌==◌, ◌<◌, ◌-◌, ◌^◌, ◌∷◌, [], Ok, length, IfOk, MatchResult, MatchOption, position};
 ghost use Rattle.script_parts.specs.HalfPlayable.{CanBePlayed};
-ghost use Rattle.line_script.specs.Lines.{after_line, last_line, text_line};
-ghost use Rattle.line_script.specs.ScriptText.{script_from, script_of, parts, with_event};
+ghost use Rattle.line_script.specs.declared.profile.Profile.{Profile as Purpose};
+ghost use Rattle.line_script.specs.Lines.{finished, last_line, lines_from, text_line};
+ghost use Rattle.line_script.specs.Profiles.{IsRehearsed, line_for, lines_for, script_for};
+ghost use Rattle.line_script.specs.Readers.{fresh};
+ghost use Rattle.line_script.specs.ScriptText.{at_line, parts, script_of, with_event};
 ghost use Rattle.line_script.specs.Refusal.{IsFaulty, IsRefused, fault_at};
 
-use crate::{Events, LineFault, Reader, Script, ScriptFault};
+use crate::{Events, LineFault, Profile, Reader, Script, ScriptFault};
 use std::alloc::Global;
 
 /// Reads a script, all of the text: at most 16,777,216 bytes in lines of at most 1,024 bytes. `At` comes exactly where
@@ -16,13 +19,25 @@ pub fn read_script(alloc: Global, text: &[u8]) -> Result<Script, ScriptFault>
     ensures exact { MatchResult result (λ script. script_of text.now ≡ Ok script) (λ fault. IsRefused fault (script_of text.now)) }
     ensures playable { IfOk result CanBePlayed }
 {
-    read_lines(alloc, text)
+    read_lines(alloc, text, Profile::Replay)
+}
+
+/// Reads a script for a replay, as `read_script` does, or for a rehearsal: then the forms that only half mode has are none of the
+/// forms, and a command of end a may not stand there, whatever else is wrong with it. `At` comes exactly where the text is no such
+/// script, with its first faulty line and the first cause that fits it. A script that was read for a rehearsal is in full mode and
+/// has no command of end a.
+pub fn read_profile(alloc: Global, text: &[u8], profile: Profile) -> Result<Script, ScriptFault>
+    ensures exact { MatchResult result (λ script. script_for profile text.now ≡ Ok script) (λ fault. IsRefused fault (script_for profile text.now)) }
+    ensures playable { IfOk result CanBePlayed }
+    ensures rehearsed { profile ≡ Purpose.Rehearse → IfOk result IsRehearsed }
+{
+    read_lines(alloc, text, profile)
 }
 
 /// Reads all the lines of a text.
-#[tactic(auto, unfolding(crate::specs::ScriptText::script_of))]
-fn read_lines(alloc: Global, text: &[u8]) -> Result<Script, ScriptFault>
-    ensures { MatchResult result (λ script. script_of text.now ≡ Ok script) (λ fault. IsRefused fault (script_of text.now)) }
+fn read_lines(alloc: Global, text: &[u8], profile: Profile) -> Result<Script, ScriptFault>
+    ensures { MatchResult result (λ script. lines_for profile fresh [] 1 (lines_from 0 (parts text.now)) ≡ Ok script)
+        (λ fault. IsRefused fault (lines_for profile fresh [] 1 (lines_from 0 (parts text.now)))) }
 {
     let mut reader = Reader::new(alloc);
     let mut events = Events::new(alloc);
@@ -30,14 +45,14 @@ fn read_lines(alloc: Global, text: &[u8]) -> Result<Script, ScriptFault>
     let mut number = 1u32;
     let mut start = 0;
     while let Some((line, more)) = next_line(rest) {
-        if let Err(fault) = read_line(alloc, &mut reader, &mut events, start, line, true) {
+        if let Err(fault) = read_line(alloc, &mut reader, &mut events, start, line, true, profile) {
             return Err(at(number, fault));
         }
         number += 1;
         start += line.len() + 1;
         rest = more;
     }
-    read_rest(alloc, reader, events, number, start, rest)
+    read_rest(alloc, reader, events, number, start, rest, profile)
 }
 
 /// Reads what stands behind the last line feed, from byte `start` and line `number` on.
@@ -48,15 +63,16 @@ fn read_rest(
     number: u32,
     start: usize,
     rest: &[u8],
+    profile: Profile,
 ) -> Result<Script, ScriptFault>
     requires { number < 2 ^ 32 - 1 }
-    ensures { MatchResult result (λ script. script_from reader events number (last_line start rest.now) ≡ Ok script)
-        (λ fault. IsRefused fault (script_from reader events number (last_line start rest.now))) }
+    ensures { MatchResult result (λ script. lines_for profile reader events number (last_line start rest.now) ≡ Ok script)
+        (λ fault. IsRefused fault (lines_for profile reader events number (last_line start rest.now))) }
 {
     if rest.is_empty() {
         return finish(alloc, reader, events, number);
     }
-    match read_line(alloc, &mut reader, &mut events, start, rest, false) {
+    match read_line(alloc, &mut reader, &mut events, start, rest, false, profile) {
         Ok(()) => finish(alloc, reader, events, number + 1),
         Err(fault) => Err(at(number, fault)),
     }
@@ -64,8 +80,8 @@ fn read_rest(
 
 /// Ends a text whose next line would have this number.
 fn finish(alloc: Global, reader: Reader, events: Events, number: u32) -> Result<Script, ScriptFault>
-    ensures { MatchResult result (λ script. script_from reader events number [] ≡ Ok script)
-        (λ fault. IsRefused fault (script_from reader events number [])) }
+    ensures { MatchResult result (λ script. at_line number (finished reader events) Ok ≡ Ok script)
+        (λ fault. IsRefused fault (at_line number (finished reader events) Ok)) }
 {
     match reader.finish(alloc, events) {
         Ok(script) => Ok(script),
@@ -81,11 +97,12 @@ fn read_line(
     start: usize,
     line: &[u8],
     is_ended: bool,
+    profile: Profile,
 ) -> Result<(), LineFault>
-    ensures { MatchResult result (λ _. with_event events.old (after_line reader.old (text_line start line.now is_ended)) ≡ Ok (reader.new, events.new))
-        (λ fault. IsFaulty fault (with_event events.old (after_line reader.old (text_line start line.now is_ended)))) }
+    ensures { MatchResult result (λ _. with_event events.old (line_for profile reader.old (text_line start line.now is_ended)) ≡ Ok (reader.new, events.new))
+        (λ fault. IsFaulty fault (with_event events.old (line_for profile reader.old (text_line start line.now is_ended)))) }
 {
-    if let Some(event) = reader.read(alloc, start, line, is_ended)? {
+    if let Some(event) = reader.read_for(alloc, start, line, is_ended, profile)? {
         events.push(event)?;
     }
     Ok(())
