@@ -1,5 +1,8 @@
 -- A world: what it holds while a script is played, and which event may come next.
-use Rattle.std.specs.Prelude.{ℕ, ◌+◌, ◌<◌, ◌≤◌, Bool, true, false, List, [], ◌++◌, length}
+use Rattle.std.specs.Prelude.{ℕ, ◌+◌, ◌<◌, ◌≤◌, Bool, true, false, List, [], ◌++◌, length, Option, Some, None}
+use Rattle.df1_node.specs.Initiator.{InitiatorState}
+use Rattle.script_statement.specs.declared.who.Who.{Who}
+use Rattle.script_statement.specs.declared.who.Who.TheVariants.{A, B, M, S}
 use Rattle.script_parts.specs.declared.script.Event.{Event}
 use Rattle.script_parts.specs.declared.script.Event.TheVariants as event
 use Rattle.script_parts.specs.declared.script.Script.{Script}
@@ -25,6 +28,13 @@ played p e = record { state = after_event p.state e; lines = p.lines ++ lines_of
 -- after the lines so far are printed
 abbrev pub printed : Played → Played
 printed p = record p { lines = [] }
+
+-- the initiator of an end, where the line has that end
+abbrev pub initiator_of : LineState → Who → Option InitiatorState
+initiator_of s A = Some s.a.end.host.initiator
+initiator_of s B = Some s.b.end.host.initiator
+initiator_of s M = None
+initiator_of s (S station) = None
 
 -- what the events of a world may sum to, as those of a script that can be played
 abbrev pub most_events : ℕ

@@ -12,7 +12,7 @@ ghost use Rattle.duplex_line.specs.Run.{first_side, tables_of};
 use arrayvec::ArrayVec;
 use df1_base::{NoMemory, Step, Turn};
 use df1_check::Check;
-use df1_node::{IssueFault, Node, Tables};
+use df1_node::{Initiator, IssueFault, Node, Tables};
 use duplex_end::End;
 use lane_cells::{Cell, Spare};
 use outset::{node_of, setup_of};
@@ -133,6 +133,13 @@ impl LineEnd {
         ensures gone { gone.new.items ≡ gone_at_tick node_host self.old.end }
     {
         self.end.on_tick(gone)
+    }
+
+    /// The initiator of the node.
+    pub fn initiator(&self) -> &Initiator
+        ensures { result.now ≡ self.now.end.host.initiator }
+    {
+        self.end.host().initiator()
     }
 
     /// The data tables of the node.

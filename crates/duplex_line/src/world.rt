@@ -1,18 +1,19 @@
 //! The world of a script: both ends, what is on its way between them, and what is told so far.
 
-ghost use Rattle.std.specs.Prelude.{◌≡◌, ◌≤◌, ◌++◌, [], IfOk, OnOk, OnErr, IsOk, IsTrue};
+ghost use Rattle.std.specs.Prelude.{◌≡◌, ◌≤◌, ◌++◌, [], IfOk, OnOk, OnErr, IsOk, IsTrue, None, Some, MatchOption};
 ghost use Rattle.std.specs.List.{flat_map};
 ghost use Rattle.df1_base.specs.Outside.{Rose, Put, WroteLess, Later};
 ghost use Rattle.replay_report.specs.Report.{line_text};
 ghost use Rattle.script_parts.specs.Playable.{IsPlayable, IsPossible, count_of};
 ghost use Rattle.duplex_line.specs.Run.{record_from, all_words, who_of};
-ghost use Rattle.duplex_line.specs.Plays.{IsNext, begun, played, printed, takes_no_memory};
+ghost use Rattle.duplex_line.specs.Plays.{IsNext, begun, initiator_of, played, printed, takes_no_memory};
 
 use crate::deal::deal;
 use crate::line_end::{LineEnd, side_of};
 use crate::reported::Reported;
 use crate::sent::Sent;
 use df1_base::{Failed, NoMemory, Sink};
+use df1_node::Initiator;
 use replay_report::{Page, Record};
 use report_lines::push_all;
 use script_parts::{Event, Script, Words};
@@ -101,6 +102,17 @@ impl DuplexWorld {
                 &mut self.sent,
             ),
             Who::M | Who::S(_) => unreachable!(),
+        }
+    }
+
+    /// The initiator of an end: None exactly where the line has no such end, which is anyone but a and b.
+    pub fn initiator(&self, who: Who) -> Option<&Initiator>
+        ensures { MatchOption result (initiator_of self.now.state who ≡ None) (λ initiator. initiator_of self.now.state who ≡ Some initiator.now) }
+    {
+        match who {
+            Who::A => Some(self.a.initiator()),
+            Who::B => Some(self.b.initiator()),
+            Who::M | Who::S(_) => None,
         }
     }
 

@@ -1,14 +1,18 @@
 -- The world of a half-duplex script: what it holds while the script is played, and which event may come next.
-use Rattle.std.specs.Prelude.{ℕ, ◌+◌, ◌<◌, ◌≤◌, Bool, true, false, List, [], ◌++◌, length, map}
+use Rattle.std.specs.Prelude.{ℕ, ◌+◌, ◌<◌, ◌≤◌, Bool, true, false, List, [], ◌++◌, length, map, slice_get, Option, Some, None}
+use Rattle.std.specs.Option.{option_map}
+use Rattle.df1_node.specs.Initiator.{InitiatorState}
 use Rattle.df1_node.specs.Node.{NodeState}
 use Rattle.half_master.specs.Master.{MasterState}
+use Rattle.script_statement.specs.declared.who.Who.{Who}
+use Rattle.script_statement.specs.declared.who.Who.TheVariants.{M, S}
 use Rattle.script_parts.specs.declared.script.Event.{Event}
 use Rattle.script_parts.specs.declared.script.Event.TheVariants as event
 use Rattle.script_parts.specs.declared.script.Script.{Script}
 use Rattle.script_parts.specs.HalfPlayable.{IsHalfPossible, half_count_of}
 use Rattle.replay_report.specs.declared.record.Line.{Line}
 use Rattle.half_line.specs.Acts.{LineStationState, HalfState}
-use Rattle.half_line.specs.Run.{start, after_event, lines_of}
+use Rattle.half_line.specs.Run.{start, after_event, lines_of, place_of}
 
 -- the state, the lines of the report so far, and the sum of the events so far
 pub record Played : Type 0 where
@@ -35,6 +39,17 @@ played p e = record { state = after_event p.state e; lines = p.lines ++ lines_of
 -- after the lines so far are printed
 abbrev pub printed : Played → Played
 printed p = record p { lines = [] }
+
+-- the initiator of the station at a place, if there is one
+abbrev pub initiator_at : List LineStationState → Option ℕ → Option InitiatorState
+initiator_at stations None = None
+initiator_at stations (Some place) = option_map (λ (side : LineStationState). side.slave.host.initiator) (slice_get stations place)
+
+-- the initiator of an end, where the line has that end
+abbrev pub initiator_of : HalfState → Who → Option InitiatorState
+initiator_of s M = Some s.master.host.initiator
+initiator_of s (S number) = initiator_at s.stations (place_of s.stations number)
+initiator_of s other = None
 
 -- what the events of a world may sum to, as those of a script that can be played
 abbrev pub most_events : ℕ

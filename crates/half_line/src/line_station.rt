@@ -13,7 +13,7 @@ use crate::setup::slave_setup;
 use crate::way::Way;
 use df1_base::{NoMemory, Out, Step};
 use df1_check::Check;
-use df1_node::{Node, Tables};
+use df1_node::{Initiator, Node, Tables};
 use half_slave::Slave;
 use lane_cells::{Cell, Spare};
 use outset::node_of;
@@ -131,6 +131,13 @@ impl LineStation {
         ensures { result.now ≡ body_of self.now.slave }
     {
         self.slave.body()
+    }
+
+    /// The initiator of the node.
+    pub fn initiator(&self) -> &Initiator
+        ensures { result.now ≡ self.now.slave.host.initiator }
+    {
+        self.slave.host().initiator()
     }
 
     /// The data tables of the node.

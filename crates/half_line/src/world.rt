@@ -1,6 +1,6 @@
 //! The world of a script: the master, its stations, what is on its way between them, and what is told so far.
 
-ghost use Rattle.std.specs.Prelude.{◌≡◌, ◌≤◌, ◌+◌, ◌++◌, ℕ, List, [], length, map, IfOk, OnOk, OnErr, IsOk, IsTrue};
+ghost use Rattle.std.specs.Prelude.{◌≡◌, ◌≤◌, ◌+◌, ◌++◌, ℕ, List, [], length, map, None, Some, IfOk, MatchOption, OnOk, OnErr, IsOk, IsTrue};
 ghost use Rattle.std.specs.List.{flat_map, All};
 ghost use Rattle.df1_base.specs.Outside.{Rose, Put, WroteLess, Later};
 ghost use Rattle.df1_check.specs.declared.Check.{Check as CheckKind};
@@ -9,7 +9,7 @@ ghost use Rattle.replay_report.specs.Report.{line_text};
 ghost use Rattle.script_parts.specs.declared.script.EndPlan.{EndPlan as Plan};
 ghost use Rattle.script_parts.specs.HalfPlayable.{IsHalfPlayable, IsHalfPossible, IsStationPlan, IsStationNumber, half_count_of};
 ghost use Rattle.half_line.specs.Run.{record_from, all_words, first_side, number_of as the_number_of, place_of as place_in, station_at as the_station_at, station_words};
-ghost use Rattle.half_line.specs.Plays.{IsNext, begun, most_events, played, printed, takes_no_memory};
+ghost use Rattle.half_line.specs.Plays.{IsNext, begun, initiator_at, initiator_of, most_events, played, printed, takes_no_memory};
 
 use crate::deal::{deal_at_master, deal_at_station};
 use crate::line_station::{LineStation, side_of};
@@ -19,7 +19,7 @@ use crate::way::station_between;
 use arrayvec::ArrayVec;
 use df1_base::{Failed, NoMemory, Sink};
 use df1_check::Check;
-use df1_node::Node;
+use df1_node::{Initiator, Node};
 use half_master::Master;
 use outset::node_of;
 use replay_report::{Page, Record, print_lines};
@@ -115,6 +115,17 @@ impl HalfWorld {
         }
     }
 
+    /// The initiator of the master or of a station: None exactly where the line has no such end.
+    pub fn initiator(&self, who: Who) -> Option<&Initiator>
+        ensures { MatchOption result (initiator_of self.now.state who ≡ None) (λ initiator. initiator_of self.now.state who ≡ Some initiator.now) }
+    {
+        match who {
+            Who::M => Some(self.master.host().initiator()),
+            Who::S(number) => station_initiator(&self.stations, number),
+            Who::A | Who::B => None,
+        }
+    }
+
     /// Writes the lines of the report that stand since the last such call, and drops them. `Failed` comes where the sink
     /// failed; then it holds a first part of their text, and not all, and the world is only dropped.
     pub fn print_lines<K: Sink>(&mut self, sink: &mut K) -> Result<(), Failed>
@@ -153,6 +164,14 @@ impl HalfWorld {
         push_stations(&self.stations, &mut words)?;
         Ok(words)
     }
+}
+
+/// The initiator of the station with this number: None exactly where there is no such station.
+fn station_initiator(stations: &[LineStation], number: u8) -> Option<&Initiator>
+    ensures { MatchOption result (initiator_at stations.now (place_in stations.now number) ≡ None) (λ initiator. initiator_at stations.now (place_in stations.now number) ≡ Some initiator.now) }
+{
+    let place = place_of(stations, number)?;
+    Some(stations[place].initiator())
 }
 
 /// Adds the words of the stations that aren't 0.
