@@ -1,7 +1,6 @@
 -- Runs of either mode: some events and then others, the lines that stand, and what the run of a full-duplex script is.
-use Rattle.std.proofs.Common.{◌≡◌, ◌∙◌, ℕ, ◌+◌, ◌<◌, ◌≤◌, suc, Bool, true, false, List, [], ◌∷◌, ◌++◌, length, take, drop, drop-cons, get_or, Result, Ok, Err, IfOk, refl, sym, ap, subst, arith, append_assoc, append-nil}
+use Rattle.std.proofs.Common.{◌≡◌, ◌∙◌, ℕ, ◌+◌, ◌<◌, suc, Bool, true, false, List, [], ◌∷◌, ◌++◌, length, drop, drop-cons, get_or, refl, sym, ap, subst, arith, append_assoc}
 use Rattle.std.proofs.Math.Numerals.{suc-eq-add-one}
-use Rattle.std.proofs.lemmas.List.{take_more, drop_all, take_all}
 use Rattle.std.specs.Prelude.{sum_by}
 use Rattle.std.specs.List.{flat_map}
 use Rattle.std.proofs.lemmas.List.Sums.{sum_by-cons}
@@ -65,7 +64,7 @@ after-lines : (w : World) (events : List Event) → lines_in w ≡ [] → lines_
 after-lines w [] none = none
 after-lines w (e ∷ events) none = after-lines (after_event w e) events (printed-lines (played w e))
 
-begun-lines : (half : Bool) (script : Script) → lines_in (begun_in half script.check script.ends) ≡ []
+pub begun-lines : (half : Bool) (script : Script) → lines_in (begun_in half script.check script.ends) ≡ []
 begun-lines true script = refl
 begun-lines false script = refl
 
@@ -103,33 +102,6 @@ printed-record (Polled p) lines = refl
 pub events-next : (events : List Event) (i : ℕ) (e : Event) → i < length events → e ≡ get_or events i e → drop i events ≡ e ∷ drop (i + 1) events
 events-next events i e lt is =
     drop-cons events i e lt ∙ ap (λ (x : Event). x ∷ drop (suc i) events) (sym is) ∙ ap (λ (j : ℕ). e ∷ drop j events) (suc-eq-add-one i)
-
-pub world-more : (script : Script) (w : World) (i : ℕ) (e : Event) → i < length script.events → e ≡ get_or script.events i e → printed w ≡ after_events (begun script) (take i script.events)
-    → printed (played w e) ≡ after_events (begun script) (take (i + 1) script.events)
-world-more script w i e lt is so_far =
-    printed-then w e ∙ ap (λ (v : World). after_event v e) so_far ∙ sym (after-behind (begun script) (take i script.events) (e ∷ []))
-    ∙ ap (after_events (begun script)) (ap (λ (x : Event). take i script.events ++ x ∷ []) is ∙ sym (take_more script.events i e lt))
-
-pub lines-more : (script : Script) (w : World) (i : ℕ) (e : Event) → i < length script.events → e ≡ get_or script.events i e
-    → lines_in w ++ lines_after (printed w) (drop i script.events) ≡ all_lines script → lines_in (played w e) ++ lines_after (printed (played w e)) (drop (i + 1) script.events) ≡ all_lines script
-lines-more script w i e lt is so_far =
-    let rest = drop (i + 1) script.events in
-    let next = events-next script.events i e lt is in
-    ap (λ l. l ++ lines_after (printed (played w e)) rest) (played-lines w e) ∙ append_assoc (lines_in w) (lines_of w e) (lines_after (printed (played w e)) rest)
-    ∙ ap (λ l. lines_in w ++ l) (ap (λ l. l ++ lines_after (printed (played w e)) rest) (sym (printed-of w e)) ∙ ap (λ (v : World). lines_of (printed w) e ++ lines_after v rest) (printed-then w e))
-    ∙ ap (λ events. lines_in w ++ lines_after (printed w) events) (sym next) ∙ so_far
-
--- what holds of the record of the run holds of the record of a world that has played all events
-pub record-at-end : {E : Type 0} (P : Record → Type 0) (script : Script) (i : ℕ) (w : World) → length script.events ≤ i → printed w ≡ after_events (begun script) (take i script.events)
-    → lines_in w ++ lines_after (printed w) (drop i script.events) ≡ all_lines script → (result : Result Record E) → IfOk result (λ r. r ≡ record_from w (lines_in w)) → P (record_of script) → IfOk result P
-unfolding record_of
-record-at-end P script i w over world lines (Err e) is p = tt
-record-at-end P script i w over world lines (Ok r) is p =
-    let none : drop i script.events ≡ [] = drop_all i script.events over in
-    let all : take i script.events ≡ script.events = take_all i script.events over in
-    let same_world : printed w ≡ last_world script = rw all at world in
-    let same_lines : lines_in w ≡ all_lines script = sym (append-nil (lines_in w)) ∙ rw none at lines in
-    subst P (sym (is ∙ sym (printed-record w (lines_in w)) ∙ ap (λ (v : World). record_from v (lines_in w)) same_world ∙ ap (record_from (last_world script)) same_lines)) p
 
 -- ---- the report
 

@@ -1,2 +1,3 @@
 pub mod EitherMode
 pub mod Next
+pub mod Standing

@@ -1,6 +1,8 @@
 -- The run of a script of either mode: the world before its first event, after each event, and its record.
-use Rattle.std.specs.Prelude.{Bool, true, false, List, [], ◌∷◌, ◌++◌}
+use Rattle.std.specs.Prelude.{Bool, true, false, List, [], ◌∷◌, ◌++◌, Option}
 use Rattle.df1_check.specs.declared.Check.{Check}
+use Rattle.df1_node.specs.Initiator.{InitiatorState}
+use Rattle.script_statement.specs.declared.who.Who.{Who}
 use Rattle.script_parts.specs.declared.script.EndPlan.{EndPlan}
 use Rattle.script_parts.specs.declared.script.Event.{Event}
 use Rattle.script_parts.specs.declared.script.Script.{Script}
@@ -57,6 +59,11 @@ abbrev pub takes_no_memory : World → Event → Bool
 takes_no_memory (Duplex p) e = duplex.takes_no_memory e
 takes_no_memory (Polled p) e = polled.takes_no_memory e
 
+-- the initiator of an end, where the world has that end
+abbrev pub initiator_of : World → Who → Option InitiatorState
+initiator_of (Duplex p) who = duplex.initiator_of p.state who
+initiator_of (Polled p) who = polled.initiator_of p.state who
+
 -- the record of these lines, with the words and deceptions of a world
 abbrev pub record_from : World → List Line → Record
 record_from (Duplex p) lines = duplex_run.record_from p.state lines
@@ -87,3 +94,19 @@ all_lines script = lines_after (begun script) script.events
 -- the record of a script's run
 unfoldable pub record_of : Script → Record
 record_of script = record_from (last_world script) (all_lines script)
+
+-- ---- a run whose lines stand
+
+-- events that may happen one after another
+abbrev pub AreNext : World → List Event → Type 0
+AreNext w [] = Unit {0}
+AreNext w (e ∷ events) = IsNext w e × AreNext (played w e) events
+
+-- after all of them, with no line printed
+abbrev pub all_played : World → List Event → World
+all_played w [] = w
+all_played w (e ∷ events) = all_played (played w e) events
+
+-- the world at the end of a script's run, with the lines of all events
+abbrev pub whole_world : Script → World
+whole_world script = all_played (begun script) script.events

@@ -1,8 +1,8 @@
 //! The world of a script of either mode, and playing a script on it: its run, as a record.
 #![tactic(auto)]
 
-mod play;
+mod playing;
 mod world;
 
-pub use play::replay;
+pub use playing::{play, replay};
 pub use world::World;

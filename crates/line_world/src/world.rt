@@ -1,17 +1,18 @@
 //! The world of a script of either mode.
 
-ghost use Rattle.std.specs.Prelude.{◌≡◌, [], IfOk, IsOk, IsTrue, OnOk, OnErr};
+ghost use Rattle.std.specs.Prelude.{◌≡◌, [], IfOk, IsOk, IsTrue, OnOk, OnErr, None, Some, MatchOption};
 ghost use Rattle.std.specs.List.{flat_map};
 ghost use Rattle.df1_base.specs.Outside.{Rose, Put, WroteLess, Later};
 ghost use Rattle.replay_report.specs.Report.{line_text};
 ghost use Rattle.script_parts.specs.HalfPlayable.{CanBePlayed};
-ghost use Rattle.line_world.specs.Runs.{IsNext, begun, lines_in, played, printed, record_from, takes_no_memory};
+ghost use Rattle.line_world.specs.Runs.{AreNext, IsNext, all_played, begun, initiator_of, lines_in, played, printed, record_from, takes_no_memory};
 
 use df1_base::{Failed, NoMemory, Sink};
+use df1_node::Initiator;
 use duplex_line::DuplexWorld;
 use half_line::HalfWorld;
 use replay_report::Record;
-use script_parts::{Event, Script};
+use script_parts::{Event, Script, Who};
 use std::alloc::Global;
 
 /// The ends of a line with their nodes, and the bytes on their way between them: two ends of a full-duplex line, or a master
@@ -49,6 +50,28 @@ impl World {
         match self {
             World::Duplex(world) => world.step(event),
             World::Polled(world) => world.step(event),
+        }
+    }
+
+    /// Does events that may happen one after another, as `step` does each.
+    pub fn step_all(&mut self, events: &[Event]) -> Result<(), NoMemory>
+        requires { AreNext self.old events.now }
+        ensures { OnOk result (self.new ≡ all_played self.old events.now) }
+    {
+        for event in events {
+            self.step(event)?;
+        }
+        Ok(())
+    }
+
+    /// The initiator of an end: None exactly where the world has no such end. A full-duplex line has a and b, a half-duplex line
+    /// its master and its stations.
+    pub fn initiator(&self, who: Who) -> Option<&Initiator>
+        ensures { MatchOption result (initiator_of self.now who ≡ None) (λ initiator. initiator_of self.now who ≡ Some initiator.now) }
+    {
+        match self {
+            World::Duplex(world) => world.initiator(who),
+            World::Polled(world) => world.initiator(who),
         }
     }
 

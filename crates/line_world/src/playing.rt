@@ -1,11 +1,11 @@
-//! Playing a script: its run, as a record.
+//! Playing a script: its run, as a world and as a record.
 
 ghost use Rattle.std.specs.Prelude.{◌≡◌, IfOk};
 ghost use Rattle.script_parts.specs.HalfPlayable.{CanBePlayed};
 ghost use Rattle.line_world.specs.Complete.{IsUndisturbed, IsComplete};
 ghost use Rattle.line_world.specs.Once.{EachCommandOnce};
 ghost use Rattle.line_world.specs.Recovery.{Recovers};
-ghost use Rattle.line_world.specs.Runs.{record_of};
+ghost use Rattle.line_world.specs.Runs.{record_of, whole_world};
 ghost use Rattle.line_world.specs.Wire.{AreDf1Wires};
 
 use crate::World;
@@ -13,6 +13,16 @@ use df1_base::NoMemory;
 use replay_report::Record;
 use script_parts::Script;
 use std::alloc::Global;
+
+/// The world of a script that can be read after all of its events, with their lines standing.
+pub fn play(alloc: Global, script: &Script) -> Result<World, NoMemory>
+    requires { CanBePlayed script.now }
+    ensures { IfOk result (λ world. world ≡ whole_world script.now) }
+{
+    let mut world = World::new(alloc, script)?;
+    world.step_all(script.events.as_slice())?;
+    Ok(world)
+}
 
 /// Plays a script that can be read, and answers the record of its run. Where no end was deceived, each command of the script was
 /// executed once at most, by the station that it was issued to, and those of each source in their order, the words are those
@@ -27,9 +37,5 @@ pub fn replay(alloc: Global, script: &Script) -> Result<Record, NoMemory>
     ensures once { IfOk result (λ r. r.deceived ≡ 0 → EachCommandOnce script.now r) }
     ensures wires { IfOk result (λ r. AreDf1Wires script.now r) }
 {
-    let mut world = World::new(alloc, script)?;
-    for event in script.events.as_slice() {
-        world.step(event)?;
-    }
-    world.finish()
+    play(alloc, script)?.finish()
 }
