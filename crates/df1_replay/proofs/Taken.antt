@@ -15,7 +15,7 @@ use Rattle.line_script.specs.ScriptText.{at_line, script_of}
 use Rattle.line_script.specs.Unfinished.{IsAccepted, IsOpen, settled, unfinished, unfinished_after}
 use Rattle.line_script.proofs.Fed.{goes-on, unfinished-behind, unfinished-line}
 use Rattle.line_script.proofs.Shown.{ended-is-whole}
-use Rattle.line_replay.specs.Fed.{Replaying, IsReplayOf, IsScript, ShowsFront, ShowsMore, events_text, shown, told, told_by}
+use Rattle.line_replay.specs.Fed.{Replaying, IsReplayOf, IsScript, ShowsFront, ShowsLess, ShowsMore, events_text, shown, told, told_by}
 use Rattle.df1_replay.specs.declared.fault.ReplayFault.{ReplayFault}
 use Rattle.df1_replay.specs.declared.fault.ReplayFault.TheVariants.{Refusal, Input, Output, NoMemory}
 use Rattle.df1_replay.specs.Outcome.{Answered, BrokenOff, CutOff, Refused, TellsRefusal, Written}
@@ -84,14 +84,17 @@ piece-refused left left' left'' held held' held'' faults faults' line c r piece 
       calm = calm;
     }
 
-pub piece-cut : (left left' left'' held held' held'' : Option (List ℕ)) (r : Replaying) (piece all : List ℕ) (s : SoFar left left' held held' r) → Took left' left'' piece → length piece ≤ 4096
-    → ShowsFront (shown s.text) all held' held'' → CutOff left left'' held held''
-piece-cut left left' left'' held held' held'' r piece all s took few front = record {
+pub piece-cut : (left left' left'' held held' held'' : Option (List ℕ)) (r : Replaying) (piece : List ℕ) (s : SoFar left left' held held' r) → Took left' left'' piece → length piece ≤ 4096
+    → ShowsLess (shown s.text) (told (s.text ++ piece)) held' held'' → CutOff left left'' held held''
+piece-cut left left' left'' held held' held'' r piece s took few (front, some) = record {
   before = s.text;
   last = piece;
   took = Consumes-trans left left' left'' s.text piece s.took took;
   few = few;
   more = front.more;
+  rest = front.rest;
+  tells = front.shows;
+  missing = some;
   shows = Appends-trans held held' held'' (shown s.text) front.more s.shows front.put;
 }
 
@@ -131,8 +134,9 @@ end-refused left left' left'' held held' held'' faults faults' line c r s took e
   calm = calm;
 }
 
-pub end-cut : (left left' left'' held held' held'' : Option (List ℕ)) (r : Replaying) (s : SoFar left left' held held' r) → Took left' left'' [] → ShowsFront (shown s.text) (told s.text) held' held'' → CutOff left left'' held held''
-end-cut left left' left'' held held' held'' r s took front = piece-cut left left' left'' held held' held'' r [] (told s.text) s took (omega arith) front
+pub end-cut : (left left' left'' held held' held'' : Option (List ℕ)) (r : Replaying) (s : SoFar left left' held held' r) → Took left' left'' [] → ShowsLess (shown s.text) (told s.text) held' held'' → CutOff left left'' held held''
+end-cut left left' left'' held held' held'' r s took less =
+    piece-cut left left' left'' held held' held'' r [] s took (omega arith) (subst (λ t. ShowsLess (shown s.text) (told t) held' held'') (sym (append-nil s.text)) less)
 
 -- whatever closing comes to
 pub end-written : {T E : Type 0} (left left' left'' held held' held'' : Option (List ℕ)) (r : Replaying) (s : SoFar left left' held held' r) (result : Result T E) → Took left' left'' [] → length s.text ≤ 16777216
@@ -197,10 +201,6 @@ tells-one NoMemory P Q go tells = tt
 pub tells-more : (result : Result (Unit {0}) ReplayFault) (P Q : ℕ → Cause → Type 0) → ((line : ℕ) (c : Cause) → P line c → Q line c) → IfErr result (TellsRefusal P) → IfErr result (TellsRefusal Q)
 tells-more (Ok done) P Q go tells = tt
 tells-more (Err trouble) P Q go tells = tells-one trouble P Q go tells
-
-pub at_output : {P : Type 0} (result : Result (Unit {0}) ReplayFault) (trouble : ReplayFault) → result ≡ Err trouble → OnErr result P → P
-at_output (Ok done) trouble is p = cc
-at_output (Err other) trouble is p = p
 
 pub rose-from : (a b c : ℕ) → b ≡ a → Rose b c → Rose a c
 rose-from a b c is rose = subst (λ n. Rose n c) is rose

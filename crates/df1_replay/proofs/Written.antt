@@ -1,16 +1,17 @@
 -- What is written of a script, piece by piece: a buffer takes the lines and hands them on.
-use Rattle.std.proofs.Common.{◌≡◌, ◌∙◌, ◌≤◌, ◌⊎◌, inl, inr, ℕ, List, [], ◌++◌, Option, None, Result, Ok, Err, refl, sym, ap, subst, append_assoc, append-nil, arith}
+use Rattle.std.proofs.Common.{◌≡◌, ◌∙◌, ◌≤◌, ◌⊎◌, inl, inr, ℕ, List, [], ◌++◌, Option, None, Some, Result, Ok, Err, refl, sym, ap, subst, append_assoc, append-nil, arith}
 use Rattle.std.specs.Prelude.{◌≢◌, OnOk, OnErr, IfErr, IsErrOf}
 use Rattle.std.specs.Io.KnownBytes.{Keeps, append_known}
 use Rattle.df1_base.specs.Outside.{Rose}
 use Rattle.df1_buffer.specs.Buffered.{told_length}
-use Rattle.df1_buffer.proofs.Handed.{put_through, part_through}
+use Rattle.df1_buffer.proofs.Handed.{less_through, part_through, put_through}
 use Rattle.line_script.specs.declared.fault.Cause.{Cause}
 use Rattle.line_script.specs.ScriptText.{script_of}
 use Rattle.line_replay.specs.declared.replayer.StreamFault.{StreamFault}
 use Rattle.line_replay.specs.declared.replayer.StreamFault.TheVariants as stream
-use Rattle.line_replay.specs.Fed.{Replaying, IsReplayOf, IsRefusedWith, IsRefusedAs, ShowsFront, ShowsMore, shown, told}
+use Rattle.line_replay.specs.Fed.{Replaying, IsReplayOf, IsRefusedWith, IsRefusedAs, ShowsFront, ShowsLess, ShowsMore, shown, told}
 use Rattle.line_replay.proofs.Fed.{front-as-shown}
+use Rattle.replay_report.proofs.Writing.{no_back, no_front}
 use Rattle.df1_replay.specs.declared.fault.ReplayFault.{ReplayFault}
 use Rattle.df1_replay.specs.declared.fault.ReplayFault.TheVariants.{Refusal, Input, Output, NoMemory}
 use Rattle.df1_replay.specs.Outcome.{TellsRefusal}
@@ -35,6 +36,46 @@ written-front before all waited waits held held' told none grown shows kept =
           shows.shows ∙ ap (λ m. (before ++ m) ++ shows.rest) w.text_is ∙ ap (λ t. t ++ shows.rest) (sym (append_assoc before w.part rest)) ∙ append_assoc (before ++ w.part) rest shows.rest;
       put = w.put;
     }
+
+-- where something was missing of what the buffer took, it still is
+pub written-less : (before all waited waits : List ℕ) (held held' told : Option (List ℕ)) → waited ≡ [] → told_length held ≤ told_length held' → ShowsLess before all (append_known held waited) told → Keeps told (append_known held' waits) → ShowsLess before all held held'
+written-less before all waited waits held held' told none grown (shows, some) kept =
+    let (rest, w) = part_through held held' told waited waits shows.more none grown shows.put kept in (
+      record {
+        more = w.part;
+        rest = rest ++ shows.rest;
+        shows =
+            shows.shows ∙ ap (λ m. (before ++ m) ++ shows.rest) w.text_is ∙ ap (λ t. t ++ shows.rest) (sym (append_assoc before w.part rest)) ∙ append_assoc (before ++ w.part) rest shows.rest;
+        put = w.put;
+      },
+      λ nothing. some (no_back rest shows.rest nothing),
+    )
+
+-- Something is missing where bytes wait and there was something to be told. Where the sink tells what it holds, that are the bytes
+-- that wait; where it doesn't, nothing says what it took.
+pub waiting-less : (before all waited waits : List ℕ) (held held' told : Option (List ℕ)) → waited ≡ [] → waits ≢ [] → all ≢ before → told_length held ≤ told_length held' → ShowsFront before all (append_known held waited) told
+    → Keeps told (append_known held' waits) → ShowsLess before all held held'
+waiting-less before all waited waits None held' told none some other grown shows kept =
+    let nothing_taken : all ≡ before ++ (shows.more ++ shows.rest) = shows.shows ∙ append_assoc before shows.more shows.rest in (
+      record {
+        more = [];
+        rest = shows.more ++ shows.rest;
+        shows = nothing_taken ∙ ap (λ t. t ++ (shows.more ++ shows.rest)) (sym (append-nil before));
+        put = tt;
+      },
+      λ nothing. other (nothing_taken ∙ ap (λ t. before ++ t) nothing ∙ append-nil before),
+    )
+waiting-less before all waited waits (Some x) held' told none some other grown shows kept =
+    let (rest, left, w) = less_through x held' told waited waits shows.more none some grown shows.put kept in (
+      record {
+        more = w.part;
+        rest = rest ++ shows.rest;
+        shows =
+            shows.shows ∙ ap (λ m. (before ++ m) ++ shows.rest) w.text_is ∙ ap (λ t. t ++ shows.rest) (sym (append_assoc before w.part rest)) ∙ append_assoc (before ++ w.part) rest shows.rest;
+        put = w.put;
+      },
+      λ nothing. left (no_front rest shows.rest nothing),
+    )
 
 -- ---- what a piece comes to, by what the replay came to and by the output
 
@@ -79,8 +120,8 @@ front-on (Err fault) result before all waited waits held held' told none grown k
 -- ---- the faults of the output
 
 -- the output failed while the lines were made, or when they were handed on
-abbrev pub Failing : Result (Unit {0}) StreamFault → ℕ → ℕ → Type 0
-Failing fed between after = IsErrOf fed stream.SinkFailed ⊎ Rose between after
+abbrev pub Failing : Result (Unit {0}) StreamFault → List ℕ → List ℕ → ℕ → ℕ → Type 0
+Failing fed waited waits between after = IsErrOf fed stream.SinkFailed ⊎ ((waited ≢ []) × (waits ≢ []) × Rose between after)
 
 pub le_then : (a b c : ℕ) → a ≤ b → b ≤ c → a ≤ c
 le_then a b c le le' = omega (arith, le, le')
@@ -104,11 +145,19 @@ sink-failed (Err (stream.At line cause)) is = absurd (subst (λ (r : Result (Uni
 sink-failed (Err stream.SinkFailed) is = refl
 sink-failed (Err stream.NoMemory) is = absurd (subst (λ (r : Result (Unit {0}) ReplayFault). IfErr r IsElse) is tt)
 
-pub output-rose : {X : Type 0} (fed : Result (Unit {0}) StreamFault) (result : Result (Unit {0}) ReplayFault) (before between after : ℕ) → Ends fed result (Failing fed between after) X → (IsErrOf fed stream.SinkFailed → Rose before between) → before ≤ between → between ≤ after
-    → IsErrOf result Output → Rose before after
-output-rose fed result before between after (inl (_, inl failed)) cause le le' is = rose-then before between after (cause failed) le'
-output-rose fed result before between after (inl (_, inr rose)) cause le le' is = then-rose before between after le rose
-output-rose fed result before between after (inr came) cause le le' is = rose-then before between after (cause (sink-failed fed (sym came.0 ∙ is))) le'
+pub output-rose : {X : Type 0} (fed : Result (Unit {0}) StreamFault) (result : Result (Unit {0}) ReplayFault) (waited waits : List ℕ) (before between after : ℕ) → Ends fed result (Failing fed waited waits between after) X → (IsErrOf fed stream.SinkFailed → Rose before between) → before ≤ between
+    → between ≤ after → IsErrOf result Output → Rose before after
+output-rose fed result waited waits before between after (inl (_, inl failed)) cause le le' is = rose-then before between after (cause failed) le'
+output-rose fed result waited waits before between after (inl (_, inr failing)) cause le le' is = then-rose before between after le failing.2
+output-rose fed result waited waits before between after (inr came) cause le le' is = rose-then before between after (cause (sink-failed fed (sym came.0 ∙ is))) le'
+
+-- and then something is missing
+pub less-on : {P Q X Less : Type 0} (fed : Result (Unit {0}) StreamFault) (result : Result (Unit {0}) ReplayFault) (waited waits : List ℕ) (between after : ℕ) → Ends fed result (Failing fed waited waits between after) X → OnOk fed P → (P → Q) → OnErr fed Q
+    → (IsErrOf fed stream.SinkFailed → Less) → (waited ≢ [] → waits ≢ [] → Q → Less) → IsErrOf result Output → Less
+less-on fed result waited waits between after (inl (_, inl failed)) ok go err sink waiting is = sink failed
+less-on (Ok done) result waited waits between after (inl (_, inr failing)) ok go err sink waiting is = waiting failing.0 failing.1 (go ok)
+less-on (Err fault) result waited waits between after (inl (_, inr failing)) ok go err sink waiting is = waiting failing.0 failing.1 err
+less-on fed result waited waits between after (inr came) ok go err sink waiting is = sink (sink-failed fed (sym came.0 ∙ is))
 
 -- any other trouble leaves the count as it was
 pub steady-on : {F W : Type 0} (fed : Result (Unit {0}) StreamFault) (result : Result (Unit {0}) ReplayFault) (before between after : ℕ) → Ends fed result F (W × (after ≡ between)) → IfErr fed (λ fault. fault ≢ stream.SinkFailed → between ≡ before)

@@ -1,12 +1,12 @@
 -- What a replay of an input comes to: the report, where the input says a script, or what stands before its first faulty line.
-use Rattle.std.specs.Prelude.{◌≡◌, ◌≤◌, ℕ, List, [], ◌++◌, length, Option, None, Some, Result, Ok, Err}
+use Rattle.std.specs.Prelude.{◌≡◌, ◌≢◌, ◌≤◌, ℕ, List, [], ◌++◌, length, Option, None, Some, Result, Ok, Err}
 use Rattle.std.specs.Io.KnownBytes.{IsAtEnd}
 use Rattle.df1_base.specs.Outside.{Rose, Took, Put, WrotePart}
 use Rattle.line_script.specs.declared.fault.Cause.{Cause}
 use Rattle.line_script.specs.ScriptText.{script_of}
 use Rattle.line_script.specs.Unfinished.{IsOpen}
 use Rattle.line_script.specs.Fed.{accepted_script}
-use Rattle.line_replay.specs.Fed.{events_text, shown}
+use Rattle.line_replay.specs.Fed.{events_text, shown, told}
 use Rattle.line_replay.specs.declared.replayer.StreamFault.{StreamFault}
 use Rattle.line_replay.specs.declared.replayer.StreamFault.TheVariants as stream
 use Rattle.line_world.specs.Runs.{record_of}
@@ -56,13 +56,17 @@ pub record BrokenOff (left left' held held' : Option (List ℕ)) (faults faults'
   pub rose : Rose faults faults'
   pub shows : Put held held' (shown bytes)
 
--- The output has failed: at most 4,096 bytes were taken since all report's lines of the event lines before are written.
+-- The output has failed: at most 4,096 bytes were taken since all report's lines of the event lines before are written, and of
+-- what these tell, something is missing.
 pub record CutOff (left left' held held' : Option (List ℕ)) : Type 0 where
   pub before : List ℕ
   pub last : List ℕ
   pub took : Took left left' (before ++ last)
   pub few : length last ≤ 4096
   pub more : List ℕ
+  pub rest : List ℕ
+  pub tells : told (before ++ last) ≡ shown before ++ more ++ rest
+  pub missing : rest ≢ []
   pub shows : Put held held' (shown before ++ more)
 
 -- Of what is to be written for the bytes that were taken, a first part is written and nothing else. They are at most those of the

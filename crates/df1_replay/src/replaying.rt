@@ -4,7 +4,7 @@ ghost use Rattle.std.specs.Io.KnownBytes.{Keeps};
 ghost use Rattle.df1_base.specs.Outside.{Rose, Later};
 ghost use Rattle.df1_buffer.specs.Buffered.{buffer_out, buffer_waiting, buffer_name, buffer_held, buffer_mark};
 ghost use Rattle.line_script.specs.ScriptText.{script_of};
-ghost use Rattle.line_replay.specs.Fed.{IsReplay, IsReplayOf, IsScript, ShowsFront, ShowsMore, shown, told};
+ghost use Rattle.line_replay.specs.Fed.{IsReplay, IsReplayOf, IsScript, ShowsFront, ShowsLess, ShowsMore, shown, told};
 ghost use Rattle.line_script.specs.declared.fault.Cause.{Cause as Fault};
 ghost use Rattle.df1_replay.specs.Replayed.{Replayed};
 ghost use Rattle.df1_replay.specs.Outcome.{Answered, BrokenOff, CutOff, IsFromPiece, Refused, TellsRefusal, Written, replayed, result_of};
@@ -24,7 +24,7 @@ const PIECE: usize = 4096;
 /// happen: of each piece that was read, first its lines' events happen, then the report's lines of these are written, and then the
 /// next is read. `Refusal` comes where no text that begins with the bytes taken is a script, with its first faulty line and the
 /// first cause that fits it; `Input` and `Output` only where the count of faults of the input or of the output rose. What was
-/// shown before is written.
+/// shown before is written; with `Output`, something is missing of what the bytes taken tell.
 pub fn replay_input<S: Source, K: Sink>(
     alloc: Global,
     input: &mut S,
@@ -98,6 +98,7 @@ fn go_on<K: Sink>(
         (IsReplayOf (text ++ piece.now) replayer.new × ShowsMore (shown text) (shown (text ++ piece.now)) (K.held (buffer_out report.old)) (K.held (buffer_out report.new))) }
     ensures refused { (text : List ℕ) → IsReplayOf text replayer.old → IfErr result (TellsRefusal (λ line cause. (more : List ℕ) → (script_of ((text ++ piece.now) ++ more) ≡ Err (line, cause)) × ShowsMore (shown text) (told ((text ++ piece.now) ++ more)) (K.held (buffer_out report.old)) (K.held (buffer_out report.new)))) }
     ensures front { (text : List ℕ) → IsReplayOf text replayer.old → OnErr result (ShowsFront (shown text) (told (text ++ piece.now)) (K.held (buffer_out report.old)) (K.held (buffer_out report.new))) }
+    ensures missing { (text : List ℕ) → IsReplayOf text replayer.old → IsErrOf result ReplayFault.Output → ShowsLess (shown text) (told (text ++ piece.now)) (K.held (buffer_out report.old)) (K.held (buffer_out report.new)) }
     ensures known { IfErr result IsFromPiece }
     ensures output { IsErrOf result ReplayFault.Output → Rose (K.faults (buffer_out report.old)) (K.faults (buffer_out report.new)) }
     ensures steady { OnOk result (K.faults (buffer_out report.new) ≡ K.faults (buffer_out report.old)) }
@@ -115,6 +116,7 @@ fn close<K: Sink>(replayer: &mut Replayer, report: &mut Buffered<'_, K>) -> Resu
     ensures ok { (text : List ℕ) → IsReplayOf text replayer.old → OnOk result (IsScript text × ShowsMore (shown text) (told text) (K.held (buffer_out report.old)) (K.held (buffer_out report.new))) }
     ensures refused { (text : List ℕ) → IsReplayOf text replayer.old → IfErr result (TellsRefusal (λ line cause. (script_of text ≡ Err (line, cause)) × ShowsMore (shown text) (told text) (K.held (buffer_out report.old)) (K.held (buffer_out report.new)))) }
     ensures front { (text : List ℕ) → IsReplayOf text replayer.old → OnErr result (ShowsFront (shown text) (told text) (K.held (buffer_out report.old)) (K.held (buffer_out report.new))) }
+    ensures missing { (text : List ℕ) → IsReplayOf text replayer.old → IsErrOf result ReplayFault.Output → ShowsLess (shown text) (told text) (K.held (buffer_out report.old)) (K.held (buffer_out report.new)) }
     ensures known { IfErr result IsFromPiece }
     ensures output { IsErrOf result ReplayFault.Output → Rose (K.faults (buffer_out report.old)) (K.faults (buffer_out report.new)) }
     ensures steady { OnOk result (K.faults (buffer_out report.new) ≡ K.faults (buffer_out report.old)) }
@@ -129,7 +131,8 @@ fn hand_on<K: Sink>(
     ended: Result<(), StreamFault>,
     report: &mut Buffered<'_, K>,
 ) -> Result<(), ReplayFault>
-    ensures ends { (IsErrOf result ReplayFault.Output × (IsErrOf ended StreamFault.SinkFailed ⊎ Rose (K.faults (buffer_out report.old)) (K.faults (buffer_out report.new))))
+    ensures ends { (IsErrOf result ReplayFault.Output
+            × (IsErrOf ended StreamFault.SinkFailed ⊎ ((buffer_waiting report.old ≢ []) × (buffer_waiting report.new ≢ []) × Rose (K.faults (buffer_out report.old)) (K.faults (buffer_out report.new)))))
         ⊎ ((result ≡ result_of ended) × ((buffer_waiting report.new ≡ []) × (K.faults (buffer_out report.new) ≡ K.faults (buffer_out report.old)))) }
     ensures kept { Keeps (buffer_held K.held report.old) (buffer_held K.held report.new) }
     ensures later { Later (buffer_mark K.held K.mark report.old) (buffer_mark K.held K.mark report.new) (K.faults (buffer_out report.old)) (K.faults (buffer_out report.new)) }

@@ -151,7 +151,8 @@ pub fn run<H: Shelf, S: Source, K: Sink, N: Sink>(
         × Refused (S.left input) (S.left result.input) (K.held out) (K.held result.out) (S.faults input) (S.faults result.input) line fault
         × IsNoted (N.held note) (N.held result.note) (N.faults note) (N.faults result.note) (line_note line fault) }
 
-    // 4 and 5 of `replay`: the input has failed, or the output. What was shown before is written.
+    // 4 and 5 of `replay`: the input has failed, or the output. What was shown before is written; with 5, something of what the
+    // bytes taken tell is missing.
     ensures input { the_form (map string_bytes words.now) ≡ Some Replay → result.status ≡ 4 →
         BrokenOff (S.left input) (S.left result.input) (K.held out) (K.held result.out) (S.faults input) (S.faults result.input) }
     ensures output { the_form (map string_bytes words.now) ≡ Some Replay → result.status ≡ 5 →

@@ -1,9 +1,9 @@
-use Rattle.std.proofs.Common.{◌≡◌, ◌∙◌, ◌++◌, ℕ, List, Err}
+use Rattle.std.proofs.Common.{◌≡◌, ◌∙◌, ◌++◌, ℕ, List, Err, ap}
 use Rattle.line_script.specs.ScriptText.{script_of}
 use Rattle.line_replay.specs.Fed.{ShowsMore, shown, told}
 use Rattle.df1_buffer.specs.Buffered.{buffer_out, buffer_waiting, buffer_held}
 use Rattle.df1_buffer.proofs.Handed.{same_borrow}
-use Rattle.df1_replay.proofs.Written.{le_then, front-on, more-is-front, ok-on, output-rose, refused-on, steady-on, written-more}
+use Rattle.df1_replay.proofs.Written.{le_then, front-on, less-on, more-is-front, ok-on, output-rose, refused-on, steady-on, waiting-less, written-less, written-more}
 use Rattle.df1_replay.proofs.replaying.go_on.Goals as goal
 
 pub returns-clause-same_reference : goal.returns-clause-same_reference
@@ -38,8 +38,22 @@ returns-clause-front g c text h =
     front-on c.feed_all-fed.result c.hand_on.result (shown text) (told all) (buffer_waiting b) (buffer_waiting b') (g.K.Sink.held (buffer_out b)) (g.K.Sink.held (buffer_out b')) between c.requires.none grown c.hand_on.ensures.kept
     (c.feed_all-fed.ensures.ok text h) (λ fed. more-is-front all c.feed_all-fed.new.self (shown text) (buffer_held g.K.Sink.held b) between fed.0 fed.1) (c.feed_all-fed.ensures.front text h)
 
+pub returns-clause-missing : goal.returns-clause-missing
+returns-clause-missing g c text h =
+    let all = text ++ c.args.piece.now in
+    let b = c.args.report.now in
+    let b' = c.hand_on.new.report in
+    let held = g.K.Sink.held (buffer_out b) in
+    let held' = g.K.Sink.held (buffer_out b') in
+    let between = buffer_held g.K.Sink.held c.feed_all-fed.new.sink in
+    let grown = le_then _ _ _ c.feed_all-fed.ensures.later.1 c.hand_on.ensures.later.1 in
+    less-on c.feed_all-fed.result c.hand_on.result _ _ _ _ c.hand_on.ensures.ends (c.feed_all-fed.ensures.ok text h) (λ fed. more-is-front all c.feed_all-fed.new.self (shown text) (buffer_held g.K.Sink.held b) between fed.0 fed.1) (c.feed_all-fed.ensures.front text h)
+    (λ failed. written-less (shown text) (told all) (buffer_waiting b) (buffer_waiting b') held held' between c.requires.none grown (c.feed_all-fed.ensures.missing text h failed) c.hand_on.ensures.kept)
+    (λ waited waits front. waiting-less (shown text) (told all) (buffer_waiting b) (buffer_waiting b') held held' between c.requires.none waits
+    (λ same. waited (ap buffer_waiting (c.feed_all-fed.ensures.untouched text h same) ∙ c.requires.none)) grown front c.hand_on.ensures.kept)
+
 pub returns-clause-output : goal.returns-clause-output
-returns-clause-output g c is = output-rose c.feed_all-fed.result c.hand_on.result _ _ _ c.hand_on.ensures.ends c.feed_all-fed.ensures.cause c.feed_all-fed.ensures.later.2 c.hand_on.ensures.later.2 is
+returns-clause-output g c is = output-rose c.feed_all-fed.result c.hand_on.result _ _ _ _ _ c.hand_on.ensures.ends c.feed_all-fed.ensures.cause c.feed_all-fed.ensures.later.2 c.hand_on.ensures.later.2 is
 
 pub returns-clause-steady_else : goal.returns-clause-steady_else
 returns-clause-steady_else g c = steady-on c.feed_all-fed.result c.hand_on.result _ _ _ c.hand_on.ensures.ends c.feed_all-fed.ensures.steady

@@ -7,9 +7,8 @@ use Rattle.df1_base.specs.Outside.{Took}
 use Rattle.line_script.specs.ScriptText.{script_of}
 use Rattle.line_replay.specs.Fed.{ShowsMore, shown, told}
 use Rattle.df1_buffer.specs.Buffered.{buffer_out}
-use Rattle.df1_replay.specs.declared.fault.ReplayFault.TheVariants.{Output}
 use Rattle.df1_replay.proofs.Headline.{replayed-on}
-use Rattle.df1_replay.proofs.Taken.{at_output, broken-off, broken-written, end-answered, end-cut, end-refused, end-written, fed-is, none-taken, piece-cut, piece-refused, piece-taken, piece-written, rose-from, tells-more, tells-one}
+use Rattle.df1_replay.proofs.Taken.{broken-off, broken-written, end-answered, end-cut, end-refused, end-written, fed-is, none-taken, piece-cut, piece-refused, piece-taken, piece-written, rose-from, tells-more, tells-one}
 use Rattle.df1_replay.proofs.replaying.replay_all.Goals as goal
 
 pub loop-piece-init : goal.loop-piece-init
@@ -72,7 +71,7 @@ returns-in-Ok-eq0-clause-output g c is =
     let took : Took left' left'' [] = subst (λ n. Took left' left'' (take n c.read.new.into)) c.in-Ok-eq0.field-0-test e.took in (
       rose-from (g.K.Sink.faults (buffer_out c.args.report.now)) (g.K.Sink.faults (buffer_out l.report)) (g.K.Sink.faults (buffer_out c.close.new.report)) l.invariant.out_calm (c.close.ensures.output is),
       e.calm ∙ l.invariant.input_calm,
-      end-cut left left' left'' held held' held'' l.replayer s took (at_output c.close.result Output is (c.close.ensures.front s.text s.replay)),
+      end-cut left left' left'' held held' held'' l.replayer s took (c.close.ensures.missing s.text s.replay is),
     )
 
 pub returns-in-Ok-eq0-clause-written : goal.returns-in-Ok-eq0-clause-written
@@ -168,7 +167,7 @@ returns-in-Err-go_on-clause-output g c is =
     let few : length piece ≤ 4096 = grind (arith, length-take-le) in (
       rose-from (g.K.Sink.faults (buffer_out c.args.report.now)) (g.K.Sink.faults (buffer_out l.report)) (g.K.Sink.faults (buffer_out c.go_on.new.report)) l.invariant.out_calm (c.in-Err-go_on.ensures.output is),
       e.calm ∙ l.invariant.input_calm,
-      piece-cut left left' left'' held held' held'' l.replayer piece (told (s.text ++ piece)) s e.took few (c.in-Err-go_on.ensures.front s.text s.replay),
+      piece-cut left left' left'' held held' held'' l.replayer piece s e.took few (c.in-Err-go_on.ensures.missing s.text s.replay is),
     )
 
 pub returns-in-Err-go_on-clause-written : goal.returns-in-Err-go_on-clause-written
