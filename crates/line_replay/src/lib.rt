@@ -5,8 +5,8 @@
 mod replayer;
 
 pub use line_script::{
-    Bytes, Cause, EndPlan, Ends, Event, Events, Items, Lane, Script, ScriptFault, Specs, Who,
-    WordOf, Words, read_script,
+    Bytes, Cause, EndPlan, Ends, Event, Events, Items, Lane, Profile, Script, ScriptFault, Specs,
+    Who, WordOf, Words, read_profile, read_script,
 };
 pub use line_world::{World, replay};
 pub use replay_report::{Line, Lines, Record, print};
