@@ -1,9 +1,11 @@
-//! Tests of the ends of a half-duplex line: a slave, the master, and what either gives.
+//! Tests of the ends of a half-duplex line: a slave, the master, what either gives, and a router behind the master.
 #![tactic(auto)]
 
 #[cfg(test)]
 mod giving;
 #[cfg(test)]
 mod master;
+#[cfg(test)]
+mod router;
 #[cfg(test)]
 mod slave;

@@ -5,7 +5,7 @@ use df1_check::Check;
 use half_master::{Master, MasterSetup};
 use std::process::Abort;
 
-const COMMAND: [u8; 14] = [
+pub(crate) const COMMAND: [u8; 14] = [
     0x03, 0x00, 0x0F, 0x00, 0x01, 0x00, 0xAA, 0x02, 0x07, 0x89, 0x00, 0x00, 0x34, 0x12,
 ];
 
@@ -14,7 +14,7 @@ const COMMAND_SENT: [u8; 22] = [
     0x00, 0x34, 0x12, 0x10, 0x03, 0x68,
 ];
 
-const POLL_OF_3: [u8; 4] = [0x10, 0x05, 0x03, 0xFD];
+pub(crate) const POLL_OF_3: [u8; 4] = [0x10, 0x05, 0x03, 0xFD];
 
 const POLL_OF_5: [u8; 4] = [0x10, 0x05, 0x05, 0xFB];
 
@@ -26,7 +26,7 @@ const REPLY_OF_5: [u8; 11] = [
     0x10, 0x02, 0x00, 0x05, 0x4F, 0x00, 0x01, 0x00, 0x10, 0x03, 0xAB,
 ];
 
-const ACK: [u8; 2] = [0x10, 0x06];
+pub(crate) const ACK: [u8; 2] = [0x10, 0x06];
 
 const NAK: [u8; 2] = [0x10, 0x15];
 
@@ -34,10 +34,10 @@ const EOT: [u8; 2] = [0x10, 0x04];
 
 /// A host that hands the command out once, takes messages while it has room, and tells each tick.
 #[derive(Drop)]
-struct OneCommand {
+pub(crate) struct OneCommand {
     waits: bool,
     is_out: bool,
-    room: bool,
+    pub(crate) room: bool,
 }
 
 impl Host for OneCommand {
@@ -154,7 +154,7 @@ const SETUP: MasterSetup = MasterSetup {
 };
 
 /// A host with room and with no message out, which perhaps has one to send.
-fn host_of(waits: bool) -> OneCommand {
+pub(crate) fn host_of(waits: bool) -> OneCommand {
     OneCommand {
         waits,
         is_out: false,
@@ -162,9 +162,14 @@ fn host_of(waits: bool) -> OneCommand {
     }
 }
 
-/// A master of the stations 3 and 5.
+/// A master of the stations 3 and 5, over a host.
+pub(crate) fn master_over<H: Host + Drop>(host: H) -> Master<H> {
+    Master::new(SETUP, &[3, 5], host)
+}
+
+/// A master of the stations 3 and 5, over a host that perhaps has a message to send.
 fn master_of_two(waits: bool) -> Master<OneCommand> {
-    Master::new(SETUP, &[3, 5], host_of(waits))
+    master_over(host_of(waits))
 }
 
 /// A master of no stations.
@@ -173,7 +178,7 @@ fn master_of_none() -> Master<OneCommand> {
 }
 
 /// The master gives these bytes, and then no more.
-fn gives(rt: &impl Abort, master: &mut Master<OneCommand>, bytes: &[u8]) {
+pub(crate) fn gives<H: Host + Drop>(rt: &impl Abort, master: &mut Master<H>, bytes: &[u8]) {
     for b in bytes {
         assert!(rt; !master.quiet());
         let given = master.take().map(|out| out.byte);
@@ -184,7 +189,10 @@ fn gives(rt: &impl Abort, master: &mut Master<OneCommand>, bytes: &[u8]) {
 }
 
 /// What the last of these bytes is told as, with what the host did and answered.
-fn hears(master: &mut Master<OneCommand>, bytes: &[u8]) -> (Act, Option<Did>, News) {
+pub(crate) fn hears<H: Host + Drop>(
+    master: &mut Master<H>,
+    bytes: &[u8],
+) -> (Act, Option<Did>, News) {
     let mut last = (Act::Nothing, None, News::Nothing);
     for b in bytes {
         let step = master.on_byte(*b);
@@ -194,7 +202,7 @@ fn hears(master: &mut Master<OneCommand>, bytes: &[u8]) -> (Act, Option<Did>, Ne
 }
 
 /// What a tick is told as, with how many commands are unanswered from it on.
-fn ticks(master: &mut Master<OneCommand>) -> (Turn, usize) {
+pub(crate) fn ticks<H: Host + Drop>(master: &mut Master<H>) -> (Turn, usize) {
     let mut gone = ArrayVec::new();
     gone.push(9);
     gone.push(9);

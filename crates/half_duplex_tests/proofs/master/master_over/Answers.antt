@@ -2,7 +2,7 @@ use Rattle.std.proofs.Common.{ℕ, zero, suc, ◌<◌, [], ◌∷◌, nat_eq, re
 use Rattle.std.specs.Prelude.{slice_index_or}
 use Rattle.std.specs.List.{IsDistinct}
 use Rattle.half_master.specs.Stations.{IsNumber}
-use Rattle.half_duplex_tests.proofs.master.master_of_two.Goals as goal
+use Rattle.half_duplex_tests.proofs.master.master_over.Goals as goal
 
 distinct : IsDistinct nat_eq (3 ∷ 5 ∷ [])
 unfolding IsDistinct
@@ -14,4 +14,4 @@ each (suc zero) d below = (λ is. omega (arith, is), λ is. omega (arith, is))
 each (suc (suc k)) d below = absurd (omega (arith, below))
 
 pub new-requires-clause-stations : goal.new-requires-clause-stations
-new-requires-clause-stations c = record { at_most = omega arith; distinct = distinct; each = each }
+new-requires-clause-stations g c = record { at_most = omega arith; distinct = distinct; each = each }
