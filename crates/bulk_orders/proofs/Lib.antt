@@ -1,2 +1,2 @@
-mod Faults
-mod Ranges
+pub mod Faults
+pub mod Ranges

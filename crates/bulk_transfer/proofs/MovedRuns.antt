@@ -1,0 +1,273 @@
+-- The runs of rehearsed transfers.
+use Rattle.std.proofs.Common.{◌≡◌, ◌∙◌, ℕ, zero, suc, ◌+◌, ◌*◌, ◌/◌, ◌%◌, ◌≤◌, Bool, true, false, cond, not, List, [], ◌∷◌, ◌++◌, length, map, drop, Option, Some, None, refl, sym, ap, subst, inl, inr, arith, length-append, length-take}
+use Rattle.std.specs.Prelude.{All, IsTrue, sum_by, nat_le, nat_lt, if◌then◌else◌}
+use Rattle.std.specs.Option.{option_map_or}
+use Rattle.std.specs.List.{range_with_len}
+use Rattle.std.proofs.lemmas.Bool.{false≢true, le-leb, leb-true}
+use Rattle.std.proofs.lemmas.List.Elements.{All-append, All-cons, All-nil}
+use Rattle.std.proofs.lemmas.List.FromFn.{length-map-range_with_len}
+use Rattle.std.proofs.lemmas.List.Sums.{sum_by-append, sum_by-cons}
+use Rattle.logical_address.specs.Shortest.{shortest_value}
+use Rattle.data_files.specs.declared.file_spec.FileSpec.{FileSpec}
+use Rattle.data_files.specs.Place.{holds_of, is_status}
+use Rattle.data_files.specs.Tables.{DataTables, file_of, fresh, has_word, has_words, with_word, word_count}
+use Rattle.script_statement.specs.Statements.{is_payload}
+use Rattle.script_statement.specs.declared.who.Who.TheVariants.{A, B}
+use Rattle.script_parts.specs.declared.script.Event.{Event}
+use Rattle.script_parts.specs.declared.script.Event.TheVariants.{Issue}
+use Rattle.script_parts.specs.declared.script.Script.{Script}
+use Rattle.script_parts.specs.declared.script.WordOf.{WordOf}
+use Rattle.script_parts.specs.HalfPlayable.{CanBePlayed}
+use Rattle.script_parts.specs.Playable.{IsPlayable, IsPossible, count_of, issues}
+use Rattle.replay_report.specs.declared.record.Record.{Record}
+use Rattle.report_lines.specs.Words.{words_of}
+use Rattle.each_once.specs.Commands.{AreOutcomesTold}
+use Rattle.each_once.specs.Once.{IsAnswered}
+use Rattle.each_once.specs.Exchanges.{exchanges}
+use Rattle.each_once.specs.Tells.{executed_in}
+use Rattle.outset.specs.Outset.{first_station, first_tables, with_all, with_first}
+use Rattle.duplex_line.specs.Complete.{IsComplete}
+use Rattle.duplex_line.specs.Issues.{commands_of_a}
+use Rattle.duplex_line.specs.Once.{EachOnce, tables_made}
+use Rattle.duplex_line.specs.Run.{last_state, lines_after, plan_of_a, plan_of_b, start}
+use Rattle.duplex_line.specs.Run as duplex
+use Rattle.duplex_line.proofs.Once.ToldCommands.{recounts-run}
+use Rattle.line_world.specs.Complete.{IsCompleteIn}
+use Rattle.line_world.specs.Once.{EachOnceIn}
+use Rattle.line_world.specs.Recovery.{RecoversIn}
+use Rattle.line_world.specs.Runs.{record_of}
+use Rattle.line_world.proofs.EitherMode.{all-complete, all-recover, duplex-record, each-command-once}
+use Rattle.bulk_orders.specs.declared.outcome.Bulk.TheVariants.{Whole}
+use Rattle.bulk_orders.specs.Orders.{data_of_order, first_word, orders_of, place_bytes, pull_payload, push_payload, words_of_order}
+use Rattle.bulk_orders.specs.Outcomes.{pull_result, push_result, words_pulled}
+use Rattle.bulk_transfer.specs.Moved.{HasFile, IsPulled, IsPushed, IsSound, IsWritable, initiator_after}
+use Rattle.bulk_transfer.specs.Rehearsal.{IsRehearsable, all_orders, issued_at, pull_script, push_script, with_orders}
+use Rattle.bulk_transfer.proofs.MovedAnswers.{HasFileOf}
+use Rattle.bulk_transfer.proofs.MovedBodies.{commands-are, length-bodies, order_bodies}
+use Rattle.bulk_transfer.proofs.MovedPull.{pull-file, pull-never-odd, pull-whole, pull-words}
+use Rattle.bulk_transfer.proofs.MovedPush.{push-file, push-never-odd, push-whole, push-words}
+use Rattle.bulk_transfer.proofs.MovedReplies.{AreTold}
+
+-- ---- the orders are payloads
+
+short-value : (n : ℕ) → length (shortest_value n) ≤ 3
+short-value n = by (nat_lt n 255)
+  where
+    by : (b : Bool) → length (if b then n ∷ [] else 0xFF ∷ n % 256 ∷ n / 256 ∷ []) ≤ 3
+    by true = omega arith
+    by false = omega arith
+
+short-place : (file words j : ℕ) → length (place_bytes file words j) ≤ 9
+short-place file words j =
+    let value = short-value file in
+    let element = length-append (shortest_value file) (0 ∷ []) in
+    let sub = length-append (shortest_value file ++ 0 ∷ []) [] in
+    omega (arith, value, element, sub)
+
+pull-payload : (file words j : ℕ) → is_payload (pull_payload file words j) ≡ true
+pull-payload file words j =
+    let all = length-append (place_bytes file words j) ((2 * words_of_order words j) ∷ []) in
+    let short = short-place file words j in
+    rw (le-leb (length (pull_payload file words j)) 245 (omega (arith, all, short))) refl
+
+push-payload : (file : ℕ) (bytes : List ℕ) (j : ℕ) → is_payload (push_payload file bytes j) ≡ true
+push-payload file bytes j =
+    let words : ℕ = length bytes / 2 in
+    let all = length-append (place_bytes file words j) (data_of_order bytes j) in
+    let short = short-place file words j in
+    let few = length-take (2 * words_of_order words j) (drop (2 * first_word j) bytes) in
+    rw (le-leb (length (push_payload file bytes j)) 245 (omega (arith, all, short, few))) refl
+
+-- ---- a script with orders in front can be played
+
+orders-possible : (order : ℕ → List ℕ) → ((j : ℕ) → is_payload (order j) ≡ true) → (dst first count : ℕ) → All IsPossible (issued_at dst (map order (range_with_len first count)))
+orders-possible order are dst first zero = All-nil IsPossible
+orders-possible order are dst first (suc count) = All-cons IsPossible (Issue A None dst (order first)) (issued_at dst (map order (range_with_len (first + 1) count))) (refl, are first) (orders-possible order are dst (first + 1) count)
+
+orders-sum : (f : Event → ℕ) (each : ℕ) → ((dst : ℕ) (payload : List ℕ) → f (Issue A None dst payload) ≡ each) → (dst : ℕ) (payloads : List (List ℕ)) → sum_by f (issued_at dst payloads) ≡ length payloads * each
+orders-sum f each is dst [] = omega arith
+orders-sum f each is dst (payload ∷ payloads) =
+    let all = sum_by-cons f (Issue A None dst payload) (issued_at dst payloads) in
+    let one = is dst payload in
+    let more = orders-sum f each is dst payloads in
+    omega (arith, all, one, more)
+
+with-orders-playable : (script : Script) (order : ℕ → List ℕ) (words : ℕ) → IsRehearsable script → words ≤ 3000 → ((j : ℕ) → is_payload (order j) ≡ true) → IsPlayable (with_orders script (all_orders order words))
+with-orders-playable script order words may few are =
+    let dst = (plan_of_b script).node in
+    let payloads = all_orders order words in
+    let count = length-map-range_with_len order 1 (orders_of words) in
+    let orders = issued_at dst payloads in
+    let split-a = sum_by-append (λ (e : Event). cond (issues A e) 1 0) orders script.events in
+    let split-b = sum_by-append (λ (e : Event). cond (issues B e) 1 0) orders script.events in
+    let split = sum_by-append count_of orders script.events in
+    let of-a = orders-sum (λ (e : Event). cond (issues A e) 1 0) 1 (λ d payload. refl) dst payloads in
+    let of-b = orders-sum (λ (e : Event). cond (issues B e) 1 0) 0 (λ d payload. refl) dst payloads in
+    let sum = orders-sum count_of 1 (λ d payload. refl) dst payloads in
+    let unissued = may.unissued in
+    let fewest = may.sum in
+    let others = may.playable.commands_of_b in
+    record {
+      mode = may.playable.mode;
+      ends = may.playable.ends;
+      events = All-append IsPossible orders script.events (orders-possible order are dst 1 (orders_of words)) may.playable.events;
+      commands_of_a = omega (arith, split-a, of-a, count, unissued, few);
+      commands_of_b = omega (arith, split-b, of-b, others);
+      sum = omega (arith, split, sum, count, fewest, few);
+    }
+
+can-play : (script : Script) → IsPlayable script → CanBePlayed script
+can-play script playable = record { full = λ mode. playable; half = λ half. absurd (false≢true (sym playable.mode ∙ half)) }
+
+-- ---- what a run tells
+
+lines-of-run : (script : Script) → IsPlayable script → (record_of script).lines ≡ lines_after (start script) script.events
+unfolding duplex.record_of
+lines-of-run script playable = ap (λ (r : Record). r.lines) (duplex-record script playable.mode)
+
+once-of-run : (script : Script) → IsPlayable script → (record_of script).deceived ≡ 0 → EachOnce script (record_of script)
+once-of-run script playable none = subst (λ (half : Bool). EachOnceIn half script (record_of script)) playable.mode (each-command-once script (can-play script playable) none)
+
+told-of-run : (script : Script) → IsPlayable script → (record_of script).deceived ≡ 0 → AreTold (initiator_after script) (commands_of_a script) (first_station (plan_of_b script)) (record_of script).lines
+told-of-run script playable none = record {
+  once = (once-of-run script playable none).to_b;
+  outcomes = subst (AreOutcomesTold A (initiator_after script).issued) (sym (lines-of-run script playable)) (recounts-run script playable).recounts.outcomes;
+}
+
+complete-run : (script : Script) → IsPlayable script → IsSound script → IsComplete script (record_of script)
+complete-run script playable (inl undisturbed) = subst (λ (half : Bool). IsCompleteIn half script (record_of script)) playable.mode (all-complete script (can-play script playable) undisturbed)
+complete-run script playable (inr recoverable) = subst (λ (half : Bool). RecoversIn half script (record_of script)) playable.mode (all-recover script (can-play script playable)) recoverable
+
+-- ---- a script with the orders of a transfer
+
+-- the commands of end a
+abbrev ordered : Script → (ℕ → List ℕ) → ℕ → List (List ℕ)
+ordered script order words = order_bodies order (plan_of_a script).node (plan_of_b script).node (plan_of_a script).tns 1 (orders_of words)
+
+-- orders that may be issued in front of a script
+record MayOrder (script : Script) (order : ℕ → List ℕ) (words : ℕ) : Type 0 where
+  rehearsable : IsRehearsable script
+  few : words ≤ 3000
+  payloads : (j : ℕ) → is_payload (order j) ≡ true
+
+playable : (script : Script) (order : ℕ → List ℕ) (words : ℕ) → MayOrder script order words → IsPlayable (with_orders script (all_orders order words))
+playable script order words may = with-orders-playable script order words may.rehearsable may.few may.payloads
+
+told-of-orders : (script : Script) (order : ℕ → List ℕ) (words : ℕ) → MayOrder script order words → (record_of (with_orders script (all_orders order words))).deceived ≡ 0
+    → AreTold (initiator_after (with_orders script (all_orders order words))) (ordered script order words) (first_station (plan_of_b script)) (record_of (with_orders script (all_orders order words))).lines
+told-of-orders script order words may none =
+    let all = with_orders script (all_orders order words) in
+    subst (λ (bodies : List (List ℕ)). AreTold (initiator_after all) bodies (first_station (plan_of_b script)) (record_of all).lines) (commands-are script order words may.rehearsable.unissued)
+    (told-of-run all (playable script order words may) none)
+
+answered-orders : (script : Script) (order : ℕ → List ℕ) (words : ℕ) → MayOrder script order words → IsComplete (with_orders script (all_orders order words)) (record_of (with_orders script (all_orders order words))) → (n : ℕ) → 1 ≤ n → n ≤ orders_of words
+    → IsAnswered A (ordered script order words) (exchanges (first_station (plan_of_b script)) (executed_in B (record_of (with_orders script (all_orders order words))).lines)) (record_of (with_orders script (all_orders order words))).lines n
+answered-orders script order words may complete n some within =
+    let all = with_orders script (all_orders order words) in
+    let lines = (record_of all).lines in
+    let are = commands-are script order words may.rehearsable.unissued in
+    let count : length (commands_of_a all) ≡ orders_of words = ap length are ∙ length-bodies order (plan_of_a script).node (plan_of_b script).node (plan_of_a script).tns 1 (orders_of words) in
+    subst (λ (bodies : List (List ℕ)). IsAnswered A bodies (exchanges (first_station (plan_of_b script)) (executed_in B lines)) lines n) are
+    (complete.of_a.answered n some (omega (arith, count, within)))
+
+-- ---- the file
+
+with-first-files : (there : Bool) (tables : DataTables) (w : WordOf) → (cond there (with_word tables w.file w.index w.value) tables).specs ≡ tables.specs
+with-first-files true tables w = refl
+with-first-files false tables w = refl
+
+with-all-files : (tables : DataTables) (words : List WordOf) → (with_all tables words).specs ≡ tables.specs
+with-all-files tables [] = refl
+with-all-files tables (w ∷ words) = with-all-files (with_first tables w) words ∙ with-first-files (has_word tables.specs w.file w.index) tables w
+
+file-found : (files : List FileSpec) (file words : ℕ) → IsTrue (has_words files file 0 words) → HasFileOf files file words
+file-found files file words has = by (file_of files file) refl has
+  where
+    by : (o : Option FileSpec) → file_of files file ≡ o → option_map_or (λ (f : FileSpec). nat_le (0 + words) (word_count f)) o false ≡ true → HasFileOf files file words
+    by None is has = absurd cc
+    by (Some f) is has = let few = leb-true (0 + words) (word_count f) has in (f, is, omega (arith, few))
+
+not-not : (b : Bool) → not b ≡ true → b ≡ false
+not-not true is = absurd cc
+not-not false is = refl
+
+may-write : (files : List FileSpec) (file : ℕ) (f : FileSpec) → file_of files file ≡ Some f → IsTrue (holds_of (λ g. not (is_status g.kind)) (file_of files file)) → is_status f.kind ≡ false
+may-write files file f is may = not-not (is_status f.kind) (sym (ap (λ (o : Option FileSpec). holds_of (λ (g : FileSpec). not (is_status g.kind)) o) is) ∙ may)
+
+files-of-b : (script : Script) → (first_tables (plan_of_b script)).specs ≡ (plan_of_b script).files
+files-of-b script = with-all-files (fresh (plan_of_b script).files) (plan_of_b script).words
+
+-- what holds of the files of end b's first tables holds of those that the script gave it
+as-script : (script : Script) (test : List FileSpec → Bool) → test (first_tables (plan_of_b script)).specs ≡ true → IsTrue (test (plan_of_b script).files)
+as-script script test is = sym (ap test (files-of-b script)) ∙ is
+
+file-of-b : (script : Script) (file words : ℕ) → (has : HasFileOf (plan_of_b script).files file words) → file_of (first_tables (plan_of_b script)).specs file ≡ Some has.0
+file-of-b script file words has = ap (λ (specs : List FileSpec). file_of specs file) (files-of-b script) ∙ has.1
+
+-- ---- a transfer that reads
+
+pulls : (script : Script) (file words : ℕ) → IsRehearsable script → words ≤ 3000 → MayOrder script (pull_payload file words) words
+pulls script file words may few = record { rehearsable = may; few = few; payloads = pull-payload file words }
+
+pub pulled : (script : Script) (file words : ℕ) → IsRehearsable script → 1 ≤ words → words ≤ 3000 → (record_of (pull_script script file words)).deceived ≡ 0
+    → IsPulled script file words (pull_result (initiator_after (pull_script script file words)) words) (words_pulled (initiator_after (pull_script script file words)) words)
+pulled script file words may some few none =
+    let all = pull_script script file words in
+    let a = plan_of_a script in
+    let b = plan_of_b script in
+    let are = told-of-orders script (pull_payload file words) words (pulls script file words may few) none in
+    record {
+      fits = pull-never-odd file words a.node b.node a.tns (initiator_after all) (first_station b) (record_of all).lines are;
+      whole = λ is. record {
+        file_is = as-script script (λ specs. has_words specs file 0 words) (pull-file file words a.node b.node a.tns (initiator_after all) (first_station b) (record_of all).lines are some is);
+        words_are = pull-words file words a.node b.node a.tns (initiator_after all) (first_station b) (record_of all).lines are is;
+      };
+    }
+
+pub pulled-whole : (script : Script) (file words : ℕ) → IsRehearsable script → words ≤ 3000 → IsSound (pull_script script file words) → HasFile script file words → pull_result (initiator_after (pull_script script file words)) words ≡ Whole
+pulled-whole script file words may few sound has =
+    let all = pull_script script file words in
+    let a = plan_of_a script in
+    let b = plan_of_b script in
+    let order = pulls script file words may few in
+    let complete = complete-run all (playable script (pull_payload file words) words order) sound in
+    let found = file-found b.files file words has in
+    pull-whole file words a.node b.node a.tns (initiator_after all) (first_station b) (record_of all).lines (told-of-orders script (pull_payload file words) words order complete.honest)
+    (answered-orders script (pull_payload file words) words order complete) (found.0, file-of-b script file words found, found.2)
+
+-- ---- a transfer that writes
+
+pushes : (script : Script) (file : ℕ) (bytes : List ℕ) → IsRehearsable script → length bytes ≤ 6000 → MayOrder script (push_payload file bytes) (length bytes / 2)
+pushes script file bytes may few = record { rehearsable = may; few = omega (arith, few); payloads = push-payload file bytes }
+
+pub pushed : (script : Script) (file : ℕ) (bytes : List ℕ) → IsRehearsable script → length bytes ≡ 2 * (length bytes / 2) → 2 ≤ length bytes → length bytes ≤ 6000 → (record_of (push_script script file bytes)).deceived ≡ 0
+    → IsPushed script file bytes (push_result (initiator_after (push_script script file bytes)) (length bytes / 2)) (record_of (push_script script file bytes))
+pushed script file bytes may whole some few none =
+    let all = push_script script file bytes in
+    let a = plan_of_a script in
+    let b = plan_of_b script in
+    let order = pushes script file bytes may few in
+    let are = told-of-orders script (push_payload file bytes) (length bytes / 2) order none in
+    record {
+      fits = push-never-odd file bytes whole a.node b.node a.tns (initiator_after all) (first_station b) (record_of all).lines are;
+      whole = λ is.
+          let part = push-file file bytes whole a.node b.node a.tns (initiator_after all) (first_station b) (record_of all).lines are some is in
+          record {
+            file_is = as-script script (λ specs. has_words specs file 0 (length bytes / 2)) part.0;
+            writable = as-script script (λ specs. holds_of (λ f. not (is_status f.kind)) (file_of specs file)) part.1;
+            words_are = (once-of-run all (playable script (push_payload file bytes) (length bytes / 2) order) none).words
+                ∙ ap (λ (tables : DataTables). words_of A (tables_made A a (record_of all)) ++ words_of B tables) (push-words file bytes whole a.node b.node a.tns (initiator_after all) (first_station b) (record_of all).lines are is);
+          };
+    }
+
+pub pushed-whole : (script : Script) (file : ℕ) (bytes : List ℕ) → IsRehearsable script → length bytes ≡ 2 * (length bytes / 2) → length bytes ≤ 6000 → IsSound (push_script script file bytes) → HasFile script file (length bytes / 2) → IsWritable script file
+    → push_result (initiator_after (push_script script file bytes)) (length bytes / 2) ≡ Whole
+pushed-whole script file bytes may whole few sound has writable =
+    let all = push_script script file bytes in
+    let a = plan_of_a script in
+    let b = plan_of_b script in
+    let order = pushes script file bytes may few in
+    let complete = complete-run all (playable script (push_payload file bytes) (length bytes / 2) order) sound in
+    let found = file-found b.files file (length bytes / 2) has in
+    push-whole file bytes whole a.node b.node a.tns (initiator_after all) (first_station b) (record_of all).lines (told-of-orders script (push_payload file bytes) (length bytes / 2) order complete.honest)
+    (answered-orders script (push_payload file bytes) (length bytes / 2) order complete) (found.0, file-of-b script file (length bytes / 2) found, found.2) (may-write b.files file found.0 found.1 writable)

@@ -1,0 +1,30 @@
+//! Laws of rehearsed transfers. The functions do nothing.
+ghost use Rattle.std.specs.Prelude.{◌≡◌, ◌*◌, ◌/◌, ◌≤◌, ℕ, List, length};
+ghost use Rattle.script_parts.specs.declared.script.Script.{Script};
+ghost use Rattle.bulk_orders.specs.declared.outcome.Bulk.TheVariants.{Whole};
+ghost use Rattle.bulk_orders.specs.Outcomes.{pull_result, push_result, words_pulled};
+ghost use Rattle.line_world.specs.Runs.{record_of};
+ghost use Rattle.bulk_transfer.specs.Moved.{HasFile, IsPulled, IsPushed, IsSound, IsWritable, initiator_after};
+ghost use Rattle.bulk_transfer.specs.Rehearsal.{IsRehearsable, pull_script, push_script};
+
+/// A law: of a rehearsed transfer of 1 to 3,000 words that reads, where no end is deceived, no reply has other data than its
+/// order asks for; and where the transfer is whole, its words are those of end b's file by the script's first values, from word 0
+/// on, and the file has so many. It is whole where nothing disturbs the line, or the line recovers from what does, and the file
+/// has so many words (manual topic: word range read).
+pub fn pulled_words_are_those_of_the_file()
+    ensures moved { (script : Script) (file words : ℕ) → IsRehearsable script → 1 ≤ words → words ≤ 3000 → (record_of (pull_script script file words)).deceived ≡ 0 →
+        IsPulled script file words (pull_result (initiator_after (pull_script script file words)) words) (words_pulled (initiator_after (pull_script script file words)) words) }
+    ensures whole { (script : Script) (file words : ℕ) → IsRehearsable script → words ≤ 3000 → IsSound (pull_script script file words) → HasFile script file words →
+        pull_result (initiator_after (pull_script script file words)) words ≡ Whole }
+{}
+
+/// A law: of a rehearsed transfer of 1 to 3,000 words that writes, where no end is deceived, no reply has data; and where the
+/// transfer is whole, the data are in end b's file from word 0 on, every other word of end b is as the script gave it, and the file
+/// has so many words and isn't of the status type. It is whole where nothing disturbs the line, or the line recovers from what
+/// does, and the file has so many words and isn't of the status type (manual topic: word range write).
+pub fn pushed_data_are_in_the_file()
+    ensures moved { (script : Script) (file : ℕ) (bytes : List ℕ) → IsRehearsable script → length bytes ≡ 2 * (length bytes / 2) → 2 ≤ length bytes → length bytes ≤ 6000 → (record_of (push_script script file bytes)).deceived ≡ 0 →
+        IsPushed script file bytes (push_result (initiator_after (push_script script file bytes)) (length bytes / 2)) (record_of (push_script script file bytes)) }
+    ensures whole { (script : Script) (file : ℕ) (bytes : List ℕ) → IsRehearsable script → length bytes ≡ 2 * (length bytes / 2) → length bytes ≤ 6000 → IsSound (push_script script file bytes) → HasFile script file (length bytes / 2) → IsWritable script file →
+        push_result (initiator_after (push_script script file bytes)) (length bytes / 2) ≡ Whole }
+{}
