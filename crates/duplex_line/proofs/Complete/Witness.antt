@@ -59,7 +59,7 @@ one_write-answered = refl
 
 -- ---- nothing disturbs it
 
-is_gentle : LineEndState → Deed → Bool
+unfoldable pub is_gentle : LineEndState → Deed → Bool
 is_gentle side (Issue src dst payload) = true
 is_gentle side Take = true
 is_gentle side Deliver = true
@@ -71,11 +71,11 @@ is_gentle side Tick = true
 abbrev pub are_few : Late → LineState → Bool
 are_few late s = nat_lt late.a (patience s.a) && nat_lt late.b (patience s.b)
 
-abbrev prompt_over : Late → LineState → List Deed → Bool
+abbrev pub prompt_over : Late → LineState → List Deed → Bool
 prompt_over late s [] = true
 prompt_over late s (deed ∷ deeds) = is_gentle s.a deed && (are_few (late_after late s deed) (after_deed s deed) && prompt_over (late_after late s deed) (after_deed s deed) deeds)
 
-abbrev prompt_after : Late → LineState → List Event → Bool
+abbrev pub prompt_after : Late → LineState → List Event → Bool
 prompt_after late s [] = true
 prompt_after late s (e ∷ events) = prompt_over (late_seen (who_of e) late) (seen_from (who_of e) s) (deeds_of e) && prompt_after (late_event late s e) (after_event s e) events
 
@@ -99,7 +99,7 @@ prompt-over late s (deed ∷ deeds) h =
     let more = both (are_few (late_after late s deed) (after_deed s deed)) (prompt_over (late_after late s deed) (after_deed s deed) deeds) parts.1 in
     (gentle-is s.a deed parts.0, few-are (late_after late s deed) (after_deed s deed) more.0, prompt-over (late_after late s deed) (after_deed s deed) deeds more.1)
 
-prompt-after : (late : Late) (s : LineState) (events : List Event) → prompt_after late s events ≡ true → IsPromptAfter late s events
+pub prompt-after : (late : Late) (s : LineState) (events : List Event) → prompt_after late s events ≡ true → IsPromptAfter late s events
 prompt-after late s [] h = tt
 prompt-after late s (e ∷ events) h =
     let parts = both (prompt_over (late_seen (who_of e) late) (seen_from (who_of e) s) (deeds_of e)) (prompt_after (late_event late s e) (after_event s e) events) h in
