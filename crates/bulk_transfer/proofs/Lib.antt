@@ -5,3 +5,4 @@ pub mod MovedReplies
 pub mod MovedPull
 pub mod MovedPush
 pub mod MovedRuns
+pub mod MovedWitness

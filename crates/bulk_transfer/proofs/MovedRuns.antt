@@ -121,7 +121,7 @@ can-play script playable = record { full = λ mode. playable; half = λ half. ab
 
 -- ---- what a run tells
 
-lines-of-run : (script : Script) → IsPlayable script → (record_of script).lines ≡ lines_after (start script) script.events
+pub lines-of-run : (script : Script) → IsPlayable script → (record_of script).lines ≡ lines_after (start script) script.events
 unfolding duplex.record_of
 lines-of-run script playable = ap (λ (r : Record). r.lines) (duplex-record script playable.mode)
 
@@ -134,7 +134,7 @@ told-of-run script playable none = record {
   outcomes = subst (AreOutcomesTold A (initiator_after script).issued) (sym (lines-of-run script playable)) (recounts-run script playable).recounts.outcomes;
 }
 
-complete-run : (script : Script) → IsPlayable script → IsSound script → IsComplete script (record_of script)
+pub complete-run : (script : Script) → IsPlayable script → IsSound script → IsComplete script (record_of script)
 complete-run script playable (inl undisturbed) = subst (λ (half : Bool). IsCompleteIn half script (record_of script)) playable.mode (all-complete script (can-play script playable) undisturbed)
 complete-run script playable (inr recoverable) = subst (λ (half : Bool). RecoversIn half script (record_of script)) playable.mode (all-recover script (can-play script playable)) recoverable
 
@@ -224,6 +224,9 @@ pulled script file words may some few none =
       };
     }
 
+pub pull-playable : (script : Script) (file words : ℕ) → IsRehearsable script → words ≤ 3000 → IsPlayable (pull_script script file words)
+pull-playable script file words may few = playable script (pull_payload file words) words (pulls script file words may few)
+
 pub pulled-whole : (script : Script) (file words : ℕ) → IsRehearsable script → words ≤ 3000 → IsSound (pull_script script file words) → HasFile script file words → pull_result (initiator_after (pull_script script file words)) words ≡ Whole
 pulled-whole script file words may few sound has =
     let all = pull_script script file words in
@@ -259,6 +262,9 @@ pushed script file bytes may whole some few none =
                 ∙ ap (λ (tables : DataTables). words_of A (tables_made A a (record_of all)) ++ words_of B tables) (push-words file bytes whole a.node b.node a.tns (initiator_after all) (first_station b) (record_of all).lines are is);
           };
     }
+
+pub push-playable : (script : Script) (file : ℕ) (bytes : List ℕ) → IsRehearsable script → length bytes ≤ 6000 → IsPlayable (push_script script file bytes)
+push-playable script file bytes may few = playable script (push_payload file bytes) (length bytes / 2) (pushes script file bytes may few)
 
 pub pushed-whole : (script : Script) (file : ℕ) (bytes : List ℕ) → IsRehearsable script → length bytes ≡ 2 * (length bytes / 2) → length bytes ≤ 6000 → IsSound (push_script script file bytes) → HasFile script file (length bytes / 2) → IsWritable script file
     → push_result (initiator_after (push_script script file bytes)) (length bytes / 2) ≡ Whole

@@ -1,9 +1,12 @@
 //! Laws of rehearsed transfers. The functions do nothing.
-ghost use Rattle.std.specs.Prelude.{◌≡◌, ◌*◌, ◌/◌, ◌≤◌, ℕ, List, length};
+ghost use Rattle.std.specs.Prelude.{◌≡◌, ◌*◌, ◌/◌, ◌≤◌, ◌∷◌, [], ℕ, List, length};
+ghost use Rattle.script_statement.specs.declared.who.Who.TheVariants.{B};
 ghost use Rattle.script_parts.specs.declared.script.Script.{Script};
 ghost use Rattle.bulk_orders.specs.declared.outcome.Bulk.TheVariants.{Whole};
 ghost use Rattle.bulk_orders.specs.Outcomes.{pull_result, push_result, words_pulled};
+ghost use Rattle.line_world.specs.Complete.{IsUndisturbed};
 ghost use Rattle.line_world.specs.Runs.{record_of};
+ghost use Rattle.bulk_transfer.specs.Example.{other_words, two_words};
 ghost use Rattle.bulk_transfer.specs.Moved.{HasFile, IsPulled, IsPushed, IsSound, IsWritable, initiator_after};
 ghost use Rattle.bulk_transfer.specs.Rehearsal.{IsRehearsable, pull_script, push_script};
 
@@ -27,4 +30,16 @@ pub fn pushed_data_are_in_the_file()
         IsPushed script file bytes (push_result (initiator_after (push_script script file bytes)) (length bytes / 2)) (record_of (push_script script file bytes)) }
     ensures whole { (script : Script) (file : ℕ) (bytes : List ℕ) → IsRehearsable script → length bytes ≡ 2 * (length bytes / 2) → length bytes ≤ 6000 → IsSound (push_script script file bytes) → HasFile script file (length bytes / 2) → IsWritable script file →
         push_result (initiator_after (push_script script file bytes)) (length bytes / 2) ≡ Whole }
+{}
+
+/// A law: the premises of both are met, and their conclusions aren't empty, by transfers of two words over a line that loses
+/// nothing: those that are pulled are the words of the file, and those that are pushed are told in their place.
+pub fn two_words_are_pulled_and_pushed()
+    ensures rehearsable { IsRehearsable two_words }
+    ensures file { HasFile two_words 7 2 }
+    ensures writable { IsWritable two_words 7 }
+    ensures pull_undisturbed { IsUndisturbed (pull_script two_words 7 2) }
+    ensures pulled { words_pulled (initiator_after (pull_script two_words 7 2)) 2 ≡ 0x34 ∷ 0x12 ∷ 0x78 ∷ 0x56 ∷ [] }
+    ensures push_undisturbed { IsUndisturbed (push_script two_words 7 other_words) }
+    ensures pushed { (record_of (push_script two_words 7 other_words)).words ≡ record { who = B; file = 7; index = 0; value = 0x4321 } ∷ record { who = B; file = 7; index = 1; value = 0x8765 } ∷ [] }
 {}
