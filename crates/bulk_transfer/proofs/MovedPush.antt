@@ -1,8 +1,7 @@
 -- A rehearsed transfer that writes: its data are in end b's file, and nothing else of end b is changed.
-use Rattle.std.proofs.Common.{◌≡◌, ◌∙◌, ℕ, zero, suc, ◌+◌, ◌-◌, ◌*◌, ◌/◌, ◌<◌, ◌≤◌, false, List, [], ◌∷◌, ◌++◌, length, get_or, Option, Some, None, refl, sym, ap, ap₂, subst, inl, inr, arith, add-zero, add-one, append-nil, append_assoc}
+use Rattle.std.proofs.Common.{◌≡◌, ◌∙◌, ℕ, zero, suc, ◌+◌, ◌-◌, ◌*◌, ◌/◌, ◌<◌, ◌≤◌, false, List, [], ◌∷◌, ◌++◌, length, get_or, Option, Some, None, refl, sym, ap, ap₂, subst, inl, inr, arith, add-zero, append-nil, append_assoc}
 use Rattle.std.proofs.lemmas.List.{length-map}
 use Rattle.std.specs.Prelude.{All, nat_le, not, slice_get, slice_index}
-use Rattle.std.specs.List.Sorted.{IsStrictlyIncreasing}
 use Rattle.std.specs.Option.{option_map, option_map_or}
 use Rattle.std.proofs.Math.Numerals.{one-add}
 use Rattle.std.proofs.lemmas.Option.{same_Some, slice_get-get_or, slice_get-map, slice_get_within, some_pair_parts}
@@ -20,7 +19,7 @@ use Rattle.each_once.specs.BySource.{AreOnceOf}
 use Rattle.each_once.specs.Exchanges.{exchanges, station_after}
 use Rattle.each_once.specs.Once.{AreApart, IsAnswered}
 use Rattle.each_once.specs.Tells.{executed_in}
-use Rattle.each_once.proofs.RisingPlaces.{RiseFrom, all-of-one-source, some-of-one-source}
+use Rattle.each_once.proofs.RisingPlaces.{RiseFrom, all-of-one-source, rise-of, some-of-one-source}
 use Rattle.each_once.proofs.Sublists.{Has}
 use Rattle.bulk_orders.specs.declared.outcome.Bulk.TheVariants.{Whole, Odd}
 use Rattle.bulk_orders.specs.Orders.{data_of_order, data_of_orders, first_word, orders_of, push_payload, words_of_order}
@@ -128,11 +127,6 @@ wrote-part station body file first count bytes status (Left same refused) = absu
 wrote-part station body file first count bytes status (Written after has inside may) = (inside, may)
 
 -- ---- numbers that rise and are all of a run are as many
-
-rise-of : (low : ℕ) (xs : List ℕ) → (0 < length xs → low ≤ slice_index xs 0) → IsStrictlyIncreasing xs → RiseFrom low xs
-rise-of low [] first h = tt
-rise-of low (x ∷ xs) first h =
-    (first (omega arith), rise-of (suc x) xs (λ some. let next = h 0 (omega (arith, some)) in omega (arith, next)) (λ k inside. let more = h (suc k) (omega (arith, inside)) in rw add-one (rw add-one at more)))
 
 rise-above : (low : ℕ) (xs : List ℕ) → RiseFrom low xs → (m x : ℕ) → slice_get xs m ≡ Some x → low ≤ x
 rise-above low [] rise m x is = absurd cc

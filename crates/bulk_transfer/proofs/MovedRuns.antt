@@ -10,13 +10,12 @@ use Rattle.std.proofs.lemmas.List.Sums.{sum_by-append, sum_by-cons}
 use Rattle.logical_address.specs.Shortest.{shortest_value}
 use Rattle.data_files.specs.declared.file_spec.FileSpec.{FileSpec}
 use Rattle.data_files.specs.Place.{holds_of, is_status}
-use Rattle.data_files.specs.Tables.{DataTables, file_of, fresh, has_word, has_words, with_word, word_count}
+use Rattle.data_files.specs.Tables.{DataTables, file_of, has_words, word_count}
 use Rattle.script_statement.specs.Statements.{is_payload}
 use Rattle.script_statement.specs.declared.who.Who.TheVariants.{A, B}
 use Rattle.script_parts.specs.declared.script.Event.{Event}
 use Rattle.script_parts.specs.declared.script.Event.TheVariants.{Issue}
 use Rattle.script_parts.specs.declared.script.Script.{Script}
-use Rattle.script_parts.specs.declared.script.WordOf.{WordOf}
 use Rattle.script_parts.specs.HalfPlayable.{CanBePlayed}
 use Rattle.script_parts.specs.Playable.{IsPlayable, IsPossible, count_of, issues}
 use Rattle.replay_report.specs.declared.record.Record.{Record}
@@ -25,7 +24,8 @@ use Rattle.each_once.specs.Commands.{AreOutcomesTold}
 use Rattle.each_once.specs.Once.{IsAnswered}
 use Rattle.each_once.specs.Exchanges.{exchanges}
 use Rattle.each_once.specs.Tells.{executed_in}
-use Rattle.outset.specs.Outset.{first_station, first_tables, with_all, with_first}
+use Rattle.outset.specs.Outset.{first_station, first_tables}
+use Rattle.outset.proofs.FirstTables.{first_files}
 use Rattle.duplex_line.specs.Complete.{IsComplete}
 use Rattle.duplex_line.specs.Issues.{commands_of_a}
 use Rattle.duplex_line.specs.Once.{EachOnce, tables_made}
@@ -172,14 +172,6 @@ answered-orders script order words may complete n some within =
 
 -- ---- the file
 
-with-first-files : (there : Bool) (tables : DataTables) (w : WordOf) → (cond there (with_word tables w.file w.index w.value) tables).specs ≡ tables.specs
-with-first-files true tables w = refl
-with-first-files false tables w = refl
-
-with-all-files : (tables : DataTables) (words : List WordOf) → (with_all tables words).specs ≡ tables.specs
-with-all-files tables [] = refl
-with-all-files tables (w ∷ words) = with-all-files (with_first tables w) words ∙ with-first-files (has_word tables.specs w.file w.index) tables w
-
 file-found : (files : List FileSpec) (file words : ℕ) → IsTrue (has_words files file 0 words) → HasFileOf files file words
 file-found files file words has = by (file_of files file) refl has
   where
@@ -194,15 +186,12 @@ not-not false is = refl
 may-write : (files : List FileSpec) (file : ℕ) (f : FileSpec) → file_of files file ≡ Some f → IsTrue (holds_of (λ g. not (is_status g.kind)) (file_of files file)) → is_status f.kind ≡ false
 may-write files file f is may = not-not (is_status f.kind) (sym (ap (λ (o : Option FileSpec). holds_of (λ (g : FileSpec). not (is_status g.kind)) o) is) ∙ may)
 
-files-of-b : (script : Script) → (first_tables (plan_of_b script)).specs ≡ (plan_of_b script).files
-files-of-b script = with-all-files (fresh (plan_of_b script).files) (plan_of_b script).words
-
 -- what holds of the files of end b's first tables holds of those that the script gave it
 as-script : (script : Script) (test : List FileSpec → Bool) → test (first_tables (plan_of_b script)).specs ≡ true → IsTrue (test (plan_of_b script).files)
-as-script script test is = sym (ap test (files-of-b script)) ∙ is
+as-script script test is = sym (ap test (first_files (plan_of_b script))) ∙ is
 
 file-of-b : (script : Script) (file words : ℕ) → (has : HasFileOf (plan_of_b script).files file words) → file_of (first_tables (plan_of_b script)).specs file ≡ Some has.0
-file-of-b script file words has = ap (λ (specs : List FileSpec). file_of specs file) (files-of-b script) ∙ has.1
+file-of-b script file words has = ap (λ (specs : List FileSpec). file_of specs file) (first_files (plan_of_b script)) ∙ has.1
 
 -- ---- a transfer that reads
 

@@ -199,7 +199,7 @@ some-of-one-source some all source one once =
     (once.0, subst IsStrictlyIncreasing (all-of-one all source some once.0 one once.3) (once.2 source), once.3)
 
 -- numbers that rise, from one on
-rise-of : (low : ℕ) (xs : List ℕ) → (0 < length xs → low ≤ slice_index xs 0) → IsStrictlyIncreasing xs → RiseFrom low xs
+pub rise-of : (low : ℕ) (xs : List ℕ) → (0 < length xs → low ≤ slice_index xs 0) → IsStrictlyIncreasing xs → RiseFrom low xs
 rise-of low [] first h = tt
 rise-of low (x ∷ xs) first h = (first (omega arith), rise-of (suc x) xs (λ some. let next = h 0 (omega (arith, some)) in omega (arith, next)) (λ k inside. let more = h (suc k) (omega (arith, inside)) in rw add-one (rw add-one at more)))
 

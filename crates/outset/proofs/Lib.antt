@@ -1,1 +1,2 @@
+pub mod FirstTables
 pub mod IssuedPayloads
