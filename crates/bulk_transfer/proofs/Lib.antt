@@ -1,8 +1,11 @@
 pub mod MovedAnswers
 pub mod MovedBodies
-pub mod MovedResults
-pub mod MovedReplies
 pub mod MovedPull
 pub mod MovedPush
+pub mod MovedReplies
+pub mod MovedResults
 pub mod MovedRuns
 pub mod MovedWitness
+pub mod Playing
+pub mod Rehearsed
+pub mod ToCome

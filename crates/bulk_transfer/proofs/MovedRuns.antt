@@ -37,87 +37,18 @@ use Rattle.line_world.specs.Once.{EachOnceIn}
 use Rattle.line_world.specs.Recovery.{RecoversIn}
 use Rattle.line_world.specs.Runs.{record_of}
 use Rattle.line_world.proofs.EitherMode.{all-complete, all-recover, duplex-record, each-command-once}
+use Rattle.bulk_orders.specs.declared.outcome.Bulk.{Bulk}
 use Rattle.bulk_orders.specs.declared.outcome.Bulk.TheVariants.{Whole}
 use Rattle.bulk_orders.specs.Orders.{data_of_order, first_word, orders_of, place_bytes, pull_payload, push_payload, words_of_order}
 use Rattle.bulk_orders.specs.Outcomes.{pull_result, push_result, words_pulled}
-use Rattle.bulk_transfer.specs.Moved.{HasFile, IsPulled, IsPushed, IsSound, IsWritable, initiator_after}
-use Rattle.bulk_transfer.specs.Rehearsal.{IsRehearsable, all_orders, issued_at, pull_script, push_script, with_orders}
+use Rattle.bulk_transfer.specs.Moved.{HasFile, IsPulled, IsPushed, IsSound, IsWritable}
+use Rattle.bulk_transfer.specs.Rehearsal.{IsRehearsable, all_orders, initiator_after, issued_at, pull_script, push_script, with_orders}
 use Rattle.bulk_transfer.proofs.MovedAnswers.{HasFileOf}
 use Rattle.bulk_transfer.proofs.MovedBodies.{commands-are, length-bodies, order_bodies}
 use Rattle.bulk_transfer.proofs.MovedPull.{pull-file, pull-never-odd, pull-whole, pull-words}
 use Rattle.bulk_transfer.proofs.MovedPush.{push-file, push-never-odd, push-whole, push-words}
 use Rattle.bulk_transfer.proofs.MovedReplies.{AreTold}
-
--- ---- the orders are payloads
-
-short-value : (n : ℕ) → length (shortest_value n) ≤ 3
-short-value n = by (nat_lt n 255)
-  where
-    by : (b : Bool) → length (if b then n ∷ [] else 0xFF ∷ n % 256 ∷ n / 256 ∷ []) ≤ 3
-    by true = omega arith
-    by false = omega arith
-
-short-place : (file words j : ℕ) → length (place_bytes file words j) ≤ 9
-short-place file words j =
-    let value = short-value file in
-    let element = length-append (shortest_value file) (0 ∷ []) in
-    let sub = length-append (shortest_value file ++ 0 ∷ []) [] in
-    omega (arith, value, element, sub)
-
-pull-payload : (file words j : ℕ) → is_payload (pull_payload file words j) ≡ true
-pull-payload file words j =
-    let all = length-append (place_bytes file words j) ((2 * words_of_order words j) ∷ []) in
-    let short = short-place file words j in
-    rw (le-leb (length (pull_payload file words j)) 245 (omega (arith, all, short))) refl
-
-push-payload : (file : ℕ) (bytes : List ℕ) (j : ℕ) → is_payload (push_payload file bytes j) ≡ true
-push-payload file bytes j =
-    let words : ℕ = length bytes / 2 in
-    let all = length-append (place_bytes file words j) (data_of_order bytes j) in
-    let short = short-place file words j in
-    let few = length-take (2 * words_of_order words j) (drop (2 * first_word j) bytes) in
-    rw (le-leb (length (push_payload file bytes j)) 245 (omega (arith, all, short, few))) refl
-
--- ---- a script with orders in front can be played
-
-orders-possible : (order : ℕ → List ℕ) → ((j : ℕ) → is_payload (order j) ≡ true) → (dst first count : ℕ) → All IsPossible (issued_at dst (map order (range_with_len first count)))
-orders-possible order are dst first zero = All-nil IsPossible
-orders-possible order are dst first (suc count) = All-cons IsPossible (Issue A None dst (order first)) (issued_at dst (map order (range_with_len (first + 1) count))) (refl, are first) (orders-possible order are dst (first + 1) count)
-
-orders-sum : (f : Event → ℕ) (each : ℕ) → ((dst : ℕ) (payload : List ℕ) → f (Issue A None dst payload) ≡ each) → (dst : ℕ) (payloads : List (List ℕ)) → sum_by f (issued_at dst payloads) ≡ length payloads * each
-orders-sum f each is dst [] = omega arith
-orders-sum f each is dst (payload ∷ payloads) =
-    let all = sum_by-cons f (Issue A None dst payload) (issued_at dst payloads) in
-    let one = is dst payload in
-    let more = orders-sum f each is dst payloads in
-    omega (arith, all, one, more)
-
-with-orders-playable : (script : Script) (order : ℕ → List ℕ) (words : ℕ) → IsRehearsable script → words ≤ 3000 → ((j : ℕ) → is_payload (order j) ≡ true) → IsPlayable (with_orders script (all_orders order words))
-with-orders-playable script order words may few are =
-    let dst = (plan_of_b script).node in
-    let payloads = all_orders order words in
-    let count = length-map-range_with_len order 1 (orders_of words) in
-    let orders = issued_at dst payloads in
-    let split-a = sum_by-append (λ (e : Event). cond (issues A e) 1 0) orders script.events in
-    let split-b = sum_by-append (λ (e : Event). cond (issues B e) 1 0) orders script.events in
-    let split = sum_by-append count_of orders script.events in
-    let of-a = orders-sum (λ (e : Event). cond (issues A e) 1 0) 1 (λ d payload. refl) dst payloads in
-    let of-b = orders-sum (λ (e : Event). cond (issues B e) 1 0) 0 (λ d payload. refl) dst payloads in
-    let sum = orders-sum count_of 1 (λ d payload. refl) dst payloads in
-    let unissued = may.unissued in
-    let fewest = may.sum in
-    let others = may.playable.commands_of_b in
-    record {
-      mode = may.playable.mode;
-      ends = may.playable.ends;
-      events = All-append IsPossible orders script.events (orders-possible order are dst 1 (orders_of words)) may.playable.events;
-      commands_of_a = omega (arith, split-a, of-a, count, unissued, few);
-      commands_of_b = omega (arith, split-b, of-b, others);
-      sum = omega (arith, split, sum, count, fewest, few);
-    }
-
-can-play : (script : Script) → IsPlayable script → CanBePlayed script
-can-play script playable = record { full = λ mode. playable; half = λ half. absurd (false≢true (sym playable.mode ∙ half)) }
+use Rattle.bulk_transfer.proofs.Playing.{can-play, pull-payload, pull-playable, push-payload, push-playable, with-orders-playable}
 
 -- ---- what a run tells
 
@@ -213,9 +144,6 @@ pulled script file words may some few none =
       };
     }
 
-pub pull-playable : (script : Script) (file words : ℕ) → IsRehearsable script → words ≤ 3000 → IsPlayable (pull_script script file words)
-pull-playable script file words may few = playable script (pull_payload file words) words (pulls script file words may few)
-
 pub pulled-whole : (script : Script) (file words : ℕ) → IsRehearsable script → words ≤ 3000 → IsSound (pull_script script file words) → HasFile script file words → pull_result (initiator_after (pull_script script file words)) words ≡ Whole
 pulled-whole script file words may few sound has =
     let all = pull_script script file words in
@@ -252,9 +180,6 @@ pushed script file bytes may whole some few none =
           };
     }
 
-pub push-playable : (script : Script) (file : ℕ) (bytes : List ℕ) → IsRehearsable script → length bytes ≤ 6000 → IsPlayable (push_script script file bytes)
-push-playable script file bytes may few = playable script (push_payload file bytes) (length bytes / 2) (pushes script file bytes may few)
-
 pub pushed-whole : (script : Script) (file : ℕ) (bytes : List ℕ) → IsRehearsable script → length bytes ≡ 2 * (length bytes / 2) → length bytes ≤ 6000 → IsSound (push_script script file bytes) → HasFile script file (length bytes / 2) → IsWritable script file
     → push_result (initiator_after (push_script script file bytes)) (length bytes / 2) ≡ Whole
 pushed-whole script file bytes may whole few sound has writable =
@@ -266,3 +191,20 @@ pushed-whole script file bytes may whole few sound has writable =
     let found = file-found b.files file (length bytes / 2) has in
     push-whole file bytes whole a.node b.node a.tns (initiator_after all) (first_station b) (record_of all).lines (told-of-orders script (push_payload file bytes) (length bytes / 2) order complete.honest)
     (answered-orders script (push_payload file bytes) (length bytes / 2) order complete) (found.0, file-of-b script file (length bytes / 2) found, found.2) (may-write b.files file found.0 found.1 writable)
+
+-- ---- of a rehearsal's report, what it came to and its words
+
+pub pulled-is : (script : Script) (file words : ℕ) (bulk : Bulk) (read : List ℕ) (r : Record) → IsRehearsable script → 1 ≤ words → words ≤ 3000
+    → r ≡ record_of (pull_script script file words) → bulk ≡ pull_result (initiator_after (pull_script script file words)) words
+    → read ≡ words_pulled (initiator_after (pull_script script file words)) words → r.deceived ≡ 0 → IsPulled script file words bulk read
+pulled-is script file words bulk read r may some few r-is bulk-is read-is none =
+    subst (λ (b : Bulk). IsPulled script file words b read) (sym bulk-is)
+    (subst (λ (l : List ℕ). IsPulled script file words (pull_result (initiator_after (pull_script script file words)) words) l) (sym read-is)
+    (pulled script file words may some few (subst (λ (x : Record). x.deceived ≡ 0) r-is none)))
+
+pub pushed-is : (script : Script) (file : ℕ) (bytes : List ℕ) (bulk : Bulk) (r : Record) → IsRehearsable script → length bytes ≡ 2 * (length bytes / 2) → 2 ≤ length bytes → length bytes ≤ 6000
+    → r ≡ record_of (push_script script file bytes) → bulk ≡ push_result (initiator_after (push_script script file bytes)) (length bytes / 2) → r.deceived ≡ 0 → IsPushed script file bytes bulk r
+pushed-is script file bytes bulk r may whole some few r-is bulk-is none =
+    subst (λ (b : Bulk). IsPushed script file bytes b r) (sym bulk-is)
+    (subst (λ (x : Record). IsPushed script file bytes (push_result (initiator_after (push_script script file bytes)) (length bytes / 2)) x) (sym r-is)
+    (pushed script file bytes may whole some few (subst (λ (x : Record). x.deceived ≡ 0) r-is none)))

@@ -30,9 +30,10 @@ use Rattle.line_world.specs.Complete.{IsUndisturbed}
 use Rattle.line_world.specs.Runs.{record_of}
 use Rattle.bulk_orders.specs.Outcomes.{words_pulled}
 use Rattle.bulk_transfer.specs.Example.{other_words, two_words}
-use Rattle.bulk_transfer.specs.Moved.{HasFile, IsWritable, initiator_after}
-use Rattle.bulk_transfer.specs.Rehearsal.{IsRehearsable, pull_script, push_script}
-use Rattle.bulk_transfer.proofs.MovedRuns.{complete-run, lines-of-run, pull-playable, pulled, pulled-whole, push-playable, pushed, pushed-whole}
+use Rattle.bulk_transfer.specs.Moved.{HasFile, IsWritable}
+use Rattle.bulk_transfer.specs.Rehearsal.{IsRehearsable, initiator_after, pull_script, push_script}
+use Rattle.bulk_transfer.proofs.MovedRuns.{complete-run, lines-of-run, pulled, pulled-whole, pushed, pushed-whole}
+use Rattle.bulk_transfer.proofs.Playing.{pull-playable, push-playable}
 
 -- each of two words is in the file
 abbrev IsWordOfB : WordOf → Type 0

@@ -6,18 +6,13 @@ use Rattle.replay_report.specs.declared.record.Record.{Record}
 use Rattle.data_files.specs.Place.{holds_of, is_status}
 use Rattle.data_files.specs.Tables.{file_of, has_words, with_words, words_at}
 use Rattle.data_files.specs.WordBytes.{bytes_of, words_of as words_in}
-use Rattle.df1_node.specs.Initiator.{InitiatorState}
 use Rattle.report_lines.specs.Words.{words_of}
 use Rattle.duplex_line.specs.Once.{tables_made}
 use Rattle.duplex_line.specs.Recoverable.{IsRecoverable}
-use Rattle.duplex_line.specs.Run.{first_tables, last_state, plan_of_a, plan_of_b}
+use Rattle.duplex_line.specs.Run.{first_tables, plan_of_a, plan_of_b}
 use Rattle.line_world.specs.Complete.{IsUndisturbed}
 use Rattle.bulk_orders.specs.declared.outcome.Bulk.{Bulk}
 use Rattle.bulk_orders.specs.declared.outcome.Bulk.TheVariants.{Whole, Odd}
-
--- the initiator of end a at the end of a script's run
-abbrev pub initiator_after : Script → InitiatorState
-initiator_after script = (last_state script).a.end.host.initiator
 
 -- end b has such a file, with at least so many words
 abbrev pub HasFile : Script → ℕ → ℕ → Type 0

@@ -7,8 +7,8 @@ ghost use Rattle.bulk_orders.specs.Outcomes.{pull_result, push_result, words_pul
 ghost use Rattle.line_world.specs.Complete.{IsUndisturbed};
 ghost use Rattle.line_world.specs.Runs.{record_of};
 ghost use Rattle.bulk_transfer.specs.Example.{other_words, two_words};
-ghost use Rattle.bulk_transfer.specs.Moved.{HasFile, IsPulled, IsPushed, IsSound, IsWritable, initiator_after};
-ghost use Rattle.bulk_transfer.specs.Rehearsal.{IsRehearsable, pull_script, push_script};
+ghost use Rattle.bulk_transfer.specs.Moved.{HasFile, IsPulled, IsPushed, IsSound, IsWritable};
+ghost use Rattle.bulk_transfer.specs.Rehearsal.{IsRehearsable, initiator_after, pull_script, push_script};
 
 /// A law: of a rehearsed transfer of 1 to 3,000 words that reads, where no end is deceived, no reply has other data than its
 /// order asks for; and where the transfer is whole, its words are those of end b's file by the script's first values, from word 0

@@ -1,5 +1,13 @@
-//! Transfers of whole files, rehearsed on a full-duplex line: what is told as pulled are the words of the file, and what is told as
-//! pushed is in it (manual topics: commands, word range read and write).
+//! Transfers of whole files, rehearsed on a full-duplex line: end a issues the orders of a transfer, and then the events of a script
+//! happen; what is told as pulled are the words of the file, and what is told as pushed is in it (manual topics: commands, word
+//! range read and write).
 #![tactic(auto)]
 
 pub mod laws;
+mod pull;
+mod push;
+mod rehearsal;
+
+pub use pull::rehearse_pull;
+pub use push::rehearse_push;
+pub use rehearsal::Rehearsal;
