@@ -1,5 +1,5 @@
 -- The orders of a transfer as a station reads them, and the data of all of them.
-use Rattle.std.proofs.Common.{◌≡◌, ℕ, zero, suc, ◌+◌, ◌-◌, ◌*◌, ◌/◌, ◌%◌, ◌<◌, ◌≤◌, Bool, true, false, List, [], ◌∷◌, ◌++◌, length, take, drop, min, refl, sym, ap, ap₂, subst, ◌∙◌, arith, Result, Ok, Err}
+use Rattle.std.proofs.Common.{◌≡◌, ℕ, zero, suc, ◌+◌, ◌-◌, ◌*◌, ◌/◌, ◌%◌, ◌<◌, ◌≤◌, Bool, true, List, [], ◌∷◌, ◌++◌, length, take, drop, min, refl, sym, ap, ap₂, ◌∙◌, arith, Result, Ok}
 use Rattle.std.specs.Prelude.{IsTrue, nat_le, ◌&&◌, not, ◌==◌}
 use Rattle.std.proofs.lemmas.Bool.{and_parts}
 use Rattle.std.proofs.lemmas.Bool.Decides.{nat_tests}
@@ -7,12 +7,11 @@ use Rattle.std.proofs.lemmas.List.{take_min, take_all, take-append-drop, drop-ta
 use Rattle.df1_base.specs.declared.code.Code.{Code}
 use Rattle.logical_address.specs.declared.levels.Levels.{Levels}
 use Rattle.logical_address.specs.Shortest.{shortest_levels}
-use Rattle.logical_address.specs.Reading.{levels_at}
 use Rattle.logical_address.proofs.Addresses.{levels_read_back}
 use Rattle.plc_commands.specs.Order.{Order, RangeRead, RangeWrite, window}
 use Rattle.plc_commands.specs.Fields.{◌>>=◌, levels, after_levels, last_byte, words, only_if}
 use Rattle.plc_commands.specs.Reading.{order_of, range_read, range_write}
-use Rattle.bulk_orders.specs.Orders.{data_of_order, data_of_orders, first_word, is_order, orders_of, place_bytes, pull_payload, push_payload, start_of, two_bytes, words_of_order}
+use Rattle.bulk_orders.specs.Orders.{data_of_order, data_of_orders, first_word, is_order, orders_of, pull_payload, push_payload, start_of, words_of_order}
 
 two-back : (n : ℕ) → n % 256 + 256 * (n / 256) ≡ n
 two-back n = omega arith

@@ -1,4 +1,4 @@
-use Rattle.std.proofs.Common.{◌≡◌, ◌+◌, ◌*◌, ◌≤◌, ℕ, List, Bool, [], Some, cond, sym, ap, subst, ◌∙◌, arith}
+use Rattle.std.proofs.Common.{◌≡◌, ◌+◌, ◌*◌, ◌≤◌, ℕ, Bool, [], Some, cond, sym, ap, subst, ◌∙◌, arith}
 use Rattle.bulk_orders.specs.declared.outcome.Bulk.{Bulk}
 use Rattle.bulk_orders.specs.Orders.{orders_of, words_of_order}
 use Rattle.bulk_orders.specs.Outcomes.{data_pulled, fault_of, is_whole, pull_fault, pull_result}
