@@ -16,6 +16,7 @@ use Rattle.duplex_end.specs.Serving.{Serves, BreaksOff, last_signal}
 use Rattle.duplex_end.specs.declared.serving.Served.{Served}
 use Rattle.duplex_end.specs.declared.serving.Served.TheVariants as ended
 use Rattle.each_once.specs.NodeHost.{node_host}
+use Rattle.df1_service.specs.Service.{Commands}
 use Rattle.df1_service.specs.Wire.{Reached, IsServed, HasNoForm, IsCut, StoppedByInput, StoppedByOutput, OfPlan, TellsRecord}
 use Rattle.df1_service.specs.Ending.{ended_of}
 use Rattle.df1_service.specs.declared.fault.ServiceFault.{ServiceFault}
@@ -370,7 +371,7 @@ output-rose {S} {K} faults input out timed old n is rose = subst (λ (p : Feed S
 -- ---- the end of a plan
 
 -- what is so of an end is so of that of the plan
-pub of-plan : (P : EndState NodeState → Type 0) (file : Option Filed) (issues : Bool) (end : EndState NodeState) → OfPlan file issues (λ before. end ≡ before) → P end → OfPlan file issues P
+pub of-plan : (P : EndState NodeState → Type 0) (file : Option Filed) (issues : Commands) (end : EndState NodeState) → OfPlan file issues (λ before. end ≡ before) → P end → OfPlan file issues P
 of-plan P file issues end (plan, says, is) p = (plan, says, subst P is p)
 
 tells-so : (Formless Formless' Cut Cut' : ℕ → Type 0) (why : ServiceFault) → ((at : ℕ) → Formless at → Formless' at) → ((at : ℕ) → Cut at → Cut' at) → TellsRecord Formless Cut why → TellsRecord Formless' Cut' why

@@ -14,20 +14,20 @@ use Rattle.df1_plan.specs.declared.plan.Plan.{Plan}
 use Rattle.each_once.specs.NodeHost.{node_host}
 use Rattle.outset.specs.Outset.{first_node, setup_of}
 use Rattle.df1_service.specs.Plans.{SaysPlan}
-use Rattle.df1_service.specs.Service.{all_issued}
+use Rattle.df1_service.specs.Service.{Commands, after_commands}
 use Rattle.df1_service.specs.declared.fault.ServiceFault.{ServiceFault}
 use Rattle.df1_service.specs.declared.fault.ServiceFault.TheVariants as fault
 
 -- the node of a plan before the first signal
-abbrev pub outset_node : Bool → Plan → NodeState
-outset_node issues plan = if issues then all_issued (first_node plan.end) plan.peer plan.issue else first_node plan.end
+abbrev pub outset_node : Commands → Plan → NodeState
+outset_node issues plan = after_commands issues plan (first_node plan.end)
 
 -- the end of a plan before the first signal
-abbrev pub outset_end : Bool → Plan → EndState NodeState
+abbrev pub outset_end : Commands → Plan → EndState NodeState
 outset_end issues plan = new_end (setup_of plan.check plan.end) (outset_node issues plan)
 
 -- this is so of the end of a plan that the file says
-abbrev pub OfPlan : Option Filed → Bool → (EndState NodeState → Type 0) → Type 0
+abbrev pub OfPlan : Option Filed → Commands → (EndState NodeState → Type 0) → Type 0
 OfPlan file issues P = (plan : Plan) × SaysPlan file plan × P (outset_end issues plan)
 
 -- of these bytes the first are gone: whatever follows, the input's signals are these, and then those of the rest

@@ -1,5 +1,5 @@
-//! The service of a plan's end over an input and an output: the plan is read, its node made and, where the service issues
-//! them, the plan's commands are issued, before the first signal. From there on it takes no memory.
+//! The service of a plan's end over an input and an output: the plan is read, its node made, and what the service
+//! issues is issued, before the first signal. From there on it takes no memory.
 ghost use Rattle.std.specs.Prelude.{◌≡◌, ◌≤◌, ◌+◌, ℕ, List, length, true, All, IsTrue, IfOk, IfErr, IsErrOf};
 ghost use Rattle.df1_base.specs.Outside.{Rose};
 ghost use Rattle.df1_base.specs.declared.signal.Signal.TheVariants as signal;
@@ -9,11 +9,12 @@ ghost use Rattle.script_statement.specs.declared.who.Who.TheVariants.{A};
 ghost use Rattle.script_statement.specs.Statements.{is_payload};
 ghost use Rattle.script_parts.specs.Playable.{IsPlanOf};
 ghost use Rattle.df1_service.specs.Wire.{HasNoForm, IsCut, IsServed, OfPlan, Reached, StoppedByInput, StoppedByOutput, TellsRecord, outset_node};
+ghost use Rattle.df1_service.specs.Service.{CanBeIssued, seen};
 ghost use Rattle.df1_service.specs.Ending.{ended_of};
 
-use crate::ServiceFault;
-use crate::commands::issue_all;
+use crate::commands::issue_before;
 use crate::plan_file::plan_on;
+use crate::{Issues, ServiceFault};
 use df1_base::{FeedPort, NoMemory, Sink, Source};
 use df1_node::Node;
 use df1_plan::Plan;
@@ -24,11 +25,11 @@ use std::alloc::Global;
 
 /// How an end is served.
 #[derive(Clone, Copy, Debug, PartialEq, Eq)]
-pub struct Service {
+pub struct Service<'a> {
     /// Whether the input has records, with ticks and takes of their own; else each of its bytes is one of the line.
     pub timed: bool,
-    /// Whether the plan's commands are issued.
-    pub issues: bool,
+    /// Which commands are issued.
+    pub issues: Issues<'a>,
 }
 
 /// A service that has ended, with the input and the output as it left them.
@@ -49,26 +50,27 @@ pub fn serve_plan<H: Shelf, S: Source, K: Sink>(
     alloc: Global,
     shelf: &mut H,
     name: &str,
-    service: Service,
+    service: Service<'_>,
     input: S,
     out: K,
 ) -> Ended<S, K>
-    ensures done { IfOk result.end (λ end. OfPlan (H.file shelf.old name.now) service.issues (λ before.
-        IsServed service.timed before end (S.left input) (S.left result.input) (K.held out) (K.held result.out))) }
+    requires { CanBeIssued (seen service.issues) }
+    ensures done { IfOk result.end (λ end. OfPlan (H.file shelf.old name.now) (seen service.entry.issues) (λ before.
+        IsServed service.entry.timed before end (S.left input) (S.left result.input) (K.held out) (K.held result.out))) }
     ensures none { IfErr result.end (TellsNone (SaysNone (H.file shelf.old name.now))) }
     ensures too_long { IsErrOf result.end ServiceFault.PlanTooLong → IsLonger (H.file shelf.old name.now) plan_limit }
     ensures failed { IsErrOf result.end ServiceFault.PlanFailed → Rose (H.faults shelf.old) (H.faults shelf.new) }
     ensures sound { is_sound (H.file shelf.old name.now) ≡ true → ¬ IsErrOf result.end ServiceFault.PlanFailed }
     ensures untouched { IfErr result.end (λ fault. IsOfPlan fault → (result.input ≡ input) × (result.out ≡ out)) }
     ensures record { IfErr result.end (TellsRecord
-        (λ at. OfPlan (H.file shelf.old name.now) service.issues (λ before. HasNoForm service.timed before at (S.left input) (S.left result.input) (K.held out) (K.held result.out)))
-        (λ at. OfPlan (H.file shelf.old name.now) service.issues (λ before. IsCut service.timed before at (S.left input) (S.left result.input) (K.held out) (K.held result.out)))) }
-    ensures long { IsErrOf result.end ServiceFault.TooLong → OfPlan (H.file shelf.old name.now) service.issues (λ before.
-        Reached service.timed before signal.Long (S.left input) (S.left result.input) (K.held out) (K.held result.out)) }
+        (λ at. OfPlan (H.file shelf.old name.now) (seen service.entry.issues) (λ before. HasNoForm service.entry.timed before at (S.left input) (S.left result.input) (K.held out) (K.held result.out)))
+        (λ at. OfPlan (H.file shelf.old name.now) (seen service.entry.issues) (λ before. IsCut service.entry.timed before at (S.left input) (S.left result.input) (K.held out) (K.held result.out)))) }
+    ensures long { IsErrOf result.end ServiceFault.TooLong → OfPlan (H.file shelf.old name.now) (seen service.entry.issues) (λ before.
+        Reached service.entry.timed before signal.Long (S.left input) (S.left result.input) (K.held out) (K.held result.out)) }
     ensures broken { IsErrOf result.end ServiceFault.Input → Rose (S.faults input) (S.faults result.input)
-        × OfPlan (H.file shelf.old name.now) service.issues (λ before. StoppedByInput service.timed before (S.left input) (S.left result.input) (K.held out) (K.held result.out)) }
+        × OfPlan (H.file shelf.old name.now) (seen service.entry.issues) (λ before. StoppedByInput service.entry.timed before (S.left input) (S.left result.input) (K.held out) (K.held result.out)) }
     ensures cut { IsErrOf result.end ServiceFault.Output → Rose (K.faults out) (K.faults result.out)
-        × OfPlan (H.file shelf.old name.now) service.issues (λ before. StoppedByOutput service.timed before (S.left input) (S.left result.input) (K.held out) (K.held result.out)) }
+        × OfPlan (H.file shelf.old name.now) (seen service.entry.issues) (λ before. StoppedByOutput service.entry.timed before (S.left input) (S.left result.input) (K.held out) (K.held result.out)) }
     ensures calm { ¬ IsErrOf result.end ServiceFault.Input → S.faults result.input ≡ S.faults input }
     ensures steady { ¬ IsErrOf result.end ServiceFault.Output → K.faults result.out ≡ K.faults out }
     ensures shelf { (other : List ℕ) → H.file shelf.new other ≡ H.file shelf.old other }
@@ -90,9 +92,10 @@ fn end_of<H: Shelf>(
     alloc: Global,
     shelf: &mut H,
     name: &str,
-    issues: bool,
+    issues: Issues<'_>,
 ) -> Result<End<Node>, ServiceFault>
-    ensures of_plan { IfOk result (λ end. OfPlan (H.file shelf.old name.now) issues (λ before. end ≡ before)) }
+    requires { CanBeIssued (seen issues) }
+    ensures of_plan { IfOk result (λ end. OfPlan (H.file shelf.old name.now) (seen issues.entry) (λ before. end ≡ before)) }
     ensures none { IfErr result (TellsNone (SaysNone (H.file shelf.old name.now))) }
     ensures too_long { IsErrOf result ServiceFault.PlanTooLong → IsLonger (H.file shelf.old name.now) plan_limit }
     ensures failed { IsErrOf result ServiceFault.PlanFailed → Rose (H.faults shelf.old) (H.faults shelf.new) }
@@ -109,16 +112,15 @@ fn end_of<H: Shelf>(
 }
 
 /// The node of a plan before the first signal.
-fn node_before(alloc: Global, plan: &Plan, issues: bool) -> Result<Node, NoMemory>
+fn node_before(alloc: Global, plan: &Plan, issues: Issues<'_>) -> Result<Node, NoMemory>
     requires end { IsPlanOf A plan.now.end }
     requires payloads { All (λ command. IsTrue (is_payload command.payload)) plan.now.issue }
     requires few { length plan.now.issue ≤ 65535 }
-    ensures { IfOk result (λ node. node ≡ outset_node issues plan.now) }
+    requires within { CanBeIssued (seen issues) }
+    ensures { IfOk result (λ node. node ≡ outset_node (seen issues.entry) plan.now) }
 {
     let mut node = node_of(alloc, &plan.end)?;
-    if issues {
-        issue_all(&mut node, plan.peer, plan.issue.as_slice())?;
-    }
+    issue_before(&mut node, plan, issues)?;
     Ok(node)
 }
 
