@@ -56,8 +56,8 @@ pub record BrokenOff (left left' held held' : Option (List ℕ)) (faults faults'
   pub rose : Rose faults faults'
   pub shows : Put held held' (shown bytes)
 
--- The output has failed: at most 4,096 bytes were taken since all report's lines of the event lines before are written, and of
--- what these tell, something is missing.
+-- The output has failed: at most 4,096 bytes were taken since all report's lines of the event lines before are written. Of what is
+-- to be written for the bytes that were taken, something is missing.
 pub record CutOff (left left' held held' : Option (List ℕ)) : Type 0 where
   pub before : List ℕ
   pub last : List ℕ
