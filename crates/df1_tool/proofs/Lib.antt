@@ -1,3 +1,4 @@
+pub mod Asked
 pub mod CaptureRuns
 pub mod Drills
 pub mod Services

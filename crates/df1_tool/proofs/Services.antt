@@ -1,4 +1,4 @@
--- What a run of `serve` or `issue` shows, by how the service ended.
+-- What a run of `serve`, `issue`, `pull` or `push` shows, by how the service ended.
 use Rattle.std.proofs.Common.{◌≡◌, ◌⊎◌, ◌∙◌, ◌≤◌, ℕ, Bool, true, false, List, [], ◌∷◌, ◌++◌, length, Option, None, Some, Result, Ok, Err, inl, inr, refl, sym, ap, subst, arith}
 use Rattle.std.specs.Prelude.{IfOk, IfErr, IsErrOf}
 use Rattle.std.specs.Str.{IsUtf8}
@@ -16,15 +16,15 @@ use Rattle.df1_plan.specs.declared.fault.PlanFault.{PlanFault}
 use Rattle.df1_plan.specs.Plans.{IsPlanOfText, cause_of, first_cause}
 use Rattle.df1_service.specs.Plans.{IsOfPlan, SaysNone, TellsNone, plan_limit}
 use Rattle.df1_service.specs.Wire.{HasNoForm, IsCut, IsServed, OfPlan, Reached, StoppedByInput, StoppedByOutput, TellsRecord}
-use Rattle.df1_service.specs.declared.service.Service.{Service}
+use Rattle.df1_service.specs.Service.{Serving}
 use Rattle.df1_service.specs.declared.fault.ServiceFault.{ServiceFault}
 use Rattle.df1_service.specs.declared.fault.ServiceFault.TheVariants as fault
-use Rattle.df1_tool.specs.Served.{IsFinished, Outside, ServiceRun, IsUntouched, Notes, note_of_fault, outcomes_told, status_of_fault}
+use Rattle.df1_tool.specs.Served.{IsFinished, Outside, ServiceRun, IsUntouched, Notes, note_of_fault, told_of, status_of_fault}
 use Rattle.df1_tool.specs.Notes.{IsNoted}
 use Rattle.df1_tool.proofs.Statuses.{whole, at_end}
 
 -- what a service that didn't end well tells
-pub record Faulted (service : Service) (name : List ℕ) (before after : Outside) (why : ServiceFault) : Type 0 where
+pub record Faulted (service : Serving) (name : List ℕ) (before after : Outside) (why : ServiceFault) : Type 0 where
   pub none : TellsNone (SaysNone (before.files name)) why
   pub too_long : why ≡ fault.PlanTooLong → IsLonger (before.files name) plan_limit
   pub failed : why ≡ fault.PlanFailed → Rose before.shelf_faults after.shelf_faults
@@ -43,9 +43,9 @@ pub record Faulted (service : Service) (name : List ℕ) (before after : Outside
   pub noted : Notes before after why
 
 -- the same, where it ended well
-pub record Finished (service : Service) (name : List ℕ) (before after : Outside) (ended : EndState NodeState) (status : ℕ) : Type 0 where
+pub record Finished (service : Serving) (name : List ℕ) (before after : Outside) (ended : EndState NodeState) (status : ℕ) : Type 0 where
   pub served : OfPlan (before.files name) service.issues (λ begun. IsServed service.timed begun ended before.left after.left before.held after.held)
-  pub finish : IsFinished before.noted after.noted before.note_faults after.note_faults (outcomes_told service.issues ended) status
+  pub finish : IsFinished before.noted after.noted before.note_faults after.note_faults (told_of service.issues ended) status
   pub calm : after.input_faults ≡ before.input_faults
   pub steady : after.out_faults ≡ before.out_faults
   pub shelf_calm : after.shelf_faults ≡ before.shelf_faults
@@ -119,7 +119,7 @@ statuses-of fault.Output = inr (inr (inr (inl refl)))
 statuses-of fault.TooLong = inr (inr (inr (inr (inr (inr refl)))))
 statuses-of fault.NoMemory = inr (inr (inr (inr (inr (inl refl)))))
 
-refused-of : (service : Service) (name : List ℕ) (before after : Outside) (why : ServiceFault) → Faulted service name before after why → status_of_fault why ≡ 3 →
+refused-of : (service : Serving) (name : List ℕ) (before after : Outside) (why : ServiceFault) → Faulted service name before after why → status_of_fault why ≡ 3 →
     ((reason : PlanFault) × SaysNone (before.files name) reason × IsUntouched before after × Notes before after (fault.Plan reason))
     ⊎ ((at : ℕ) × OfPlan (before.files name) service.issues (λ begun. HasNoForm service.timed begun at before.left after.left before.held after.held) × Notes before after (fault.Form at))
     ⊎ ((at : ℕ) × OfPlan (before.files name) service.issues (λ begun. IsCut service.timed begun at before.left after.left before.held after.held) × Notes before after (fault.Cut at))
@@ -133,7 +133,7 @@ refused-of service name before after fault.Output f is = absurd (omega (arith, i
 refused-of service name before after fault.TooLong f is = absurd (omega (arith, is))
 refused-of service name before after fault.NoMemory f is = absurd (omega (arith, is))
 
-planless-of : (service : Service) (name : List ℕ) (before after : Outside) (why : ServiceFault) → Faulted service name before after why → status_of_fault why ≡ 6 →
+planless-of : (service : Serving) (name : List ℕ) (before after : Outside) (why : ServiceFault) → Faulted service name before after why → status_of_fault why ≡ 6 →
     (Rose before.shelf_faults after.shelf_faults × (is_sound (before.files name) ≡ true → ⊥) × Notes before after fault.PlanFailed)
     ⊎ (IsLonger (before.files name) plan_limit × Notes before after fault.PlanTooLong)
 planless-of service name before after fault.PlanFailed f is = inl (f.failed refl, λ sound. f.sound sound refl, f.noted)
@@ -198,7 +198,7 @@ ends-so timed begun last left left' held held' bytes signals known_left are r =
     let w = whole r.bytes bytes left left' known_left r.took in
     last-same r.signals signals last End (sym (r.shown w.0 (at_end left' w.0 w.1)) ∙ ap (λ (all : List ℕ). input_signals timed 0 all) (sym w.2) ∙ are)
 
-complete-of : (service : Service) (name : List ℕ) (before after : Outside) (why : ServiceFault) → Faulted service name before after why → (file : Filed) (plan : Plan) (bytes : List ℕ) (signals : List Signal)
+complete-of : (service : Serving) (name : List ℕ) (before after : Outside) (why : ServiceFault) → Faulted service name before after why → (file : Filed) (plan : Plan) (bytes : List ℕ) (signals : List Signal)
     → before.files name ≡ Some file → file.fails ≡ false → length file.bytes ≤ plan_limit → IsPlanOfText file.bytes plan
     → before.left ≡ Some bytes → input_signals service.timed 0 bytes ≡ signals ++ End ∷ []
     → (Rose before.input_faults after.input_faults → ⊥) → (Rose before.out_faults after.out_faults → ⊥)
@@ -221,7 +221,7 @@ complete-of service name before after fault.NoMemory f file plan bytes signals f
 
 -- ---- a run
 
-pub faulted : (service : Service) (name : List ℕ) (before after : Outside) (why : ServiceFault) → Faulted service name before after why → ServiceRun service name before after (status_of_fault why)
+pub faulted : (service : Serving) (name : List ℕ) (before after : Outside) (why : ServiceFault) → Faulted service name before after why → ServiceRun service name before after (status_of_fault why)
 faulted service name before after why f =
     let noted : (what : ServiceFault) → why ≡ what → Notes before after what = λ what same. subst (λ (w : ServiceFault). Notes before after w) same f.noted in
     record {
@@ -241,7 +241,7 @@ faulted service name before after why f =
           complete-of service name before after why f file plan bytes signals filed sound few is_plan known_left are no_input no_output;
     }
 
-finished-by : (service : Service) (name : List ℕ) (before after : Outside) (ended : EndState NodeState) (status : ℕ) → Finished service name before after ended status → (status ≡ 0) ⊎ (status ≡ 5) → ServiceRun service name before after status
+finished-by : (service : Serving) (name : List ℕ) (before after : Outside) (ended : EndState NodeState) (status : ℕ) → Finished service name before after ended status → (status ≡ 0) ⊎ (status ≡ 5) → ServiceRun service name before after status
 finished-by service name before after ended status f (inl is) = record {
   statuses = inl is;
   done = λ zero. (f.served.0, f.served.1, (ended, f.served.2, (f.finish.done is).0, (f.finish.done is).1));
@@ -273,11 +273,11 @@ finished-by service name before after ended status f (inr is) = record {
   complete = λ file plan bytes signals filed sound few is_plan known_left are no_input no_output no_note. absurd (no_note (f.finish.failed is).0);
 }
 
-pub finished : (service : Service) (name : List ℕ) (before after : Outside) (ended : EndState NodeState) (status : ℕ) → Finished service name before after ended status → ServiceRun service name before after status
+pub finished : (service : Serving) (name : List ℕ) (before after : Outside) (ended : EndState NodeState) (status : ℕ) → Finished service name before after ended status → ServiceRun service name before after status
 finished service name before after ended status f = finished-by service name before after ended status f f.finish.statuses
 
 -- what the service of a plan's end tells, and its note
-pub record Serviced (service : Service) (name : List ℕ) (before after : Outside) (ended : Result (EndState NodeState) ServiceFault) (status : ℕ) : Type 0 where
+pub record Serviced (service : Serving) (name : List ℕ) (before after : Outside) (ended : Result (EndState NodeState) ServiceFault) (status : ℕ) : Type 0 where
   pub done : IfOk ended (λ end. OfPlan (before.files name) service.issues (λ begun. IsServed service.timed begun end before.left after.left before.held after.held))
   pub none : IfErr ended (TellsNone (SaysNone (before.files name)))
   pub too_long : IsErrOf ended fault.PlanTooLong → IsLonger (before.files name) plan_limit
@@ -294,7 +294,7 @@ pub record Serviced (service : Service) (name : List ℕ) (before after : Outsid
   pub steady : (IsErrOf ended fault.Output → ⊥) → after.out_faults ≡ before.out_faults
   pub shelf_calm : (IsErrOf ended fault.PlanFailed → ⊥) → after.shelf_faults ≡ before.shelf_faults
   pub same_files : (other : List ℕ) → after.files other ≡ before.files other
-  pub finish : IfOk ended (λ end. IsFinished before.noted after.noted before.note_faults after.note_faults (outcomes_told service.issues end) status)
+  pub finish : IfOk ended (λ end. IsFinished before.noted after.noted before.note_faults after.note_faults (told_of service.issues end) status)
   pub refuse : IfErr ended (λ why. (status ≡ status_of_fault why) × IsNoted before.noted after.noted before.note_faults after.note_faults (note_of_fault why))
 
 is-ok : {T E : Type 0} (value : T) (e : E) → IsErrOf {T = T} (Ok value) e → ⊥
@@ -303,7 +303,7 @@ is-ok value e is = absurd cc
 same-err : {T E : Type 0} (a b : E) → IsErrOf {T = T} (Err a) b → a ≡ b
 same-err a b is = cc
 
-pub run-of : (service : Service) (name : List ℕ) (before after : Outside) (ended : Result (EndState NodeState) ServiceFault) (status : ℕ) → Serviced service name before after ended status → ServiceRun service name before after status
+pub run-of : (service : Serving) (name : List ℕ) (before after : Outside) (ended : Result (EndState NodeState) ServiceFault) (status : ℕ) → Serviced service name before after ended status → ServiceRun service name before after status
 run-of service name before after (Ok end) status s = finished service name before after end status (record {
   served = s.done;
   finish = s.finish;

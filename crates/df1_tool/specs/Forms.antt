@@ -1,19 +1,19 @@
 -- What the words of a call ask for.
-use Rattle.std.specs.Prelude.{ℕ, List, [], ◌∷◌, Option, Some, None, true, false, nat_lt, nat_le, ◌&&◌, if◌then◌else◌, codes, length, option_and_then, option_map, slice_index_or}
+use Rattle.std.specs.Prelude.{ℕ, List, [], ◌∷◌, Option, Some, None, true, false, nat_lt, nat_le, ◌%◌, ◌==◌, ◌&&◌, if◌then◌else◌, codes, length, option_and_then, option_map, slice_index_or}
 use Rattle.std.specs.Str.{bytes_eq}
 use Rattle.std.specs.Str.Parse.{digits_value}
 use Rattle.std.specs.Char.{is_ascii_digit}
 use Rattle.std.specs.List.{list_all}
-use Rattle.script_statement.specs.Words.{within}
+use Rattle.script_statement.specs.Words.{within, hex_of, number_of as short_number}
 use Rattle.df1_tool.specs.declared.form.Form.{Form}
-use Rattle.df1_tool.specs.declared.form.Form.TheVariants.{Replay, Serve, Issue, Dissect, Check as Count, Drill, Storm, Vectors}
+use Rattle.df1_tool.specs.declared.form.Form.TheVariants.{Replay, Serve, Issue, Dissect, Check as Count, Drill, Storm, Vectors, Pull, Push}
 use Rattle.df1_tool.specs.declared.form.Rounds.{Rounds}
 use Rattle.df1_capture.specs.declared.capture.Capture.{Capture}
 use Rattle.df1_check.specs.declared.Check.{Check}
 use Rattle.df1_check.specs.declared.Check.TheVariants.{Bcc, Crc}
 use Rattle.df1_dissect.specs.declared.ear.Side.{Side}
 use Rattle.df1_dissect.specs.declared.ear.Side.TheVariants.{Full, Master, Slave}
-use Rattle.df1_service.specs.declared.service.Service.{Service}
+use Rattle.df1_service.specs.Service.{NoCommands, PlanCommands, PullOrders, PushOrders, Serving}
 
 -- what the last word of `serve` asks for
 abbrev pub mode_of : List ℕ → Option Form
@@ -48,6 +48,31 @@ rounds_by (Some seed) (Some count) = Some (record { seed = seed; count = count }
 abbrev pub rounds_of : List ℕ → List ℕ → Option Rounds
 rounds_of seed count = rounds_by (within 0 4294967295 (number_of seed)) (within 1 20000 (number_of count))
 
+-- the transfer that reads words of a file: its number, 0 to 999, and how many words, 1 to 3,000, are 1 to 9 decimal digits
+abbrev pub file_of : List ℕ → Option ℕ
+file_of word = within 0 999 (short_number word)
+
+abbrev pub pull_by : Option ℕ → Option ℕ → Option Form
+pull_by None count = None
+pull_by (Some file) None = None
+pull_by (Some file) (Some count) = Some (Pull file count)
+
+abbrev pub pull_of : List ℕ → List ℕ → Option Form
+pull_of file count = pull_by (file_of file) (within 1 3000 (short_number count))
+
+-- the bytes of 1 to 3,000 words of a file, each of which is four hexadecimal digits of either case, the low byte first
+abbrev pub data_of : List ℕ → Option (List ℕ)
+data_of word = if nat_lt 0 (length word) && nat_le (length word) 12000 && (length word % 4 == 0) then hex_of word else None
+
+-- the transfer that writes such words to a file
+abbrev pub push_by : Option ℕ → Option (List ℕ) → Option Form
+push_by None bytes = None
+push_by (Some file) None = None
+push_by (Some file) (Some bytes) = Some (Push file)
+
+abbrev pub push_of : List ℕ → List ℕ → Option Form
+push_of file hex = push_by (file_of file) (data_of hex)
+
 -- what one word asks for
 abbrev pub form_of_one : List ℕ → Option Form
 form_of_one word = if bytes_eq word (codes "replay") then Some Replay else if bytes_eq word (codes "vectors") then Some Vectors else None
@@ -66,27 +91,41 @@ form_of_three word second third =
     else if bytes_eq word (codes "storm") then option_map Storm (rounds_of second third)
     else None
 
+-- what four words ask for
+abbrev pub form_of_four : List ℕ → List ℕ → List ℕ → Option Form
+form_of_four word third fourth =
+    if bytes_eq word (codes "pull") then pull_of third fourth
+    else if bytes_eq word (codes "push") then push_of third fourth
+    else None
+
 -- what the words ask for
 unfoldable pub form_of : List (List ℕ) → Option Form
 form_of (word ∷ []) = form_of_one word
 form_of (word ∷ plan ∷ []) = form_of_two word
 form_of (word ∷ second ∷ third ∷ []) = form_of_three word second third
+form_of (word ∷ plan ∷ third ∷ fourth ∷ []) = form_of_four word third fourth
 form_of words = None
 
--- how an end is served, where a form asks for that
-abbrev pub service_of : Form → Option Service
-service_of Replay = None
-service_of (Serve timed) = Some (record { timed = timed; issues = false })
-service_of Issue = Some (record { timed = true; issues = true })
-service_of (Dissect capture) = None
-service_of (Count capture) = None
-service_of (Drill rounds) = None
-service_of (Storm rounds) = None
-service_of Vectors = None
+-- an end that is served over records, with these orders of a transfer
+abbrev pub pushing : ℕ → List ℕ → Serving
+pushing file bytes = record { timed = true; issues = PushOrders file bytes }
 
--- the same of the words
-abbrev pub service_for : List (List ℕ) → Option Service
-service_for words = option_and_then service_of (form_of words)
+-- how an end is served, where the words and the form that they have ask for that
+abbrev pub service_of : List (List ℕ) → Form → Option Serving
+service_of words Replay = None
+service_of words (Serve timed) = Some (record { timed = timed; issues = NoCommands })
+service_of words Issue = Some (record { timed = true; issues = PlanCommands })
+service_of words (Dissect capture) = None
+service_of words (Count capture) = None
+service_of words (Drill rounds) = None
+service_of words (Storm rounds) = None
+service_of words Vectors = None
+service_of words (Pull file count) = Some (record { timed = true; issues = PullOrders file count })
+service_of words (Push file) = option_map (pushing file) (data_of (slice_index_or words 3 []))
+
+-- the same of the words alone
+abbrev pub service_for : List (List ℕ) → Option Serving
+service_for words = option_and_then (service_of words) (form_of words)
 
 -- the name of the plan: the second word
 abbrev pub plan_name : List (List ℕ) → List ℕ

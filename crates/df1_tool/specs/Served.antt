@@ -1,5 +1,5 @@
--- What a run of `serve` or `issue` shows: its status, what it read and wrote, and its note.
-use Rattle.std.specs.Prelude.{◌≡◌, ◌≢◌, ◌⊎◌, ◌≤◌, ℕ, Bool, true, false, List, [], ◌∷◌, ◌++◌, length, codes, decimal, Option, Some, if◌then◌else◌}
+-- What a run of `serve`, `issue`, `pull` or `push` shows: its status, what it read and wrote, and its note.
+use Rattle.std.specs.Prelude.{◌≡◌, ◌≢◌, ◌⊎◌, ◌≤◌, ℕ, true, false, List, [], ◌∷◌, ◌++◌, length, codes, decimal, Option, Some}
 use Rattle.df1_base.specs.Outside.{Rose, Put, WrotePart}
 use Rattle.df1_base.specs.Signals.{input_signals}
 use Rattle.df1_base.specs.declared.signal.Signal.{Signal}
@@ -13,9 +13,8 @@ use Rattle.df1_plan.specs.declared.fault.PlanFault.TheVariants as cause
 use Rattle.df1_plan.specs.Keys.{name_of}
 use Rattle.df1_plan.specs.Plans.{IsPlanOfText}
 use Rattle.df1_service.specs.Plans.{SaysNone, plan_limit}
-use Rattle.df1_service.specs.Service.{outcomes_text}
+use Rattle.df1_service.specs.Service.{Commands, Serving, told_text}
 use Rattle.df1_service.specs.Wire.{HasNoForm, IsCut, IsServed, OfPlan, Reached, StoppedByInput, StoppedByOutput}
-use Rattle.df1_service.specs.declared.service.Service.{Service}
 use Rattle.df1_service.specs.declared.fault.ServiceFault.{ServiceFault}
 use Rattle.df1_service.specs.declared.fault.ServiceFault.TheVariants as fault
 use Rattle.df1_tool.specs.Notes.{IsNoted, input_failed, input_too_long, output_failed, no_memory}
@@ -53,9 +52,9 @@ note_of_fault fault.Output = output_failed
 note_of_fault fault.TooLong = input_too_long
 note_of_fault fault.NoMemory = no_memory
 
--- what is told in the end: the outcomes of the commands, where any were issued
-abbrev pub outcomes_told : Bool → EndState NodeState → List ℕ
-outcomes_told issues end = if issues then outcomes_text end.host.initiator else []
+-- what is told in the end, of the commands that were issued
+abbrev pub told_of : Commands → EndState NodeState → List ℕ
+told_of issues end = told_text issues end.host.initiator
 
 -- it is told, with status 0, or the note failed and a part is, with status 5
 pub record IsFinished (noted noted' : Option (List ℕ)) (faults faults' : ℕ) (text : List ℕ) (status : ℕ) : Type 0 where
@@ -84,19 +83,19 @@ Notes before after fault = IsNoted before.noted after.noted before.note_faults a
 abbrev pub IsUntouched : Outside → Outside → Type 0
 IsUntouched before after = (after.left ≡ before.left) × (after.held ≡ before.held)
 
--- What a run of `serve` or `issue` with this plan shows, by its status.
+-- What a run of `serve`, `issue`, `pull` or `push` with this plan shows, by its status.
 --
--- 0: the input was read to its end, all that the plan's end gives over its signals is written, and so are the outcomes.
+-- 0: the input was read to its end, all that the plan's end gives over its signals is written, and so is what is told of the commands.
 -- 3: the plan is refused, or a record: all that the end gave over the signals before it is written.
 -- 4: the input has failed: all that the end gave over the signals of the bytes taken is written.
 -- 5: the output has failed, at most 4,096 bytes after those that made the first missing byte due; or the note has.
 -- 6: the plan can't be read, or is over its limit. 7: no memory, before the first signal.
 -- 8: the input is over its limit: all that the end gave over the signals before it is written.
-pub record ServiceRun (service : Service) (name : List ℕ) (before after : Outside) (status : ℕ) : Type 0 where
+pub record ServiceRun (service : Serving) (name : List ℕ) (before after : Outside) (status : ℕ) : Type 0 where
   pub statuses : (status ≡ 0) ⊎ (status ≡ 3) ⊎ (status ≡ 4) ⊎ (status ≡ 5) ⊎ (status ≡ 6) ⊎ (status ≡ 7) ⊎ (status ≡ 8)
   pub done : status ≡ 0 → OfPlan (before.files name) service.issues (λ begun.
       (ended : EndState NodeState) × IsServed service.timed begun ended before.left after.left before.held after.held
-      × Put before.noted after.noted (outcomes_told service.issues ended) × (after.note_faults ≡ before.note_faults))
+      × Put before.noted after.noted (told_of service.issues ended) × (after.note_faults ≡ before.note_faults))
   pub refused : status ≡ 3 →
       ((reason : PlanFault) × SaysNone (before.files name) reason × IsUntouched before after × Notes before after (fault.Plan reason))
       ⊎ ((at : ℕ) × OfPlan (before.files name) service.issues (λ begun. HasNoForm service.timed begun at before.left after.left before.held after.held) × Notes before after (fault.Form at))
@@ -110,7 +109,7 @@ pub record ServiceRun (service : Service) (name : List ℕ) (before after : Outs
       × Notes before after fault.Output)
       ⊎ (Rose before.note_faults after.note_faults
       × OfPlan (before.files name) service.issues (λ begun.
-      (ended : EndState NodeState) × IsServed service.timed begun ended before.left after.left before.held after.held × WrotePart before.noted after.noted (outcomes_told service.issues ended)))
+      (ended : EndState NodeState) × IsServed service.timed begun ended before.left after.left before.held after.held × WrotePart before.noted after.noted (told_of service.issues ended)))
   pub planless : status ≡ 6 →
       (Rose before.shelf_faults after.shelf_faults × (is_sound (before.files name) ≡ true → ⊥) × Notes before after fault.PlanFailed)
       ⊎ (IsLonger (before.files name) plan_limit × Notes before after fault.PlanTooLong)

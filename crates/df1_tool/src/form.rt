@@ -1,14 +1,21 @@
 //! What the words of a call ask for.
 ghost use Rattle.std.specs.Prelude.{◌≡◌, ◌≤◌, IfSome, IsSome, length, map, string_bytes};
-ghost use Rattle.df1_tool.specs.Forms.{capture_of as the_capture, captured, check_of as the_check, form_of as the_form, form_of_one as of_one, form_of_three as of_three, form_of_two as of_two, mode_of as the_mode, rounds_by, rounds_of as the_rounds, service_of, side_of as the_side};
+ghost use Rattle.df1_tool.specs.Forms.{capture_of as the_capture, captured, check_of as the_check, form_of as the_form, form_of_four as of_four, form_of_one as of_one, form_of_three as of_three, form_of_two as of_two, mode_of as the_mode, pull_by, pull_of as the_pull, push_of as the_push, rounds_by, rounds_of as the_rounds, service_of, side_of as the_side};
 
+use crate::data_words::data_of;
 use crate::note::{Note, noted};
-use crate::number::number_within;
+use crate::number::{number_within, short_within};
 use crate::refusal::Refusal;
 use df1_capture::Capture;
 use df1_check::Check;
 use df1_dissect::Side;
 use df1_drill::MOST_ROUNDS;
+
+/// The highest number of a data file.
+const MOST_FILE: u16 = 999;
+
+/// The most words of a transfer.
+const MOST_WORDS: u16 = 3000;
 
 /// A command of the program.
 #[derive(Clone, Copy, Debug, PartialEq, Eq)]
@@ -32,6 +39,19 @@ pub(crate) enum Form {
     Storm(Rounds),
     /// `vectors`: runs the forty conformance cases, and tells whether one differs.
     Vectors,
+    /// `pull PLAN FILE WORDS`: serves a plan's end over a timed input, with the orders of a transfer issued that reads the first
+    /// words of a file, and tells what it came to.
+    Pull {
+        /// The file, 0 to 999.
+        file: u16,
+        /// How many words, 1 to 3,000.
+        count: u16,
+    },
+    /// `push PLAN FILE HEX`: the same of a transfer that writes the words that the fourth word spells.
+    Push {
+        /// The file, 0 to 999.
+        file: u16,
+    },
 }
 
 /// The two numbers of a script of rounds.
@@ -61,7 +81,7 @@ impl Refusal for NoForm {
 
     fn note(&self) -> Note {
         noted(
-            b"df1: usage: df1 replay | serve PLAN raw|timed | issue PLAN | dissect SIDE CHECK | check SIDE CHECK | drill SEED COUNT | vectors | storm SEED COUNT\n",
+            b"df1: usage: df1 replay | serve PLAN raw|timed | issue PLAN | dissect SIDE CHECK | check SIDE CHECK | drill SEED COUNT | vectors | storm SEED COUNT | pull PLAN FILE WORDS | push PLAN FILE HEX\n",
         )
     }
 }
@@ -70,12 +90,13 @@ impl Refusal for NoForm {
 #[tactic(auto, unfolding(crate::specs::Forms::form_of))]
 pub(crate) fn form_of(words: &[String]) -> Option<Form>
     ensures value { result ≡ the_form (map string_bytes words.now) }
-    ensures named { IfSome result (λ form. IsSome (service_of form) → 2 ≤ length words.now) }
+    ensures named { IfSome result (λ form. IsSome (service_of (map string_bytes words.now) form) → 2 ≤ length words.now) }
 {
     match words {
         [word] => form_of_one(word),
         [word, _] => form_of_two(word),
         [word, second, third] => form_of_three(word, second, third),
+        [word, _, third, fourth] => form_of_four(word, third, fourth),
         _ => None,
     }
 }
@@ -112,6 +133,48 @@ fn form_of_three(word: &str, second: &str, third: &str) -> Option<Form>
         "drill" => Some(Form::Drill(rounds_of(second, third)?)),
         "storm" => Some(Form::Storm(rounds_of(second, third)?)),
         _ => None,
+    }
+}
+
+/// What four words ask for.
+fn form_of_four(word: &str, third: &str, fourth: &str) -> Option<Form>
+    ensures { result ≡ of_four word.now third.now fourth.now }
+{
+    match word {
+        "pull" => pull_of(third, fourth),
+        "push" => push_of(third, fourth),
+        _ => None,
+    }
+}
+
+/// The transfer that reads so many words of a file, if these words are a number of each.
+fn pull_of(file: &str, count: &str) -> Option<Form>
+    ensures { result ≡ the_pull file.now count.now }
+{
+    pull_by(
+        short_within(file, 0, MOST_FILE),
+        short_within(count, 1, MOST_WORDS),
+    )
+}
+
+/// The transfer of both numbers.
+fn pull_by(file: Option<u16>, count: Option<u16>) -> Option<Form>
+    ensures { result ≡ pull_by file count }
+{
+    match (file, count) {
+        (Some(file), Some(count)) => Some(Form::Pull { file, count }),
+        _ => None,
+    }
+}
+
+/// The transfer that writes words to a file, if these words are its number and such words.
+fn push_of(file: &str, hex: &str) -> Option<Form>
+    ensures { result ≡ the_push file.now hex.now }
+{
+    let file = short_within(file, 0, MOST_FILE)?;
+    match data_of(hex) {
+        Some(_) => Some(Form::Push { file }),
+        None => None,
     }
 }
 

@@ -2,6 +2,7 @@
 #![tactic(auto)]
 
 mod checking;
+mod data_words;
 mod dissecting;
 mod drilling;
 mod form;

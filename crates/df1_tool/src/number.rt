@@ -1,7 +1,9 @@
 //! Numbers among the words of a call.
 ghost use Rattle.std.specs.Prelude.{◌≡◌};
-ghost use Rattle.script_statement.specs.Words.{within};
+ghost use Rattle.script_statement.specs.Words.{within, number_of as short_number};
 ghost use Rattle.df1_tool.specs.Forms.{number_of as the_number};
+
+use script_statement::number_of as short_number;
 
 /// The most decimal digits that a number has.
 const DIGITS: usize = 10;
@@ -12,6 +14,16 @@ pub(crate) fn number_within(word: &str, least: u32, most: u32) -> Option<u32>
 {
     match number_of(word.as_bytes()) {
         Some(n) if u64::from(least) <= n && n <= u64::from(most) => Some(n as u32),
+        _ => None,
+    }
+}
+
+/// The number that a word is, if it is 1 to 9 decimal digits and within these bounds.
+pub(crate) fn short_within(word: &str, least: u16, most: u16) -> Option<u16>
+    ensures { result ≡ within least most (short_number word.now) }
+{
+    match short_number(word.as_bytes()) {
+        Some(n) if u32::from(least) <= n && n <= u32::from(most) => Some(n as u16),
         _ => None,
     }
 }

@@ -1,8 +1,8 @@
-//! The commands `serve` and `issue`: a plan's end over the input and the output, and how they end.
+//! The commands `serve`, `issue`, `pull` and `push`: a plan's end over the input and the output, and how they end.
 //!
 //! | Status | Note |
 //! |---|---|
-//! | 0 | none, or the outcomes of the plan's commands |
+//! | 0 | none, the outcomes of the plan's commands, or what the transfer came to |
 //! | 3 | `df1: plan: CAUSE`, `df1: record at P: form`, `df1: record at P: cut` |
 //! | 4 | `df1: input cannot be read` |
 //! | 5 | `df1: output cannot be written` |
@@ -10,18 +10,19 @@
 //! | 7 | `df1: no memory` |
 //! | 8 | `df1: input is over 268435456 bytes` |
 ghost use Rattle.std.specs.Prelude.{◌≡◌, ◌⊎◌, ◌≤◌, ◌++◌, IfErr, IfOk, codes, length};
+ghost use Rattle.df1_service.specs.Service.{CanBeIssued, seen, serving_of};
 ghost use Rattle.df1_tool.specs.Notes.{IsNoted};
-ghost use Rattle.df1_tool.specs.Served.{IsFinished, ServiceRun, note_of_fault, outcomes_told, status_of_fault};
+ghost use Rattle.df1_tool.specs.Served.{IsFinished, ServiceRun, note_of_fault, status_of_fault, told_of};
 
 use crate::note::{
     Note, append, input_failed, input_too_long, no_memory, noted, output_failed, with_number,
 };
 use crate::refusal::{Refusal, refuse};
 use crate::top::Ran;
-use df1_base::{Sink, Source};
+use df1_base::{Failed, Sink, Source};
 use df1_node::Node;
 use df1_plan::PlanFault;
-use df1_service::{Service, ServiceFault, serve_plan, write_outcomes};
+use df1_service::{Issues, Service, ServiceFault, serve_plan, write_told};
 use df1_shelf::Shelf;
 use duplex_end::End;
 use std::alloc::Global;
@@ -31,12 +32,13 @@ pub(crate) fn run<H: Shelf, S: Source, K: Sink, N: Sink>(
     alloc: Global,
     mut shelf: H,
     name: &str,
-    service: Service,
+    service: Service<'_>,
     input: S,
     out: K,
     mut note: N,
 ) -> Ran<H, S, K, N>
-    ensures serves { ServiceRun service name.now
+    requires { CanBeIssued (seen service.issues) }
+    ensures serves { ServiceRun (serving_of service.entry) name.now
         (record { files = H.file shelf; shelf_faults = H.faults shelf; left = S.left input; input_faults = S.faults input; held = K.held out; out_faults = K.faults out; noted = N.held note; note_faults = N.faults note })
         (record { files = H.file result.shelf; shelf_faults = H.faults result.shelf; left = S.left result.input; input_faults = S.faults result.input; held = K.held result.out; out_faults = K.faults result.out; noted = N.held result.note; note_faults = N.faults result.note })
         result.status }
@@ -54,8 +56,9 @@ pub(crate) fn run<H: Shelf, S: Source, K: Sink, N: Sink>(
 }
 
 /// Tells how a service ended, and answers the status.
-fn tell<N: Sink>(ended: &Result<End<Node>, ServiceFault>, issues: bool, note: &mut N) -> u8
-    ensures finished { IfOk ended.now (λ end. IsFinished (N.held note.old) (N.held note.new) (N.faults note.old) (N.faults note.new) (outcomes_told issues end) result) }
+fn tell<N: Sink>(ended: &Result<End<Node>, ServiceFault>, issues: Issues<'_>, note: &mut N) -> u8
+    requires { CanBeIssued (seen issues) }
+    ensures finished { IfOk ended.now (λ end. IsFinished (N.held note.old) (N.held note.new) (N.faults note.old) (N.faults note.new) (told_of (seen issues.entry) end) result) }
     ensures refused { IfErr ended.now (λ fault. (result ≡ status_of_fault fault) × IsNoted (N.held note.old) (N.held note.new) (N.faults note.old) (N.faults note.new) (note_of_fault fault)) }
 {
     match ended {
@@ -64,14 +67,15 @@ fn tell<N: Sink>(ended: &Result<End<Node>, ServiceFault>, issues: bool, note: &m
     }
 }
 
-/// Tells the outcomes of the commands of an end, where any were issued, and answers the status.
-fn finish<N: Sink>(end: &End<Node>, issues: bool, note: &mut N) -> u8
-    ensures { IsFinished (N.held note.old) (N.held note.new) (N.faults note.old) (N.faults note.new) (outcomes_told issues end.now) result }
+/// Tells what became of the commands of an end, and answers the status.
+fn finish<N: Sink>(end: &End<Node>, issues: Issues<'_>, note: &mut N) -> u8
+    requires { CanBeIssued (seen issues) }
+    ensures { IsFinished (N.held note.old) (N.held note.new) (N.faults note.old) (N.faults note.new) (told_of (seen issues.entry) end.now) result }
 {
-    if issues && write_outcomes(end.host().initiator(), note).is_err() {
-        return 5;
+    match write_told(end.host().initiator(), issues, note) {
+        Ok(()) => 0,
+        Err(Failed) => 5,
     }
-    0
 }
 
 impl Refusal for ServiceFault {

@@ -10,10 +10,10 @@
 //! | 5 | only where the output's count of faults rose, or the note's |
 //! | 6 | the plan can't be read, or is over its limit |
 //! | 7 | want of memory; never with `dissect` and `check` |
-//! | 8 | the input of `serve`, `issue`, `dissect` or `check` is over its limit |
+//! | 8 | the input of `serve`, `issue`, `pull`, `push`, `dissect` or `check` is over its limit |
 //!
 //! Of several the one is told that came first, in the order in which things happen.
-ghost use Rattle.std.specs.Prelude.{◌≡◌, ◌⊎◌, ◌↔◌, ◌≢◌, ℕ, None, Some, map, string_bytes};
+ghost use Rattle.std.specs.Prelude.{◌≡◌, ◌⊎◌, ◌↔◌, ◌≢◌, ℕ, None, Some, map, string_bytes, true};
 ghost use Rattle.std.specs.Option.{ForSome};
 ghost use Rattle.df1_base.specs.Outside.{Rose};
 ghost use Rattle.df1_replay.specs.Outcome.{Answered, BrokenOff, CutOff, Refused, Written, replayed};
@@ -33,15 +33,16 @@ ghost use Rattle.df1_tool.specs.declared.form.Form.TheVariants.{Replay, Dissect,
 ghost use Rattle.df1_tool.specs.declared.form.Rounds.{Rounds as TwoNumbers};
 ghost use Rattle.df1_tool.specs.Forms.{form_of as the_form, plan_name, service_for};
 ghost use Rattle.df1_tool.specs.Replays.{line_note, note_at, status_for, IsReplayStatus};
-ghost use Rattle.df1_service.specs.declared.service.Service.{Service as OneService};
+ghost use Rattle.df1_service.specs.Service.{Serving, seen, serving_of};
 ghost use Rattle.line_replay.specs.Fed.{told};
 ghost use Rattle.line_script.specs.declared.fault.Cause.{Cause as Fault};
 
+use crate::data_words::data_of;
 use crate::form::{Form, NoForm, form_of};
 use crate::refusal::refuse;
 use crate::{checking, dissecting, drilling, replaying, serving, vectors};
 use df1_base::{Sink, Source};
-use df1_service::Service;
+use df1_service::{Issues, Service};
 use df1_shelf::Shelf;
 use std::alloc::Global;
 
@@ -90,12 +91,12 @@ pub fn run<H: Shelf, S: Source, K: Sink, N: Sink>(
     ensures untouched { result.status ≡ 2 → (result.shelf ≡ shelf) × (result.input ≡ input) × (result.out ≡ out)
         × IsNoted (N.held note) (N.held result.note) (N.faults note) (N.faults result.note) usage }
 
-    // `serve` and `issue`.
-    ensures serves { (service : OneService) → service_for (map string_bytes words.now) ≡ Some service → ServiceRun service (plan_name (map string_bytes words.now))
+    // `serve`, `issue`, `pull` and `push`.
+    ensures serves { (service : Serving) → service_for (map string_bytes words.now) ≡ Some service → ServiceRun service (plan_name (map string_bytes words.now))
         (record { files = H.file shelf; shelf_faults = H.faults shelf; left = S.left input; input_faults = S.faults input; held = K.held out; out_faults = K.faults out; noted = N.held note; note_faults = N.faults note })
         (record { files = H.file result.shelf; shelf_faults = H.faults result.shelf; left = S.left result.input; input_faults = S.faults result.input; held = K.held result.out; out_faults = K.faults result.out; noted = N.held result.note; note_faults = N.faults result.note })
         result.status }
-    ensures before { (service : OneService) → service_for (map string_bytes words.now) ≡ Some service → (result.status ≡ 6) ⊎ (result.status ≡ 7) → (result.input ≡ input) × (result.out ≡ out) }
+    ensures before { (service : Serving) → service_for (map string_bytes words.now) ≡ Some service → (result.status ≡ 6) ⊎ (result.status ≡ 7) → (result.input ≡ input) × (result.out ≡ out) }
 
     // `dissect` and `check`.
     ensures dissects { (capture : OneCapture) → the_form (map string_bytes words.now) ≡ Some (Dissect capture) → DissectRun capture.side capture.check
@@ -185,17 +186,24 @@ pub fn run<H: Shelf, S: Source, K: Sink, N: Sink>(
             Ran::new(status, shelf, input, out, note)
         }
         Form::Serve { timed } => {
-            let service = Service {
-                timed,
-                issues: false,
-            };
+            let issues = Issues::Nothing;
+            let service = Service { timed, issues };
             serving::run(alloc, shelf, &words[1], service, input, out, note)
         }
         Form::Issue => {
-            let service = Service {
-                timed: true,
-                issues: true,
-            };
+            let service = timed(Issues::Plan);
+            serving::run(alloc, shelf, &words[1], service, input, out, note)
+        }
+        Form::Pull { file, count } => {
+            let service = timed(Issues::Pull { file, words: count });
+            serving::run(alloc, shelf, &words[1], service, input, out, note)
+        }
+        Form::Push { file } => {
+            let bytes = data_of(&words[3]).unwrap();
+            let service = timed(Issues::Push {
+                file,
+                bytes: &bytes,
+            });
             serving::run(alloc, shelf, &words[1], service, input, out, note)
         }
         Form::Dissect(capture) => {
@@ -218,5 +226,15 @@ pub fn run<H: Shelf, S: Source, K: Sink, N: Sink>(
             let status = vectors::run(alloc, &mut out, &mut note);
             Ran::new(status, shelf, input, out, note)
         }
+    }
+}
+
+/// A service over records.
+fn timed(issues: Issues<'_>) -> Service<'_>
+    ensures { serving_of result ≡ record { timed = true; issues = seen issues.entry } }
+{
+    Service {
+        timed: true,
+        issues,
     }
 }

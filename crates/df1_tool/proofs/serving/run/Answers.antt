@@ -1,11 +1,12 @@
 use Rattle.std.proofs.Common.{ap}
+use Rattle.df1_service.specs.Service.{serving_of}
 use Rattle.df1_tool.proofs.Services.{run-of, err-so}
 use Rattle.df1_tool.proofs.serving.run.Goals as goal
 
 pub returns-clause-serves : goal.returns-clause-serves
 returns-clause-serves g c =
     let s = c.serve_plan-ended.ensures in
-    run-of c.args.service c.args.name.now _ _ c.serve_plan-ended.result.end c.tell-status.result (record {
+    run-of (serving_of c.args.service) c.args.name.now _ _ c.serve_plan-ended.result.end c.tell-status.result (record {
       done = s.done;
       none = s.none;
       too_long = s.too_long;
