@@ -2,6 +2,7 @@
 //! the first four bytes of the body, before one arrives whole.
 ghost use Rattle.std.specs.Prelude.{◌≡◌, ◌≤◌, ◌<◌, ◌^◌, ◌++◌, ℕ, IfOk, OnOk};
 ghost use Rattle.script_parts.specs.HalfPlayable.{CanBePlayed};
+ghost use Rattle.duplex_line.specs.Recoverable.{IsRecoverable};
 ghost use Rattle.recovery_laws.specs.Storm.{hit_of, hits_of, round_of, storm_script};
 
 use df1_base::NoMemory;
@@ -65,4 +66,10 @@ fn put_hit(alloc: Global, events: &mut Events, turn: u64, hit: u64) -> Result<()
 /// Every storm of at most 20,000 rounds can be played, whatever its seed.
 pub fn each_storm_can_be_played()
     ensures { (seed count : ℕ) → count ≤ MOST_ROUNDS → CanBePlayed (storm_script seed count) }
+{}
+
+/// A law: the line of a storm of one round recovers, by whichever of the first seeds it is made: none to three sendings of its
+/// command are hit.
+pub fn storms_of_one_round_recover()
+    ensures one { IsRecoverable (storm_script 0 1) }
 {}

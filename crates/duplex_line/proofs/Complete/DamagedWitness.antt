@@ -1,4 +1,4 @@
--- The run of a write that is damaged once.
+-- Of a script without a variable the checker computes whether its line recovers; and the run of a write that is damaged once.
 use Rattle.std.proofs.Common.{◌≡◌, ℕ, ◌+◌, ◌≤◌, List, [], ◌∷◌, length, refl, arith, Bool, true, false, is_none, is_some, not, cond, inl, inr, Option, Some, None}
 use Rattle.std.proofs.lemmas.Bool.{leb-true, eq-eqb}
 use Rattle.std.proofs.lemmas.List.Elements.{All-nil}
@@ -11,6 +11,7 @@ use Rattle.logical_address.specs.Reading.{three_front}
 use Rattle.slc_commands.specs.Order.{fields, spelled_order}
 use Rattle.script_statement.specs.declared.who.Who.TheVariants.{A, B}
 use Rattle.script_parts.specs.declared.script.Event.{Event}
+use Rattle.script_parts.specs.declared.script.Script.{Script}
 use Rattle.script_parts.proofs.PlanSettings.{Fits-first_plan}
 use Rattle.script_parts.specs.Playable.{IsPlayable}
 use Rattle.lane_cells.specs.Cells.{LaneCell}
@@ -51,11 +52,11 @@ hit_write-answered = refl
 
 -- ---- its damage is such as a line recovers from
 
-body_hit : Bool → Option LaneCell → ℕ → Bool
+pub body_hit : Bool → Option LaneCell → ℕ → Bool
 body_hit touched None mask = true
 body_hit touched (Some cell) mask = (touched || is_some cell.body_of) && not (bit_xor cell.byte mask == 16)
 
-is_mild : LineEndState → Damage → Deed → Bool
+pub is_mild : LineEndState → Damage → Deed → Bool
 is_mild side d (Issue src dst payload) = true
 is_mild side d Take = true
 is_mild side d Deliver = true
@@ -64,19 +65,19 @@ is_mild side d (Alter mask) = body_hit d.touched (slice_get side.lane 0) mask
 is_mild side d (Foreign byte) = false
 is_mild side d Tick = true
 
-abbrev mild_over : Damages → LineState → List Deed → Bool
+abbrev pub mild_over : Damages → LineState → List Deed → Bool
 mild_over d s [] = true
 mild_over d s (deed ∷ deeds) = is_mild s.a d.a deed && (nat_le (length (damage_after d s deed).a.hits) (after_deed s deed).a.end.sender.limits.max_naks && mild_over (damage_after d s deed) (after_deed s deed) deeds)
 
-abbrev mild_after : Damages → LineState → List Event → Bool
+abbrev pub mild_after : Damages → LineState → List Event → Bool
 mild_after d s [] = true
 mild_after d s (e ∷ events) = mild_over (damage_seen (who_of e) d) (seen_from (who_of e) s) (deeds_of e) && mild_after (damage_event d s e) (after_event s e) events
 
-abbrev few_over : Late → LineState → List Deed → Bool
+abbrev pub few_over : Late → LineState → List Deed → Bool
 few_over late s [] = true
 few_over late s (deed ∷ deeds) = are_few (late_after late s deed) (after_deed s deed) && few_over (late_after late s deed) (after_deed s deed) deeds
 
-abbrev few_after : Late → LineState → List Event → Bool
+abbrev pub few_after : Late → LineState → List Event → Bool
 few_after late s [] = true
 few_after late s (e ∷ events) = few_over (late_seen (who_of e) late) (seen_from (who_of e) s) (deeds_of e) && few_after (late_event late s e) (after_event s e) events
 
@@ -149,6 +150,19 @@ few-after late s (e ∷ events) h =
     let parts = both (few_over (late_seen (who_of e) late) (seen_from (who_of e) s) (deeds_of e)) (few_after (late_event late s e) (after_event s e) events) h in
     (few-over (late_seen (who_of e) late) (seen_from (who_of e) s) (deeds_of e) parts.0, few-after (late_event late s e) (after_event s e) events parts.1)
 
+-- the line of a script recovers, where these tests pass
+pub recoverable : (script : Script) → (last_state script).deceived ≡ 0 → EndsQuiet script → mild_after no_damages (start script) script.events ≡ true
+    → few_after none_late (start script) script.events ≡ true → HasRooms script → IsRecoverable script
+recoverable script undeceived quiet mild few rooms = record {
+  undeceived = undeceived;
+  quiet = quiet;
+  mild = mild-after no_damages (start script) script.events mild;
+  few = few-after none_late (start script) script.events few;
+  rooms = rooms;
+}
+
+-- ---- a write that is damaged once
+
 hit_write-mild : mild_after no_damages (start hit_write) hit_write.events ≡ true
 unfolding check_bytes with_byte spelled_order fields three_front is_mild body_hit
 hit_write-mild = refl
@@ -169,10 +183,4 @@ hit_write-rooms : HasRooms hit_write
 hit_write-rooms = record { of_a = omega arith; of_b = omega arith }
 
 pub hit_write-recoverable : IsRecoverable hit_write
-hit_write-recoverable = record {
-  undeceived = hit_write-honest;
-  quiet = hit_write-quiet;
-  mild = mild-after no_damages (start hit_write) hit_write.events hit_write-mild;
-  few = few-after none_late (start hit_write) hit_write.events hit_write-few;
-  rooms = hit_write-rooms;
-}
+hit_write-recoverable = recoverable hit_write hit_write-honest hit_write-quiet hit_write-mild hit_write-few hit_write-rooms
