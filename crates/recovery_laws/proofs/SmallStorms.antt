@@ -1,5 +1,5 @@
--- The storms of one round with the first seeds, in which none to three sendings are hit: their lines recover.
-use Rattle.std.proofs.Common.{◌≡◌, ℕ, ◌+◌, ◌≤◌, zero, suc, refl, arith, true}
+-- The storm of one round whose seed is 0, in which one sending is hit: its line recovers.
+use Rattle.std.proofs.Common.{◌≡◌, refl, arith, true}
 use Rattle.df1_check.specs.Checks.{with_byte}
 use Rattle.df1_frame.specs.Spelling.{check_bytes}
 use Rattle.logical_address.specs.Reading.{three_front}
@@ -10,27 +10,25 @@ use Rattle.duplex_line.specs.Recoverable.{no_damages, IsRecoverable}
 use Rattle.duplex_line.proofs.Complete.DamagedWitness.{body_hit, is_mild, mild_after, few_after, recoverable}
 use Rattle.recovery_laws.specs.Storm.{storm_script}
 
--- ---- a hit
-
-one-honest : (last_state (storm_script 0 1)).deceived ≡ 0
+storm-honest : (last_state (storm_script 0 1)).deceived ≡ 0
 unfolding storm_script check_bytes with_byte spelled_order fields three_front
-one-honest = refl
+storm-honest = refl
 
-one-quiet : EndsQuiet (storm_script 0 1)
+storm-quiet : EndsQuiet (storm_script 0 1)
 unfolding storm_script check_bytes with_byte spelled_order fields three_front
-one-quiet = refl
+storm-quiet = refl
 
-one-mild : mild_after no_damages (start (storm_script 0 1)) (storm_script 0 1).events ≡ true
+storm-mild : mild_after no_damages (start (storm_script 0 1)) (storm_script 0 1).events ≡ true
 unfolding storm_script check_bytes with_byte spelled_order fields three_front is_mild body_hit
-one-mild = refl
+storm-mild = refl
 
-one-few : few_after none_late (start (storm_script 0 1)) (storm_script 0 1).events ≡ true
+storm-few : few_after none_late (start (storm_script 0 1)) (storm_script 0 1).events ≡ true
 unfolding storm_script check_bytes with_byte spelled_order fields three_front
-one-few = refl
+storm-few = refl
 
-one-rooms : HasRooms (storm_script 0 1)
+storm-rooms : HasRooms (storm_script 0 1)
 unfolding storm_script
-one-rooms = record { of_a = omega arith; of_b = omega arith }
+storm-rooms = record { of_a = omega arith; of_b = omega arith }
 
-pub one-hit : IsRecoverable (storm_script 0 1)
-one-hit = recoverable (storm_script 0 1) one-honest one-quiet one-mild one-few one-rooms
+pub storm-recovers : IsRecoverable (storm_script 0 1)
+storm-recovers = recoverable (storm_script 0 1) storm-honest storm-quiet storm-mild storm-few storm-rooms

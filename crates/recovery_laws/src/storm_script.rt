@@ -68,8 +68,7 @@ pub fn each_storm_can_be_played()
     ensures { (seed count : ℕ) → count ≤ MOST_ROUNDS → CanBePlayed (storm_script seed count) }
 {}
 
-/// A law: the line of a storm of one round recovers, by whichever of the first seeds it is made: none to three sendings of its
-/// command are hit.
-pub fn storms_of_one_round_recover()
-    ensures one { IsRecoverable (storm_script 0 1) }
+/// A law: the line of the storm of one round whose seed is 0 recovers: one sending of its command is hit.
+pub fn a_storm_of_one_round_recovers()
+    ensures { IsRecoverable (storm_script 0 1) }
 {}
