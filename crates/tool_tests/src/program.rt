@@ -15,7 +15,7 @@ use std::test::Fail;
 
 /// The note where the words are none of the forms.
 pub(crate) const USAGE: &str =
-    "df1: usage: df1 replay | serve PLAN raw|timed | issue PLAN | dissect SIDE CHECK | check SIDE CHECK | drill SEED COUNT | vectors | storm SEED COUNT\n";
+    "df1: usage: df1 replay | serve PLAN raw|timed | issue PLAN | dissect SIDE CHECK | check SIDE CHECK | drill SEED COUNT | vectors | storm SEED COUNT | pull PLAN FILE WORDS | push PLAN FILE HEX\n";
 
 /// What a run of the program is to show.
 #[derive(Drop)]

@@ -1,4 +1,4 @@
-//! The commands `serve` and `issue`, over the outside in memory.
+//! The commands `serve`, `issue`, `pull` and `push`, over the outside in memory.
 use crate::program::{USAGE, words};
 use df1_base::{BytesIn, BytesOut};
 use df1_shelf::ShelfMem;
@@ -27,6 +27,58 @@ const SERVE: &[&str] = &["serve", "p", "raw"];
 const TIMED: &[&str] = &["serve", "p", "timed"];
 
 const ISSUE: &[&str] = &["issue", "p"];
+
+const PULL: &[&str] = &["pull", "p", "7", "2"];
+
+const PUSH: &[&str] = &["push", "p", "7", "3412"];
+
+const PULL_ORDER: &[u8] = &[
+    0x10, 0x02, 0x01, 0x00, 0x0F, 0x00, 0x01, 0x00, 0x01, 0x00, 0x00, 0x02, 0x00, 0x06, 0x07, 0x00,
+    0x04, 0x10, 0x03, 0xDB,
+];
+
+const PULL_ORDER_AND_ACK: &[u8] = &[
+    0x10, 0x02, 0x01, 0x00, 0x0F, 0x00, 0x01, 0x00, 0x01, 0x00, 0x00, 0x02, 0x00, 0x06, 0x07, 0x00,
+    0x04, 0x10, 0x03, 0xDB, 0x10, 0x06,
+];
+
+const PUSH_ORDER_AND_ACK: &[u8] = &[
+    0x10, 0x02, 0x01, 0x00, 0x0F, 0x00, 0x01, 0x00, 0x00, 0x00, 0x00, 0x01, 0x00, 0x06, 0x07, 0x00,
+    0x34, 0x12, 0x10, 0x03, 0x9B, 0x10, 0x06,
+];
+
+/// A drain, the peer's ACK, its reply with two words, and a drain.
+const WORDS: &[u8] = &[
+    0x03, 0x00, 0x00, 0x10, 0x00, 0x06, 0x00, 0x10, 0x00, 0x02, 0x00, 0x00, 0x00, 0x01, 0x00, 0x4F,
+    0x00, 0x00, 0x00, 0x01, 0x00, 0x00, 0x00, 0x34, 0x00, 0x12, 0x00, 0x78, 0x00, 0x56, 0x00, 0x10,
+    0x00, 0x03, 0x00, 0x9B, 0x03, 0x00,
+];
+
+/// The same with one word.
+const WORD: &[u8] = &[
+    0x03, 0x00, 0x00, 0x10, 0x00, 0x06, 0x00, 0x10, 0x00, 0x02, 0x00, 0x00, 0x00, 0x01, 0x00, 0x4F,
+    0x00, 0x00, 0x00, 0x01, 0x00, 0x00, 0x00, 0x34, 0x00, 0x12, 0x00, 0x10, 0x00, 0x03, 0x00, 0x69,
+    0x03, 0x00,
+];
+
+/// The same with none.
+const NO_WORD: &[u8] = &[
+    0x03, 0x00, 0x00, 0x10, 0x00, 0x06, 0x00, 0x10, 0x00, 0x02, 0x00, 0x00, 0x00, 0x01, 0x00, 0x4F,
+    0x00, 0x00, 0x00, 0x01, 0x00, 0x00, 0x00, 0x10, 0x00, 0x03, 0x00, 0xAF, 0x03, 0x00,
+];
+
+/// The same with STS F0 and EXT STS 06.
+const REFUSAL: &[u8] = &[
+    0x03, 0x00, 0x00, 0x10, 0x00, 0x06, 0x00, 0x10, 0x00, 0x02, 0x00, 0x00, 0x00, 0x01, 0x00, 0x4F,
+    0x00, 0xF0, 0x00, 0x01, 0x00, 0x00, 0x00, 0x06, 0x00, 0x10, 0x00, 0x03, 0x00, 0xB9, 0x03, 0x00,
+];
+
+/// The first two orders of a transfer of 101 words, with an ACK between.
+const TWO_ORDERS: &[u8] = &[
+    0x10, 0x02, 0x01, 0x00, 0x0F, 0x00, 0x01, 0x00, 0x01, 0x00, 0x00, 0x65, 0x00, 0x06, 0x07, 0x00,
+    0xC8, 0x10, 0x03, 0xB4, 0x10, 0x06, 0x10, 0x02, 0x01, 0x00, 0x0F, 0x00, 0x02, 0x00, 0x01, 0x64,
+    0x00, 0x65, 0x00, 0x06, 0x07, 0x00, 0x02, 0x10, 0x03, 0x15,
+];
 
 /// A run that ends well.
 fn served(
@@ -161,6 +213,42 @@ fn an_end_is_served(rt: HostRuntime) -> Result<(), Fail> {
 }
 
 #[test]
+fn a_transfer_tells_what_it_came_to(rt: HostRuntime) -> Result<(), Fail> {
+    let cases = [
+        served(PULL, PEER, WORDS, PULL_ORDER_AND_ACK, "pulled 34127856\n"),
+        served(PUSH, PEER, NO_WORD, PUSH_ORDER_AND_ACK, "pushed 1\n"),
+        // Nothing is heard of the order.
+        served(PULL, PEER, b"\x03\x00", PULL_ORDER, "missing 1\n"),
+        // There is no such file.
+        served(PULL, PEER, REFUSAL, PULL_ORDER_AND_ACK, "refused 1 F0 06\n"),
+        served(PUSH, PEER, REFUSAL, PUSH_ORDER_AND_ACK, "refused 1 F0 06\n"),
+        // Fewer words are read than asked for, or any where words are written.
+        served(PULL, PEER, WORD, PULL_ORDER_AND_ACK, "odd 1\n"),
+        served(PUSH, PEER, WORD, PUSH_ORDER_AND_ACK, "odd 1\n"),
+        // Of two orders the first is refused, and the second isn't answered.
+        served(
+            &["pull", "p", "007", "101"],
+            PEER,
+            REFUSAL,
+            TWO_ORDERS,
+            "refused 1 F0 06\n",
+        ),
+        // Digits of either case.
+        served(
+            &["push", "p", "7", "abCD"],
+            PEER,
+            b"",
+            b"",
+            "missing 1\n",
+        ),
+    ];
+    for case in &cases {
+        check(&rt, case)?;
+    }
+    Ok(())
+}
+
+#[test]
 fn a_service_that_does_not_end_well_tells_why(rt: HostRuntime) -> Result<(), Fail> {
     let cases = [
         // Plans that are none.
@@ -219,6 +307,18 @@ fn a_service_that_does_not_end_well_tells_why(rt: HostRuntime) -> Result<(), Fai
         // Words that are no form.
         stopped(&["serve", "p"], "", b"", 2, b"", USAGE),
         stopped(&["issue", "p", "raw"], "", b"", 2, b"", USAGE),
+        stopped(&["pull", "p", "7"], PEER, b"", 2, b"", USAGE),
+        stopped(&["pull", "p", "7", "0"], PEER, b"", 2, b"", USAGE),
+        stopped(&["pull", "p", "7", "3001"], PEER, b"", 2, b"", USAGE),
+        stopped(&["pull", "p", "1000", "1"], PEER, b"", 2, b"", USAGE),
+        stopped(&["pull", "p", "0000000007", "1"], PEER, b"", 2, b"", USAGE),
+        stopped(&["pull", "p", "7", "0000000001"], PEER, b"", 2, b"", USAGE),
+        stopped(&["pull", "p", "7", "-1"], PEER, b"", 2, b"", USAGE),
+        stopped(&["push", "p", "7", ""], PEER, b"", 2, b"", USAGE),
+        stopped(&["push", "p", "7", "34"], PEER, b"", 2, b"", USAGE),
+        stopped(&["push", "p", "7", "341"], PEER, b"", 2, b"", USAGE),
+        stopped(&["push", "p", "7", "34xy"], PEER, b"", 2, b"", USAGE),
+        stopped(&["push", "p", "1000", "3412"], PEER, b"", 2, b"", USAGE),
         // No plan.
         Case {
             plan: None,
@@ -247,6 +347,11 @@ fn a_service_that_does_not_end_well_tells_why(rt: HostRuntime) -> Result<(), Fai
                 b"\x10",
                 "df1: output cannot be written\n",
             )
+        },
+        // A note that takes a part of the line of a transfer.
+        Case {
+            note_room: 4,
+            ..stopped(PULL, PEER, b"\x03\x00", 5, PULL_ORDER, "miss")
         },
         // A note that takes a part of the outcomes.
         Case {
