@@ -14,6 +14,8 @@ GONE, INTERRUPTED = 75, 130
 EPILOG = """commands:
   serve PLAN              serves the plan's end until the device goes away or Ctrl-C
   issue PLAN              issues the plan's commands, and tells the outcome of each
+  pull PLAN FILE WORDS    reads the first words of a data file, 1 to 3,000: pulled HEX
+  push PLAN FILE HEX      writes them, four digits a word, the low byte first: pushed K
   read ADDRESS..          reads by address: N7:0  N7:0,10  B3:1/5  F8:0  T4:1.ACC
   write ADDRESS=VALUE..   writes: N7:3=42  N7:0=1,2,3  B3:1/5=1  F8:0=1.5
 
@@ -31,13 +33,15 @@ def arguments(given):
     parser.add_argument("--rs485", action="store_true", help="have the driver raise RTS while it sends")
     parser.add_argument("--record", metavar="FILE", help="keep what went each way, with its time, as docs/TRACES.md reads it")
     parser.add_argument("--plan", metavar="PLAN", help="the plan whose settings read and write use")
-    parser.add_argument("--state", metavar="FILE", help="where the transaction numbers of read and write go on (else they come from the clock)")
+    parser.add_argument("--state", metavar="FILE", help="where the transaction numbers of pull, push, read and write go on (else they come from the clock)")
     parser.add_argument("--every", type=float, metavar="S", help="read again each time so many seconds have passed")
-    parser.add_argument("command", choices=("serve", "issue", "read", "write"))
+    parser.add_argument("command", choices=("serve", "issue", "pull", "push", "read", "write"))
     parser.add_argument("words", nargs="+")
     found = parser.parse_args(given)
     if found.command in ("serve", "issue") and len(found.words) != 1:
         parser.error(f"{found.command} takes one plan")
+    if found.command in ("pull", "push") and len(found.words) != 3:
+        parser.error(f"{found.command} takes a plan, the number of a file, and {'how many words' if found.command == 'pull' else 'the words'}")
     if found.tick < 1:
         parser.error("a tick has at least one millisecond")
     return found
@@ -58,14 +62,22 @@ def values_of(texts):
     return found
 
 
+def orders_of(command, text):
+    """How many commands a transfer has, one for each 100 words; what no transfer has is for `df1` to refuse."""
+    words_of = int(text) if command == "pull" and text.isascii() and text.isdecimal() else len(text) // 4
+    return max(1, -(-min(words_of, 3000) // 100))
+
+
 def done(line, given):
     """Does the command, and answers the status."""
     if given.command == "serve":
         return talk.serve(line, given.words[0])
     if given.command == "issue":
         return talk.issue(line, given.words[0], tell)
-    plan = plans.read(given.plan) if given.plan else {"node": 0, "peer": 1}
     numbers = Numbers(given.state)
+    if given.command in ("pull", "push"):
+        return talk.transfer(line, numbers, given.command, given.words[0], given.words[1:], orders_of(given.command, given.words[2]))
+    plan = plans.read(given.plan) if given.plan else {"node": 0, "peer": 1}
     if given.command == "write":
         return talk.write(line, plan, numbers, values_of(given.words))
     addresses = list(map(words.Address, given.words))

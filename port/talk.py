@@ -63,19 +63,31 @@ def issue(line, name, says):
     return status or int(any(" answered " not in f"{outcome} " for outcome in told.splitlines()))
 
 
-def asked(line, plan, numbers, payloads):
-    """Issues commands, and answers of each the reply, or the word that tells how it ended: `undelivered`, `unanswered` or `unfinished`."""
-    first = numbers.take(len(payloads))
+def told_by(line, plan, numbers, payloads, count, words_for):
+    """Runs `df1` with a plan that has these payloads and numbers that weren't used, so that `count` commands are issued. Answers its status and what it told."""
+    first = numbers.take(count)
     with tempfile.TemporaryDirectory() as folder:
         name = os.path.join(folder, "plan.toml")
         with open(name, "w", encoding="utf-8") as file:
             file.write(plans.issuing(plan, payloads, first))
-        end = line.end(["issue", name], plan)
-        told = ""
+        end = line.end(words_for(name), plan)
         try:
-            end.run(Outcomes(plan, first, len(payloads)))
+            end.run(Outcomes(plan, first, count))
         finally:
-            status, told = end.close()
+            ended = end.close()
+    return ended
+
+
+def transfer(line, numbers, command, name, rest, count):
+    """Moves words of a file by `df1 pull` or `df1 push`, tells what it came to on standard error, and answers the program's status, or 1 where not all were moved."""
+    status, told = told_by(line, plans.read(name), numbers, [], count, lambda plan: [command, plan, *rest])
+    sys.stderr.write(told)
+    return status or int(not told.startswith(("pulled ", "pushed ")))
+
+
+def asked(line, plan, numbers, payloads):
+    """Issues commands, and answers of each the reply, or the word that tells how it ended: `undelivered`, `unanswered` or `unfinished`."""
+    status, told = told_by(line, plan, numbers, payloads, len(payloads), lambda name: ["issue", name])
     if status != 0:
         raise words.Wrong(told.strip() or f"df1 ended with status {status}")
     ends = [text.split(" ")[1:] for text in told.splitlines()]

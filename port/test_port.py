@@ -30,7 +30,7 @@ max_enqs = 20
 [[file]]
 number = 7
 type = "89"
-count = 100
+count = 150
 words = "3412"
 [[file]]
 number = 8
@@ -201,6 +201,21 @@ class Ports(unittest.TestCase):
         status, _, told = self.ran(relay.names[0], "issue", "issuing.toml")
         self.assertEqual(status, 0)
         self.assertIn("1 answered 00014600581B55\n2 answered 00014F00591B3412\n", told)
+
+    def test_whole_files_are_pulled_and_pushed(self):
+        relay = Relay()
+        self.addCleanup(relay.close)
+        self.served(relay)
+        for command, words_of, status, told in [
+            ("pull", ("7", "2"), 0, "pulled 34120000\n"),
+            ("push", ("7", "0100FEFF" + 148 * "2A00"), 0, "pushed 2\n"),
+            ("pull", ("7", "151"), 1, "refused 2 F0 0A\n"),
+            ("pull", ("9", "1"), 1, "refused 1 F0 06\n"),
+        ]:
+            with self.subTest(command=command, words=words_of):
+                self.assertEqual(self.ran(relay.names[0], "--state", "tns.json", command, "asking.toml", *words_of), (status, "", told))
+        self.assertEqual(self.asked(relay, "read", "N7:0,3", "N7:149"), (0, "N7:0,3 1 -2 42\nN7:149 42\n", ""))
+        self.assertEqual(self.ran(relay.names[0], "pull", "asking.toml", "7", "3001")[0], 2)
 
     def test_nothing_is_lost_on_a_line_that_loses_and_damages(self):
         relay = Relay(lost=0.01, damaged=0.003)
