@@ -132,7 +132,7 @@ fn hand_on<K: Sink>(
     report: &mut Buffered<'_, K>,
 ) -> Result<(), ReplayFault>
     ensures ends { (IsErrOf result ReplayFault.Output
-            × (IsErrOf ended StreamFault.SinkFailed ⊎ ((buffer_waiting report.old ≢ []) × (buffer_waiting report.new ≢ []) × Rose (K.faults (buffer_out report.old)) (K.faults (buffer_out report.new)))))
+        × (IsErrOf ended StreamFault.SinkFailed ⊎ ((buffer_waiting report.old ≢ []) × (buffer_waiting report.new ≢ []) × Rose (K.faults (buffer_out report.old)) (K.faults (buffer_out report.new)))))
         ⊎ ((result ≡ result_of ended) × ((buffer_waiting report.new ≡ []) × (K.faults (buffer_out report.new) ≡ K.faults (buffer_out report.old)))) }
     ensures kept { Keeps (buffer_held K.held report.old) (buffer_held K.held report.new) }
     ensures later { Later (buffer_mark K.held K.mark report.old) (buffer_mark K.held K.mark report.new) (K.faults (buffer_out report.old)) (K.faults (buffer_out report.new)) }

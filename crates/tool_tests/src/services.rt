@@ -234,13 +234,7 @@ fn a_transfer_tells_what_it_came_to(rt: HostRuntime) -> Result<(), Fail> {
             "refused 1 F0 06\n",
         ),
         // Digits of either case.
-        served(
-            &["push", "p", "7", "abCD"],
-            PEER,
-            b"",
-            b"",
-            "missing 1\n",
-        ),
+        served(&["push", "p", "7", "abCD"], PEER, b"", b"", "missing 1\n"),
     ];
     for case in &cases {
         check(&rt, case)?;
