@@ -6,4 +6,4 @@ mod replaying;
 mod storm_script;
 
 pub use replaying::replay_recovering;
-pub use storm_script::{a_storm_of_one_round_recovers, each_storm_can_be_played, storm};
+pub use storm_script::{each_storm_can_be_played, storm};

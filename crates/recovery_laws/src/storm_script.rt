@@ -2,7 +2,6 @@
 //! the first four bytes of the body, before one arrives whole.
 ghost use Rattle.std.specs.Prelude.{◌≡◌, ◌≤◌, ◌<◌, ◌^◌, ◌++◌, ℕ, IfOk, OnOk};
 ghost use Rattle.script_parts.specs.HalfPlayable.{CanBePlayed};
-ghost use Rattle.duplex_line.specs.Recoverable.{IsRecoverable};
 ghost use Rattle.recovery_laws.specs.Storm.{hit_of, hits_of, round_of, storm_script};
 
 use df1_base::NoMemory;
@@ -66,9 +65,4 @@ fn put_hit(alloc: Global, events: &mut Events, turn: u64, hit: u64) -> Result<()
 /// Every storm of at most 20,000 rounds can be played, whatever its seed.
 pub fn each_storm_can_be_played()
     ensures { (seed count : ℕ) → count ≤ MOST_ROUNDS → CanBePlayed (storm_script seed count) }
-{}
-
-/// A law: the line of the storm of one round whose seed is 0 recovers: one sending of its command is hit.
-pub fn a_storm_of_one_round_recovers()
-    ensures { IsRecoverable (storm_script 0 1) }
 {}
