@@ -1,12 +1,11 @@
 -- The lines of outcomes, written one after another, and a line that is written alone.
-use Rattle.std.proofs.Common.{◌≡◌, ◌∙◌, ℕ, zero, suc, ◌+◌, ◌-◌, ◌≤◌, List, [], ◌∷◌, ◌++◌, drop, Option, Some, None, Result, Ok, Err, refl, ap, sym, arith, append_assoc, append-nil, slice_get}
-use Rattle.std.specs.Prelude.{OnOk, OnErr}
+use Rattle.std.proofs.Common.{◌≡◌, ◌∙◌, ℕ, zero, suc, ◌+◌, ◌-◌, ◌≤◌, List, [], ◌∷◌, ◌++◌, drop, Option, Some, None, refl, ap, sym, arith, append_assoc, slice_get}
 use Rattle.std.specs.Option.{option_map, option_map_or, unwrap_or}
 use Rattle.std.proofs.KnownBytes.{Appends-trans}
-use Rattle.df1_base.specs.Outside.{Put, Wrote, WroteLess, WrotePart}
-use Rattle.df1_base.proofs.Laws.{part_of_more, part_rest}
+use Rattle.df1_base.specs.Outside.{Put, Wrote, WroteLess}
 use Rattle.df1_node.specs.declared.outcome.Outcome.{Outcome}
 use Rattle.df1_node.specs.Initiator.{InitiatorState, Issued, outcome_of, reply_of, told_outcome, told_reply}
+use Rattle.replay_report.proofs.Writing.{less_of_more, less_rest}
 use Rattle.df1_service.specs.Service.{outcome_line, outcome_lines}
 
 -- ---- the line of the next command
@@ -48,11 +47,6 @@ line_put a b c text line rest w put = record {
   put = Appends-trans a b c w.part line w.put put;
 }
 
--- or a part of it
-pub line_part : (a b c : Option (List ℕ)) (text line rest : List ℕ) → Wrote a b text (line ++ rest) → WrotePart b c line → WrotePart a c text
-line_part a b c text line rest w part = part_rest a b c text (line ++ rest) w (part_of_more b c line rest part)
-
--- a line of which all is written, or not all, is written in part
-pub part_either : {T E : Type 0} (result : Result T E) (a b : Option (List ℕ)) (line : List ℕ) → OnOk result (Put a b line) → OnErr result (WroteLess a b line) → WrotePart a b line
-part_either (Ok done) a b line put less = ([], record { part = line; text_is = sym (append-nil line); put = put })
-part_either (Err why) a b line put less = (less.0, less.2)
+-- or less than it
+pub line_less : (a b c : Option (List ℕ)) (text line rest : List ℕ) → Wrote a b text (line ++ rest) → WroteLess b c line → WroteLess a c text
+line_less a b c text line rest w less = less_rest a b c text (line ++ rest) w (less_of_more b c line rest less)

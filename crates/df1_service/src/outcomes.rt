@@ -11,7 +11,7 @@
 ghost use Rattle.std.specs.Prelude.{◌≡◌, ◌+◌, ◌*◌, ◌≤◌, ◌++◌, OnErr, OnOk, length};
 ghost use Rattle.arrayvec.specs.ArrayVec.{array_vec_len};
 ghost use Rattle.hex.specs.Hex.{encode_upper};
-ghost use Rattle.df1_base.specs.Outside.{Put, Rose, WrotePart, Later};
+ghost use Rattle.df1_base.specs.Outside.{Put, Rose, WroteLess, Later};
 ghost use Rattle.df1_service.specs.Service.{outcome_line, outcomes_text};
 
 use arrayvec::ArrayVec;
@@ -26,10 +26,10 @@ const LINE: usize = 521;
 type Text = ArrayVec<u8, LINE>;
 
 /// Writes the outcome of each command of an initiator, each line at once. `Failed` comes where the sink failed; then it
-/// holds a first part of the text.
+/// holds a first part of the text, and not all.
 pub fn write_outcomes<K: Sink>(initiator: &Initiator, sink: &mut K) -> Result<(), Failed>
     ensures ok { OnOk result (Put (K.held sink.old) (K.held sink.new) (outcomes_text initiator.now)) }
-    ensures part { WrotePart (K.held sink.old) (K.held sink.new) (outcomes_text initiator.now) }
+    ensures missing { OnErr result (WroteLess (K.held sink.old) (K.held sink.new) (outcomes_text initiator.now)) }
     ensures calm { OnOk result (K.faults sink.new ≡ K.faults sink.old) }
     ensures later { Later (K.mark sink.old) (K.mark sink.new) (K.faults sink.old) (K.faults sink.new) }
     ensures cause { OnErr result (Rose (K.faults sink.old) (K.faults sink.new)) }

@@ -3,7 +3,7 @@ ghost use Rattle.std.specs.Prelude.{◌≡◌, ◌/◌, ◌≤◌, OnErr, OnOk, 
 ghost use Rattle.bulk_orders.specs.Orders.{orders_of};
 ghost use Rattle.bulk_orders.specs.Outcomes.{pull_result, push_result, words_pulled};
 ghost use Rattle.bulk_orders.specs.Telling.{pull_line, push_line};
-ghost use Rattle.df1_base.specs.Outside.{Put, Rose, WroteLess, WrotePart, Later};
+ghost use Rattle.df1_base.specs.Outside.{Put, Rose, WroteLess, Later};
 ghost use Rattle.df1_service.specs.Service.{CanBeIssued, seen, told_text};
 
 use crate::{Issues, write_outcomes};
@@ -14,7 +14,7 @@ use df1_node::Initiator;
 
 /// Writes what became of the commands that were issued before the first signal, by the initiator that the service left: nothing
 /// where none were, a line for each of the plan's, and the line of a transfer. `Failed` comes where the sink failed; then it holds a
-/// first part of the text.
+/// first part of the text, and not all.
 pub fn write_told<K: Sink>(
     initiator: &Initiator,
     issues: Issues<'_>,
@@ -22,7 +22,7 @@ pub fn write_told<K: Sink>(
 ) -> Result<(), Failed>
     requires { CanBeIssued (seen issues) }
     ensures ok { OnOk result (Put (K.held sink.old) (K.held sink.new) (told_text (seen issues.entry) initiator.now)) }
-    ensures part { WrotePart (K.held sink.old) (K.held sink.new) (told_text (seen issues.entry) initiator.now) }
+    ensures missing { OnErr result (WroteLess (K.held sink.old) (K.held sink.new) (told_text (seen issues.entry) initiator.now)) }
     ensures calm { OnOk result (K.faults sink.new ≡ K.faults sink.old) }
     ensures later { Later (K.mark sink.old) (K.mark sink.new) (K.faults sink.old) (K.faults sink.new) }
     ensures cause { OnErr result (Rose (K.faults sink.old) (K.faults sink.new)) }

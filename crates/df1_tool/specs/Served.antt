@@ -1,6 +1,6 @@
 -- What a run of `serve`, `issue`, `pull` or `push` shows: its status, what it read and wrote, and its note.
 use Rattle.std.specs.Prelude.{◌≡◌, ◌≢◌, ◌⊎◌, ◌≤◌, ℕ, true, false, List, [], ◌∷◌, ◌++◌, length, codes, decimal, Option, Some}
-use Rattle.df1_base.specs.Outside.{Rose, Put, WrotePart}
+use Rattle.df1_base.specs.Outside.{Rose, Put, WroteLess}
 use Rattle.df1_base.specs.Signals.{input_signals}
 use Rattle.df1_base.specs.declared.signal.Signal.{Signal}
 use Rattle.df1_base.specs.declared.signal.Signal.TheVariants.{End, Long}
@@ -56,11 +56,11 @@ note_of_fault fault.NoMemory = no_memory
 abbrev pub told_of : Commands → EndState NodeState → List ℕ
 told_of issues end = told_text issues end.host.initiator
 
--- it is told, with status 0, or the note failed and a part is, with status 5
+-- it is told, with status 0, or the note failed and a first part is, and not all, with status 5
 pub record IsFinished (noted noted' : Option (List ℕ)) (faults faults' : ℕ) (text : List ℕ) (status : ℕ) : Type 0 where
   pub statuses : (status ≡ 0) ⊎ (status ≡ 5)
   pub done : status ≡ 0 → Put noted noted' text × (faults' ≡ faults)
-  pub failed : status ≡ 5 → Rose faults faults' × WrotePart noted noted' text
+  pub failed : status ≡ 5 → Rose faults faults' × WroteLess noted noted' text
 
 -- ---- a run
 
@@ -88,7 +88,7 @@ IsUntouched before after = (after.left ≡ before.left) × (after.held ≡ befor
 -- 0: the input was read to its end, all that the plan's end gives over its signals is written, and so is what is told of the commands.
 -- 3: the plan is refused, or a record: all that the end gave over the signals before it is written.
 -- 4: the input has failed: all that the end gave over the signals of the bytes taken is written.
--- 5: the output has failed, at most 4,096 bytes after those that made the first missing byte due; or the note has.
+-- 5: the output has failed, at most 4,096 bytes after those that made the first missing byte due; or the note has, and not all is told.
 -- 6: the plan can't be read, or is over its limit. 7: no memory, before the first signal.
 -- 8: the input is over its limit: all that the end gave over the signals before it is written.
 pub record ServiceRun (service : Serving) (name : List ℕ) (before after : Outside) (status : ℕ) : Type 0 where
@@ -109,7 +109,7 @@ pub record ServiceRun (service : Serving) (name : List ℕ) (before after : Outs
       × Notes before after fault.Output)
       ⊎ (Rose before.note_faults after.note_faults
       × OfPlan (before.files name) service.issues (λ begun.
-      (ended : EndState NodeState) × IsServed service.timed begun ended before.left after.left before.held after.held × WrotePart before.noted after.noted (told_of service.issues ended)))
+      (ended : EndState NodeState) × IsServed service.timed begun ended before.left after.left before.held after.held × WroteLess before.noted after.noted (told_of service.issues ended)))
   pub planless : status ≡ 6 →
       (Rose before.shelf_faults after.shelf_faults × (is_sound (before.files name) ≡ true → ⊥) × Notes before after fault.PlanFailed)
       ⊎ (IsLonger (before.files name) plan_limit × Notes before after fault.PlanTooLong)
