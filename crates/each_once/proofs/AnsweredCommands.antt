@@ -61,6 +61,7 @@ first-answer who n reply (line.Answered by number body ∷ lines) is = answered-
 first-answer who n reply (line.Undelivered by number ∷ lines) is = first-answer who n reply lines (later-first who n reply (line.Undelivered by number) lines _ refl (not-answered who by n number reply Undelivered (λ e. absurd cc) (is_who who by) (number == n) refl refl) is)
 first-answer who n reply (line.Unanswered by number ∷ lines) is = first-answer who n reply lines (later-first who n reply (line.Unanswered by number) lines _ refl (not-answered who by n number reply Unanswered (λ e. absurd cc) (is_who who by) (number == n) refl refl) is)
 first-answer who n reply (line.Stray by body ∷ lines) is = first-answer who n reply lines is
+first-answer who n reply (line.Routed by body ∷ lines) is = first-answer who n reply lines is
 first-answer who n reply (line.Repeat by ∷ lines) is = first-answer who n reply lines is
 first-answer who n reply (line.Full by ∷ lines) is = first-answer who n reply lines is
 first-answer who n reply (line.Damaged by ∷ lines) is = first-answer who n reply lines is

@@ -75,6 +75,7 @@ given-up-told who n (line.Unanswered by number ∷ lines) o up h = given-up-line
 given-up-told who n (line.Sent by bytes ∷ lines) o up h = given-up-told who n lines o up h
 given-up-told who n (line.Exec by body ∷ lines) o up h = given-up-told who n lines o up h
 given-up-told who n (line.Stray by body ∷ lines) o up h = given-up-told who n lines o up h
+given-up-told who n (line.Routed by body ∷ lines) o up h = given-up-told who n lines o up h
 given-up-told who n (line.Repeat by ∷ lines) o up h = given-up-told who n lines o up h
 given-up-told who n (line.Full by ∷ lines) o up h = given-up-told who n lines o up h
 given-up-told who n (line.Damaged by ∷ lines) o up h = given-up-told who n lines o up h

@@ -10,3 +10,5 @@ pub mod PlayedEvents
 pub mod FirstState
 -- Playing one event after another: the stations keep their numbers, and there is room for the events that are still to come.
 pub mod EventsToCome
+-- What is told at a station, where nothing is carried.
+pub mod RoutedLines

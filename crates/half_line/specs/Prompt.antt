@@ -1,6 +1,7 @@
 -- Half-duplex runs that nothing disturbs: no byte is lost, altered or foreign, few ticks come between two states in which nothing is under way, and in the end no reply is left at a station.
 use Rattle.std.specs.Prelude.{◌≡◌, ℕ, ◌+◌, ◌<◌, ◌≤◌, Bool, ◌&&◌, All, List, [], ◌∷◌, slice_get, is_none, min, sum_by, Option, Some, None, IsTrue, if◌then◌else◌}
 use Rattle.std.specs.List.{list_all}
+use Rattle.df1_node.specs.Node.{NodeState}
 use Rattle.half_slave.specs.Slave as slave
 use Rattle.half_master.specs.Master as master
 use Rattle.script_parts.specs.declared.script.Event.{Event}
@@ -9,6 +10,7 @@ use Rattle.script_parts.specs.declared.script.Script.{Script}
 use Rattle.script_parts.specs.HalfPlayable.{station_plans}
 use Rattle.lane_cells.specs.Cells.{LaneCell}
 use Rattle.each_once.specs.NodeHost.{node_host}
+use Rattle.half_line.specs.Behind.{plain_node}
 use Rattle.half_line.specs.Acts.{LineStationState, HalfState, MasterDeed, Issue, Give, Tick, LaneDeed, Deliver, Lose, Alter, Foreign, lane_of, LinkDeed, StationGives, OnLane}
 use Rattle.half_line.specs.Steps.{UnitStep, AtMaster, AtStation, after_step}
 use Rattle.half_line.specs.Run.{plan_of_m, start, steps_of, after_event, last_state}
@@ -20,7 +22,7 @@ abbrev pub is_idle : LineStationState → Bool
 is_idle side = is_none (slice_get side.to_it 0) && (is_none (slice_get side.from_it 0) && is_none (slave.out_at_take side.slave))
 
 -- nothing is under way
-abbrev pub is_quiet : HalfState → Bool
+abbrev pub is_quiet : HalfState NodeState → Bool
 is_quiet s = is_none (master.out_at_take node_host s.master) && list_all is_idle s.stations
 
 -- ---- late ticks: those of the master that came while something was under way
@@ -35,11 +37,11 @@ ticks_of (AtMaster deed) = master_ticks deed
 ticks_of (AtStation place deed) = 0
 
 -- with one step more; where nothing is under way after it, the count begins anew
-abbrev pub late_after : ℕ → HalfState → UnitStep → ℕ
-late_after late s step = if is_quiet (after_step s step) then 0 else (if is_quiet s then late else late + ticks_of step)
+abbrev pub late_after : ℕ → HalfState NodeState → UnitStep → ℕ
+late_after late s step = if is_quiet (after_step plain_node s step) then 0 else (if is_quiet s then late else late + ticks_of step)
 
 -- fewer than the master waits for an ACK, and after a poll
-abbrev pub patience : HalfState → ℕ
+abbrev pub patience : HalfState NodeState → ℕ
 patience s = min s.master.setup.ack_ticks s.master.setup.poll_ticks
 
 -- ---- a step loses, alters and adds no byte
@@ -58,27 +60,27 @@ abbrev pub IsGentleWith : LinkDeed → Option LineStationState → Type 0
 IsGentleWith deed None = Unit {0}
 IsGentleWith deed (Some side) = IsGentleAt side deed
 
-abbrev pub IsGentle : HalfState → UnitStep → Type 0
+abbrev pub IsGentle : HalfState NodeState → UnitStep → Type 0
 IsGentle s (AtMaster deed) = Unit {0}
 IsGentle s (AtStation place deed) = IsGentleWith deed (slice_get s.stations place)
 
 -- ---- one step after another
 
-abbrev pub late_over : ℕ → HalfState → List UnitStep → ℕ
+abbrev pub late_over : ℕ → HalfState NodeState → List UnitStep → ℕ
 late_over late s [] = late
-late_over late s (step ∷ steps) = late_over (late_after late s step) (after_step s step) steps
+late_over late s (step ∷ steps) = late_over (late_after late s step) (after_step plain_node s step) steps
 
-abbrev pub IsPromptOver : ℕ → HalfState → List UnitStep → Type 0
+abbrev pub IsPromptOver : ℕ → HalfState NodeState → List UnitStep → Type 0
 IsPromptOver late s [] = Unit {0}
-IsPromptOver late s (step ∷ steps) = IsGentle s step × (late_after late s step < patience (after_step s step)) × IsPromptOver (late_after late s step) (after_step s step) steps
+IsPromptOver late s (step ∷ steps) = IsGentle s step × (late_after late s step < patience (after_step plain_node s step)) × IsPromptOver (late_after late s step) (after_step plain_node s step) steps
 
 -- the late ticks after an event
-abbrev pub late_event : ℕ → HalfState → Event → ℕ
+abbrev pub late_event : ℕ → HalfState NodeState → Event → ℕ
 late_event late s e = late_over late s (steps_of s e)
 
-abbrev pub IsPromptAfter : ℕ → HalfState → List Event → Type 0
+abbrev pub IsPromptAfter : ℕ → HalfState NodeState → List Event → Type 0
 IsPromptAfter late s [] = Unit {0}
-IsPromptAfter late s (e ∷ events) = IsPromptOver late s (steps_of s e) × IsPromptAfter (late_event late s e) (after_event s e) events
+IsPromptAfter late s (e ∷ events) = IsPromptOver late s (steps_of s e) × IsPromptAfter (late_event late s e) (after_event plain_node s e) events
 
 -- ---- a run
 

@@ -1,6 +1,7 @@
 -- The run of a half-duplex script: its first state, what each event leaves, the lines of the report that it makes, and the record.
 use Rattle.std.specs.Prelude.{ℕ, List, [], ◌∷◌, ◌++◌, map, replicate, Option, Some, None, ◌==◌, slice_index_or, position}
 use Rattle.std.specs.List.{flat_map}
+use Rattle.df1_node.specs.Node.{NodeState}
 use Rattle.df1_check.specs.declared.Check.{Check}
 use Rattle.data_files.specs.Tables.{DataTables}
 use Rattle.half_slave.specs.declared.SlaveSetup.{SlaveSetup}
@@ -21,6 +22,7 @@ use Rattle.replay_report.specs.declared.record.Record.{Record}
 use Rattle.replay_report.specs.Report.{sent_lines}
 use Rattle.outset.specs.Outset.{first_node}
 use Rattle.report_lines.specs.Words.{words_of}
+use Rattle.half_line.specs.Behind.{Behind, plain_node}
 use Rattle.half_line.specs.declared.way.Way.{Way}
 use Rattle.half_line.specs.declared.way.Way.TheVariants.{ToStation, ToMaster}
 use Rattle.half_line.specs.Acts.{LineStationState, HalfState, MasterDeed, LinkDeed, Issue, Give, Tick, StationGives, OnLane, Deliver, Lose, Alter, Foreign}
@@ -43,12 +45,17 @@ first_side check plan = record { number = plan.node; slave = new_slave (slave_se
 abbrev pub plan_of_m : Script → EndPlan
 plan_of_m script = slice_index_or script.ends 0 (first_plan M 0)
 
-abbrev pub start : Script → HalfState
-start script = record {
-  master = new_master (master_setup script.check (plan_of_m script)) (numbers_of script.ends) (first_node (plan_of_m script));
+-- with this host behind the master
+abbrev pub start_with : {H : Type 0} → Script → H → HalfState H
+start_with script host = record {
+  master = new_master (master_setup script.check (plan_of_m script)) (numbers_of script.ends) host;
   stations = map (first_side script.check) (station_plans script.ends);
   deceived = 0;
 }
+
+-- in a replay it is the node of its plan
+abbrev pub start : Script → HalfState NodeState
+start script = start_with script (first_node (plan_of_m script))
 
 -- ---- where an event happens
 
@@ -108,13 +115,13 @@ abbrev pub steps_at : List LineStationState → Option ℕ → Event → List Un
 steps_at stations None e = map AtMaster (master_deeds e)
 steps_at stations (Some number) e = steps_with (place_of stations number) (link_deeds e)
 
-abbrev pub steps_of : HalfState → Event → List UnitStep
+abbrev pub steps_of : {H : Type 0} → HalfState H → Event → List UnitStep
 steps_of s e = steps_at s.stations (station_at e) e
 
 -- ---- events
 
-abbrev pub after_event : HalfState → Event → HalfState
-after_event s e = after_steps s (steps_of s e)
+abbrev pub after_event : {H : Type 0} → Behind H → HalfState H → Event → HalfState H
+after_event h s e = after_steps h s (steps_of s e)
 
 -- the end that gives bytes at an event, if one gives any
 abbrev pub giver : Option ℕ → Who
@@ -122,26 +129,26 @@ giver None = M
 giver (Some number) = S number
 
 -- the lines of the unit steps, and then the bytes that were given
-abbrev pub lines_of : HalfState → Event → List Line
-lines_of s e = lines_over s (steps_of s e) ++ sent_lines (giver (station_at e)) (bytes_over s (steps_of s e))
+abbrev pub lines_of : {H : Type 0} → Behind H → HalfState H → Event → List Line
+lines_of h s e = lines_over h s (steps_of s e) ++ sent_lines (giver (station_at e)) (bytes_over h s (steps_of s e))
 
-abbrev pub state_after : HalfState → List Event → HalfState
-state_after s [] = s
-state_after s (e ∷ events) = state_after (after_event s e) events
+abbrev pub state_after : {H : Type 0} → Behind H → HalfState H → List Event → HalfState H
+state_after h s [] = s
+state_after h s (e ∷ events) = state_after h (after_event h s e) events
 
-abbrev pub lines_after : HalfState → List Event → List Line
-lines_after s [] = []
-lines_after s (e ∷ events) = lines_of s e ++ lines_after (after_event s e) events
+abbrev pub lines_after : {H : Type 0} → Behind H → HalfState H → List Event → List Line
+lines_after h s [] = []
+lines_after h s (e ∷ events) = lines_of h s e ++ lines_after h (after_event h s e) events
 
 -- the last state of a run
-abbrev pub last_state : Script → HalfState
-last_state script = state_after (start script) script.events
+abbrev pub last_state : Script → HalfState NodeState
+last_state script = state_after plain_node (start script) script.events
 
 -- ---- the record
 
 -- the tables of the master, and of a station
-abbrev pub tables_of_m : HalfState → DataTables
-tables_of_m s = s.master.host.station.tables
+abbrev pub tables_of_m : {H : Type 0} → Behind H → HalfState H → DataTables
+tables_of_m h s = (h.node s.master.host).station.tables
 
 abbrev pub tables_of : LineStationState → DataTables
 tables_of side = side.slave.host.station.tables
@@ -151,12 +158,12 @@ abbrev pub station_words : List LineStationState → List WordOf
 station_words stations = flat_map (λ (side : LineStationState). words_of (S side.number) (tables_of side)) stations
 
 -- the words of the master, then those of the stations
-abbrev pub all_words : HalfState → List WordOf
-all_words s = words_of M (tables_of_m s) ++ station_words s.stations
+abbrev pub all_words : {H : Type 0} → Behind H → HalfState H → List WordOf
+all_words h s = words_of M (tables_of_m h s) ++ station_words s.stations
 
-abbrev pub record_from : HalfState → List Line → Record
-record_from s lines = record { lines = lines; words = all_words s; deceived = s.deceived }
+abbrev pub record_from : {H : Type 0} → Behind H → HalfState H → List Line → Record
+record_from h s lines = record { lines = lines; words = all_words h s; deceived = s.deceived }
 
 -- the record of a script's run
 unfoldable pub record_of : Script → Record
-record_of script = record_from (last_state script) (lines_after (start script) script.events)
+record_of script = record_from plain_node (last_state script) (lines_after plain_node (start script) script.events)

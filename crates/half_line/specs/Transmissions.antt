@@ -3,6 +3,7 @@ use Rattle.std.specs.Prelude.{◌≡◌, ℕ, List, [], ◌∷◌, ◌++◌, map
 use Rattle.std.specs.Option.{option_to_list}
 use Rattle.std.specs.List.{filter_map}
 use Rattle.std.specs.List.Sorted.{IsStrictlyIncreasing}
+use Rattle.df1_node.specs.Node.{NodeState}
 use Rattle.half_mouth.specs.Transmissions.{transmission_at}
 use Rattle.half_slave.specs.Emission as slave
 use Rattle.half_slave.specs.Fates as slave_fates
@@ -14,23 +15,24 @@ use Rattle.script_parts.specs.declared.script.Event.{Event}
 use Rattle.script_parts.specs.declared.script.Script.{Script}
 use Rattle.lane_cells.specs.Cells.{LaneCell, Ending}
 use Rattle.each_once.specs.NodeHost.{node_host}
+use Rattle.half_line.specs.Behind.{plain_node}
 use Rattle.half_line.specs.declared.way.Way.{Way}
 use Rattle.half_line.specs.declared.way.Way.TheVariants.{ToStation, ToMaster}
-use Rattle.half_line.specs.Acts.{LineStationState, HalfState, Issue, Give, Tick, LinkDeed, StationGives, OnLane, lane_of, arriving}
+use Rattle.half_line.specs.Acts.{LineStationState, HalfState, Issue, Give, Tick, LinkDeed, StationGives, OnLane, arriving}
 use Rattle.half_line.specs.Steps.{UnitStep, AtMaster, AtStation, after_step}
 use Rattle.half_line.specs.Run.{start, steps_of, after_event, last_state}
 
 -- ---- over a run
 
 -- what comes about at each of these steps, in order
-abbrev pub over_steps : {X : Type 0} → (HalfState → UnitStep → List X) → HalfState → List UnitStep → List X
+abbrev pub over_steps : {X : Type 0} → (HalfState NodeState → UnitStep → List X) → HalfState NodeState → List UnitStep → List X
 over_steps at s [] = []
-over_steps at s (step ∷ steps) = at s step ++ over_steps at (after_step s step) steps
+over_steps at s (step ∷ steps) = at s step ++ over_steps at (after_step plain_node s step) steps
 
 -- at the steps of each of these events
-abbrev pub over_events : {X : Type 0} → (HalfState → UnitStep → List X) → HalfState → List Event → List X
+abbrev pub over_events : {X : Type 0} → (HalfState NodeState → UnitStep → List X) → HalfState NodeState → List Event → List X
 over_events at s [] = []
-over_events at s (e ∷ events) = over_steps at s (steps_of s e) ++ over_events at (after_event s e) events
+over_events at s (e ∷ events) = over_steps at s (steps_of s e) ++ over_events at (after_event plain_node s e) events
 
 -- ---- what arrives
 
@@ -47,21 +49,21 @@ cells_with way deed None = []
 cells_with way deed (Some side) = cells_at way side deed
 
 -- between the master and the station that was declared at this place
-abbrev pub arrived : Way → ℕ → HalfState → UnitStep → List LaneCell
+abbrev pub arrived : Way → ℕ → HalfState NodeState → UnitStep → List LaneCell
 arrived way place s (AtMaster deed) = []
 arrived way place s (AtStation at deed) = if at == place then cells_with way deed (slice_get s.stations at) else []
 
 -- ---- what an end began
 
 -- the signals that come to the master
-abbrev pub master_signals : HalfState → UnitStep → List master.Letter
+abbrev pub master_signals : HalfState NodeState → UnitStep → List master.Letter
 master_signals s (AtMaster (Issue src dst payload)) = []
 master_signals s (AtMaster Give) = master.Take ∷ []
 master_signals s (AtMaster Tick) = master.Tick ∷ []
 master_signals s (AtStation place deed) = map (λ (cell : LaneCell). master.Byte cell.byte) (cells_with ToMaster deed (slice_get s.stations place))
 
 -- what happens to the messages of its host
-abbrev pub master_events : HalfState → UnitStep → List master_fates.Event
+abbrev pub master_events : HalfState NodeState → UnitStep → List master_fates.Event
 master_events s step = master_fates.events node_host s.master (master_signals s step)
 
 -- the same of a station
@@ -73,7 +75,7 @@ abbrev pub events_with : LinkDeed → Option LineStationState → List slave_fat
 events_with deed None = []
 events_with deed (Some side) = side_events side deed
 
-abbrev pub station_events : ℕ → HalfState → UnitStep → List slave_fates.Event
+abbrev pub station_events : ℕ → HalfState NodeState → UnitStep → List slave_fates.Event
 station_events place s (AtMaster deed) = []
 station_events place s (AtStation at deed) = if at == place then events_with deed (slice_get s.stations at) else []
 

@@ -5,7 +5,12 @@ ghost use Rattle.half_slave.specs.Arrived.{HeardByGrammar as HeardAtStation, Hea
 ghost use Rattle.half_slave.specs.Slave.{heard_at as heard_at_station};
 ghost use Rattle.half_master.specs.Arrived.{HeardByGrammar as HeardAtMaster, Hears as MasterHears, bytes_arrived as bytes_at_master};
 ghost use Rattle.half_master.specs.Master.{heard_at as heard_at_master};
-ghost use Rattle.half_line.specs.Acts.{LineStationState};
+ghost use Rattle.df1_node.specs.Node.{NodeState};
+ghost use Rattle.lane_cells.specs.Cells.{LaneCell};
+ghost use Rattle.report_lines.specs.NodeLines.{step_lines};
+ghost use Rattle.half_line.specs.declared.way.Way.{Way};
+ghost use Rattle.half_line.specs.Behind.{plain_node};
+ghost use Rattle.half_line.specs.Acts.{LineStationState, LinkState, body_heard, cell_lines, hearer, step_of};
 ghost use Rattle.half_line.specs.Arrivals.{master_arrivals_in, station_arrivals_in};
 ghost use Rattle.half_line.specs.Issues.{bodies_of, commands_of_m};
 ghost use Rattle.half_line.specs.Prompt.{is_quiet};
@@ -38,4 +43,10 @@ pub fn commands_are_issued()
 /// A law: before the first event of a script nothing is under way.
 pub fn the_first_state_is_quiet()
     ensures { (script : Script) → IsTrue (is_quiet (start script)) }
+{}
+
+/// A law: with a node alone behind the master, as in a replay, no message is carried to a station: what is told at a byte that
+/// arrives, at the master or at a station, is what is told of any end (manual topic: half-duplex protocol).
+pub fn a_node_alone_carries_nothing()
+    ensures { (way : Way) (s : LinkState NodeState) (cell : LaneCell) → cell_lines plain_node way s cell ≡ step_lines (hearer way s.side) (step_of plain_node way s cell) (body_heard plain_node way s cell) }
 {}

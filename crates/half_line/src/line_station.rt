@@ -1,6 +1,7 @@
 //! A station of the line with its node, and the queues of the bytes to it and from it.
 
 ghost use Rattle.std.specs.Prelude.{◌≡◌, [], ◌∷◌, ◌++◌, IfOk, OnOk, None, slice_get};
+ghost use Rattle.df1_node.specs.Initiator.{issue_fault};
 ghost use Rattle.half_slave.specs.Slave.{body_of};
 ghost use Rattle.half_slave.specs.Slave as slave_of;
 ghost use Rattle.script_parts.specs.HalfPlayable.{IsStationPlan, IsStationNumber};
@@ -8,7 +9,9 @@ ghost use Rattle.lane_cells.specs.Cells.{altered, cell_of};
 ghost use Rattle.each_once.specs.NodeHost.{node_host};
 ghost use Rattle.half_line.specs.Acts.{LaneDeed, Lose, Alter, joined, side_moved, lane_of, after_take, byte_taken, station_heard};
 ghost use Rattle.half_line.specs.Run.{first_side, tables_of};
+ghost use Rattle.half_line.specs.Plays.{side_issued};
 
+use crate::master_host::issue_in_name;
 use crate::setup::slave_setup;
 use crate::way::Way;
 use df1_base::{NoMemory, Out, Step};
@@ -131,6 +134,15 @@ impl LineStation {
         ensures { result.now ≡ body_of self.now.slave }
     {
         self.slave.body()
+    }
+
+    /// The node issues a command in its own name. The payload has 1 to 245 bytes, bit 6 of its CMD is clear, and the node has
+    /// issued fewer than 65,535 commands.
+    pub fn issue(&mut self, dst: u8, payload: &[u8]) -> Result<(), NoMemory>
+        requires { issue_fault self.old.slave.host.initiator payload.now ≡ None }
+        ensures { OnOk result (self.new ≡ side_issued self.old dst payload.now) }
+    {
+        issue_in_name(self.slave.host_mut(), None, dst, payload)
     }
 
     /// The initiator of the node.

@@ -2,53 +2,53 @@
 
 ghost use Rattle.std.specs.Prelude.{◌≡◌, ◌+◌, ◌≤◌, ◌<◌, ◌^◌, ◌++◌, ℕ, OnOk, length, map, replicate};
 ghost use Rattle.replay_report.specs.Report.{sent_lines};
-ghost use Rattle.half_master.specs.Master.{MasterState};
-ghost use Rattle.df1_node.specs.Node.{NodeState};
-ghost use Rattle.half_line.specs.Acts.{LineStationState, StationGives, OnLane, Deliver, Lose, Foreign, link_state, after_cell, cell_lines, deceptions_at};
+ghost use Rattle.half_master.specs.Master.{MasterState, body_of};
+ghost use Rattle.half_line.specs.Behind.{behind};
+ghost use Rattle.half_line.specs.Acts.{LineStationState, StationGives, OnLane, Deliver, Lose, Foreign, link_state, act_lines_at, routed_lines, after_cell, cell_lines, deceptions_at};
 ghost use Rattle.half_line.specs.Steps.{after_link_deeds, link_lines_over, link_bytes_over};
 ghost use Rattle.half_line.specs.Plays.{most_events};
 
 use crate::line_station::LineStation;
+use crate::master_host::MasterHost;
 use crate::reported::Reported;
 use crate::way::Way;
-use df1_base::NoMemory;
-use df1_node::Node;
+use df1_base::{Act, Did, NoMemory};
 use half_master::Master;
 use lane_cells::{Cell, is_deceived, is_station_deceived};
 use replay_report::Page;
-use report_lines::{tell_act, tell_news};
+use report_lines::{tell_act, tell_news, tell_routed};
 use script_statement::{Bytes, Who};
 use std::alloc::Global;
 
 /// The station of this number gives up to `n` bytes, and they are told where there is one.
-pub(crate) fn give(
+pub(crate) fn give<H: MasterHost + Drop>(
     alloc: Global,
     number: u8,
     side: &mut LineStation,
     n: u32,
     lines: &mut Page,
 ) -> Result<(), NoMemory>
-    ensures state { (master : MasterState NodeState) (deceived : ℕ) → OnOk result (link_state master side.new deceived
-        ≡ after_link_deeds (link_state master side.old deceived) (replicate n StationGives)) }
-    ensures lines { (master : MasterState NodeState) (deceived : ℕ) → OnOk result (lines.new
-        ≡ lines.old ++ sent_lines (Who.S number) (link_bytes_over (link_state master side.old deceived) (replicate n StationGives))) }
+    ensures state { (master : MasterState H) (deceived : ℕ) → OnOk result (link_state master side.new deceived
+        ≡ after_link_deeds (behind H.Host H.MasterHost.own) (link_state master side.old deceived) (replicate n StationGives)) }
+    ensures lines { (master : MasterState H) (deceived : ℕ) → OnOk result (lines.new
+        ≡ lines.old ++ sent_lines (Who.S number) (link_bytes_over (behind H.Host H.MasterHost.own) (link_state master side.old deceived) (replicate n StationGives))) }
 {
     let mut bytes = lines.no_bytes(alloc);
-    take_all(alloc, side, n, &mut bytes)?;
+    take_all::<H>(alloc, side, n, &mut bytes)?;
     lines.push_sent(Who::S(number), bytes)
 }
 
 /// Takes up to `n` bytes, and puts them behind the others.
-fn take_all(
+fn take_all<H: MasterHost + Drop>(
     alloc: Global,
     side: &mut LineStation,
     n: u32,
     bytes: &mut Bytes,
 ) -> Result<(), NoMemory>
-    ensures state { (master : MasterState NodeState) (deceived : ℕ) → OnOk result (link_state master side.new deceived
-        ≡ after_link_deeds (link_state master side.old deceived) (replicate n StationGives)) }
-    ensures bytes { (master : MasterState NodeState) (deceived : ℕ) → OnOk result (bytes.new
-        ≡ bytes.old ++ link_bytes_over (link_state master side.old deceived) (replicate n StationGives)) }
+    ensures state { (master : MasterState H) (deceived : ℕ) → OnOk result (link_state master side.new deceived
+        ≡ after_link_deeds (behind H.Host H.MasterHost.own) (link_state master side.old deceived) (replicate n StationGives)) }
+    ensures bytes { (master : MasterState H) (deceived : ℕ) → OnOk result (bytes.new
+        ≡ bytes.old ++ link_bytes_over (behind H.Host H.MasterHost.own) (link_state master side.old deceived) (replicate n StationGives)) }
 {
     for _ in 0..n {
         let Some(byte) = side.take(alloc)? else {
@@ -60,19 +60,19 @@ fn take_all(
 }
 
 /// Up to `n` bytes of the queue that goes this way arrive.
-pub(crate) fn deliver(
+pub(crate) fn deliver<H: MasterHost + Drop>(
     alloc: Global,
     way: Way,
-    master: &mut Master<Node>,
+    master: &mut Master<H>,
     side: &mut LineStation,
     n: u32,
     reported: &mut Reported,
 ) -> Result<(), NoMemory>
     requires { reported.old.deceived + n ≤ most_events }
     ensures state { OnOk result (link_state master.new side.new reported.new.deceived
-        ≡ after_link_deeds (link_state master.old side.old reported.old.deceived) (replicate n (OnLane way Deliver))) }
+        ≡ after_link_deeds (behind H.Host H.MasterHost.own) (link_state master.old side.old reported.old.deceived) (replicate n (OnLane way Deliver))) }
     ensures lines { OnOk result (reported.new.lines
-        ≡ reported.old.lines ++ link_lines_over (link_state master.old side.old reported.old.deceived) (replicate n (OnLane way Deliver))) }
+        ≡ reported.old.lines ++ link_lines_over (behind H.Host H.MasterHost.own) (link_state master.old side.old reported.old.deceived) (replicate n (OnLane way Deliver))) }
     ensures few { reported.new.deceived ≤ reported.old.deceived + n }
 {
     for _ in 0..n {
@@ -86,9 +86,9 @@ pub(crate) fn deliver(
 }
 
 /// Up to `n` bytes of the queue that goes this way are lost.
-pub(crate) fn lose(way: Way, side: &mut LineStation, n: u32)
-    ensures { (master : MasterState NodeState) (deceived : ℕ) → link_state master side.new deceived
-        ≡ after_link_deeds (link_state master side.old deceived) (replicate n (OnLane way Lose)) }
+pub(crate) fn lose<H: MasterHost + Drop>(way: Way, side: &mut LineStation, n: u32)
+    ensures { (master : MasterState H) (deceived : ℕ) → link_state master side.new deceived
+        ≡ after_link_deeds (behind H.Host H.MasterHost.own) (link_state master side.old deceived) (replicate n (OnLane way Lose)) }
 {
     for _ in 0..n {
         let Some(cell) = side.leave(way) else {
@@ -99,19 +99,19 @@ pub(crate) fn lose(way: Way, side: &mut LineStation, n: u32)
 }
 
 /// Foreign bytes arrive where the bytes arrive that go this way.
-pub(crate) fn intrude(
+pub(crate) fn intrude<H: MasterHost + Drop>(
     alloc: Global,
     way: Way,
-    master: &mut Master<Node>,
+    master: &mut Master<H>,
     side: &mut LineStation,
     bytes: &[u8],
     reported: &mut Reported,
 ) -> Result<(), NoMemory>
     requires { reported.old.deceived + length bytes.now ≤ most_events }
     ensures state { OnOk result (link_state master.new side.new reported.new.deceived
-        ≡ after_link_deeds (link_state master.old side.old reported.old.deceived) (map (λ byte. OnLane way (Foreign byte)) bytes.now)) }
+        ≡ after_link_deeds (behind H.Host H.MasterHost.own) (link_state master.old side.old reported.old.deceived) (map (λ byte. OnLane way (Foreign byte)) bytes.now)) }
     ensures lines { OnOk result (reported.new.lines
-        ≡ reported.old.lines ++ link_lines_over (link_state master.old side.old reported.old.deceived) (map (λ byte. OnLane way (Foreign byte)) bytes.now)) }
+        ≡ reported.old.lines ++ link_lines_over (behind H.Host H.MasterHost.own) (link_state master.old side.old reported.old.deceived) (map (λ byte. OnLane way (Foreign byte)) bytes.now)) }
     ensures few { reported.new.deceived ≤ reported.old.deceived + length bytes.now }
 {
     for byte in bytes {
@@ -122,39 +122,39 @@ pub(crate) fn intrude(
 }
 
 /// A byte arrives at the end to which this way goes.
-fn arrive(
+fn arrive<H: MasterHost + Drop>(
     alloc: Global,
     way: Way,
-    master: &mut Master<Node>,
+    master: &mut Master<H>,
     side: &mut LineStation,
     cell: &Cell,
     reported: &mut Reported,
 ) -> Result<(), NoMemory>
     requires { reported.old.deceived + 1 < 2 ^ 64 }
     ensures state { OnOk result (link_state master.new side.new reported.new.deceived
-        ≡ after_cell way (link_state master.old side.old reported.old.deceived) cell.now) }
+        ≡ after_cell (behind H.Host H.MasterHost.own) way (link_state master.old side.old reported.old.deceived) cell.now) }
     ensures lines { OnOk result (reported.new.lines
-        ≡ reported.old.lines ++ cell_lines way (link_state master.old side.old reported.old.deceived) cell.now) }
+        ≡ reported.old.lines ++ cell_lines (behind H.Host H.MasterHost.own) way (link_state master.old side.old reported.old.deceived) cell.now) }
     ensures few { reported.new.deceived ≤ reported.old.deceived + 1 }
 {
     match way {
-        Way::ToStation => arrive_at_station(alloc, side, cell, reported),
+        Way::ToStation => arrive_at_station::<H>(alloc, side, cell, reported),
         Way::ToMaster => arrive_at_master(alloc, master, cell, reported),
     }
 }
 
 /// A byte arrives at a station: first the line of the act is told, then the news.
-fn arrive_at_station(
+fn arrive_at_station<H: MasterHost + Drop>(
     alloc: Global,
     side: &mut LineStation,
     cell: &Cell,
     reported: &mut Reported,
 ) -> Result<(), NoMemory>
     requires { reported.old.deceived + 1 < 2 ^ 64 }
-    ensures state { (master : MasterState NodeState) → OnOk result (link_state master side.new reported.new.deceived
-        ≡ after_cell Way.ToStation (link_state master side.old reported.old.deceived) cell.now) }
-    ensures lines { (master : MasterState NodeState) → OnOk result (reported.new.lines
-        ≡ reported.old.lines ++ cell_lines Way.ToStation (link_state master side.old reported.old.deceived) cell.now) }
+    ensures state { (master : MasterState H) → OnOk result (link_state master side.new reported.new.deceived
+        ≡ after_cell (behind H.Host H.MasterHost.own) Way.ToStation (link_state master side.old reported.old.deceived) cell.now) }
+    ensures lines { (master : MasterState H) → OnOk result (reported.new.lines
+        ≡ reported.old.lines ++ cell_lines (behind H.Host H.MasterHost.own) Way.ToStation (link_state master side.old reported.old.deceived) cell.now) }
     ensures few { reported.new.deceived ≤ reported.old.deceived + 1 }
 {
     let who = Who::S(side.number());
@@ -174,30 +174,75 @@ fn arrive_at_station(
 }
 
 /// A byte arrives at the master: first the line of the act is told, then the news.
-fn arrive_at_master(
+fn arrive_at_master<H: MasterHost + Drop>(
     alloc: Global,
-    master: &mut Master<Node>,
+    master: &mut Master<H>,
     cell: &Cell,
     reported: &mut Reported,
 ) -> Result<(), NoMemory>
     requires { reported.old.deceived + 1 < 2 ^ 64 }
     ensures state { (side : LineStationState) → OnOk result (link_state master.new side reported.new.deceived
-        ≡ after_cell Way.ToMaster (link_state master.old side reported.old.deceived) cell.now) }
+        ≡ after_cell (behind H.Host H.MasterHost.own) Way.ToMaster (link_state master.old side reported.old.deceived) cell.now) }
     ensures lines { (side : LineStationState) → OnOk result (reported.new.lines
-        ≡ reported.old.lines ++ cell_lines Way.ToMaster (link_state master.old side reported.old.deceived) cell.now) }
+        ≡ reported.old.lines ++ cell_lines (behind H.Host H.MasterHost.own) Way.ToMaster (link_state master.old side reported.old.deceived) cell.now) }
     ensures few { reported.new.deceived ≤ reported.old.deceived + 1 }
 {
     let step = master.on_byte(cell.byte);
     if is_deceived(step.whole, cell, master.body()) {
         reported.deceived += 1;
     }
-    tell_act(
-        alloc,
-        Who::M,
-        step.act,
-        step.did,
-        master.body(),
-        &mut reported.lines,
-    )?;
+    tell_at_master(alloc, master, step.act, step.did, &mut reported.lines)?;
     tell_news(Who::M, step.news, &mut reported.lines)
+}
+
+/// Tells an act of the master. It is inlined, since at most bytes there is nothing to tell.
+#[inline(always)]
+fn tell_at_master<H: MasterHost + Drop>(
+    alloc: Global,
+    master: &Master<H>,
+    act: Act,
+    did: Option<Did>,
+    lines: &mut Page,
+) -> Result<(), NoMemory>
+    ensures { OnOk result (lines.new ≡ lines.old ++ act_lines_at (H.carries master.now.host (body_of master.now)) Who.M act did (body_of master.now)) }
+{
+    match act {
+        Act::Accept => tell_accepted(alloc, master, did, lines),
+        _ => tell_act(alloc, Who::M, act, did, master.body(), lines),
+    }
+}
+
+/// Tells a message that the master accepted. It isn't inlined, since a byte at which none is accepted would pay for it.
+#[inline(never)]
+fn tell_accepted<H: MasterHost + Drop>(
+    alloc: Global,
+    master: &Master<H>,
+    did: Option<Did>,
+    lines: &mut Page,
+) -> Result<(), NoMemory>
+    ensures { OnOk result (lines.new ≡ lines.old ++ act_lines_at (H.carries master.now.host (body_of master.now)) Who.M Act.Accept did (body_of master.now)) }
+{
+    let body = master.body();
+    if master.host().carries(body) {
+        tell_carried(alloc, did, body, lines)
+    } else {
+        tell_act(alloc, Who::M, Act::Accept, did, body, lines)
+    }
+}
+
+/// Tells a message that the master accepted and that its host carries, by what the host did with it.
+fn tell_carried(
+    alloc: Global,
+    did: Option<Did>,
+    body: &[u8],
+    lines: &mut Page,
+) -> Result<(), NoMemory>
+    ensures { OnOk result (lines.new ≡ lines.old ++ routed_lines Who.M Act.Accept did body.now) }
+{
+    match did {
+        Some(Did::Stray) => tell_routed(alloc, Who::M, body, lines),
+        Some(Did::Executed) | Some(Did::Answered(_)) | None => {
+            tell_act(alloc, Who::M, Act::Accept, did, body, lines)
+        }
+    }
 }

@@ -5,14 +5,14 @@ ghost use Rattle.replay_report.specs.Report.{sent_lines};
 ghost use Rattle.df1_node.specs.Initiator.{issue_fault};
 ghost use Rattle.half_master.specs.Master.{master_after_take, master_after_tick, out_at_take};
 ghost use Rattle.lane_cells.specs.Cells.{cell_of};
-ghost use Rattle.each_once.specs.NodeHost.{node_host};
+ghost use Rattle.half_line.specs.Behind.{behind};
 ghost use Rattle.half_line.specs.Acts.{LineStationState, Give, Tick, half_state, after_issue, master_lines, byte_given, cells_given, joined};
 ghost use Rattle.half_line.specs.Steps.{after_master_deeds, master_bytes_over, master_lines_over};
 
 use crate::line_station::LineStation;
+use crate::master_host::MasterHost;
 use arrayvec::ArrayVec;
 use df1_base::{NoMemory, Out};
-use df1_node::{IssueFault, Node};
 use half_master::Master;
 use replay_report::Page;
 use report_lines::{tell_gone, tell_turn};
@@ -21,38 +21,29 @@ use std::alloc::Global;
 
 /// The master issues a command in the name of the source `src`, or else in its own. The payload has 1 to 245 bytes, bit 6 of
 /// its CMD is clear, and the master has issued fewer than 65,535 commands.
-pub(crate) fn issue(
-    master: &mut Master<Node>,
+pub(crate) fn issue<H: MasterHost + Drop>(
+    master: &mut Master<H>,
     src: Option<u8>,
     dst: u8,
     payload: &[u8],
 ) -> Result<(), NoMemory>
-    requires { issue_fault master.old.host.initiator payload.now ≡ None }
-    ensures { OnOk result (master.new ≡ after_issue master.old src dst payload.now) }
+    requires { issue_fault (H.node master.old.host).initiator payload.now ≡ None }
+    ensures { OnOk result (master.new ≡ after_issue (behind H.Host H.MasterHost.own) master.old src dst payload.now) }
 {
-    let node = master.host_mut();
-    let issued = match src {
-        Some(src) => node.issue_from(src, dst, payload),
-        None => node.issue(dst, payload),
-    };
-    match issued {
-        Ok(_) => Ok(()),
-        Err(IssueFault::NoMemory) => Err(NoMemory),
-        Err(_) => unreachable!(),
-    }
+    master.host_mut().issue(src, dst, payload)
 }
 
 /// The master gives up to `n` bytes, and they are told where there is one.
-pub(crate) fn give(
+pub(crate) fn give<H: MasterHost + Drop>(
     alloc: Global,
-    master: &mut Master<Node>,
+    master: &mut Master<H>,
     stations: &mut Vec<LineStation>,
     n: u32,
     lines: &mut Page,
 ) -> Result<(), NoMemory>
     ensures state { (deceived : ℕ) → OnOk result (half_state master.new stations.new.items deceived
-        ≡ after_master_deeds (half_state master.old stations.old.items deceived) (replicate n Give)) }
-    ensures lines { OnOk result (lines.new ≡ lines.old ++ sent_lines Who.M (master_bytes_over master.old (replicate n Give))) }
+        ≡ after_master_deeds (behind H.Host H.MasterHost.own) (half_state master.old stations.old.items deceived) (replicate n Give)) }
+    ensures lines { OnOk result (lines.new ≡ lines.old ++ sent_lines Who.M (master_bytes_over (behind H.Host H.MasterHost.own) master.old (replicate n Give))) }
 {
     let mut bytes = lines.no_bytes(alloc);
     take_all(alloc, master, stations, n, &mut bytes)?;
@@ -60,16 +51,16 @@ pub(crate) fn give(
 }
 
 /// Takes up to `n` bytes, and puts them behind the others.
-fn take_all(
+fn take_all<H: MasterHost + Drop>(
     alloc: Global,
-    master: &mut Master<Node>,
+    master: &mut Master<H>,
     stations: &mut Vec<LineStation>,
     n: u32,
     bytes: &mut Bytes,
 ) -> Result<(), NoMemory>
     ensures state { (deceived : ℕ) → OnOk result (half_state master.new stations.new.items deceived
-        ≡ after_master_deeds (half_state master.old stations.old.items deceived) (replicate n Give)) }
-    ensures bytes { OnOk result (bytes.new ≡ bytes.old ++ master_bytes_over master.old (replicate n Give)) }
+        ≡ after_master_deeds (behind H.Host H.MasterHost.own) (half_state master.old stations.old.items deceived) (replicate n Give)) }
+    ensures bytes { OnOk result (bytes.new ≡ bytes.old ++ master_bytes_over (behind H.Host H.MasterHost.own) master.old (replicate n Give)) }
 {
     for _ in 0..n {
         if master.quiet() {
@@ -83,14 +74,14 @@ fn take_all(
 }
 
 /// Gives the next byte, which joins the queue to each station, and answers it: None exactly where there is none.
-fn take(
+fn take<H: MasterHost + Drop>(
     alloc: Global,
-    master: &mut Master<Node>,
+    master: &mut Master<H>,
     stations: &mut Vec<LineStation>,
 ) -> Result<Option<u8>, NoMemory>
-    ensures master { OnOk result (master.new ≡ master_after_take node_host master.old) }
-    ensures stations { OnOk result (stations.new.items ≡ map (joined (cells_given master.old)) stations.old.items) }
-    ensures byte { IfOk result (λ byte. byte ≡ byte_given master.old) }
+    ensures master { OnOk result (master.new ≡ master_after_take H.Host master.old) }
+    ensures stations { OnOk result (stations.new.items ≡ map (joined (cells_given (behind H.Host H.MasterHost.own) master.old)) stations.old.items) }
+    ensures byte { IfOk result (λ byte. byte ≡ byte_given (behind H.Host H.MasterHost.own) master.old) }
 {
     let Some(out) = master.take() else {
         return Ok(None);
@@ -115,10 +106,14 @@ fn join_all(
 }
 
 /// `n` units of time pass at the master.
-pub(crate) fn pass(master: &mut Master<Node>, n: u32, lines: &mut Page) -> Result<(), NoMemory>
+pub(crate) fn pass<H: MasterHost + Drop>(
+    master: &mut Master<H>,
+    n: u32,
+    lines: &mut Page,
+) -> Result<(), NoMemory>
     ensures state { (stations : List LineStationState) (deceived : ℕ) → OnOk result (half_state master.new stations deceived
-        ≡ after_master_deeds (half_state master.old stations deceived) (replicate n Tick)) }
-    ensures lines { OnOk result (lines.new ≡ lines.old ++ master_lines_over master.old (replicate n Tick)) }
+        ≡ after_master_deeds (behind H.Host H.MasterHost.own) (half_state master.old stations deceived) (replicate n Tick)) }
+    ensures lines { OnOk result (lines.new ≡ lines.old ++ master_lines_over (behind H.Host H.MasterHost.own) master.old (replicate n Tick)) }
 {
     for _ in 0..n {
         tick(master, lines)?;
@@ -127,9 +122,9 @@ pub(crate) fn pass(master: &mut Master<Node>, n: u32, lines: &mut Page) -> Resul
 }
 
 /// A unit of time passes: first the message that was given up is told, then the unanswered commands.
-fn tick(master: &mut Master<Node>, lines: &mut Page) -> Result<(), NoMemory>
-    ensures master { OnOk result (master.new ≡ master_after_tick node_host master.old) }
-    ensures lines { OnOk result (lines.new ≡ lines.old ++ master_lines master.old Tick) }
+fn tick<H: MasterHost + Drop>(master: &mut Master<H>, lines: &mut Page) -> Result<(), NoMemory>
+    ensures master { OnOk result (master.new ≡ master_after_tick H.Host master.old) }
+    ensures lines { OnOk result (lines.new ≡ lines.old ++ master_lines (behind H.Host H.MasterHost.own) master.old Tick) }
 {
     let mut gone = ArrayVec::new();
     let turn = master.on_tick(&mut gone);

@@ -4,6 +4,7 @@ ghost use Rattle.script_statement.specs.declared.who.Who.TheVariants.{M};
 ghost use Rattle.script_parts.specs.declared.script.Script.{Script};
 ghost use Rattle.script_parts.specs.HalfPlayable.{IsHalfPlayable};
 ghost use Rattle.each_once.specs.Commands.{AreOutcomesTold};
+ghost use Rattle.half_line.specs.Behind.{plain_node};
 ghost use Rattle.half_line.specs.Issues.{issued_of};
 ghost use Rattle.half_line.specs.Run.{start, last_state, lines_after, record_of};
 ghost use Rattle.half_line.specs.Once.{EachOnce};
@@ -11,7 +12,7 @@ ghost use Rattle.half_line.specs.Once.{EachOnce};
 /// A law: in every run, whatever is heard, the lines tell of each command of the master how it ended, once, and of no other
 /// (manual topic: message packets).
 pub fn outcomes_are_told()
-    ensures { (script : Script) → IsHalfPlayable script → AreOutcomesTold M (issued_of (last_state script).master) (lines_after (start script) script.events) }
+    ensures { (script : Script) → IsHalfPlayable script → AreOutcomesTold M (issued_of (last_state script).master) (lines_after plain_node (start script) script.events) }
 {}
 
 /// A law: in a run that deceives no end, whatever is lost, altered, foreign or late, each station executes commands that the

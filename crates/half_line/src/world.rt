@@ -7,12 +7,16 @@ ghost use Rattle.df1_check.specs.declared.Check.{Check as CheckKind};
 ghost use Rattle.half_master.specs.Stations.{AreStations};
 ghost use Rattle.replay_report.specs.Report.{line_text};
 ghost use Rattle.script_parts.specs.declared.script.EndPlan.{EndPlan as Plan};
-ghost use Rattle.script_parts.specs.HalfPlayable.{IsHalfPlayable, IsHalfPossible, IsStationPlan, IsStationNumber, half_count_of};
-ghost use Rattle.half_line.specs.Run.{record_from, all_words, first_side, number_of as the_number_of, place_of as place_in, station_at as the_station_at, station_words};
-ghost use Rattle.half_line.specs.Plays.{IsNext, begun, initiator_at, initiator_of, most_events, played, printed, takes_no_memory};
+ghost use Rattle.script_parts.specs.HalfPlayable.{AreHalfEnds, IsHalfPlayable, IsHalfPossible, IsStationPlan, IsStationNumber, half_count_of, numbers_of as numbers_in};
+ghost use Rattle.station_router.specs.Router.{new_router};
+ghost use Rattle.outset.specs.Outset.{first_node};
+ghost use Rattle.half_line.specs.Behind.{behind};
+ghost use Rattle.half_line.specs.Run.{plan_of_m, record_from, all_words, first_side, number_of as the_number_of, place_of as place_in, station_at as the_station_at, station_words};
+ghost use Rattle.half_line.specs.Plays.{IsNext, MayIssueAt, begun, begun_with, issued_at, initiator_at, initiator_of, most_events, played, printed, takes_no_memory};
 
 use crate::deal::{deal_at_master, deal_at_station};
 use crate::line_station::{LineStation, side_of};
+use crate::master_host::MasterHost;
 use crate::reported::Reported;
 use crate::setup::master_setup;
 use crate::way::station_between;
@@ -26,28 +30,29 @@ use replay_report::{Page, Record, print_lines};
 use report_lines::push_all;
 use script_parts::{EndPlan, Event, Script, Words};
 use script_statement::Who;
+use station_router::Router;
 use std::alloc::Global;
 use std::marker::Model;
 
-/// A master and its stations with their nodes, and the bytes on their way between them. After want of memory it is only
-/// dropped.
+/// A master and its stations with their nodes, and the bytes on their way between them. Behind the master stands a node, or a
+/// router before one. After want of memory it is only dropped.
 #[derive(Drop)]
-pub struct HalfWorld {
+pub struct HalfWorld<H: MasterHost + Drop> {
     alloc: Global,
-    master: Master<Node>,
+    master: Master<H>,
     stations: Vec<LineStation>,
     reported: Reported,
     events: u32,
 }
 
-impl Model for HalfWorld {
+impl<H: MasterHost + Drop> Model for HalfWorld<H> {
     ghost use Rattle.std.specs.Prelude.{◌≤◌, length};
     ghost use Rattle.std.specs.Coded.{codes};
     ghost use Rattle.df1_node.specs.contracts.node.Node as node_row;
     ghost use Rattle.half_line.specs.Acts.{half_state};
     ghost use Rattle.half_line.specs.Plays.{Played};
 
-    ghost Value = { Played };
+    ghost Value = { Played H };
 
     ghost coded = { Prim.hlevel (codes, node_row.the_row.coded) };
 
@@ -56,22 +61,42 @@ impl Model for HalfWorld {
     ghost invariant = { λ w. w.reported.deceived ≤ w.events };
 }
 
-impl HalfWorld {
-    /// The world before the first event of a script.
-    pub fn new(alloc: Global, script: &Script) -> Result<HalfWorld, NoMemory>
+impl HalfWorld<Node> {
+    /// The world before the first event of a script, with the node of the master's plan behind the master.
+    pub fn new(alloc: Global, script: &Script) -> Result<HalfWorld<Node>, NoMemory>
         requires { IsHalfPlayable script.now }
         ensures { IfOk result (λ world. world ≡ begun script.now) }
+    {
+        let node = master_node(alloc, script)?;
+        HalfWorld::over(alloc, script, node)
+    }
+}
+
+impl HalfWorld<Router<Node>> {
+    /// The world before the first event of a script, with a router between all stations of the script behind the master, and
+    /// behind that the node of the master's plan (manual topic: half-duplex protocol).
+    pub fn routed(alloc: Global, script: &Script) -> Result<HalfWorld<Router<Node>>, NoMemory>
+        requires { AreHalfEnds script.now.ends }
+        ensures { IfOk result (λ world. world ≡ begun_with script.now (new_router (numbers_in script.now.ends) (first_node (plan_of_m script.now)))) }
+    {
+        let node = master_node(alloc, script)?;
+        let router = Router::new(&station_numbers(script), node);
+        HalfWorld::over(alloc, script, router)
+    }
+}
+
+impl<H: MasterHost + Drop> HalfWorld<H> {
+    /// The world before the first event of a script, with this host behind the master.
+    pub fn over(alloc: Global, script: &Script, host: H) -> Result<HalfWorld<H>, NoMemory>
+        requires { AreHalfEnds script.now.ends }
+        ensures { IfOk result (λ world. world ≡ begun_with script.now host) }
     {
         let [plan, plans @ ..] = script.ends.as_slice() else {
             unreachable!();
         };
         Ok(HalfWorld {
             alloc,
-            master: Master::new(
-                master_setup(script.check, plan),
-                &numbers_of(plans),
-                node_of(alloc, plan)?,
-            ),
+            master: Master::new(master_setup(script.check, plan), &numbers_of(plans), host),
             stations: sides_of(alloc, script.check, plans)?,
             reported: Reported {
                 lines: Page::new(alloc),
@@ -87,8 +112,8 @@ impl HalfWorld {
     /// of line would pay for its room on the other.
     #[inline(never)]
     pub fn step(&mut self, event: &Event) -> Result<(), NoMemory>
-        requires { IsNext self.old event.now }
-        ensures ok { OnOk result (self.new ≡ played self.old event.now) }
+        requires { IsNext (behind H.Host H.MasterHost.own) self.old event.now }
+        ensures ok { OnOk result (self.new ≡ played (behind H.Host H.MasterHost.own) self.old event.now) }
         ensures calm { IsTrue (takes_no_memory event.now) → IsOk result }
     {
         let alloc = self.alloc;
@@ -115,12 +140,27 @@ impl HalfWorld {
         }
     }
 
+    /// The node of the station of this number issues a command to a node in its own name; where no station has the number,
+    /// nothing is issued. The payload has 1 to 245 bytes, bit 6 of its CMD is clear, and the station has issued fewer than
+    /// 65,535 commands. It counts as one event, and the sum of the events, with this one, is at most 5,000,000 (manual topic:
+    /// message packets).
+    pub fn issue_at(&mut self, number: u8, dst: u8, payload: &[u8]) -> Result<(), NoMemory>
+        requires { MayIssueAt self.old number payload.now }
+        ensures { OnOk result (self.new ≡ issued_at self.old number dst payload.now) }
+    {
+        self.events += 1;
+        match place_of(&self.stations, number) {
+            Some(place) => self.stations[place].issue(dst, payload),
+            None => Ok(()),
+        }
+    }
+
     /// The initiator of the master or of a station: None exactly where the line has no such end.
     pub fn initiator(&self, who: Who) -> Option<&Initiator>
-        ensures { MatchOption result (initiator_of self.now.state who ≡ None) (λ initiator. initiator_of self.now.state who ≡ Some initiator.now) }
+        ensures { MatchOption result (initiator_of (behind H.Host H.MasterHost.own) self.now.state who ≡ None) (λ initiator. initiator_of (behind H.Host H.MasterHost.own) self.now.state who ≡ Some initiator.now) }
     {
         match who {
-            Who::M => Some(self.master.host().initiator()),
+            Who::M => Some(self.master.host().node().initiator()),
             Who::S(number) => station_initiator(&self.stations, number),
             Who::A | Who::B => None,
         }
@@ -144,7 +184,7 @@ impl HalfWorld {
 
     /// The record of what happened: the lines, the words that aren't 0, and how often an end was deceived.
     pub fn finish(self) -> Result<Record, NoMemory>
-        ensures { IfOk result (λ r. r ≡ record_from self.state self.lines) }
+        ensures { IfOk result (λ r. r ≡ record_from (behind H.Host H.MasterHost.own) self.state self.lines) }
     {
         let words = self.words()?;
         let HalfWorld { reported, .. } = self;
@@ -157,13 +197,35 @@ impl HalfWorld {
 
     /// The words of the master and of the stations, in their order, that aren't 0.
     fn words(&self) -> Result<Words, NoMemory>
-        ensures { IfOk result (λ words. words ≡ all_words self.now.state) }
+        ensures { IfOk result (λ words. words ≡ all_words (behind H.Host H.MasterHost.own) self.now.state) }
     {
         let mut words = Words::new(self.alloc);
-        push_all(Who::M, self.master.host().tables(), &mut words)?;
+        push_all(Who::M, self.master.host().node().tables(), &mut words)?;
         push_stations(&self.stations, &mut words)?;
         Ok(words)
     }
+}
+
+/// The node of the plan of a script's master, which has executed and issued nothing.
+fn master_node(alloc: Global, script: &Script) -> Result<Node, NoMemory>
+    requires { AreHalfEnds script.now.ends }
+    ensures { IfOk result (λ node. node ≡ first_node (plan_of_m script.now)) }
+{
+    let [plan, ..] = script.ends.as_slice() else {
+        unreachable!();
+    };
+    node_of(alloc, plan)
+}
+
+/// The numbers of a script's stations, at most 32.
+fn station_numbers(script: &Script) -> ArrayVec<u8, 32>
+    requires { AreHalfEnds script.now.ends }
+    ensures { result.items ≡ numbers_in script.now.ends }
+{
+    let [_, plans @ ..] = script.ends.as_slice() else {
+        unreachable!();
+    };
+    numbers_of(plans)
 }
 
 /// The initiator of the station with this number: None exactly where there is no such station.

@@ -11,6 +11,8 @@ use Rattle.script_parts.specs.HalfPlayable.{CanBePlayed, IsHalfPlayable, half_co
 use Rattle.replay_report.specs.declared.record.Line.{Line}
 use Rattle.replay_report.specs.declared.record.Record.{Record}
 use Rattle.replay_report.specs.Report.{line_text, word_text, deceived_text, report}
+use Rattle.df1_node.specs.Node.{NodeState}
+use Rattle.half_line.specs.Behind.{plain_node}
 use Rattle.half_line.specs.Acts.{HalfState}
 use Rattle.half_line.specs.Plays.{Played as HalfPlayed, numbers_at, weight}
 use Rattle.half_line.specs.Run as polled
@@ -108,7 +110,7 @@ events-next events i e lt is =
 pub report-from : (w : World) (lines : List Line) → report (record_from w lines) ≡ flat_map line_text lines ++ report (record_from w [])
 unfolding report
 report-from (Duplex p) lines = append_assoc (flat_map line_text lines) (flat_map word_text (duplex.all_words p.state)) (deceived_text p.state.deceived)
-report-from (Polled p) lines = append_assoc (flat_map line_text lines) (flat_map word_text (polled.all_words p.state)) (deceived_text p.state.deceived)
+report-from (Polled p) lines = append_assoc (flat_map line_text lines) (flat_map word_text (polled.all_words plain_node p.state)) (deceived_text p.state.deceived)
 
 -- ---- a full-duplex script
 
@@ -132,24 +134,24 @@ duplex-after script events mode = rw mode (duplex-state (duplex.start script) 0 
 
 -- ---- a half-duplex script
 
-polled-state : (numbers : List ℕ) (s : HalfState) (sum : ℕ) (events : List Event) → numbers_at s.stations ≡ numbers → after_events (Polled (record { state = s; lines = []; events = sum })) events
-    ≡ Polled (record { state = polled.state_after s events; lines = []; events = sum + sum_by (half_count_of numbers) events })
+polled-state : (numbers : List ℕ) (s : HalfState NodeState) (sum : ℕ) (events : List Event) → numbers_at s.stations ≡ numbers → after_events (Polled (record { state = s; lines = []; events = sum })) events
+    ≡ Polled (record { state = polled.state_after plain_node s events; lines = []; events = sum + sum_by (half_count_of numbers) events })
 polled-state numbers s sum [] are = let same : sum ≡ sum + sum_by (half_count_of numbers) [] = omega arith in ap (λ (n : ℕ). Polled (record { state = s; lines = []; events = n })) same
 polled-state numbers s sum (e ∷ events) are =
     let one = sum_by-cons (half_count_of numbers) e events in
     let count = half_count_of numbers e in
     let weight : half_count_of (numbers_at s.stations) e ≡ count = ap (λ ns. half_count_of ns e) are in
     let same : (sum + half_count_of (numbers_at s.stations) e) + sum_by (half_count_of numbers) events ≡ sum + sum_by (half_count_of numbers) (e ∷ events) = omega (arith, one, weight) in
-    polled-state numbers (polled.after_event s e) (sum + half_count_of (numbers_at s.stations) e) events (event-numbers s e ∙ are)
-    ∙ ap (λ (n : ℕ). Polled (record { state = polled.state_after (polled.after_event s e) events; lines = []; events = n })) same
+    polled-state numbers (polled.after_event plain_node s e) (sum + half_count_of (numbers_at s.stations) e) events (event-numbers plain_node s e ∙ are)
+    ∙ ap (λ (n : ℕ). Polled (record { state = polled.state_after plain_node (polled.after_event plain_node s e) events; lines = []; events = n })) same
 
-polled-lines : (p : HalfPlayed) (events : List Event) → lines_after (Polled p) events ≡ polled.lines_after p.state events
+polled-lines : (p : HalfPlayed NodeState) (events : List Event) → lines_after (Polled p) events ≡ polled.lines_after plain_node p.state events
 polled-lines p [] = refl
-polled-lines p (e ∷ events) = ap (λ l. polled.lines_of p.state e ++ l) (polled-lines (record { state = polled.after_event p.state e; lines = []; events = p.events + weight p e }) events)
+polled-lines p (e ∷ events) = ap (λ l. polled.lines_of plain_node p.state e ++ l) (polled-lines (record { state = polled.after_event plain_node p.state e; lines = []; events = p.events + weight p e }) events)
 
 -- the world after some events of a half-duplex script
 pub polled-after : (script : Script) (events : List Event) → script.half ≡ true → after_events (begun script) events
-    ≡ Polled (record { state = polled.state_after (polled.start script) events; lines = []; events = 0 + sum_by (half_count_of (numbers_of script.ends)) events })
+    ≡ Polled (record { state = polled.state_after plain_node (polled.start script) events; lines = []; events = 0 + sum_by (half_count_of (numbers_of script.ends)) events })
 polled-after script events mode = rw mode (polled-state (numbers_of script.ends) (polled.start script) 0 events (start-numbers script))
 
 -- its record is that of the run of a master and its stations
@@ -157,7 +159,7 @@ pub polled-record : (script : Script) → script.half ≡ true → record_of scr
 unfolding record_of polled.record_of
 polled-record script mode =
     ap (λ (w : World). record_from w (all_lines script)) (polled-after script script.events mode)
-    ∙ ap (λ l. polled.record_from (polled.last_state script) l) (rw mode (polled-lines _ script.events))
+    ∙ ap (λ l. polled.record_from plain_node (polled.last_state script) l) (rw mode (polled-lines _ script.events))
 
 -- the record of a full-duplex script is that of the run of two ends
 pub duplex-record : (script : Script) → script.half ≡ false → record_of script ≡ duplex.record_of script

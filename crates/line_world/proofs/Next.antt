@@ -15,6 +15,8 @@ use Rattle.duplex_line.proofs.Once.IssueLimits.{commands-of-a, commands-of-b}
 use Rattle.duplex_line.proofs.Steps.EventsToCome.{unspent}
 use Rattle.line_world.specs.declared.world.World.{World}
 use Rattle.line_world.specs.Runs.{IsNext, after_events, begun}
+use Rattle.df1_node.specs.Node.{NodeState}
+use Rattle.half_line.specs.Behind.{plain_node}
 use Rattle.half_line.specs.Plays as polled
 use Rattle.half_line.specs.Run as polled_run
 use Rattle.half_line.specs.Acts.{HalfState}
@@ -68,31 +70,31 @@ duplex-next script front e rest h is =
 
 -- ---- a half-duplex line
 
-events-numbers : (events : List Event) (s : HalfState) → polled.numbers_at (polled_run.state_after s events).stations ≡ polled.numbers_at s.stations
+events-numbers : (events : List Event) (s : HalfState NodeState) → polled.numbers_at (polled_run.state_after plain_node s events).stations ≡ polled.numbers_at s.stations
 events-numbers [] s = refl
-events-numbers (e ∷ events) s = events-numbers events (polled_run.after_event s e) ∙ event-numbers s e
+events-numbers (e ∷ events) s = events-numbers events (polled_run.after_event plain_node s e) ∙ event-numbers plain_node s e
 
-room-behind : (front : List Event) (s : HalfState) (rest : List Event) → polled.issued_by s.master + count_by is_issue (front ++ rest) ≤ 65535 → polled.issued_by (polled_run.state_after s front).master + count_by is_issue rest ≤ 65535
+room-behind : (front : List Event) (s : HalfState NodeState) (rest : List Event) → polled.issued_by plain_node s.master + count_by is_issue (front ++ rest) ≤ 65535 → polled.issued_by plain_node (polled_run.state_after plain_node s front).master + count_by is_issue rest ≤ 65535
 room-behind [] s rest few = few
-room-behind (e ∷ front) s rest few = room-behind front (polled_run.after_event s e) rest (room-of-m s e (front ++ rest) few)
+room-behind (e ∷ front) s rest few = room-behind front (polled_run.after_event plain_node s e) rest (room-of-m s e (front ++ rest) few)
 
 polled-next : (script : Script) (front : List Event) (e : Event) (rest : List Event) → IsHalfPlayable script → script.events ≡ front ++ e ∷ rest → IsNext (after_events (begun script) front) e
 polled-next script front e rest h is =
     let numbers = numbers_of script.ends in
     let all = all-front (IsHalfPossible numbers) front e rest (subst (All (IsHalfPossible numbers)) is h.events) in
     let s = polled_run.start script in
-    let after = polled_run.state_after s front in
+    let after = polled_run.state_after plain_node s front in
     let are : polled.numbers_at after.stations ≡ numbers = events-numbers front s ∙ start-numbers script in
     let few-commands = subst (λ events. count_by is_issue events ≤ 65535) is h.commands in
     let few = subst (λ events. sum_by (half_count_of numbers) events ≤ 5000000) is h.sum in
-    let none : polled.issued_by s.master ≡ 0 = refl in
+    let none : polled.issued_by plain_node s.master ≡ 0 = refl in
     let room = room-behind front s (e ∷ rest) (omega (arith, none, few-commands)) in
     let sum = sum_by-append (half_count_of numbers) front (e ∷ rest) in
     let one = sum_by-cons (half_count_of numbers) e rest in
     let weight : half_count_of (polled.numbers_at after.stations) e ≡ half_count_of numbers e = ap (λ ns. half_count_of ns e) are in
-    let next : polled.IsNext (record { state = after; lines = []; events = 0 + sum_by (half_count_of numbers) front }) e = record {
+    let next : polled.IsNext plain_node (record { state = after; lines = []; events = 0 + sum_by (half_count_of numbers) front }) e = record {
       possible = subst (λ ns. IsHalfPossible ns e) (sym are) all.1;
-      unspent = polled-unspent after e rest room;
+      unspent = polled-unspent plain_node after e rest room;
       sum = omega (arith, sum, one, weight, few);
     } in
     subst (λ (w : World). IsNext w e) (sym (polled-after script front h.mode)) next

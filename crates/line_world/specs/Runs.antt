@@ -10,6 +10,7 @@ use Rattle.replay_report.specs.declared.record.Line.{Line}
 use Rattle.replay_report.specs.declared.record.Record.{Record}
 use Rattle.duplex_line.specs.Plays as duplex
 use Rattle.duplex_line.specs.Run as duplex_run
+use Rattle.half_line.specs.Behind.{plain_node}
 use Rattle.half_line.specs.Plays as polled
 use Rattle.half_line.specs.Run as polled_run
 use Rattle.line_world.specs.declared.world.World.{World}
@@ -32,7 +33,7 @@ begun script = begun_in script.half script.check script.ends
 -- after an event more
 abbrev pub played : World → Event → World
 played (Duplex p) e = Duplex (duplex.played p e)
-played (Polled p) e = Polled (polled.played p e)
+played (Polled p) e = Polled (polled.played plain_node p e)
 
 -- after the lines so far are printed
 abbrev pub printed : World → World
@@ -47,12 +48,12 @@ lines_in (Polled p) = p.lines
 -- the lines that an event makes
 abbrev pub lines_of : World → Event → List Line
 lines_of (Duplex p) e = duplex_run.lines_of p.state e
-lines_of (Polled p) e = polled_run.lines_of p.state e
+lines_of (Polled p) e = polled_run.lines_of plain_node p.state e
 
 -- an event that may happen next
 abbrev pub IsNext : World → Event → Type 0
 IsNext (Duplex p) e = duplex.IsNext p e
-IsNext (Polled p) e = polled.IsNext p e
+IsNext (Polled p) e = polled.IsNext plain_node p e
 
 -- an event that takes bytes away or changes one: it takes no memory
 abbrev pub takes_no_memory : World → Event → Bool
@@ -62,12 +63,12 @@ takes_no_memory (Polled p) e = polled.takes_no_memory e
 -- the initiator of an end, where the world has that end
 abbrev pub initiator_of : World → Who → Option InitiatorState
 initiator_of (Duplex p) who = duplex.initiator_of p.state who
-initiator_of (Polled p) who = polled.initiator_of p.state who
+initiator_of (Polled p) who = polled.initiator_of plain_node p.state who
 
 -- the record of these lines, with the words and deceptions of a world
 abbrev pub record_from : World → List Line → Record
 record_from (Duplex p) lines = duplex_run.record_from p.state lines
-record_from (Polled p) lines = polled_run.record_from p.state lines
+record_from (Polled p) lines = polled_run.record_from plain_node p.state lines
 
 -- ---- a run
 

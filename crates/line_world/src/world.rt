@@ -8,7 +8,7 @@ ghost use Rattle.script_parts.specs.HalfPlayable.{CanBePlayed};
 ghost use Rattle.line_world.specs.Runs.{AreNext, IsNext, all_played, begun, initiator_of, lines_in, played, printed, record_from, takes_no_memory};
 
 use df1_base::{Failed, NoMemory, Sink};
-use df1_node::Initiator;
+use df1_node::{Initiator, Node};
 use duplex_line::DuplexWorld;
 use half_line::HalfWorld;
 use replay_report::Record;
@@ -22,7 +22,7 @@ pub enum World {
     /// A full-duplex line between two ends.
     Duplex(DuplexWorld),
     /// A half-duplex line, on which a master polls its stations.
-    Polled(HalfWorld),
+    Polled(HalfWorld<Node>),
 }
 
 impl World {

@@ -7,7 +7,7 @@ use Rattle.std.proofs.lemmas.List.{take_all, take_more}
 use Rattle.df1_base.specs.Outside.{Put, Wrote, WroteLess}
 use Rattle.df1_base.proofs.Laws.{put_wrote}
 use Rattle.replay_report.specs.declared.record.Line.{Line}
-use Rattle.replay_report.specs.declared.record.Line.TheVariants.{Sent, Exec, Answered, Undelivered, Unanswered, Stray, Repeat, Full, Damaged, Enquiry, Dropped}
+use Rattle.replay_report.specs.declared.record.Line.TheVariants.{Sent, Exec, Answered, Undelivered, Unanswered, Stray, Routed, Repeat, Full, Damaged, Enquiry, Dropped}
 use Rattle.replay_report.specs.declared.record.Record.{Record}
 use Rattle.replay_report.specs.Report.{report, line_text, who_text, word_text}
 
@@ -95,6 +95,7 @@ some_line (Answered who n body) none = some_behind _ [] 10 none
 some_line (Undelivered who n) none = some_behind _ [] 10 none
 some_line (Unanswered who n) none = some_behind _ [] 10 none
 some_line (Stray who body) none = some_behind _ [] 10 none
+some_line (Routed who body) none = some_behind _ [] 10 none
 some_line (Repeat who) none = some_behind (who_text who) _ 32 none
 some_line (Full who) none = some_behind (who_text who) _ 32 none
 some_line (Damaged who) none = some_behind (who_text who) _ 32 none

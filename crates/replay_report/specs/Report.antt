@@ -6,7 +6,7 @@ use Rattle.script_statement.specs.declared.who.Who.{Who}
 use Rattle.script_statement.specs.declared.who.Who.TheVariants.{A, B, M, S}
 use Rattle.script_parts.specs.declared.script.WordOf.{WordOf}
 use Rattle.replay_report.specs.declared.record.Line.{Line}
-use Rattle.replay_report.specs.declared.record.Line.TheVariants.{Sent, Exec, Answered, Undelivered, Unanswered, Stray, Repeat, Full, Damaged, Enquiry, Dropped}
+use Rattle.replay_report.specs.declared.record.Line.TheVariants.{Sent, Exec, Answered, Undelivered, Unanswered, Stray, Routed, Repeat, Full, Damaged, Enquiry, Dropped}
 use Rattle.replay_report.specs.declared.record.Record.{Record}
 
 -- the line of the bytes that an end gave at one event, if it gave any
@@ -29,6 +29,7 @@ line_text (Answered who n body) = who_text who ++ codes " answered " ++ decimal 
 line_text (Undelivered who n) = who_text who ++ codes " undelivered " ++ decimal n ++ codes "\n"
 line_text (Unanswered who n) = who_text who ++ codes " unanswered " ++ decimal n ++ codes "\n"
 line_text (Stray who body) = who_text who ++ codes " stray " ++ encode_upper body ++ codes "\n"
+line_text (Routed who body) = who_text who ++ codes " routed " ++ encode_upper body ++ codes "\n"
 line_text (Repeat who) = who_text who ++ codes " repeat\n"
 line_text (Full who) = who_text who ++ codes " full\n"
 line_text (Damaged who) = who_text who ++ codes " damaged\n"

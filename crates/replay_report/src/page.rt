@@ -100,7 +100,8 @@ impl Page {
             Line::Sent { bytes: kept, .. }
             | Line::Exec { body: kept, .. }
             | Line::Answered { body: kept, .. }
-            | Line::Stray { body: kept, .. } => self.keep(kept),
+            | Line::Stray { body: kept, .. }
+            | Line::Routed { body: kept, .. } => self.keep(kept),
             _ => {}
         }
     }

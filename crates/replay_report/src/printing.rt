@@ -8,6 +8,7 @@
 //! | `WHO answered N HEX` | the reply to command N was accepted: the reply's body |
 //! | `WHO undelivered N`, `WHO unanswered N` | these outcomes of command N |
 //! | `WHO stray HEX` | an accepted reply that answers no command |
+//! | `WHO routed HEX` | an accepted message that the master carries to a station: its body |
 //! | `WHO repeat`, `WHO full`, `WHO damaged` | a message came again, found no room, was damaged |
 //! | `WHO enquiry` | the sender asked for an ENQ |
 //! | `WHO dropped` | a reply was given up |
@@ -75,6 +76,7 @@ pub fn put_line<K: Sink>(sink: &mut K, line: &Line) -> Result<(), Failed>
         Line::Undelivered { who, n } => put_number(sink, *who, b" undelivered ", *n),
         Line::Unanswered { who, n } => put_number(sink, *who, b" unanswered ", *n),
         Line::Stray { who, body } => put_bytes(sink, *who, b" stray ", body.as_slice()),
+        Line::Routed { who, body } => put_bytes(sink, *who, b" routed ", body.as_slice()),
         Line::Repeat { who } => put_said(sink, *who, b" repeat\n"),
         Line::Full { who } => put_said(sink, *who, b" full\n"),
         Line::Damaged { who } => put_said(sink, *who, b" damaged\n"),

@@ -22,6 +22,8 @@ pub enum Line {
     Unanswered { who: Who, n: u32 },
     /// A reply of this body was accepted that answers no command.
     Stray { who: Who, body: Bytes },
+    /// The master accepted a message of this body that it carries to a station.
+    Routed { who: Who, body: Bytes },
     /// A message was accepted before: it was acknowledged again and not handed on.
     Repeat { who: Who },
     /// A message was refused for want of room.

@@ -5,5 +5,5 @@
 mod told;
 mod words;
 
-pub use told::{tell_act, tell_gone, tell_news, tell_turn};
+pub use told::{tell_act, tell_gone, tell_news, tell_routed, tell_turn};
 pub use words::push_all;

@@ -1,12 +1,12 @@
 //! The lines that tell what an end and its host made of a byte, of a fate and of a tick.
 
-ghost use Rattle.std.specs.Prelude.{◌≡◌, ◌≢◌, ◌++◌, ℕ, List, Option, OnOk};
+ghost use Rattle.std.specs.Prelude.{◌≡◌, ◌≢◌, ◌++◌, ◌∷◌, [], ℕ, List, Option, IfOk, OnOk};
 ghost use Rattle.df1_base.specs.declared.host.Did.{Did as Told};
 ghost use Rattle.report_lines.specs.NodeLines.{act_lines, did_lines, gone_lines, news_lines, turn_lines};
 
 use df1_base::{Act, Did, News, NoMemory, Turn};
 use replay_report::{Line, Page};
-use script_statement::Who;
+use script_statement::{Bytes, Who};
 use std::alloc::Global;
 
 /// Tells an act: the body is that of the message that was heard. It is inlined, since at most bytes there is nothing to tell.
@@ -57,13 +57,31 @@ fn tell_did(
     let Some(did) = did else {
         return Ok(());
     };
-    let mut kept = lines.no_bytes(alloc);
-    kept.extend(body)?;
+    let kept = copied(alloc, body, lines)?;
     lines.push(match did {
         Did::Executed => Line::Exec { who, body: kept },
         Did::Answered(n) => Line::Answered { who, n, body: kept },
         Did::Stray => Line::Stray { who, body: kept },
     })
+}
+
+/// Tells a message that was accepted and is carried to a station. It isn't inlined, for the same reason.
+#[inline(never)]
+pub fn tell_routed(alloc: Global, who: Who, body: &[u8], lines: &mut Page) -> Result<(), NoMemory>
+    ensures { OnOk result (lines.new ≡ lines.old ++ Line.Routed who body.now ∷ []) }
+{
+    let kept = copied(alloc, body, lines)?;
+    lines.push(Line::Routed { who, body: kept })
+}
+
+/// A copy of a body for a line, in memory that served before, if there is any.
+fn copied(alloc: Global, body: &[u8], lines: &mut Page) -> Result<Bytes, NoMemory>
+    ensures copy { IfOk result (λ kept. kept ≡ body.now) }
+    ensures lines { lines.new ≡ lines.old }
+{
+    let mut kept = lines.no_bytes(alloc);
+    kept.extend(body)?;
+    Ok(kept)
 }
 
 /// Tells what a host answered to a fate.

@@ -86,6 +86,13 @@ impl<H: Host + Drop> Router<H> {
         &mut self.inner
     }
 
+    /// Whether a body is carried: DST, its first byte, is the number of one of the stations. DST of an empty body counts as 0.
+    pub fn carries(&self, body: &[u8]) -> bool
+        ensures { result ≡ is_carried self.now.stations body.now }
+    {
+        self.stations.contains(&body.first().copied().unwrap_or(0))
+    }
+
     /// The body that waits to be carried, of 6 to 250 bytes; empty where none waits.
     pub fn waiting(&self) -> &[u8]
         ensures value { result.now ≡ self.now.waiting }

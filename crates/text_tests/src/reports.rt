@@ -16,6 +16,8 @@ const REPLY: &[u8] = b"\x00\x01\x4F\x00\x01\x00";
 
 const STRAY: &[u8] = b"\x00\x01\x46\x00\x09\x00";
 
+const CARRIED: &[u8] = b"\x05\x03\x06\x00\x01\x00\x00\x52";
+
 /// Bytes of a message.
 fn bytes_of(alloc: Global, bytes: &[u8]) -> Result<Bytes, AllocError> {
     Ok(Items::from_vec(bytes.to_vec(alloc)?))
@@ -28,6 +30,7 @@ fn each_line_has_its_text(rt: HostRuntime) -> Result<(), Fail> {
     let command = bytes_of(alloc, COMMAND)?;
     let reply = bytes_of(alloc, REPLY)?;
     let stray = bytes_of(alloc, STRAY)?;
+    let carried = bytes_of(alloc, CARRIED)?;
     let table = [
         (
             Line::Sent {
@@ -65,6 +68,13 @@ fn each_line_has_its_text(rt: HostRuntime) -> Result<(), Fail> {
                 body: stray,
             },
             "m stray 000146000900\n",
+        ),
+        (
+            Line::Routed {
+                who: Who::M,
+                body: carried,
+            },
+            "m routed 0503060001000052\n",
         ),
         (Line::Repeat { who: Who::B }, "b repeat\n"),
         (Line::Full { who: Who::B }, "b full\n"),

@@ -37,7 +37,7 @@ pub record Course (setting : Setting) (m : MasterState NodeState) (stations : Li
   pub ledger : Ledger setting m.host.initiator m.stations stations lines now ticks
 
 -- the master waits so long for a reply
-pub record Flow (setting : Setting) (wait : ℕ) (s : HalfState) (late ticks : ℕ) (lines : List Line) : Type 0 where
+pub record Flow (setting : Setting) (wait : ℕ) (s : HalfState NodeState) (late ticks : ℕ) (lines : List Line) : Type 0 where
   pub course : Course setting s.master s.stations late ticks lines
   pub check : s.master.setup.check ≡ s.master.ear.check
   pub waits : s.master.host.initiator.reply_ticks ≡ wait

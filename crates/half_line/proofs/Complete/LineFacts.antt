@@ -42,7 +42,7 @@ pub record Known (setting : Setting) (m : MasterState NodeState) (stations : Lis
   pub short : AreShort setting
   pub serve : (p : ℕ) (side : LineStationState) → slice_get stations p ≡ Some side → Served (setting.first p) side lines
 
-pub known : (setting : Setting) (count : ℕ) (s : HalfState) (lines : List Line) → count ≤ 65535 → AreShort setting → Holds setting count s lines → Known setting s.master s.stations lines
+pub known : (setting : Setting) (count : ℕ) (s : HalfState NodeState) (lines : List Line) → count ≤ 65535 → AreShort setting → Holds setting count s lines → Known setting s.master s.stations lines
 known setting count s lines few short h = record {
   numbers_are = h.numbers_are;
   list_is = h.master.numbers_are;

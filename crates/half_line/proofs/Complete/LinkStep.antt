@@ -16,6 +16,7 @@ use Rattle.replay_report.specs.declared.record.Line.{Line}
 use Rattle.lane_cells.specs.Cells.{LaneCell}
 use Rattle.each_once.specs.NodeHost.{node_host}
 use Rattle.each_once.proofs.Sublists.{same-some}
+use Rattle.half_line.specs.Behind.{plain_node}
 use Rattle.half_line.specs.declared.way.Way.TheVariants.{ToStation, ToMaster}
 use Rattle.half_line.specs.Acts.{LineStationState, HalfState, LinkDeed, LaneDeed, StationGives, OnLane, Deliver, Lose, Alter, Foreign, after_take, moved, after_link_deed, link_lines}
 use Rattle.half_line.specs.Prompt.{IsGentleOn, IsGentleAt}
@@ -62,7 +63,7 @@ set-itself [] place side at = absurd cc
 set-itself (first ∷ stations) zero side at = ap (λ (x : LineStationState). x ∷ stations) (sym (same-some first side at))
 set-itself (first ∷ stations) (suc place) side at = ap (λ (rest : List LineStationState). first ∷ rest) (set-itself stations place side at)
 
-flow-same : (setting : Setting) (wait : ℕ) (s : HalfState) (late ticks : ℕ) (lines : List Line) (place : ℕ) (side : LineStationState) → slice_get s.stations place ≡ Some side → Flow setting wait s late ticks lines → Flow setting wait (rejoined s place (link_of s side)) late ticks (lines ++ [])
+flow-same : (setting : Setting) (wait : ℕ) (s : HalfState NodeState) (late ticks : ℕ) (lines : List Line) (place : ℕ) (side : LineStationState) → slice_get s.stations place ≡ Some side → Flow setting wait s late ticks lines → Flow setting wait (rejoined s place (link_of s side)) late ticks (lines ++ [])
 flow-same setting wait s late ticks lines place side at f = record {
   course = subst (λ (all : List Line). Course setting s.master (slice_set s.stations place side) late ticks all) (sym (append-nil lines))
       (subst (λ (stations : List LineStationState). Course setting s.master stations late ticks lines) (sym (set-itself s.stations place side at)) f.course);
@@ -73,8 +74,8 @@ flow-same setting wait s late ticks lines place side at f = record {
 
 -- ---- a station gives a byte
 
-flow-gives : (setting : Setting) (wait : ℕ) (s : HalfState) (late ticks : ℕ) (lines : List Line) (place : ℕ) (side : LineStationState) → slice_get s.stations place ≡ Some side → Flow setting wait s late ticks lines
-    → Flow setting wait (rejoined s place (after_link_deed (link_of s side) StationGives)) late ticks (lines ++ [])
+flow-gives : (setting : Setting) (wait : ℕ) (s : HalfState NodeState) (late ticks : ℕ) (lines : List Line) (place : ℕ) (side : LineStationState) → slice_get s.stations place ≡ Some side → Flow setting wait s late ticks lines
+    → Flow setting wait (rejoined s place (after_link_deed plain_node (link_of s side) StationGives)) late ticks (lines ++ [])
 flow-gives setting wait s late ticks lines place side at f =
     let c = f.course in
     let m = s.master in
@@ -94,8 +95,8 @@ flow-gives setting wait s late ticks lines place side at f =
 none-more : (n m : ℕ) → n ≡ 0 → m ≡ 0 → n + m ≡ 0
 none-more n m first second = omega (arith, first, second)
 
-flow-arrives : (setting : Setting) (wait : ℕ) (s : HalfState) (late ticks : ℕ) (lines : List Line) (place : ℕ) (side : LineStationState) (cell : LaneCell) (cells : List LaneCell) → At setting s.master s.stations lines place (lane_left side (cell ∷ cells)) → Flow setting wait s late ticks lines
-    → Flow setting wait (rejoined s place (after_link_deed (link_of s (lane_left side (cell ∷ cells))) (OnLane ToStation Deliver))) late ticks (lines ++ link_lines (link_of s (lane_left side (cell ∷ cells))) (OnLane ToStation Deliver))
+flow-arrives : (setting : Setting) (wait : ℕ) (s : HalfState NodeState) (late ticks : ℕ) (lines : List Line) (place : ℕ) (side : LineStationState) (cell : LaneCell) (cells : List LaneCell) → At setting s.master s.stations lines place (lane_left side (cell ∷ cells)) → Flow setting wait s late ticks lines
+    → Flow setting wait (rejoined s place (after_link_deed plain_node (link_of s (lane_left side (cell ∷ cells))) (OnLane ToStation Deliver))) late ticks (lines ++ link_lines plain_node (link_of s (lane_left side (cell ∷ cells))) (OnLane ToStation Deliver))
 flow-arrives setting wait s late ticks lines place side cell cells at f =
     let was = lane_left side (cell ∷ cells) in
     let a = station-arrives setting s.master s.stations late ticks lines place was cell cells at refl f.course in
@@ -106,8 +107,8 @@ flow-arrives setting wait s late ticks lines place side cell cells at f =
       honest = none-more s.deceived _ f.honest (station-deceived (moved ToStation (link_of s was) Deliver) cell a.honest);
     }
 
-lane-to : (setting : Setting) (wait : ℕ) (s : HalfState) (late ticks : ℕ) (lines : List Line) (place : ℕ) (side : LineStationState) (cells : List LaneCell) (deed : LaneDeed) → IsGentleOn cells deed → At setting s.master s.stations lines place (lane_left side cells) → Flow setting wait s late ticks lines
-    → Flow setting wait (rejoined s place (after_link_deed (link_of s (lane_left side cells)) (OnLane ToStation deed))) late ticks (lines ++ link_lines (link_of s (lane_left side cells)) (OnLane ToStation deed))
+lane-to : (setting : Setting) (wait : ℕ) (s : HalfState NodeState) (late ticks : ℕ) (lines : List Line) (place : ℕ) (side : LineStationState) (cells : List LaneCell) (deed : LaneDeed) → IsGentleOn cells deed → At setting s.master s.stations lines place (lane_left side cells) → Flow setting wait s late ticks lines
+    → Flow setting wait (rejoined s place (after_link_deed plain_node (link_of s (lane_left side cells)) (OnLane ToStation deed))) late ticks (lines ++ link_lines plain_node (link_of s (lane_left side cells)) (OnLane ToStation deed))
 lane-to setting wait s late ticks lines place side [] Deliver gentle at f = flow-same setting wait s late ticks lines place (lane_left side []) at.is_at f
 lane-to setting wait s late ticks lines place side (cell ∷ cells) Deliver gentle at f = flow-arrives setting wait s late ticks lines place side cell cells at f
 lane-to setting wait s late ticks lines place side [] Lose gentle at f = flow-same setting wait s late ticks lines place (lane_left side []) at.is_at f
@@ -116,8 +117,8 @@ lane-to setting wait s late ticks lines place side [] (Alter mask) gentle at f =
 lane-to setting wait s late ticks lines place side (cell ∷ cells) (Alter mask) gentle at f = absurd cc
 lane-to setting wait s late ticks lines place side cells (Foreign byte) gentle at f = absurd gentle
 
-flow-hears : (setting : Setting) (wait : ℕ) (s : HalfState) (late ticks : ℕ) (lines : List Line) (place : ℕ) (side : LineStationState) (cell : LaneCell) (cells : List LaneCell) → At setting s.master s.stations lines place (back_left side (cell ∷ cells)) → Flow setting wait s late ticks lines
-    → Flow setting wait (rejoined s place (after_link_deed (link_of s (back_left side (cell ∷ cells))) (OnLane ToMaster Deliver))) late ticks (lines ++ link_lines (link_of s (back_left side (cell ∷ cells))) (OnLane ToMaster Deliver))
+flow-hears : (setting : Setting) (wait : ℕ) (s : HalfState NodeState) (late ticks : ℕ) (lines : List Line) (place : ℕ) (side : LineStationState) (cell : LaneCell) (cells : List LaneCell) → At setting s.master s.stations lines place (back_left side (cell ∷ cells)) → Flow setting wait s late ticks lines
+    → Flow setting wait (rejoined s place (after_link_deed plain_node (link_of s (back_left side (cell ∷ cells))) (OnLane ToMaster Deliver))) late ticks (lines ++ link_lines plain_node (link_of s (back_left side (cell ∷ cells))) (OnLane ToMaster Deliver))
 flow-hears setting wait s late ticks lines place side cell cells at f =
     let was = back_left side (cell ∷ cells) in
     let m = s.master in
@@ -129,8 +130,8 @@ flow-hears setting wait s late ticks lines place side cell cells at f =
       honest = none-more s.deceived _ f.honest (master-deceived (moved ToMaster (link_of s was) Deliver) cell r.honest);
     }
 
-lane-from : (setting : Setting) (wait : ℕ) (s : HalfState) (late ticks : ℕ) (lines : List Line) (place : ℕ) (side : LineStationState) (cells : List LaneCell) (deed : LaneDeed) → IsGentleOn cells deed → At setting s.master s.stations lines place (back_left side cells) → Flow setting wait s late ticks lines
-    → Flow setting wait (rejoined s place (after_link_deed (link_of s (back_left side cells)) (OnLane ToMaster deed))) late ticks (lines ++ link_lines (link_of s (back_left side cells)) (OnLane ToMaster deed))
+lane-from : (setting : Setting) (wait : ℕ) (s : HalfState NodeState) (late ticks : ℕ) (lines : List Line) (place : ℕ) (side : LineStationState) (cells : List LaneCell) (deed : LaneDeed) → IsGentleOn cells deed → At setting s.master s.stations lines place (back_left side cells) → Flow setting wait s late ticks lines
+    → Flow setting wait (rejoined s place (after_link_deed plain_node (link_of s (back_left side cells)) (OnLane ToMaster deed))) late ticks (lines ++ link_lines plain_node (link_of s (back_left side cells)) (OnLane ToMaster deed))
 lane-from setting wait s late ticks lines place side [] Deliver gentle at f = flow-same setting wait s late ticks lines place (back_left side []) at.is_at f
 lane-from setting wait s late ticks lines place side (cell ∷ cells) Deliver gentle at f = flow-hears setting wait s late ticks lines place side cell cells at f
 lane-from setting wait s late ticks lines place side [] Lose gentle at f = flow-same setting wait s late ticks lines place (back_left side []) at.is_at f
@@ -141,8 +142,8 @@ lane-from setting wait s late ticks lines place side cells (Foreign byte) gentle
 
 -- ---- either
 
-pub flow-link : (setting : Setting) (wait : ℕ) (s : HalfState) (late ticks : ℕ) (lines : List Line) (place : ℕ) (side : LineStationState) (deed : LinkDeed) → IsGentleAt side deed → At setting s.master s.stations lines place side → Flow setting wait s late ticks lines
-    → Flow setting wait (rejoined s place (after_link_deed (link_of s side) deed)) late ticks (lines ++ link_lines (link_of s side) deed)
+pub flow-link : (setting : Setting) (wait : ℕ) (s : HalfState NodeState) (late ticks : ℕ) (lines : List Line) (place : ℕ) (side : LineStationState) (deed : LinkDeed) → IsGentleAt side deed → At setting s.master s.stations lines place side → Flow setting wait s late ticks lines
+    → Flow setting wait (rejoined s place (after_link_deed plain_node (link_of s side) deed)) late ticks (lines ++ link_lines plain_node (link_of s side) deed)
 flow-link setting wait s late ticks lines place side StationGives gentle at f = flow-gives setting wait s late ticks lines place side at.is_at f
 flow-link setting wait s late ticks lines place side (OnLane ToStation deed) gentle at f = lane-to setting wait s late ticks lines place side side.to_it deed gentle at f
 flow-link setting wait s late ticks lines place side (OnLane ToMaster deed) gentle at f = lane-from setting wait s late ticks lines place side side.from_it deed gentle at f

@@ -20,6 +20,7 @@ use Rattle.replay_report.specs.declared.record.Line.{Line}
 use Rattle.each_once.proofs.MessageLengths.{body-at}
 use Rattle.each_once.specs.NodeHost.{node_host}
 use Rattle.each_once.proofs.Sublists.{Has, from-map}
+use Rattle.half_line.specs.Behind.{plain_node}
 use Rattle.half_line.specs.Acts.{LineStationState, after_issue}
 use Rattle.half_line.specs.Complete.{is_to}
 use Rattle.half_line.proofs.Once.Invariant.{Setting}
@@ -38,10 +39,10 @@ use Rattle.half_line.proofs.Complete.LineFacts.{Known, elsewhere, not-theirs}
 -- ---- a command is issued
 
 pub course-issue : (setting : Setting) (m : MasterState NodeState) (stations : List LineStationState) (late ticks : ℕ) (lines : List Line) (src : Option ℕ) (dst : ℕ) (payload : List ℕ) → IsTrue (is_payload payload) → is_declared setting.numbers dst ≡ true → Course setting m stations late ticks lines
-    → Course setting (after_issue m src dst payload) stations late ticks lines
+    → Course setting (after_issue plain_node m src dst payload) stations late ticks lines
 course-issue setting m stations late ticks lines src dst payload may is c = record {
   now = c.now;
-  stage = stage-alike late m (after_issue m src dst payload) stations c.now (record { ear = refl; mouth = refl; sending = refl }) refl refl c.stage;
+  stage = stage-alike late m (after_issue plain_node m src dst payload) stations c.now (record { ear = refl; mouth = refl; sending = refl }) refl refl c.stage;
   ledger = ledger-issue (unwrap_or src m.host.initiator.node) dst payload may is c.ledger;
 }
 

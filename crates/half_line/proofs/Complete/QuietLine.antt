@@ -34,7 +34,7 @@ none-ready m body done idle none next listed =
     let no = ap (λ (e : MasterState NodeState). is_none (take e.mouth).1) (sym is) ∙ none in
     cc
 
-pub nothing-ready : (late : ℕ) (s : HalfState) (now : Now) (body : List ℕ) → Stage late s.master s.stations now → is_quiet s ≡ true → next_body s.master.host ≡ Some body → is_listed s.master.stations (slice_index body 0) ≡ true → ⊥
+pub nothing-ready : (late : ℕ) (s : HalfState NodeState) (now : Now) (body : List ℕ) → Stage late s.master s.stations now → is_quiet s ≡ true → next_body s.master.host ≡ Some body → is_listed s.master.stations (slice_index body 0) ≡ true → ⊥
 nothing-ready late s Idles body stage quiet next listed =
     let none = (both (is_none (master.out_at_take node_host s.master)) (list_all is_idle s.stations) quiet).0 in
     let given = given-by s.master (is_done s.master.mouth) refl none in

@@ -22,6 +22,7 @@ use Rattle.half_master.proofs.Seen.{lent-after}
 use Rattle.half_master.proofs.Changes.{Says, turn-accepts, turn-acked, turn-ended, turn-silent}
 use Rattle.lane_cells.specs.Cells.{LaneCell}
 use Rattle.lane_cells.specs.Deception.{deceptions}
+use Rattle.half_line.specs.Behind.{plain_node}
 use Rattle.half_line.specs.declared.way.Way.TheVariants.{ToMaster}
 use Rattle.each_once.specs.NodeHost.{node_host}
 use Rattle.half_line.specs.Acts.{LineStationState, LinkState, deceptions_at}
@@ -186,5 +187,5 @@ silent-heard m side cell cells reply r still =
 
 -- ---- how often the master is deceived, as the line counts it
 
-pub master-deceived : (link : LinkState) (cell : LaneCell) → deceived_at master_ear link.master.ear cell ≡ 0 → deceptions_at ToMaster link cell ≡ 0
+pub master-deceived : (link : LinkState NodeState) (cell : LaneCell) → deceived_at master_ear link.master.ear cell ≡ 0 → deceptions_at plain_node ToMaster link cell ≡ 0
 master-deceived link cell none = ap (deceptions (is_good (heard_at link.master cell.byte)) cell.ends) (lent-after node_host link.master cell.byte) ∙ none

@@ -14,6 +14,7 @@ use Rattle.script_statement.specs.Statements.{is_payload}
 use Rattle.script_parts.specs.HalfPlayable.{is_declared}
 use Rattle.replay_report.specs.declared.record.Line.{Line}
 use Rattle.each_once.specs.NodeHost.{node_host}
+use Rattle.half_line.specs.Behind.{plain_node}
 use Rattle.half_line.specs.Acts.{LineStationState, HalfState, LinkDeed, Issue, Give, Tick, after_master_deed}
 use Rattle.half_line.specs.Prompt.{is_quiet, ticks_of, late_after, patience, IsGentleWith, IsGentle, late_over, IsPromptOver}
 use Rattle.half_line.specs.Steps.{UnitStep, AtMaster, AtStation, after_with, after_step, lines_with, lines_at, after_steps, lines_over}
@@ -30,7 +31,7 @@ use Rattle.half_line.proofs.Complete.TickStep.{course-tick}
 -- ---- how many ticks were late
 
 -- where the line is quiet none counts
-flow-quiet : (setting : Setting) (wait : ℕ) (s : HalfState) (late other ticks : ℕ) (lines : List Line) → is_quiet s ≡ true → Flow setting wait s late ticks lines → Flow setting wait s other ticks lines
+flow-quiet : (setting : Setting) (wait : ℕ) (s : HalfState NodeState) (late other ticks : ℕ) (lines : List Line) → is_quiet s ≡ true → Flow setting wait s late ticks lines → Flow setting wait s other ticks lines
 flow-quiet setting wait s late other ticks lines quiet f =
     let c = f.course in
     record {
@@ -40,7 +41,7 @@ flow-quiet setting wait s late other ticks lines quiet f =
       honest = f.honest;
     }
 
-counted : (setting : Setting) (wait : ℕ) (s : HalfState) (late ticks : ℕ) (lines : List Line) (quiet : Bool) → is_quiet s ≡ quiet → Flow setting wait s late ticks lines → Flow setting wait s (if quiet then 0 else late) ticks lines
+counted : (setting : Setting) (wait : ℕ) (s : HalfState NodeState) (late ticks : ℕ) (lines : List Line) (quiet : Bool) → is_quiet s ≡ quiet → Flow setting wait s late ticks lines → Flow setting wait s (if quiet then 0 else late) ticks lines
 counted setting wait s late ticks lines true is f = flow-quiet setting wait s late 0 ticks lines is f
 counted setting wait s late ticks lines false is f = f
 
@@ -49,19 +50,19 @@ still-late late n true none = refl
 still-late late n false none = omega (arith, none)
 
 -- a step that is no tick leaves the late ones as they are
-stepped : (setting : Setting) (wait : ℕ) (s : HalfState) (late ticks : ℕ) (lines : List Line) (step : UnitStep) → ticks_of step ≡ 0 → Flow setting wait (after_step s step) late ticks lines → Flow setting wait (after_step s step) (late_after late s step) (ticks + ticks_of step) lines
+stepped : (setting : Setting) (wait : ℕ) (s : HalfState NodeState) (late ticks : ℕ) (lines : List Line) (step : UnitStep) → ticks_of step ≡ 0 → Flow setting wait (after_step plain_node s step) late ticks lines → Flow setting wait (after_step plain_node s step) (late_after late s step) (ticks + ticks_of step) lines
 stepped setting wait s late ticks lines step none f =
     let passed : ticks ≡ ticks + ticks_of step = omega (arith, none) in
-    subst (λ (n : ℕ). Flow setting wait (after_step s step) (late_after late s step) n lines) passed
-    (counted setting wait (after_step s step) (if is_quiet s then late else late + ticks_of step) ticks lines (is_quiet (after_step s step)) refl
-    (subst (λ (n : ℕ). Flow setting wait (after_step s step) n ticks lines) (sym (still-late late (ticks_of step) (is_quiet s) none)) f))
+    subst (λ (n : ℕ). Flow setting wait (after_step plain_node s step) (late_after late s step) n lines) passed
+    (counted setting wait (after_step plain_node s step) (if is_quiet s then late else late + ticks_of step) ticks lines (is_quiet (after_step plain_node s step)) refl
+    (subst (λ (n : ℕ). Flow setting wait (after_step plain_node s step) n ticks lines) (sym (still-late late (ticks_of step) (is_quiet s) none)) f))
 
 -- ---- at the master
 
 tick-ear : (m : MasterState NodeState) → (master_after_tick node_host m).ear ≡ m.ear
 tick-ear m = let what = effect_at_tick node_host m in performed-ear (with_host m (host_told node_host (fate_of what) (host_ticked node_host what m.host))) what
 
-flow-issue : (setting : Setting) (wait : ℕ) (s : HalfState) (late ticks : ℕ) (lines : List Line) (src : Option ℕ) (dst : ℕ) (payload : List ℕ) → IsTrue (is_payload payload) → is_declared setting.numbers dst ≡ true → Flow setting wait s late ticks lines → Flow setting wait (after_master_deed s (Issue src dst payload)) late ticks lines
+flow-issue : (setting : Setting) (wait : ℕ) (s : HalfState NodeState) (late ticks : ℕ) (lines : List Line) (src : Option ℕ) (dst : ℕ) (payload : List ℕ) → IsTrue (is_payload payload) → is_declared setting.numbers dst ≡ true → Flow setting wait s late ticks lines → Flow setting wait (after_master_deed plain_node s (Issue src dst payload)) late ticks lines
 flow-issue setting wait s late ticks lines src dst payload may is f = record {
   course = course-issue setting s.master s.stations late ticks lines src dst payload may is f.course;
   check = f.check;
@@ -69,7 +70,7 @@ flow-issue setting wait s late ticks lines src dst payload may is f = record {
   honest = f.honest;
 }
 
-flow-give : (setting : Setting) (wait : ℕ) (s : HalfState) (late ticks : ℕ) (lines : List Line) → Known setting s.master s.stations lines → Flow setting wait s late ticks lines → Flow setting wait (after_master_deed s Give) late ticks lines
+flow-give : (setting : Setting) (wait : ℕ) (s : HalfState NodeState) (late ticks : ℕ) (lines : List Line) → Known setting s.master s.stations lines → Flow setting wait s late ticks lines → Flow setting wait (after_master_deed plain_node s Give) late ticks lines
 flow-give setting wait s late ticks lines k f =
     let m = s.master in
     record {
@@ -79,8 +80,8 @@ flow-give setting wait s late ticks lines k f =
       honest = f.honest;
     }
 
-flow-tick : (setting : Setting) (wait : ℕ) (s : HalfState) (late ticks : ℕ) (lines : List Line) → Known setting s.master s.stations lines → ticks + 1 < wait → late_after late s (AtMaster Tick) < patience (after_master_deed s Tick) → Flow setting wait s late ticks lines
-    → Flow setting wait (after_master_deed s Tick) (late_after late s (AtMaster Tick)) (ticks + 1) (lines ++ lines_at s (AtMaster Tick))
+flow-tick : (setting : Setting) (wait : ℕ) (s : HalfState NodeState) (late ticks : ℕ) (lines : List Line) → Known setting s.master s.stations lines → ticks + 1 < wait → late_after late s (AtMaster Tick) < patience (after_master_deed plain_node s Tick) → Flow setting wait s late ticks lines
+    → Flow setting wait (after_master_deed plain_node s Tick) (late_after late s (AtMaster Tick)) (ticks + 1) (lines ++ lines_at plain_node s (AtMaster Tick))
 flow-tick setting wait s late ticks lines k few patient f =
     let m = s.master in
     record {
@@ -92,53 +93,53 @@ flow-tick setting wait s late ticks lines k few patient f =
 
 -- ---- anywhere
 
-flow-with : (setting : Setting) (wait : ℕ) (s : HalfState) (late ticks : ℕ) (lines : List Line) (place : ℕ) (deed : LinkDeed) (o : Option LineStationState) → slice_get s.stations place ≡ o → IsGentleWith deed o → Known setting s.master s.stations lines → Flow setting wait s late ticks lines
-    → Flow setting wait (after_with s place deed o) late ticks (lines ++ lines_with s deed o)
+flow-with : (setting : Setting) (wait : ℕ) (s : HalfState NodeState) (late ticks : ℕ) (lines : List Line) (place : ℕ) (deed : LinkDeed) (o : Option LineStationState) → slice_get s.stations place ≡ o → IsGentleWith deed o → Known setting s.master s.stations lines → Flow setting wait s late ticks lines
+    → Flow setting wait (after_with plain_node s place deed o) late ticks (lines ++ lines_with plain_node s deed o)
 flow-with setting wait s late ticks lines place deed None at gentle k f = subst (λ (all : List Line). Flow setting wait s late ticks all) (sym (append-nil lines)) f
 flow-with setting wait s late ticks lines place deed (Some side) at gentle k f = flow-link setting wait s late ticks lines place side deed gentle (record { known = k; is_at = at }) f
 
-flow-step : (setting : Setting) (wait : ℕ) (s : HalfState) (late ticks : ℕ) (lines : List Line) (step : UnitStep) → IsPlain step → Known setting s.master s.stations lines → IsGentle s step → late_after late s step < patience (after_step s step) → ticks + ticks_of step < wait → Flow setting wait s late ticks lines
-    → Flow setting wait (after_step s step) (late_after late s step) (ticks + ticks_of step) (lines ++ lines_at s step)
+flow-step : (setting : Setting) (wait : ℕ) (s : HalfState NodeState) (late ticks : ℕ) (lines : List Line) (step : UnitStep) → IsPlain step → Known setting s.master s.stations lines → IsGentle s step → late_after late s step < patience (after_step plain_node s step) → ticks + ticks_of step < wait → Flow setting wait s late ticks lines
+    → Flow setting wait (after_step plain_node s step) (late_after late s step) (ticks + ticks_of step) (lines ++ lines_at plain_node s step)
 flow-step setting wait s late ticks lines (AtMaster (Issue src dst payload)) plain k gentle patient few f = absurd plain
 flow-step setting wait s late ticks lines (AtMaster Give) plain k gentle patient few f =
-    stepped setting wait s late ticks (lines ++ []) (AtMaster Give) refl (subst (λ (all : List Line). Flow setting wait (after_master_deed s Give) late ticks all) (sym (append-nil lines)) (flow-give setting wait s late ticks lines k f))
+    stepped setting wait s late ticks (lines ++ []) (AtMaster Give) refl (subst (λ (all : List Line). Flow setting wait (after_master_deed plain_node s Give) late ticks all) (sym (append-nil lines)) (flow-give setting wait s late ticks lines k f))
 flow-step setting wait s late ticks lines (AtMaster Tick) plain k gentle patient few f = flow-tick setting wait s late ticks lines k few patient f
 flow-step setting wait s late ticks lines (AtStation place deed) plain k gentle patient few f =
-    stepped setting wait s late ticks (lines ++ lines_at s (AtStation place deed)) (AtStation place deed) refl (flow-with setting wait s late ticks lines place deed (slice_get s.stations place) refl gentle k f)
+    stepped setting wait s late ticks (lines ++ lines_at plain_node s (AtStation place deed)) (AtStation place deed) refl (flow-with setting wait s late ticks lines place deed (slice_get s.stations place) refl gentle k f)
 
 -- ---- one step after another, with what holds in every run that deceives no end
 
-pub record Along (setting : Setting) (wait count : ℕ) (s : HalfState) (late ticks : ℕ) (lines : List Line) : Type 0 where
+pub record Along (setting : Setting) (wait count : ℕ) (s : HalfState NodeState) (late ticks : ℕ) (lines : List Line) : Type 0 where
   pub kept : Kept setting count s lines
   pub flow : Flow setting wait s late ticks lines
 
-known-along : (setting : Setting) (wait count : ℕ) (s : HalfState) (late ticks : ℕ) (lines : List Line) → count ≤ 65535 → AreShort setting → Along setting wait count s late ticks lines → Known setting s.master s.stations lines
+known-along : (setting : Setting) (wait count : ℕ) (s : HalfState NodeState) (late ticks : ℕ) (lines : List Line) → count ≤ 65535 → AreShort setting → Along setting wait count s late ticks lines → Known setting s.master s.stations lines
 known-along setting wait count s late ticks lines few short a = known setting count s lines few short (a.kept a.flow.honest)
 
 abbrev pub ticks_over : List UnitStep → ℕ
 ticks_over [] = 0
 ticks_over (step ∷ steps) = ticks_of step + ticks_over steps
 
-pub along-steps : (setting : Setting) (wait count : ℕ) (steps : List UnitStep) → ArePlain steps → count ≤ 65535 → AreShort setting → (s : HalfState) (late ticks : ℕ) (lines : List Line) → IsPromptOver late s steps → ticks + ticks_over steps < wait → Along setting wait count s late ticks lines
-    → Along setting wait count (after_steps s steps) (late_over late s steps) (ticks + ticks_over steps) (lines ++ lines_over s steps)
+pub along-steps : (setting : Setting) (wait count : ℕ) (steps : List UnitStep) → ArePlain steps → count ≤ 65535 → AreShort setting → (s : HalfState NodeState) (late ticks : ℕ) (lines : List Line) → IsPromptOver late s steps → ticks + ticks_over steps < wait → Along setting wait count s late ticks lines
+    → Along setting wait count (after_steps plain_node s steps) (late_over late s steps) (ticks + ticks_over steps) (lines ++ lines_over plain_node s steps)
 along-steps setting wait count [] plain few short s late ticks lines prompt less a =
     let same : ticks ≡ ticks + 0 = omega arith in
     subst (λ (n : ℕ). Along setting wait count s late n (lines ++ [])) same (subst (λ (all : List Line). Along setting wait count s late ticks all) (sym (append-nil lines)) a)
 along-steps setting wait count (step ∷ steps) plain few short s late ticks lines prompt less a =
     let k = known-along setting wait count s late ticks lines few short a in
-    let now = after_step s step in
-    let one : Along setting wait count now (late_after late s step) (ticks + ticks_of step) (lines ++ lines_at s step) = record {
+    let now = after_step plain_node s step in
+    let one : Along setting wait count now (late_after late s step) (ticks + ticks_of step) (lines ++ lines_at plain_node s step) = record {
       kept = kept-plain setting count step plain.0 s lines few a.kept;
       flow = flow-step setting wait s late ticks lines step plain.0 k prompt.0 prompt.1 (omega (arith, less)) a.flow;
     } in
     let sum : ticks + ticks_of step + ticks_over steps ≡ ticks + (ticks_of step + ticks_over steps) = omega arith in
-    let more = along-steps setting wait count steps plain.1 few short now (late_after late s step) (ticks + ticks_of step) (lines ++ lines_at s step) prompt.2 (omega (arith, less)) one in
-    subst (λ (n : ℕ). Along setting wait count (after_steps now steps) (late_over (late_after late s step) now steps) n (lines ++ (lines_at s step ++ lines_over now steps))) sum
-    (subst (λ (all : List Line). Along setting wait count (after_steps now steps) (late_over (late_after late s step) now steps) (ticks + ticks_of step + ticks_over steps) all) (append_assoc lines (lines_at s step) (lines_over now steps)) more)
+    let more = along-steps setting wait count steps plain.1 few short now (late_after late s step) (ticks + ticks_of step) (lines ++ lines_at plain_node s step) prompt.2 (omega (arith, less)) one in
+    subst (λ (n : ℕ). Along setting wait count (after_steps plain_node now steps) (late_over (late_after late s step) now steps) n (lines ++ (lines_at plain_node s step ++ lines_over plain_node now steps))) sum
+    (subst (λ (all : List Line). Along setting wait count (after_steps plain_node now steps) (late_over (late_after late s step) now steps) (ticks + ticks_of step + ticks_over steps) all) (append_assoc lines (lines_at plain_node s step) (lines_over plain_node now steps)) more)
 
 -- a command is issued
-pub along-issue : (setting : Setting) (wait count : ℕ) (s : HalfState) (late ticks : ℕ) (lines : List Line) (src : Option ℕ) (dst : ℕ) (payload : List ℕ) → IsTrue (is_payload payload) → is_declared setting.numbers dst ≡ true → count < 65535 → Along setting wait count s late ticks lines
-    → Along setting wait (count + 1) (after_master_deed s (Issue src dst payload)) (late_after late s (AtMaster (Issue src dst payload))) (ticks + 0) lines
+pub along-issue : (setting : Setting) (wait count : ℕ) (s : HalfState NodeState) (late ticks : ℕ) (lines : List Line) (src : Option ℕ) (dst : ℕ) (payload : List ℕ) → IsTrue (is_payload payload) → is_declared setting.numbers dst ≡ true → count < 65535 → Along setting wait count s late ticks lines
+    → Along setting wait (count + 1) (after_master_deed plain_node s (Issue src dst payload)) (late_after late s (AtMaster (Issue src dst payload))) (ticks + 0) lines
 along-issue setting wait count s late ticks lines src dst payload may is few a = record {
   kept = λ none. holds-issue setting count s src dst payload lines may few (a.kept a.flow.honest);
   flow = stepped setting wait s late ticks lines (AtMaster (Issue src dst payload)) refl (flow-issue setting wait s late ticks lines src dst payload may is a.flow);

@@ -124,7 +124,7 @@ pub none-given : (left : List Sent) (number : Option ℕ) (begun : ℕ) → let 
 none-given [] number begun none = refl
 none-given (x ∷ left) number begun none = absurd cc
 
-pub awaits-busy : (late : ℕ) (s : HalfState) (place : ℕ) (awaited : Awaited) → Stage late s.master s.stations (Awaits place awaited) → is_quiet s ≡ true → ⊥
+pub awaits-busy : (late : ℕ) (s : HalfState NodeState) (place : ℕ) (awaited : Awaited) → Stage late s.master s.stations (Awaits place awaited) → is_quiet s ≡ true → ⊥
 awaits-busy late s place awaited a quiet =
     let parts = both (is_none (master.out_at_take node_host s.master)) (list_all is_idle s.stations) quiet in
     let waiting = waits-busy late s.master place awaited a.waits in
@@ -132,6 +132,6 @@ awaits-busy late s place awaited a quiet =
     expects-busy s.master s.stations place awaited (none-given s.master.mouth.left s.master.mouth.number s.master.mouth.begun none) a.expects parts.1
 
 -- so where the line is quiet, how many ticks were late doesn't matter
-pub stage-quiet : (late other : ℕ) (s : HalfState) (now : Now) → is_quiet s ≡ true → Stage late s.master s.stations now → Stage other s.master s.stations now
+pub stage-quiet : (late other : ℕ) (s : HalfState NodeState) (now : Now) → is_quiet s ≡ true → Stage late s.master s.stations now → Stage other s.master s.stations now
 stage-quiet late other s Idles quiet stage = stage
 stage-quiet late other s (Awaits place awaited) quiet stage = absurd (awaits-busy late s place awaited stage quiet)

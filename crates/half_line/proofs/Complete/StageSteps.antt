@@ -16,6 +16,7 @@ use Rattle.half_master.specs.Master.{MasterState, given_next, begun}
 use Rattle.lane_cells.specs.Cells.{LaneCell, cell_of}
 use Rattle.lane_cells.specs.Deception.{station_deceptions}
 use Rattle.each_once.specs.NodeHost.{node_host}
+use Rattle.half_line.specs.Behind.{plain_node}
 use Rattle.half_line.specs.declared.way.Way.TheVariants.{ToStation}
 use Rattle.half_line.specs.Acts.{LineStationState, LinkState, joined, station_heard, after_take, deceptions_at}
 use Rattle.half_line.proofs.Complete.ComingCells.{coming, coming-take}
@@ -114,7 +115,7 @@ pub own-stays : (s : SlaveState NodeState) (b number : ℕ) → s.setup.station 
 own-stays s b number own = ap (λ setup. setup.station) (byte-setup node_host s b) ∙ own
 
 -- how often it is deceived, as the line counts it
-pub station-deceived : (link : LinkState) (cell : LaneCell) → deceived_at station_ear link.side.slave.ear cell ≡ 0 → deceptions_at ToStation link cell ≡ 0
+pub station-deceived : (link : LinkState NodeState) (cell : LaneCell) → deceived_at station_ear link.side.slave.ear cell ≡ 0 → deceptions_at plain_node ToStation link cell ≡ 0
 station-deceived link cell none =
     let what = slave.heard_at link.side.slave cell.byte in
     ap (λ (ear : Listening). station_deceptions (is_whole what) (station_of what) cell.ends (lent_at ear.standing)) (byte-ear node_host link.side.slave cell.byte) ∙ none

@@ -21,6 +21,7 @@ use Rattle.script_statement.specs.declared.who.Who.TheVariants.{M}
 use Rattle.replay_report.specs.declared.record.Line.{Line}
 use Rattle.each_once.specs.NodeHost.{node_host}
 use Rattle.each_once.proofs.Sublists.{from-map}
+use Rattle.half_line.specs.Behind.{plain_node}
 use Rattle.half_line.specs.Acts.{LineStationState, HalfState, Tick, master_lines, after_master_deed}
 use Rattle.half_line.specs.Steps.{AtMaster}
 use Rattle.half_line.specs.Prompt.{is_idle, is_quiet, late_after, patience}
@@ -36,15 +37,15 @@ use Rattle.half_line.proofs.Complete.Invariant.{Course}
 use Rattle.half_line.proofs.Complete.LineFacts.{Known}
 
 -- the course after a tick that leaves this master: of the commands that are executed and answered nothing is told
-left-course : (setting : Setting) (m after : MasterState NodeState) (stations : List LineStationState) (late ticks : ℕ) (lines : List Line) (lost : List ℕ) → TickLeaves node_host m after lost → Course setting after stations late ticks lines → Course setting (master_after_tick node_host m) stations late ticks (lines ++ master_lines m Tick)
+left-course : (setting : Setting) (m after : MasterState NodeState) (stations : List LineStationState) (late ticks : ℕ) (lines : List Line) (lost : List ℕ) → TickLeaves node_host m after lost → Course setting after stations late ticks lines → Course setting (master_after_tick node_host m) stations late ticks (lines ++ master_lines plain_node m Tick)
 left-course setting m after stations late ticks lines lost t c =
-    subst (λ (e : MasterState NodeState). Course setting e stations late ticks (lines ++ master_lines m Tick)) (sym t.master)
-    (record { now = c.now; stage = c.stage; ledger = ledger-lines (master_lines m Tick) (λ number. tick-silent number M (turn_at_tick node_host m) (gone_at_tick node_host m)) c.ledger })
+    subst (λ (e : MasterState NodeState). Course setting e stations late ticks (lines ++ master_lines plain_node m Tick)) (sym t.master)
+    (record { now = c.now; stage = c.stage; ledger = ledger-lines (master_lines plain_node m Tick) (λ number. tick-silent number M (turn_at_tick node_host m) (gone_at_tick node_host m)) c.ledger })
 
 -- ---- while something is awaited
 
 -- the line isn't quiet after the tick either
-still-by : (s : HalfState) (late place : ℕ) (awaited : Awaited) (done : Bool) → is_done s.master.mouth ≡ done → Awaiting late s.master s.stations place awaited → is_quiet (after_master_deed s Tick) ≡ true → ⊥
+still-by : (s : HalfState NodeState) (late place : ℕ) (awaited : Awaited) (done : Bool) → is_done s.master.mouth ≡ done → Awaiting late s.master s.stations place awaited → is_quiet (after_master_deed plain_node s Tick) ≡ true → ⊥
 still-by s late place awaited false gives a quiet =
     awaits-busy late s place awaited a (ap (λ (m : MasterState NodeState). is_none (master.out_at_take node_host m) && list_all is_idle s.stations) (sym (tick-giving node_host s.master gives).master) ∙ quiet)
 still-by s late place awaited true done a quiet =
@@ -56,17 +57,17 @@ not-true true not = absurd (not refl)
 not-true false not = refl
 
 -- so it was late
-late-one : (s : HalfState) (late place : ℕ) (awaited : Awaited) → Awaiting late s.master s.stations place awaited → late_after late s (AtMaster Tick) ≡ late + 1
+late-one : (s : HalfState NodeState) (late place : ℕ) (awaited : Awaited) → Awaiting late s.master s.stations place awaited → late_after late s (AtMaster Tick) ≡ late + 1
 late-one s late place awaited a =
     let before = not-true (is_quiet s) (λ quiet. awaits-busy late s place awaited a quiet) in
-    let after = not-true (is_quiet (after_master_deed s Tick)) (λ quiet. still-by s late place awaited (is_done s.master.mouth) refl a quiet) in
+    let after = not-true (is_quiet (after_master_deed plain_node s Tick)) (λ quiet. still-by s late place awaited (is_done s.master.mouth) refl a quiet) in
     ap₂ (λ (x y : Bool). if x then 0 else (if y then late else late + 1)) after before
 
 few-left : (n a b : ℕ) → n < min a b → (n < a) × (n < b)
 few-left n a b few = let left = min-le_left a b in let right = min-le_right a b in (omega (arith, few, left), omega (arith, few, right))
 
-waiting-tick : (setting : Setting) (s : HalfState) (late ticks : ℕ) (lines : List Line) (place : ℕ) (awaited : Awaited) → late_after late s (AtMaster Tick) < patience (after_master_deed s Tick) → Awaiting late s.master s.stations place awaited
-    → Ledger setting s.master.host.initiator s.master.stations s.stations lines (Awaits place awaited) ticks → Course setting (master_after_tick node_host s.master) s.stations (late_after late s (AtMaster Tick)) (ticks + 1) (lines ++ master_lines s.master Tick)
+waiting-tick : (setting : Setting) (s : HalfState NodeState) (late ticks : ℕ) (lines : List Line) (place : ℕ) (awaited : Awaited) → late_after late s (AtMaster Tick) < patience (after_master_deed plain_node s Tick) → Awaiting late s.master s.stations place awaited
+    → Ledger setting s.master.host.initiator s.master.stations s.stations lines (Awaits place awaited) ticks → Course setting (master_after_tick node_host s.master) s.stations (late_after late s (AtMaster Tick)) (ticks + 1) (lines ++ master_lines plain_node s.master Tick)
 waiting-tick setting s late ticks lines place awaited few a l =
     let m = s.master in
     let now = Awaits place awaited in
@@ -82,13 +83,13 @@ waiting-tick setting s late ticks lines place awaited few a l =
       ledger = subst (λ (listed : List Station). Ledger setting w.after.host.initiator listed s.stations lines now (ticks + 1)) (sym w.stations_are)
           (subst (λ (node : NodeState). Ledger setting node.initiator m.stations s.stations lines now (ticks + 1)) (sym w.host) (ledger-later l));
     } in
-    subst (λ (n : ℕ). Course setting (master_after_tick node_host m) s.stations n (ticks + 1) (lines ++ master_lines m Tick)) (sym one) (left-course setting m w.after s.stations (late + 1) (ticks + 1) lines [] w.leaves course)
+    subst (λ (n : ℕ). Course setting (master_after_tick node_host m) s.stations n (ticks + 1) (lines ++ master_lines plain_node m Tick)) (sym one) (left-course setting m w.after s.stations (late + 1) (ticks + 1) lines [] w.leaves course)
 
 -- ---- where nothing is awaited
 
 -- the tick doesn't reach the host
 same-tick : (setting : Setting) (m : MasterState NodeState) (stations : List LineStationState) (other ticks : ℕ) (lines : List Line) → TickLeaves node_host m m [] → Idling m stations
-    → Ledger setting m.host.initiator m.stations stations lines Idles ticks → Course setting (master_after_tick node_host m) stations other (ticks + 1) (lines ++ master_lines m Tick)
+    → Ledger setting m.host.initiator m.stations stations lines Idles ticks → Course setting (master_after_tick node_host m) stations other (ticks + 1) (lines ++ master_lines plain_node m Tick)
 same-tick setting m stations other ticks lines t idling l =
     let course : Course setting m stations other (ticks + 1) lines = record { now = Idles; stage = idling; ledger = ledger-later l } in
     left-course setting m m stations other (ticks + 1) lines [] t course
@@ -111,7 +112,7 @@ polls-course setting e stations other ticks lines (Some station) is list_is numb
     }
 
 polls-tick : (setting : Setting) (m : MasterState NodeState) (stations : List LineStationState) (other ticks : ℕ) (lines : List Line) → Known setting m stations lines → ticks + 1 < m.host.initiator.reply_ticks → is_done m.mouth ≡ true → next_body m.host ≡ None → Idling m stations
-    → Ledger setting m.host.initiator m.stations stations lines Idles ticks → Course setting (master_after_tick node_host m) stations other (ticks + 1) (lines ++ master_lines m Tick)
+    → Ledger setting m.host.initiator m.stations stations lines Idles ticks → Course setting (master_after_tick node_host m) stations other (ticks + 1) (lines ++ master_lines plain_node m Tick)
 polls-tick setting m stations other ticks lines k few gives next idling l =
     let e : MasterState NodeState = with_host m (after_tick m.host) in
     let after = polled e (slice_get m.stations m.next) in
@@ -120,18 +121,18 @@ polls-tick setting m stations other ticks lines k few gives next idling l =
     (polls-course setting e stations other (ticks + 1) lines (slice_get m.stations m.next) refl k.list_is k.numbers_are (done-left m.mouth.left gives) still (ledger-tick few l))
 
 idle-tick : (setting : Setting) (m : MasterState NodeState) (stations : List LineStationState) (other ticks : ℕ) (lines : List Line) (given : Bool) (next : Option (List ℕ)) → is_done m.mouth ≡ given → next_body m.host ≡ next → Known setting m stations lines → ticks + 1 < m.host.initiator.reply_ticks
-    → Idling m stations → Ledger setting m.host.initiator m.stations stations lines Idles ticks → Course setting (master_after_tick node_host m) stations other (ticks + 1) (lines ++ master_lines m Tick)
+    → Idling m stations → Ledger setting m.host.initiator m.stations stations lines Idles ticks → Course setting (master_after_tick node_host m) stations other (ticks + 1) (lines ++ master_lines plain_node m Tick)
 idle-tick setting m stations other ticks lines false next gives is k few idling l = same-tick setting m stations other ticks lines (tick-giving node_host m gives) idling l
 idle-tick setting m stations other ticks lines true (Some body) gives is k few idling l = same-tick setting m stations other ticks lines (tick-ready node_host m body gives idling.idle is) idling l
 idle-tick setting m stations other ticks lines true None gives is k few idling l = polls-tick setting m stations other ticks lines k few gives is idling l
 
 -- ---- whatever is awaited
 
-pub course-tick : (setting : Setting) (s : HalfState) (late ticks : ℕ) (lines : List Line) → Known setting s.master s.stations lines → ticks + 1 < s.master.host.initiator.reply_ticks → late_after late s (AtMaster Tick) < patience (after_master_deed s Tick) → Course setting s.master s.stations late ticks lines
-    → Course setting (master_after_tick node_host s.master) s.stations (late_after late s (AtMaster Tick)) (ticks + 1) (lines ++ master_lines s.master Tick)
+pub course-tick : (setting : Setting) (s : HalfState NodeState) (late ticks : ℕ) (lines : List Line) → Known setting s.master s.stations lines → ticks + 1 < s.master.host.initiator.reply_ticks → late_after late s (AtMaster Tick) < patience (after_master_deed plain_node s Tick) → Course setting s.master s.stations late ticks lines
+    → Course setting (master_after_tick node_host s.master) s.stations (late_after late s (AtMaster Tick)) (ticks + 1) (lines ++ master_lines plain_node s.master Tick)
 course-tick setting s late ticks lines k few patient c = by-now c.now c.stage c.ledger
   where
     by-now : (now : Now) → Stage late s.master s.stations now → Ledger setting s.master.host.initiator s.master.stations s.stations lines now ticks
-        → Course setting (master_after_tick node_host s.master) s.stations (late_after late s (AtMaster Tick)) (ticks + 1) (lines ++ master_lines s.master Tick)
+        → Course setting (master_after_tick node_host s.master) s.stations (late_after late s (AtMaster Tick)) (ticks + 1) (lines ++ master_lines plain_node s.master Tick)
     by-now Idles stage l = idle-tick setting s.master s.stations (late_after late s (AtMaster Tick)) ticks lines (is_done s.master.mouth) (next_body s.master.host) refl refl k few stage l
     by-now (Awaits place awaited) stage l = waiting-tick setting s late ticks lines place awaited patient stage l

@@ -40,6 +40,7 @@ use Rattle.each_once.proofs.OneDirection.{way-within}
 use Rattle.each_once.proofs.RisingPlaces.{passing-in-turn}
 use Rattle.each_once.proofs.StationReplies.{exchanges-length}
 use Rattle.each_once.proofs.Sublists.{all-at, from-map, contains-at}
+use Rattle.half_line.specs.Behind.{plain_node}
 use Rattle.half_line.specs.Acts.{LineStationState, HalfState, LinkDeed, Give, Tick, StationGives}
 use Rattle.half_line.specs.Complete.{is_to, exchanges_at, AllDoneAt, IsAnsweredByOne, IsComplete}
 use Rattle.half_line.specs.Issues.{commands_of_m, issued_of, bodies_of}
@@ -86,7 +87,7 @@ take-ticks : (stations : List LineStationState) (who : Who) (n : ℕ) (o : Optio
 take-ticks stations who n None = gives-none n
 take-ticks stations who n (Some number) = ticks-with (place_of stations number) (replicate n StationGives)
 
-event-ticks : (s : HalfState) (e : Event) → ticks_over (steps_of s e) ≡ ticks_at e
+event-ticks : (s : HalfState NodeState) (e : Event) → ticks_over (steps_of s e) ≡ ticks_at e
 event-ticks s (event.Issue who src dst payload) = refl
 event-ticks s (event.Take who n) = take-ticks s.stations who n (number_of who)
 event-ticks s (event.Deliver lane n) = ticks-with (place_of s.stations (station_between lane.from lane.to)) (link_deeds (event.Deliver lane n))
@@ -97,7 +98,7 @@ event-ticks s (event.Tick who n) = all-ticks n
 
 -- ---- events
 
-flow-lines : (setting : Setting) (wait : ℕ) (s : HalfState) (late ticks : ℕ) (lines : List Line) (who : Who) (bytes : List ℕ) → Flow setting wait s late ticks lines → Flow setting wait s late ticks (lines ++ sent_lines who bytes)
+flow-lines : (setting : Setting) (wait : ℕ) (s : HalfState NodeState) (late ticks : ℕ) (lines : List Line) (who : Who) (bytes : List ℕ) → Flow setting wait s late ticks lines → Flow setting wait s late ticks (lines ++ sent_lines who bytes)
 flow-lines setting wait s late ticks lines who bytes f =
     let c = f.course in
     record {
@@ -107,24 +108,24 @@ flow-lines setting wait s late ticks lines who bytes f =
       honest = f.honest;
     }
 
-plain-along : (setting : Setting) (wait count : ℕ) (s : HalfState) (late ticks : ℕ) (lines : List Line) (e : Event) → ArePlain (steps_of s e) → count ≤ 65535 → AreShort setting → IsPromptOver late s (steps_of s e) → ticks + ticks_at e < wait → Along setting wait count s late ticks lines
-    → Along setting wait count (after_event s e) (late_event late s e) (ticks + ticks_at e) (lines ++ lines_of s e)
+plain-along : (setting : Setting) (wait count : ℕ) (s : HalfState NodeState) (late ticks : ℕ) (lines : List Line) (e : Event) → ArePlain (steps_of s e) → count ≤ 65535 → AreShort setting → IsPromptOver late s (steps_of s e) → ticks + ticks_at e < wait → Along setting wait count s late ticks lines
+    → Along setting wait count (after_event plain_node s e) (late_event late s e) (ticks + ticks_at e) (lines ++ lines_of plain_node s e)
 plain-along setting wait count s late ticks lines e plain few short prompt less a =
-    let over = lines_over s (steps_of s e) in
-    let bytes = bytes_over s (steps_of s e) in
+    let over = lines_over plain_node s (steps_of s e) in
+    let bytes = bytes_over plain_node s (steps_of s e) in
     let who = giver (station_at e) in
     let same = event-ticks s e in
     let all = along-steps setting wait count (steps_of s e) plain few short s late ticks lines prompt (omega (arith, less, same)) a in
-    subst (λ (n : ℕ). Along setting wait count (after_event s e) (late_event late s e) (ticks + n) (lines ++ lines_of s e)) same (record {
+    subst (λ (n : ℕ). Along setting wait count (after_event plain_node s e) (late_event late s e) (ticks + n) (lines ++ lines_of plain_node s e)) same (record {
       kept = with-bytes setting count s e lines all.kept;
-      flow = subst (λ (told : List Line). Flow setting wait (after_event s e) (late_event late s e) (ticks + ticks_over (steps_of s e)) told) (append_assoc lines over (sent_lines who bytes))
-          (flow-lines setting wait (after_event s e) (late_event late s e) (ticks + ticks_over (steps_of s e)) (lines ++ over) who bytes all.flow);
+      flow = subst (λ (told : List Line). Flow setting wait (after_event plain_node s e) (late_event late s e) (ticks + ticks_over (steps_of s e)) told) (append_assoc lines over (sent_lines who bytes))
+          (flow-lines setting wait (after_event plain_node s e) (late_event late s e) (ticks + ticks_over (steps_of s e)) (lines ++ over) who bytes all.flow);
     })
 
-event-along : (setting : Setting) (wait count : ℕ) (s : HalfState) (late ticks : ℕ) (lines : List Line) (e : Event) → IsHalfPossible setting.numbers e → count ≤ 65535 → counted count e ≤ 65535 → AreShort setting → IsPromptOver late s (steps_of s e) → ticks + ticks_at e < wait
-    → Along setting wait count s late ticks lines → Along setting wait (counted count e) (after_event s e) (late_event late s e) (ticks + ticks_at e) (lines ++ lines_of s e)
+event-along : (setting : Setting) (wait count : ℕ) (s : HalfState NodeState) (late ticks : ℕ) (lines : List Line) (e : Event) → IsHalfPossible setting.numbers e → count ≤ 65535 → counted count e ≤ 65535 → AreShort setting → IsPromptOver late s (steps_of s e) → ticks + ticks_at e < wait
+    → Along setting wait count s late ticks lines → Along setting wait (counted count e) (after_event plain_node s e) (late_event late s e) (ticks + ticks_at e) (lines ++ lines_of plain_node s e)
 event-along setting wait count s late ticks lines (event.Issue who src dst payload) may few more short prompt less a =
-    subst (λ (told : List Line). Along setting wait (count + 1) (after_event s (event.Issue who src dst payload)) (late_event late s (event.Issue who src dst payload)) (ticks + 0) told) (sym (append-nil lines))
+    subst (λ (told : List Line). Along setting wait (count + 1) (after_event plain_node s (event.Issue who src dst payload)) (late_event late s (event.Issue who src dst payload)) (ticks + 0) told) (sym (append-nil lines))
     (along-issue setting wait count s late ticks lines src dst payload may.2 may.1 (omega (arith, more)) a)
 event-along setting wait count s late ticks lines (event.Take who n) may few more short prompt less a = plain-along setting wait count s late ticks lines (event.Take who n) (plain-take s.stations who n (number_of who)) few short prompt less a
 event-along setting wait count s late ticks lines (event.Deliver lane n) may few more short prompt less a =
@@ -138,28 +139,28 @@ event-along setting wait count s late ticks lines (event.Foreign lane bytes) may
 event-along setting wait count s late ticks lines (event.Tick who n) may few more short prompt less a = plain-along setting wait count s late ticks lines (event.Tick who n) (plain-master Tick tt n) few short prompt less a
 
 -- what is so after all events
-record Ends (setting : Setting) (wait : ℕ) (s : HalfState) (lines : List Line) : Type 0 where
+record Ends (setting : Setting) (wait : ℕ) (s : HalfState NodeState) (lines : List Line) : Type 0 where
   count : ℕ
   few : count ≤ 65535
   late : ℕ
   ticks : ℕ
   along : Along setting wait count s late ticks lines
 
-events-along : (setting : Setting) (wait count : ℕ) (events : List Event) (s : HalfState) (late ticks : ℕ) (lines : List Line) → All (IsHalfPossible setting.numbers) events → count + count_by is_issue events ≤ 65535 → AreShort setting → IsPromptAfter late s events
-    → ticks + sum_by ticks_at events < wait → Along setting wait count s late ticks lines → Ends setting wait (state_after s events) (lines ++ lines_after s events)
+events-along : (setting : Setting) (wait count : ℕ) (events : List Event) (s : HalfState NodeState) (late ticks : ℕ) (lines : List Line) → All (IsHalfPossible setting.numbers) events → count + count_by is_issue events ≤ 65535 → AreShort setting → IsPromptAfter late s events
+    → ticks + sum_by ticks_at events < wait → Along setting wait count s late ticks lines → Ends setting wait (state_after plain_node s events) (lines ++ lines_after plain_node s events)
 events-along setting wait count [] s late ticks lines possible few short prompt less a =
     record { count = count; few = omega (arith, few); late = late; ticks = ticks; along = subst (λ (told : List Line). Along setting wait count s late ticks told) (sym (append-nil lines)) a }
 events-along setting wait count (e ∷ events) s late ticks lines possible few short prompt less a =
     let more = counted-more count e events in
     let sum = sum_by-cons ticks_at e events in
     let one = event-along setting wait count s late ticks lines e (All-head (IsHalfPossible setting.numbers) e events possible) (omega (arith, few)) (omega (arith, few, more)) short prompt.0 (omega (arith, less, sum)) a in
-    subst (λ (told : List Line). Ends setting wait (state_after (after_event s e) events) told) (append_assoc lines (lines_of s e) (lines_after (after_event s e) events))
-    (events-along setting wait (counted count e) events (after_event s e) (late_event late s e) (ticks + ticks_at e) (lines ++ lines_of s e) (All-tail (IsHalfPossible setting.numbers) e events possible) (omega (arith, few, more)) short prompt.1 (omega (arith, less, sum)) one)
+    subst (λ (told : List Line). Ends setting wait (state_after plain_node (after_event plain_node s e) events) told) (append_assoc lines (lines_of plain_node s e) (lines_after plain_node (after_event plain_node s e) events))
+    (events-along setting wait (counted count e) events (after_event plain_node s e) (late_event late s e) (ticks + ticks_at e) (lines ++ lines_of plain_node s e) (All-tail (IsHalfPossible setting.numbers) e events possible) (omega (arith, few, more)) short prompt.1 (omega (arith, less, sum)) one)
 
 -- ---- where nothing is under way and no reply is left, each command is answered
 
 -- nothing is on its way to a station or from one
-quiet-now : {setting : Setting} {lines : List Line} {ticks : ℕ} (s : HalfState) (late : ℕ) (now : Now) → Stage late s.master s.stations now → is_quiet s ≡ true → Ledger setting s.master.host.initiator s.master.stations s.stations lines now ticks
+quiet-now : {setting : Setting} {lines : List Line} {ticks : ℕ} (s : HalfState NodeState) (late : ℕ) (now : Now) → Stage late s.master s.stations now → is_quiet s ≡ true → Ledger setting s.master.host.initiator s.master.stations s.stations lines now ticks
     → Ledger setting s.master.host.initiator s.master.stations s.stations lines Idles ticks
 quiet-now s late Idles stage quiet l = l
 quiet-now s late (Awaits place awaited) stage quiet l = absurd (awaits-busy late s place awaited stage quiet)
@@ -185,7 +186,7 @@ settled {first = first} {number = number} lines none d =
     }
 
 -- the master has none to hand out
-none-waits : (setting : Setting) (s : HalfState) (lines : List Line) (ticks : ℕ) (o : Option (List ℕ)) → next_command s.master.host.initiator ≡ o → Known setting s.master s.stations lines → ((body : List ℕ) → next_body s.master.host ≡ Some body → is_listed s.master.stations (slice_index body 0) ≡ true → ⊥)
+none-waits : (setting : Setting) (s : HalfState NodeState) (lines : List Line) (ticks : ℕ) (o : Option (List ℕ)) → next_command s.master.host.initiator ≡ o → Known setting s.master s.stations lines → ((body : List ℕ) → next_body s.master.host ≡ Some body → is_listed s.master.stations (slice_index body 0) ≡ true → ⊥)
     → Ledger setting s.master.host.initiator s.master.stations s.stations lines Idles ticks → next_command s.master.host.initiator ≡ None
 none-waits setting s lines ticks None is k n l = is
 none-waits setting s lines ticks (Some body) is k n l =
@@ -195,13 +196,13 @@ none-waits setting s lines ticks (Some body) is k n l =
     absurd (n body (ap (λ (replies : List (List ℕ)). option_or (slice_get replies 0) (next_command m.host.initiator)) k.replies_none ∙ is) listed)
 
 -- so all are answered
-record AllAnswered (setting : Setting) (s : HalfState) (lines : List Line) : Type 0 where
+record AllAnswered (setting : Setting) (s : HalfState NodeState) (lines : List Line) : Type 0 where
   ticks : ℕ
   declared : AreDeclared setting.numbers (bodies_of s.master)
   settles : (p : ℕ) (side : LineStationState) → slice_get s.stations p ≡ Some side → Settled (setting.first p) side.number s.master.host.initiator lines ticks
   each : (k : ℕ) (c : Issued) → slice_get (issued_of s.master) k ≡ Some c → IsDone c.standing
 
-all-answered : (setting : Setting) (wait : ℕ) (s : HalfState) (late ticks : ℕ) (lines : List Line) → Known setting s.master s.stations lines → is_quiet s ≡ true → All KeepsNone s.stations → Flow setting wait s late ticks lines → AllAnswered setting s lines
+all-answered : (setting : Setting) (wait : ℕ) (s : HalfState NodeState) (late ticks : ℕ) (lines : List Line) → Known setting s.master s.stations lines → is_quiet s ≡ true → All KeepsNone s.stations → Flow setting wait s late ticks lines → AllAnswered setting s lines
 all-answered setting wait s late ticks lines k quiet fetched f =
     let c = f.course in
     let i = s.master.host.initiator in
@@ -222,7 +223,7 @@ record DoneAt (first : StationState) (number : ℕ) (bodies : List (List ℕ)) (
   executed : AreAllOf (executed_in (S number) lines) (filter (is_to number) bodies)
   replied : told_in number lines ≡ replies_to first (executed_in (S number) lines)
 
-done-at : (setting : Setting) (count : ℕ) (s : HalfState) (lines : List Line) (p : ℕ) (side : LineStationState) → slice_get s.stations p ≡ Some side → Holds setting count s lines → AllAnswered setting s lines → DoneAt (setting.first p) side.number (bodies_of s.master) lines
+done-at : (setting : Setting) (count : ℕ) (s : HalfState NodeState) (lines : List Line) (p : ℕ) (side : LineStationState) → slice_get s.stations p ≡ Some side → Holds setting count s lines → AllAnswered setting s lines → DoneAt (setting.first p) side.number (bodies_of s.master) lines
 done-at setting count s lines p side at h a =
     let n = side.number in
     let i = s.master.host.initiator in
@@ -246,8 +247,8 @@ are-short script playable p number at =
     let same : plan_at script p ≡ plan.0 = get_or_from_slice_get plans p plan.0 (first_plan M 0) plan.1 in
     subst (λ (x : EndPlan). length x.block ≤ 244) (sym same) (blocks script playable p plan.0 plan.1)
 
-at-plan : (script : Script) (playable : IsHalfPlayable script) (count : ℕ) (s : HalfState) (lines : List Line) (p : ℕ) (plan : EndPlan) → bodies_of s.master ≡ commands_of_m script → Holds (setting_of script playable) count s lines → AllAnswered (setting_of script playable) s lines
-    → slice_get (station_plans script.ends) p ≡ Some plan → AllDoneAt script (record_from s lines) plan
+at-plan : (script : Script) (playable : IsHalfPlayable script) (count : ℕ) (s : HalfState NodeState) (lines : List Line) (p : ℕ) (plan : EndPlan) → bodies_of s.master ≡ commands_of_m script → Holds (setting_of script playable) count s lines → AllAnswered (setting_of script playable) s lines
+    → slice_get (station_plans script.ends) p ≡ Some plan → AllDoneAt script (record_from plain_node s lines) plan
 at-plan script playable count s lines p plan bodies h a at =
     let plans = station_plans script.ends in
     let side = side-of (setting_of script playable) count s lines plans p plan refl h at in
@@ -261,8 +262,8 @@ at-plan script playable count s lines p plan bodies h a at =
 -- ---- one command
 
 -- its answer is the reply of the station that it was issued to
-reply-of : (script : Script) (playable : IsHalfPlayable script) (count : ℕ) (s : HalfState) (lines : List Line) (k : ℕ) (c : Issued) (plan : EndPlan) (reply : List ℕ) → Holds (setting_of script playable) count s lines → OnceAtStation script (record_from s lines) plan → slice_get (issued_of s.master) k ≡ Some c
-    → is_to plan.node c.body ≡ true → c.standing ≡ Answered reply → IsAmong (suc k) reply (answers_in M lines) → IsReplyTo (commands_of_m script) (exchanges_at (record_from s lines) plan) (suc k) reply
+reply-of : (script : Script) (playable : IsHalfPlayable script) (count : ℕ) (s : HalfState NodeState) (lines : List Line) (k : ℕ) (c : Issued) (plan : EndPlan) (reply : List ℕ) → Holds (setting_of script playable) count s lines → OnceAtStation script (record_from plain_node s lines) plan → slice_get (issued_of s.master) k ≡ Some c
+    → is_to plan.node c.body ≡ true → c.standing ≡ Answered reply → IsAmong (suc k) reply (answers_in M lines) → IsReplyTo (commands_of_m script) (exchanges_at (record_from plain_node s lines) plan) (suc k) reply
 reply-of script playable count s lines k c plan reply h o at to stands among =
     let n = plan.node in
     let settles : IsSettledBy h.heard c.body (Answered reply) = subst (λ (x : Standing). IsSettledBy h.heard c.body x) stands (settled-at h.heard (issued_of s.master) k c h.master.issues.initiates.settled at) in
@@ -271,32 +272,32 @@ reply-of script playable count s lines k c plan reply h o at to stands among =
     subst (λ (xs : List (List ℕ)). IsReplyTo (commands_of_m script) (exchanges (first_station plan) xs) (suc k) reply) same
     (all-at (λ a. IsReplyTo (commands_of_m script) (exchanges (first_station plan) (executed_in (S n) (own_lines n lines))) a.0 a.1) (answers_in M (own_lines n lines)) own.0 (suc k, reply) o.once.answers own.1)
 
-one-answered : (script : Script) (playable : IsHalfPlayable script) (count : ℕ) (s : HalfState) (lines : List Line) (k : ℕ) (c : Issued) → AreOutcomesTold M (issued_of s.master) lines → EachOnce script (record_from s lines) → Known (setting_of script playable) s.master s.stations lines → Holds (setting_of script playable) count s lines
-    → AllAnswered (setting_of script playable) s lines → slice_get (issued_of s.master) k ≡ Some c → IsAnsweredByOne script (record_from s lines) (suc k)
+one-answered : (script : Script) (playable : IsHalfPlayable script) (count : ℕ) (s : HalfState NodeState) (lines : List Line) (k : ℕ) (c : Issued) → AreOutcomesTold M (issued_of s.master) lines → EachOnce script (record_from plain_node s lines) → Known (setting_of script playable) s.master s.stations lines → Holds (setting_of script playable) count s lines
+    → AllAnswered (setting_of script playable) s lines → slice_get (issued_of s.master) k ≡ Some c → IsAnsweredByOne script (record_from plain_node s lines) (suc k)
 one-answered script playable count s lines k c told once known h a at =
     let setting = setting_of script playable in
     let plans = station_plans script.ends in
     let f = found setting s.master s.stations lines (slice_index c.body 0) known (a.declared k c.body (body-of (issued_of s.master) k c at)) in
     let plan = from-map (λ (x : EndPlan). x.node) plans f.place (slice_index c.body 0) f.number_at in
-    let o = all-at (OnceAtStation script (record_from s lines)) plans f.place plan.0 once.stations plan.1 in
+    let o = all-at (OnceAtStation script (record_from plain_node s lines)) plans f.place plan.0 once.stations plan.1 in
     record {
       plan = plan.0;
       is_station = contains-at plans f.place plan.0 plan.1;
-      answered = answered-at M (commands_of_m script) (exchanges_at (record_from s lines) plan.0) (issued_of s.master) lines told k c at (a.each k c at)
+      answered = answered-at M (commands_of_m script) (exchanges_at (record_from plain_node s lines) plan.0) (issued_of s.master) lines told k c at (a.each k c at)
           (λ reply stands among. reply-of script playable count s lines k c plan.0 reply h o at (eq-eqb (slice_index c.body 0) plan.0.node (sym plan.2)) stands among);
     }
 
-by-number : (script : Script) (s : HalfState) (lines : List Line) → length (issued_of s.master) ≡ length (commands_of_m script) → ((k : ℕ) (c : Issued) → slice_get (issued_of s.master) k ≡ Some c → IsAnsweredByOne script (record_from s lines) (suc k))
-    → (n : ℕ) → 1 ≤ n → n ≤ length (commands_of_m script) → IsAnsweredByOne script (record_from s lines) n
+by-number : (script : Script) (s : HalfState NodeState) (lines : List Line) → length (issued_of s.master) ≡ length (commands_of_m script) → ((k : ℕ) (c : Issued) → slice_get (issued_of s.master) k ≡ Some c → IsAnsweredByOne script (record_from plain_node s lines) (suc k))
+    → (n : ℕ) → 1 ≤ n → n ≤ length (commands_of_m script) → IsAnsweredByOne script (record_from plain_node s lines) n
 by-number script s lines count each zero least most = absurd (omega (arith, least))
 by-number script s lines count each (suc k) least most =
     let none : Issued = record { body = []; standing = Waiting } in
     each k (get_or (issued_of s.master) k none) (slice_get-get_or (issued_of s.master) k none (omega (arith, count, most)))
 
-pub is-complete : (script : Script) → IsHalfPlayable script → IsUndisturbed script → IsComplete script (record_from (last_state script) (lines_after (start script) script.events))
+pub is-complete : (script : Script) → IsHalfPlayable script → IsUndisturbed script → IsComplete script (record_from plain_node (last_state script) (lines_after plain_node (start script) script.events))
 is-complete script playable undisturbed =
     let s = last_state script in
-    let lines = lines_after (start script) script.events in
+    let lines = lines_after plain_node (start script) script.events in
     let setting = setting_of script playable in
     let wait = (plan_of_m script).reply_ticks in
     let plans = station_plans script.ends in

@@ -4,6 +4,7 @@ use Rattle.std.proofs.lemmas.Bool.{ltb-true}
 use Rattle.std.specs.Prelude.{All, ◌&&◌, nat_lt, slice_get}
 use Rattle.std.specs.List.{IsDistinct}
 use Rattle.std.proofs.lemmas.List.Elements.{All-nil, All-cons}
+use Rattle.df1_node.specs.Node.{NodeState}
 use Rattle.df1_check.specs.Checks.{with_byte}
 use Rattle.df1_frame.specs.Spelling.{check_bytes}
 use Rattle.logical_address.specs.Reading.{three_front}
@@ -21,6 +22,7 @@ use Rattle.script_parts.proofs.PlanSettings.{Fits-first_plan}
 use Rattle.script_parts.specs.HalfPlayable.{IsStationNumber, IsStationPlan, IsHalfPossible, IsHalfPlayable, numbers_of, station_plans}
 use Rattle.each_once.proofs.Sublists.{none-is}
 use Rattle.each_once.specs.Tells.{executed_in, answers_in}
+use Rattle.half_line.specs.Behind.{plain_node}
 use Rattle.half_line.specs.Acts.{LineStationState, HalfState, LaneDeed, Deliver, Lose, Alter, Foreign, lane_of, LinkDeed, StationGives, OnLane}
 use Rattle.half_line.specs.Steps.{UnitStep, AtMaster, AtStation, after_step}
 use Rattle.half_line.specs.Run.{plan_of_m, start, steps_of, after_event, last_state, lines_after, record_from}
@@ -64,15 +66,15 @@ polled_write-playable = record {
 
 -- ---- what the record tells
 
-pub polled_write-executed : executed_in (S 3) (lines_after (start polled_write) polled_write.events) ≡ the_command ∷ []
+pub polled_write-executed : executed_in (S 3) (lines_after plain_node (start polled_write) polled_write.events) ≡ the_command ∷ []
 unfolding check_bytes with_byte spelled_order fields three_front
 polled_write-executed = refl
 
-pub polled_write-executed-none : executed_in (S 5) (lines_after (start polled_write) polled_write.events) ≡ []
+pub polled_write-executed-none : executed_in (S 5) (lines_after plain_node (start polled_write) polled_write.events) ≡ []
 unfolding check_bytes with_byte spelled_order fields three_front
 polled_write-executed-none = refl
 
-pub polled_write-answered : answers_in M (lines_after (start polled_write) polled_write.events) ≡ (1, the_reply) ∷ []
+pub polled_write-answered : answers_in M (lines_after plain_node (start polled_write) polled_write.events) ≡ (1, the_reply) ∷ []
 unfolding check_bytes with_byte spelled_order fields three_front
 polled_write-answered = refl
 
@@ -92,17 +94,17 @@ abbrev is_gentle_with : LinkDeed → Option LineStationState → Bool
 is_gentle_with deed None = true
 is_gentle_with deed (Some side) = is_gentle_at side deed
 
-abbrev is_gentle : HalfState → UnitStep → Bool
+abbrev is_gentle : HalfState NodeState → UnitStep → Bool
 is_gentle s (AtMaster deed) = true
 is_gentle s (AtStation place deed) = is_gentle_with deed (slice_get s.stations place)
 
-abbrev prompt_over : ℕ → HalfState → List UnitStep → Bool
+abbrev prompt_over : ℕ → HalfState NodeState → List UnitStep → Bool
 prompt_over late s [] = true
-prompt_over late s (step ∷ steps) = is_gentle s step && (nat_lt (late_after late s step) (patience (after_step s step)) && prompt_over (late_after late s step) (after_step s step) steps)
+prompt_over late s (step ∷ steps) = is_gentle s step && (nat_lt (late_after late s step) (patience (after_step plain_node s step)) && prompt_over (late_after late s step) (after_step plain_node s step) steps)
 
-abbrev prompt_after : ℕ → HalfState → List Event → Bool
+abbrev prompt_after : ℕ → HalfState NodeState → List Event → Bool
 prompt_after late s [] = true
-prompt_after late s (e ∷ events) = prompt_over late s (steps_of s e) && prompt_after (late_event late s e) (after_event s e) events
+prompt_after late s (e ∷ events) = prompt_over late s (steps_of s e) && prompt_after (late_event late s e) (after_event plain_node s e) events
 
 both : (a b : Bool) → (a && b) ≡ true → (a ≡ true) × (b ≡ true)
 both true b h = (refl, h)
@@ -123,24 +125,24 @@ gentle-with : (deed : LinkDeed) (o : Option LineStationState) → is_gentle_with
 gentle-with deed None h = tt
 gentle-with deed (Some side) h = gentle-at side deed h
 
-gentle : (s : HalfState) (step : UnitStep) → is_gentle s step ≡ true → IsGentle s step
+gentle : (s : HalfState NodeState) (step : UnitStep) → is_gentle s step ≡ true → IsGentle s step
 gentle s (AtMaster deed) h = tt
 gentle s (AtStation place deed) h = gentle-with deed (slice_get s.stations place) h
 
-prompt-over : (late : ℕ) (s : HalfState) (steps : List UnitStep) → prompt_over late s steps ≡ true → IsPromptOver late s steps
+prompt-over : (late : ℕ) (s : HalfState NodeState) (steps : List UnitStep) → prompt_over late s steps ≡ true → IsPromptOver late s steps
 prompt-over late s [] h = tt
 prompt-over late s (step ∷ steps) h =
-    let after = after_step s step in
+    let after = after_step plain_node s step in
     let now = late_after late s step in
     let parts = both (is_gentle s step) (nat_lt now (patience after) && prompt_over now after steps) h in
     let more = both (nat_lt now (patience after)) (prompt_over now after steps) parts.1 in
     (gentle s step parts.0, ltb-true now (patience after) more.0, prompt-over now after steps more.1)
 
-prompt-after : (late : ℕ) (s : HalfState) (events : List Event) → prompt_after late s events ≡ true → IsPromptAfter late s events
+prompt-after : (late : ℕ) (s : HalfState NodeState) (events : List Event) → prompt_after late s events ≡ true → IsPromptAfter late s events
 prompt-after late s [] h = tt
 prompt-after late s (e ∷ events) h =
-    let parts = both (prompt_over late s (steps_of s e)) (prompt_after (late_event late s e) (after_event s e) events) h in
-    (prompt-over late s (steps_of s e) parts.0, prompt-after (late_event late s e) (after_event s e) events parts.1)
+    let parts = both (prompt_over late s (steps_of s e)) (prompt_after (late_event late s e) (after_event plain_node s e) events) h in
+    (prompt-over late s (steps_of s e) parts.0, prompt-after (late_event late s e) (after_event plain_node s e) events parts.1)
 
 polled_write-checked : prompt_after 0 (start polled_write) polled_write.events ≡ true
 unfolding check_bytes with_byte spelled_order fields three_front is_gentle_on
@@ -163,7 +165,7 @@ polled_write-undisturbed = record {
   fetched = polled_write-fetched;
 }
 
-pub polled_write-complete : IsComplete polled_write (record_from (last_state polled_write) (lines_after (start polled_write) polled_write.events))
+pub polled_write-complete : IsComplete polled_write (record_from plain_node (last_state polled_write) (lines_after plain_node (start polled_write) polled_write.events))
 polled_write-complete = is-complete polled_write polled_write-playable polled_write-undisturbed
 
 -- ---- two commands out at two stations
@@ -202,15 +204,15 @@ two_stations-playable = record {
   sum = omega arith;
 }
 
-pub two_stations-executed : executed_in (S 5) (lines_after (start two_stations) two_stations.events) ≡ first_echo ∷ []
+pub two_stations-executed : executed_in (S 5) (lines_after plain_node (start two_stations) two_stations.events) ≡ first_echo ∷ []
 unfolding check_bytes with_byte spelled_order fields three_front
 two_stations-executed = refl
 
-pub two_stations-executed-too : executed_in (S 3) (lines_after (start two_stations) two_stations.events) ≡ second_echo ∷ []
+pub two_stations-executed-too : executed_in (S 3) (lines_after plain_node (start two_stations) two_stations.events) ≡ second_echo ∷ []
 unfolding check_bytes with_byte spelled_order fields three_front
 two_stations-executed-too = refl
 
-pub two_stations-answered : answers_in M (lines_after (start two_stations) two_stations.events) ≡ (2, second_echoed) ∷ (1, first_echoed) ∷ []
+pub two_stations-answered : answers_in M (lines_after plain_node (start two_stations) two_stations.events) ≡ (2, second_echoed) ∷ (1, first_echoed) ∷ []
 unfolding check_bytes with_byte spelled_order fields three_front
 two_stations-answered = refl
 
@@ -235,5 +237,5 @@ two_stations-undisturbed = record {
   fetched = two_stations-fetched;
 }
 
-pub two_stations-complete : IsComplete two_stations (record_from (last_state two_stations) (lines_after (start two_stations) two_stations.events))
+pub two_stations-complete : IsComplete two_stations (record_from plain_node (last_state two_stations) (lines_after plain_node (start two_stations) two_stations.events))
 two_stations-complete = is-complete two_stations two_stations-playable two_stations-undisturbed

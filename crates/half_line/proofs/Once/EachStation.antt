@@ -4,6 +4,7 @@ use Rattle.std.specs.Prelude.{All, slice_get, slice_index, slice_index_or, nat_e
 use Rattle.std.specs.Option.{option_map}
 use Rattle.std.specs.List.{flat_map, IsDistinct}
 use Rattle.std.proofs.lemmas.Option.{slice_get-map, slice_get-get_or, get_or_from_slice_get}
+use Rattle.df1_node.specs.Node.{NodeState}
 use Rattle.df1_check.specs.declared.Check.{Check}
 use Rattle.data_files.specs.Tables.{DataTables}
 use Rattle.df1_node.specs.Answer.{StationState}
@@ -33,6 +34,7 @@ use Rattle.each_once.proofs.RisingPlaces.{some-in-turn, are-apart}
 use Rattle.each_once.proofs.Sublists.{from-map, same-some}
 use Rattle.each_once.proofs.ToldLines.{told-start}
 use Rattle.each_once.proofs.ToldReplies.{reply-to, one-outcome, astray-told}
+use Rattle.half_line.specs.Behind.{plain_node}
 use Rattle.half_line.specs.Acts.{LineStationState, HalfState}
 use Rattle.half_line.specs.Once.{OnceAtStation, EachOnce, tables_made, words_made}
 use Rattle.half_line.specs.Run.{master_setup, slave_setup, first_side, plan_of_m, start, last_state, lines_after, tables_of, record_from}
@@ -114,7 +116,7 @@ holds-start script playable =
 all-as : {X : Type 0} (P Q : X → Type 0) (xs : List X) → ((x : X) → P x → Q x) → All P xs → All Q xs
 all-as P Q xs each all k d inside = each _ (all k d inside)
 
-once-of : (setting : Setting) (count : ℕ) (s : HalfState) (lines : List Line) (p : ℕ) (side : LineStationState) → count ≤ 65535 → AreOutcomesTold M (issued_of s.master) lines → (h : Holds setting count s lines) → slice_get s.stations p ≡ Some side
+once-of : (setting : Setting) (count : ℕ) (s : HalfState NodeState) (lines : List Line) (p : ℕ) (side : LineStationState) → count ≤ 65535 → AreOutcomesTold M (issued_of s.master) lines → (h : Holds setting count s lines) → slice_get s.stations p ≡ Some side
     → Once M (S side.number) (map (λ c. c.body) (issued_of s.master)) (setting.first p) (lines_of side.number lines)
 once-of setting count s lines p side few told h at =
     let issued = issued_of s.master in
@@ -137,14 +139,14 @@ to-all : (number : ℕ) (bodies : List (List ℕ)) → AreTo number bodies → A
 to-all number bodies to k d inside = to k _ (slice_get-get_or bodies k d inside)
 
 -- the station at the place of a plan
-pub side-of : (setting : Setting) (count : ℕ) (s : HalfState) (lines : List Line) (plans : List EndPlan) (p : ℕ) (plan : EndPlan) → setting.numbers ≡ map (λ (x : EndPlan). x.node) plans → Holds setting count s lines → slice_get plans p ≡ Some plan
+pub side-of : (setting : Setting) (count : ℕ) (s : HalfState NodeState) (lines : List Line) (plans : List EndPlan) (p : ℕ) (plan : EndPlan) → setting.numbers ≡ map (λ (x : EndPlan). x.node) plans → Holds setting count s lines → slice_get plans p ≡ Some plan
     → (side : LineStationState) × (slice_get s.stations p ≡ Some side) × (side.number ≡ plan.node)
 side-of setting count s lines plans p plan are h at =
     from-map (λ (x : LineStationState). x.number) s.stations p plan.node
     (ap (λ ns. slice_get ns p) (h.numbers_are ∙ are) ∙ slice_get-map (λ (x : EndPlan). x.node) plans p ∙ ap (option_map (λ (x : EndPlan). x.node)) at)
 
-at-station : (script : Script) (playable : IsHalfPlayable script) (count : ℕ) (s : HalfState) (lines : List Line) (p : ℕ) (plan : EndPlan) → count ≤ 65535 → map (λ c. c.body) (issued_of s.master) ≡ commands_of_m script → AreOutcomesTold M (issued_of s.master) lines
-    → Holds (setting_of script playable) count s lines → slice_get (station_plans script.ends) p ≡ Some plan → OnceAtStation script (record_from s lines) plan
+at-station : (script : Script) (playable : IsHalfPlayable script) (count : ℕ) (s : HalfState NodeState) (lines : List Line) (p : ℕ) (plan : EndPlan) → count ≤ 65535 → map (λ c. c.body) (issued_of s.master) ≡ commands_of_m script → AreOutcomesTold M (issued_of s.master) lines
+    → Holds (setting_of script playable) count s lines → slice_get (station_plans script.ends) p ≡ Some plan → OnceAtStation script (record_from plain_node s lines) plan
 at-station script playable count s lines p plan few bodies told h at =
     let plans = station_plans script.ends in
     let setting = setting_of script playable in
@@ -170,18 +172,18 @@ words-same f g (side ∷ stations) [] are each = absurd cc
 words-same f g (side ∷ stations) (plan ∷ plans) are each =
     ap₂ (λ x y. x ++ y) (each zero side plan refl refl) (words-same f g stations plans (let same : map (λ (x : LineStationState). x.number) stations ≡ map (λ (x : EndPlan). x.node) plans = cc in same) (λ p s q at at-plan. each (suc p) s q at at-plan))
 
-tables-are : (script : Script) (playable : IsHalfPlayable script) (count : ℕ) (s : HalfState) (lines : List Line) → Holds (setting_of script playable) count s lines → (p : ℕ) (side : LineStationState) (plan : EndPlan)
-    → slice_get s.stations p ≡ Some side → slice_get (station_plans script.ends) p ≡ Some plan → side.number ≡ plan.node → words_of (S side.number) (tables_of side) ≡ words_made (record_from s lines) plan
+tables-are : (script : Script) (playable : IsHalfPlayable script) (count : ℕ) (s : HalfState NodeState) (lines : List Line) → Holds (setting_of script playable) count s lines → (p : ℕ) (side : LineStationState) (plan : EndPlan)
+    → slice_get s.stations p ≡ Some side → slice_get (station_plans script.ends) p ≡ Some plan → side.number ≡ plan.node → words_of (S side.number) (tables_of side) ≡ words_made (record_from plain_node s lines) plan
 tables-are script playable count s lines h p side plan at at-plan number =
     let this = h.sides p side at in
     let plans = station_plans script.ends in
     let first : plan_at script p ≡ plan = get_or_from_slice_get plans p plan (first_plan M 0) at-plan in
     let executed : this.executed ≡ executed_in (S plan.node) lines = sym this.told.executes ∙ executed-same side.number (S side.number) lines ∙ ap (λ (n : ℕ). executed_in (S n) lines) number in
-    let tables : tables_of side ≡ tables_made (record_from s lines) plan =
+    let tables : tables_of side ≡ tables_made (record_from plain_node s lines) plan =
     ap (λ (station : StationState). station.tables) (this.keeps.serves.station ∙ ap₂ (λ (x : EndPlan) (bodies : List (List ℕ)). station_after (first_station x) bodies) first executed) in
     ap₂ (λ (n : ℕ) (t : DataTables). words_of (S n) t) number tables
 
-number-of : (setting : Setting) (count : ℕ) (s : HalfState) (lines : List Line) (plans : List EndPlan) (p : ℕ) (side : LineStationState) (plan : EndPlan) → setting.numbers ≡ map (λ (x : EndPlan). x.node) plans → Holds setting count s lines
+number-of : (setting : Setting) (count : ℕ) (s : HalfState NodeState) (lines : List Line) (plans : List EndPlan) (p : ℕ) (side : LineStationState) (plan : EndPlan) → setting.numbers ≡ map (λ (x : EndPlan). x.node) plans → Holds setting count s lines
     → slice_get s.stations p ≡ Some side → slice_get plans p ≡ Some plan → side.number ≡ plan.node
 number-of setting count s lines plans p side plan are h at at-plan =
     let found = side-of setting count s lines plans p plan are h at-plan in
@@ -191,11 +193,11 @@ number-of setting count s lines plans p side plan are h at at-plan =
 -- ---- the whole
 
 -- by the commands that the master has issued, and what is told of each
-pub each-once : (script : Script) → IsHalfPlayable script → map (λ c. c.body) (issued_of (last_state script).master) ≡ commands_of_m script → AreOutcomesTold M (issued_of (last_state script).master) (lines_after (start script) script.events)
-    → (last_state script).deceived ≡ 0 → EachOnce script (record_from (last_state script) (lines_after (start script) script.events))
+pub each-once : (script : Script) → IsHalfPlayable script → map (λ c. c.body) (issued_of (last_state script).master) ≡ commands_of_m script → AreOutcomesTold M (issued_of (last_state script).master) (lines_after plain_node (start script) script.events)
+    → (last_state script).deceived ≡ 0 → EachOnce script (record_from plain_node (last_state script) (lines_after plain_node (start script) script.events))
 each-once script playable bodies told none =
     let s = last_state script in
-    let lines = lines_after (start script) script.events in
+    let lines = lines_after plain_node (start script) script.events in
     let plans = station_plans script.ends in
     let setting = setting_of script playable in
     let count = counted_over 0 script.events in
@@ -208,6 +210,6 @@ each-once script playable bodies told none =
       strays_from = h.replies.strays_from;
       executes_none = h.replies.executes_none;
       words = ap₂ (λ (x : DataTables) (y : List WordOf). words_of M x ++ y) (ap (λ (station : StationState). station.tables) h.master.issues.station)
-          (words-same (λ (side : LineStationState). words_of (S side.number) (tables_of side)) (words_made (record_from s lines)) s.stations plans h.numbers_are
+          (words-same (λ (side : LineStationState). words_of (S side.number) (tables_of side)) (words_made (record_from plain_node s lines)) s.stations plans h.numbers_are
           (λ p side plan at at-plan. tables-are script playable count s lines h p side plan at at-plan (number-of setting count s lines plans p side plan refl h at at-plan)));
     }

@@ -21,6 +21,7 @@ use Rattle.script_parts.specs.HalfPlayable.{station_plans, numbers_of}
 use Rattle.outset.specs.Outset.{first_node}
 use Rattle.lane_cells.specs.Cells.{LaneCell}
 use Rattle.each_once.specs.NodeHost.{node_host}
+use Rattle.half_line.specs.Behind.{plain_node}
 use Rattle.half_line.specs.declared.way.Way.TheVariants.{ToStation, ToMaster}
 use Rattle.half_line.specs.Acts.{LineStationState, HalfState, LinkState, link_state, MasterDeed, Issue, Give, Tick, LinkDeed, StationGives, OnLane, lane_after, arriving, step_of, joined, cells_given, master_after, after_arrival, after_link_deed}
 use Rattle.half_line.specs.Steps.{UnitStep, AtMaster, AtStation, link_of, after_with, after_step, after_steps}
@@ -35,27 +36,27 @@ pub record StationHears (check : Check) (arrivals : List slave.Arrival) (side : 
   pub stands : slave.StandsFor check (slave.bytes_arrived arrivals) side.slave
   pub heard : slave.HeardByGrammar check arrivals
 
-station-cell : (check : Check) (arrivals : List slave.Arrival) (s : LinkState) (lane : List LaneCell) (cell : LaneCell) → StationHears check arrivals s.side
-    → StationHears check (arrivals ++ station_arrived ToStation s (Some cell)) (after_arrival ToStation (link_state s.master (record s.side { to_it = lane }) s.deceived) (Some cell)).side
+station-cell : (check : Check) (arrivals : List slave.Arrival) (s : LinkState NodeState) (lane : List LaneCell) (cell : LaneCell) → StationHears check arrivals s.side
+    → StationHears check (arrivals ++ station_arrived ToStation s (Some cell)) (after_arrival plain_node ToStation (link_state s.master (record s.side { to_it = lane }) s.deceived) (Some cell)).side
 station-cell check arrivals s lane cell h =
-    let last : slave.Arrival = record { byte = cell.byte; whole = (step_of ToStation s cell).whole; station = (step_of ToStation s cell).station } in
+    let last : slave.Arrival = record { byte = cell.byte; whole = (step_of plain_node ToStation s cell).whole; station = (step_of plain_node ToStation s cell).station } in
     record {
       stands = subst (λ (bytes : List ℕ). slave.StandsFor check bytes (slave_after_byte node_host s.side.slave cell.byte)) (sym (map-append (λ (a : slave.Arrival). a.byte) arrivals (last ∷ [])))
           (ear.stands-byte node_host s.side.slave cell.byte check (slave.bytes_arrived arrivals) h.stands);
       heard = ear.heard-more check arrivals last h.heard (ear.byte-tells node_host s.side.slave cell.byte check (slave.bytes_arrived arrivals) h.stands);
     }
 
-station-arrival : (check : Check) (arrivals : List slave.Arrival) (s : LinkState) (lane : List LaneCell) (cell : Option LaneCell) → StationHears check arrivals s.side
-    → StationHears check (arrivals ++ station_arrived ToStation s cell) (after_arrival ToStation (link_state s.master (record s.side { to_it = lane }) s.deceived) cell).side
+station-arrival : (check : Check) (arrivals : List slave.Arrival) (s : LinkState NodeState) (lane : List LaneCell) (cell : Option LaneCell) → StationHears check arrivals s.side
+    → StationHears check (arrivals ++ station_arrived ToStation s cell) (after_arrival plain_node ToStation (link_state s.master (record s.side { to_it = lane }) s.deceived) cell).side
 station-arrival check arrivals s lane None h = rw (append-nil arrivals) (record { stands = h.stands; heard = h.heard })
 station-arrival check arrivals s lane (Some cell) h = station-cell check arrivals s lane cell h
 
-station-past : (check : Check) (arrivals : List slave.Arrival) (s : LinkState) (lane : List LaneCell) (cell : Option LaneCell) → StationHears check arrivals s.side
-    → StationHears check arrivals (after_arrival ToMaster (link_state s.master (record s.side { from_it = lane }) s.deceived) cell).side
+station-past : (check : Check) (arrivals : List slave.Arrival) (s : LinkState NodeState) (lane : List LaneCell) (cell : Option LaneCell) → StationHears check arrivals s.side
+    → StationHears check arrivals (after_arrival plain_node ToMaster (link_state s.master (record s.side { from_it = lane }) s.deceived) cell).side
 station-past check arrivals s lane None h = record { stands = h.stands; heard = h.heard }
 station-past check arrivals s lane (Some cell) h = record { stands = h.stands; heard = h.heard }
 
-station-deed : (check : Check) (arrivals : List slave.Arrival) (s : LinkState) (deed : LinkDeed) → StationHears check arrivals s.side → StationHears check (arrivals ++ station_arrivals s deed) (after_link_deed s deed).side
+station-deed : (check : Check) (arrivals : List slave.Arrival) (s : LinkState NodeState) (deed : LinkDeed) → StationHears check arrivals s.side → StationHears check (arrivals ++ station_arrivals s deed) (after_link_deed plain_node s deed).side
 station-deed check arrivals s StationGives h = rw (append-nil arrivals) (record { stands = h.stands; heard = h.heard })
 station-deed check arrivals s (OnLane ToStation deed) h = station-arrival check arrivals s (lane_after s.side.to_it deed) (arriving s.side.to_it deed) h
 station-deed check arrivals s (OnLane ToMaster deed) h = rw (append-nil arrivals) (station-past check arrivals s (lane_after s.side.from_it deed) (arriving s.side.from_it deed) h)
@@ -66,31 +67,31 @@ pub record MasterHears (check : Check) (arrivals : List master.Arrival) (m : Mas
   pub stands : master.StandsFor check (master.bytes_arrived arrivals) m
   pub heard : master.HeardByGrammar check arrivals
 
-master-cell : (check : Check) (arrivals : List master.Arrival) (s : LinkState) (cell : LaneCell) → MasterHears check arrivals s.master → MasterHears check (arrivals ++ master_arrived ToMaster s (Some cell)) (master_after_byte node_host s.master cell.byte)
+master-cell : (check : Check) (arrivals : List master.Arrival) (s : LinkState NodeState) (cell : LaneCell) → MasterHears check arrivals s.master → MasterHears check (arrivals ++ master_arrived ToMaster s (Some cell)) (master_after_byte node_host s.master cell.byte)
 master-cell check arrivals s cell h =
-    let last : master.Arrival = record { byte = cell.byte; whole = (step_of ToMaster s cell).whole } in
+    let last : master.Arrival = record { byte = cell.byte; whole = (step_of plain_node ToMaster s cell).whole } in
     record {
       stands = subst (λ (bytes : List ℕ). master.StandsFor check bytes (master_after_byte node_host s.master cell.byte)) (sym (map-append (λ (a : master.Arrival). a.byte) arrivals (last ∷ [])))
           (master_ear.stands-byte node_host s.master cell.byte check (master.bytes_arrived arrivals) h.stands);
       heard = master_ear.heard-more check arrivals last h.heard (master_ear.whole-byte node_host s.master cell.byte check (master.bytes_arrived arrivals) h.stands);
     }
 
-master-arrival : (check : Check) (arrivals : List master.Arrival) (s : LinkState) (lane : List LaneCell) (cell : Option LaneCell) → MasterHears check arrivals s.master
-    → MasterHears check (arrivals ++ master_arrived ToMaster s cell) (after_arrival ToMaster (link_state s.master (record s.side { from_it = lane }) s.deceived) cell).master
+master-arrival : (check : Check) (arrivals : List master.Arrival) (s : LinkState NodeState) (lane : List LaneCell) (cell : Option LaneCell) → MasterHears check arrivals s.master
+    → MasterHears check (arrivals ++ master_arrived ToMaster s cell) (after_arrival plain_node ToMaster (link_state s.master (record s.side { from_it = lane }) s.deceived) cell).master
 master-arrival check arrivals s lane None h = rw (append-nil arrivals) h
 master-arrival check arrivals s lane (Some cell) h = master-cell check arrivals s cell h
 
-master-past : (check : Check) (arrivals : List master.Arrival) (s : LinkState) (lane : List LaneCell) (cell : Option LaneCell) → MasterHears check arrivals s.master
-    → MasterHears check arrivals (after_arrival ToStation (link_state s.master (record s.side { to_it = lane }) s.deceived) cell).master
+master-past : (check : Check) (arrivals : List master.Arrival) (s : LinkState NodeState) (lane : List LaneCell) (cell : Option LaneCell) → MasterHears check arrivals s.master
+    → MasterHears check arrivals (after_arrival plain_node ToStation (link_state s.master (record s.side { to_it = lane }) s.deceived) cell).master
 master-past check arrivals s lane None h = h
 master-past check arrivals s lane (Some cell) h = h
 
-master-deed : (check : Check) (arrivals : List master.Arrival) (s : LinkState) (deed : LinkDeed) → MasterHears check arrivals s.master → MasterHears check (arrivals ++ master_arrivals s deed) (after_link_deed s deed).master
+master-deed : (check : Check) (arrivals : List master.Arrival) (s : LinkState NodeState) (deed : LinkDeed) → MasterHears check arrivals s.master → MasterHears check (arrivals ++ master_arrivals s deed) (after_link_deed plain_node s deed).master
 master-deed check arrivals s StationGives h = rw (append-nil arrivals) h
 master-deed check arrivals s (OnLane ToStation deed) h = rw (append-nil arrivals) (master-past check arrivals s (lane_after s.side.to_it deed) (arriving s.side.to_it deed) h)
 master-deed check arrivals s (OnLane ToMaster deed) h = master-arrival check arrivals s (lane_after s.side.from_it deed) (arriving s.side.from_it deed) h
 
-master-own : (check : Check) (arrivals : List master.Arrival) (m : MasterState NodeState) (deed : MasterDeed) → MasterHears check arrivals m → MasterHears check arrivals (master_after m deed)
+master-own : (check : Check) (arrivals : List master.Arrival) (m : MasterState NodeState) (deed : MasterDeed) → MasterHears check arrivals m → MasterHears check arrivals (master_after plain_node m deed)
 master-own check arrivals m (Issue src dst payload) h = record { stands = h.stands; heard = h.heard }
 master-own check arrivals m Give h = record { stands = master_ear.stands-take node_host m check (master.bytes_arrived arrivals) h.stands; heard = h.heard }
 master-own check arrivals m Tick h = record { stands = master_ear.stands-tick node_host m check (master.bytes_arrived arrivals) h.stands; heard = h.heard }
@@ -98,13 +99,13 @@ master-own check arrivals m Tick h = record { stands = master_ear.stands-tick no
 -- ---- the whole line
 
 -- each station, by what arrived at it, and the master
-pub record AllHear (check : Check) (at : ℕ → List slave.Arrival) (at_master : List master.Arrival) (s : HalfState) : Type 0 where
+pub record AllHear (check : Check) (at : ℕ → List slave.Arrival) (at_master : List master.Arrival) (s : HalfState NodeState) : Type 0 where
   pub heard : (place : ℕ) → slave.HeardByGrammar check (at place)
   pub stands : (place : ℕ) (side : LineStationState) → slice_get s.stations place ≡ Some side → slave.StandsFor check (slave.bytes_arrived (at place)) side.slave
   pub of_master : MasterHears check at_master s.master
 
 -- by the same arrivals
-same-hear : (check : Check) (at other : ℕ → List slave.Arrival) (at_master other_master : List master.Arrival) (s : HalfState) → ((place : ℕ) → at place ≡ other place) → at_master ≡ other_master → AllHear check at at_master s → AllHear check other other_master s
+same-hear : (check : Check) (at other : ℕ → List slave.Arrival) (at_master other_master : List master.Arrival) (s : HalfState NodeState) → ((place : ℕ) → at place ≡ other place) → at_master ≡ other_master → AllHear check at at_master s → AllHear check other other_master s
 same-hear check at other at_master other_master s same same_master h = record {
   heard = λ place. subst (slave.HeardByGrammar check) (same place) (h.heard place);
   stands = λ place side is. subst (λ (arrivals : List slave.Arrival). slave.StandsFor check (slave.bytes_arrived arrivals) side.slave) (same place) (h.stands place side is);
@@ -117,11 +118,11 @@ joined-stands : (check : Check) (bytes : List ℕ) (cells : List LaneCell) (o : 
 joined-stands check bytes cells None side is h = absurd cc
 joined-stands check bytes cells (Some old) side is h = subst (λ (t : LineStationState). slave.StandsFor check bytes t.slave) (some-same is) (h old refl)
 
-stations-own : (check : Check) (at : ℕ → List slave.Arrival) (s : HalfState) (deed : MasterDeed) → ((place : ℕ) (side : LineStationState) → slice_get s.stations place ≡ Some side → slave.StandsFor check (slave.bytes_arrived (at place)) side.slave)
-    → (place : ℕ) (side : LineStationState) → slice_get (after_step s (AtMaster deed)).stations place ≡ Some side → slave.StandsFor check (slave.bytes_arrived (at place)) side.slave
+stations-own : (check : Check) (at : ℕ → List slave.Arrival) (s : HalfState NodeState) (deed : MasterDeed) → ((place : ℕ) (side : LineStationState) → slice_get s.stations place ≡ Some side → slave.StandsFor check (slave.bytes_arrived (at place)) side.slave)
+    → (place : ℕ) (side : LineStationState) → slice_get (after_step plain_node s (AtMaster deed)).stations place ≡ Some side → slave.StandsFor check (slave.bytes_arrived (at place)) side.slave
 stations-own check at s (Issue src dst payload) h place side is = h place side is
 stations-own check at s Give h place side is =
-    joined-stands check (slave.bytes_arrived (at place)) (cells_given s.master) (slice_get s.stations place) side (sym (slice_get-map (joined (cells_given s.master)) s.stations place) ∙ is) (h place)
+    joined-stands check (slave.bytes_arrived (at place)) (cells_given plain_node s.master) (slice_get s.stations place) side (sym (slice_get-map (joined (cells_given plain_node s.master)) s.stations place) ∙ is) (h place)
 stations-own check at s Tick h place side is = h place side is
 
 get-other : {X : Type 0} (xs : List X) (i j : ℕ) (y : X) → i ≢ j → slice_get (slice_set xs i y) j ≡ slice_get xs j
@@ -159,22 +160,22 @@ none-more : (same : Bool) (arrivals : List slave.Arrival) → arrivals ≡ arriv
 none-more true arrivals = sym (append-nil arrivals)
 none-more false arrivals = sym (append-nil arrivals)
 
-hear-with : (check : Check) (at : ℕ → List slave.Arrival) (at_master : List master.Arrival) (s : HalfState) (place : ℕ) (deed : LinkDeed) (o : Option LineStationState) → slice_get s.stations place ≡ o → AllHear check at at_master s
-    → AllHear check (λ q. at q ++ (if place == q then station_arrivals_with s deed o else [])) (at_master ++ master_arrivals_with s deed o) (after_with s place deed o)
+hear-with : (check : Check) (at : ℕ → List slave.Arrival) (at_master : List master.Arrival) (s : HalfState NodeState) (place : ℕ) (deed : LinkDeed) (o : Option LineStationState) → slice_get s.stations place ≡ o → AllHear check at at_master s
+    → AllHear check (λ q. at q ++ (if place == q then station_arrivals_with s deed o else [])) (at_master ++ master_arrivals_with s deed o) (after_with plain_node s place deed o)
 hear-with check at at_master s place deed None found h =
     same-hear check at (λ q. at q ++ (if place == q then [] else [])) at_master (at_master ++ []) s (λ q. none-more (place == q) (at q)) (sym (append-nil at_master)) h
 hear-with check at at_master s place deed (Some side) found h =
     let link = link_of s side in
     let more = station_arrivals link deed in
-    let here : StationHears check (at place ++ more) (after_link_deed link deed).side = station-deed check (at place) link deed (record { stands = h.stands place side found; heard = h.heard place }) in
+    let here : StationHears check (at place ++ more) (after_link_deed plain_node link deed).side = station-deed check (at place) link deed (record { stands = h.stands place side found; heard = h.heard place }) in
     record {
       heard = λ q. heard-at check at place q more (place == q) refl here.heard (h.heard q);
-      stands = λ q t is. stands-at check at place q more (place == q) s.stations side (after_link_deed link deed).side t refl found here.stands (h.stands q t) is;
+      stands = λ q t is. stands-at check at place q more (place == q) s.stations side (after_link_deed plain_node link deed).side t refl found here.stands (h.stands q t) is;
       of_master = master-deed check at_master link deed h.of_master;
     }
 
-hear-step : (check : Check) (at : ℕ → List slave.Arrival) (at_master : List master.Arrival) (s : HalfState) (step : UnitStep) → AllHear check at at_master s
-    → AllHear check (λ q. at q ++ station_arrivals_at q s step) (at_master ++ master_arrivals_at s step) (after_step s step)
+hear-step : (check : Check) (at : ℕ → List slave.Arrival) (at_master : List master.Arrival) (s : HalfState NodeState) (step : UnitStep) → AllHear check at at_master s
+    → AllHear check (λ q. at q ++ station_arrivals_at q s step) (at_master ++ master_arrivals_at s step) (after_step plain_node s step)
 hear-step check at at_master s (AtMaster deed) h = record {
   heard = λ q. rw (append-nil (at q)) (h.heard q);
   stands = λ q side is. rw (append-nil (at q)) (stations-own check at s deed h.stands q side is);
@@ -182,24 +183,24 @@ hear-step check at at_master s (AtMaster deed) h = record {
 }
 hear-step check at at_master s (AtStation place deed) h = hear-with check at at_master s place deed (slice_get s.stations place) refl h
 
-hear-steps : (check : Check) (steps : List UnitStep) (at : ℕ → List slave.Arrival) (at_master : List master.Arrival) (s : HalfState) → AllHear check at at_master s
-    → AllHear check (λ q. at q ++ station_arrivals_over q s steps) (at_master ++ master_arrivals_over s steps) (after_steps s steps)
+hear-steps : (check : Check) (steps : List UnitStep) (at : ℕ → List slave.Arrival) (at_master : List master.Arrival) (s : HalfState NodeState) → AllHear check at at_master s
+    → AllHear check (λ q. at q ++ station_arrivals_over q s steps) (at_master ++ master_arrivals_over s steps) (after_steps plain_node s steps)
 hear-steps check [] at at_master s h = same-hear check at (λ q. at q ++ []) at_master (at_master ++ []) s (λ q. sym (append-nil (at q))) (sym (append-nil at_master)) h
 hear-steps check (step ∷ steps) at at_master s h =
     let now = hear-step check at at_master s step h in
-    let next = after_step s step in
-    same-hear check _ (λ q. at q ++ station_arrivals_over q s (step ∷ steps)) _ (at_master ++ master_arrivals_over s (step ∷ steps)) (after_steps next steps)
+    let next = after_step plain_node s step in
+    same-hear check _ (λ q. at q ++ station_arrivals_over q s (step ∷ steps)) _ (at_master ++ master_arrivals_over s (step ∷ steps)) (after_steps plain_node next steps)
     (λ q. append_assoc (at q) (station_arrivals_at q s step) (station_arrivals_over q next steps)) (append_assoc at_master (master_arrivals_at s step) (master_arrivals_over next steps))
     (hear-steps check steps (λ q. at q ++ station_arrivals_at q s step) (at_master ++ master_arrivals_at s step) next now)
 
-hear-events : (check : Check) (events : List Event) (at : ℕ → List slave.Arrival) (at_master : List master.Arrival) (s : HalfState) → AllHear check at at_master s
-    → AllHear check (λ q. at q ++ station_arrivals_in q s events) (at_master ++ master_arrivals_in s events) (state_after s events)
+hear-events : (check : Check) (events : List Event) (at : ℕ → List slave.Arrival) (at_master : List master.Arrival) (s : HalfState NodeState) → AllHear check at at_master s
+    → AllHear check (λ q. at q ++ station_arrivals_in q s events) (at_master ++ master_arrivals_in s events) (state_after plain_node s events)
 hear-events check [] at at_master s h = same-hear check at (λ q. at q ++ []) at_master (at_master ++ []) s (λ q. sym (append-nil (at q))) (sym (append-nil at_master)) h
 hear-events check (e ∷ events) at at_master s h =
     let steps = steps_of s e in
     let now = hear-steps check steps at at_master s h in
-    let next = after_event s e in
-    same-hear check _ (λ q. at q ++ station_arrivals_in q s (e ∷ events)) _ (at_master ++ master_arrivals_in s (e ∷ events)) (state_after next events)
+    let next = after_event plain_node s e in
+    same-hear check _ (λ q. at q ++ station_arrivals_in q s (e ∷ events)) _ (at_master ++ master_arrivals_in s (e ∷ events)) (state_after plain_node next events)
     (λ q. append_assoc (at q) (station_arrivals_over q s steps) (station_arrivals_in q next events)) (append_assoc at_master (master_arrivals_over s steps) (master_arrivals_in next events))
     (hear-events check events (λ q. at q ++ station_arrivals_over q s steps) (at_master ++ master_arrivals_over s steps) next now)
 
@@ -209,7 +210,7 @@ first-stands : (check : Check) (o : Option EndPlan) (side : LineStationState) �
 first-stands check None side is = absurd cc
 first-stands check (Some plan) side is = subst (λ (t : LineStationState). slave.StandsFor check [] t.slave) (some-same is) (ear.stands-new (slave_setup check plan) (first_node plan))
 
-pub run-hears : (script : Script) → AllHear script.check (λ q. station_arrivals_in q (start script) script.events) (master_arrivals_in (start script) script.events) (state_after (start script) script.events)
+pub run-hears : (script : Script) → AllHear script.check (λ q. station_arrivals_in q (start script) script.events) (master_arrivals_in (start script) script.events) (state_after plain_node (start script) script.events)
 run-hears script = hear-events script.check script.events (λ q. []) [] (start script) (record {
   heard = λ q. ear.heard-none script.check;
   stands = λ q side is. first-stands script.check (slice_get (station_plans script.ends) q) side (sym (slice_get-map (first_side script.check) (station_plans script.ends) q) ∙ is);

@@ -151,7 +151,7 @@ pub record Setting : Type 0 where
   pub distinct : IsDistinct nat_eq numbers
 
 -- the master and all stations, of which each stands at its place
-pub record Holds (setting : Setting) (count : ℕ) (s : HalfState) (lines : List Line) : Type 0 where
+pub record Holds (setting : Setting) (count : ℕ) (s : HalfState NodeState) (lines : List Line) : Type 0 where
   pub commands : List (List ℕ)
   pub heard : List (List ℕ)
   pub master : MasterHolds setting.of_master count setting.numbers s.master commands heard
@@ -160,7 +160,7 @@ pub record Holds (setting : Setting) (count : ℕ) (s : HalfState) (lines : List
   pub sides : (p : ℕ) (side : LineStationState) → slice_get s.stations p ≡ Some side → SideHolds (shared commands heard (issued_of s.master) lines) (setting.first p) (kept_at s.master.stations p) side
 
 -- the same, of the master and the station at one place as they are now, and the others as they were
-pub record LinkHolds (setting : Setting) (count : ℕ) (stations : List LineStationState) (place : ℕ) (s : LinkState) (lines : List Line) : Type 0 where
+pub record LinkHolds (setting : Setting) (count : ℕ) (stations : List LineStationState) (place : ℕ) (s : LinkState NodeState) (lines : List Line) : Type 0 where
   pub commands : List (List ℕ)
   pub heard : List (List ℕ)
   pub master : MasterHolds setting.of_master count setting.numbers s.master commands heard
@@ -175,7 +175,7 @@ number-at numbers stations place side are is =
     ap (λ ns. slice_get ns place) (sym are) ∙ slice_get-map (λ (x : LineStationState). x.number) stations place ∙ ap (option_map (λ (x : LineStationState). x.number)) is
 
 -- the station at a place is looked at
-pub entered : (setting : Setting) (count : ℕ) (s : HalfState) (lines : List Line) (place : ℕ) (side : LineStationState) → slice_get s.stations place ≡ Some side → Holds setting count s lines
+pub entered : (setting : Setting) (count : ℕ) (s : HalfState NodeState) (lines : List Line) (place : ℕ) (side : LineStationState) → slice_get s.stations place ≡ Some side → Holds setting count s lines
     → LinkHolds setting count s.stations place (link_of s side) lines
 entered setting count s lines place side is h = record {
   commands = h.commands;
@@ -189,7 +189,7 @@ entered setting count s lines place side is h = record {
 }
 
 -- the line with the master and that station as they are now
-side-at : (setting : Setting) (count : ℕ) (stations : List LineStationState) (place : ℕ) (link : LinkState) (lines : List Line) (was : LineStationState) → slice_get stations place ≡ Some was
+side-at : (setting : Setting) (count : ℕ) (stations : List LineStationState) (place : ℕ) (link : LinkState NodeState) (lines : List Line) (was : LineStationState) → slice_get stations place ≡ Some was
     → (h : LinkHolds setting count stations place link lines) (p : ℕ) (side : LineStationState) → slice_get (slice_set stations place link.side) p ≡ Some side → (same : Bool) → (p == place) ≡ same
     → SideHolds (shared h.commands h.heard (issued_of link.master) lines) (setting.first p) (kept_at link.master.stations p) side
 side-at setting count stations place link lines was is h p side at true same =
@@ -202,7 +202,7 @@ side-at setting count stations place link lines was is h p side at false same =
     let differ = eqb-false p place same in
     h.others p side (sym (set-other stations place p link.side differ) ∙ at) differ
 
-pub left : (setting : Setting) (count : ℕ) (s : HalfState) (lines : List Line) (place : ℕ) (was : LineStationState) (link : LinkState) → slice_get s.stations place ≡ Some was → LinkHolds setting count s.stations place link lines
+pub left : (setting : Setting) (count : ℕ) (s : HalfState NodeState) (lines : List Line) (place : ℕ) (was : LineStationState) (link : LinkState NodeState) → slice_get s.stations place ≡ Some was → LinkHolds setting count s.stations place link lines
     → Holds setting count (rejoined s place link) lines
 left setting count s lines place was link is h =
     let number : link.side.number ≡ was.number = same-some link.side.number was.number (sym h.is_at ∙ number-at setting.numbers s.stations place was h.numbers_are is) in

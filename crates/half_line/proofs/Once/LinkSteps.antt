@@ -9,6 +9,7 @@ use Rattle.replay_report.specs.declared.record.Line.{Line}
 use Rattle.lane_cells.specs.Cells.{LaneCell, altered, bare}
 use Rattle.each_once.specs.OfStation.{is_from}
 use Rattle.each_once.proofs.OneDirection.{Way, way-bare}
+use Rattle.half_line.specs.Behind.{plain_node}
 use Rattle.half_line.specs.declared.way.Way.{Way as LineStation}
 use Rattle.half_line.specs.declared.way.Way.TheVariants.{ToStation, ToMaster}
 use Rattle.half_line.specs.Acts.{LineStationState, LinkState, link_state, LinkDeed, LaneDeed, StationGives, OnLane, Deliver, Lose, Alter, Foreign, after_take, arriving, lane_of, moved, after_arrival, deceptions_at, after_link_deed, link_lines}
@@ -35,7 +36,7 @@ with-side setting count stations place m was now d e lines h same this = record 
 
 -- ---- a byte is given
 
-link-gives : (setting : Setting) (count : ℕ) (stations : List LineStationState) (place : ℕ) (s : LinkState) (lines : List Line) → LinkHolds setting count stations place s lines → LinkHolds setting count stations place (after_link_deed s StationGives) lines
+link-gives : (setting : Setting) (count : ℕ) (stations : List LineStationState) (place : ℕ) (s : LinkState NodeState) (lines : List Line) → LinkHolds setting count stations place s lines → LinkHolds setting count stations place (after_link_deed plain_node s StationGives) lines
 link-gives setting count stations place s lines h =
     let this = h.this in
     let side = s.side in
@@ -67,27 +68,27 @@ plus-none n m is = omega (arith, is)
 
 -- the head of a lane arrives
 delivers-to : (setting : Setting) (count : ℕ) (stations : List LineStationState) (place : ℕ) (m : MasterState NodeState) (side : LineStationState) (cells : List LaneCell) (d : ℕ) (lines : List Line)
-    → (after_link_deed (link_state m (coming side cells) d) (OnLane ToStation Deliver)).deceived ≡ 0 → LinkHolds setting count stations place (link_state m (coming side cells) d) lines
-    → LinkHolds setting count stations place (after_link_deed (link_state m (coming side cells) d) (OnLane ToStation Deliver)) (lines ++ link_lines (link_state m (coming side cells) d) (OnLane ToStation Deliver))
+    → (after_link_deed plain_node (link_state m (coming side cells) d) (OnLane ToStation Deliver)).deceived ≡ 0 → LinkHolds setting count stations place (link_state m (coming side cells) d) lines
+    → LinkHolds setting count stations place (after_link_deed plain_node (link_state m (coming side cells) d) (OnLane ToStation Deliver)) (lines ++ link_lines plain_node (link_state m (coming side cells) d) (OnLane ToStation Deliver))
 delivers-to setting count stations place m side [] d lines none h = rw (append-nil lines) h
-delivers-to setting count stations place m side (cell ∷ cells) d lines none h = station-arrival setting count stations place m side cell cells d lines (plus-none d (deceptions_at ToStation (link_state m (coming side cells) d) cell) none) h
+delivers-to setting count stations place m side (cell ∷ cells) d lines none h = station-arrival setting count stations place m side cell cells d lines (plus-none d (deceptions_at plain_node ToStation (link_state m (coming side cells) d) cell) none) h
 
 delivers-from : (setting : Setting) (count : ℕ) (stations : List LineStationState) (place : ℕ) (m : MasterState NodeState) (side : LineStationState) (cells : List LaneCell) (d : ℕ) (lines : List Line) → count ≤ 65535
-    → (after_link_deed (link_state m (leaving side cells) d) (OnLane ToMaster Deliver)).deceived ≡ 0 → LinkHolds setting count stations place (link_state m (leaving side cells) d) lines
-    → LinkHolds setting count stations place (after_link_deed (link_state m (leaving side cells) d) (OnLane ToMaster Deliver)) (lines ++ link_lines (link_state m (leaving side cells) d) (OnLane ToMaster Deliver))
+    → (after_link_deed plain_node (link_state m (leaving side cells) d) (OnLane ToMaster Deliver)).deceived ≡ 0 → LinkHolds setting count stations place (link_state m (leaving side cells) d) lines
+    → LinkHolds setting count stations place (after_link_deed plain_node (link_state m (leaving side cells) d) (OnLane ToMaster Deliver)) (lines ++ link_lines plain_node (link_state m (leaving side cells) d) (OnLane ToMaster Deliver))
 delivers-from setting count stations place m side [] d lines few none h = rw (append-nil lines) h
-delivers-from setting count stations place m side (cell ∷ cells) d lines few none h = master-arrival setting count stations place m side cell cells d lines few (plus-none d (deceptions_at ToMaster (link_state m (leaving side cells) d) cell) none) h
+delivers-from setting count stations place m side (cell ∷ cells) d lines few none h = master-arrival setting count stations place m side cell cells d lines few (plus-none d (deceptions_at plain_node ToMaster (link_state m (leaving side cells) d) cell) none) h
 
 -- what happens to a lane
-lane-deed : (setting : Setting) (count : ℕ) (stations : List LineStationState) (place : ℕ) (way : LineStation) (deed : LaneDeed) (s : LinkState) (lines : List Line) → count ≤ 65535
-    → (after_link_deed s (OnLane way deed)).deceived ≡ 0 → LinkHolds setting count stations place s lines → LinkHolds setting count stations place (after_link_deed s (OnLane way deed)) (lines ++ link_lines s (OnLane way deed))
+lane-deed : (setting : Setting) (count : ℕ) (stations : List LineStationState) (place : ℕ) (way : LineStation) (deed : LaneDeed) (s : LinkState NodeState) (lines : List Line) → count ≤ 65535
+    → (after_link_deed plain_node s (OnLane way deed)).deceived ≡ 0 → LinkHolds setting count stations place s lines → LinkHolds setting count stations place (after_link_deed plain_node s (OnLane way deed)) (lines ++ link_lines plain_node s (OnLane way deed))
 lane-deed setting count stations place ToStation Deliver s lines few none h = delivers-to setting count stations place s.master s.side s.side.to_it s.deceived lines none h
 lane-deed setting count stations place ToStation Lose s lines few none h =
     rw (append-nil lines) (lane-to setting count stations place s.master s.side (drop 1 s.side.to_it) s.deceived s.deceived lines h (way-lost h.commands s.side.to_it s.side.slave.kept h.this.executed h.this.way))
 lane-deed setting count stations place ToStation (Alter mask) s lines few none h =
     rw (append-nil lines) (lane-to setting count stations place s.master s.side (altered mask s.side.to_it) s.deceived s.deceived lines h (way-altered h.commands mask s.side.to_it s.side.slave.kept h.this.executed h.this.way))
 lane-deed setting count stations place ToStation (Foreign byte) s lines few none h =
-    station-arrival setting count stations place s.master s.side (bare byte) s.side.to_it s.deceived lines (plus-none s.deceived (deceptions_at ToStation s (bare byte)) none)
+    station-arrival setting count stations place s.master s.side (bare byte) s.side.to_it s.deceived lines (plus-none s.deceived (deceptions_at plain_node ToStation s (bare byte)) none)
     (lane-to setting count stations place s.master s.side (bare byte ∷ s.side.to_it) s.deceived s.deceived lines h (way-bare h.commands (marks s.side.to_it) s.side.slave.kept h.this.executed h.this.way))
 lane-deed setting count stations place ToMaster Deliver s lines few none h = delivers-from setting count stations place s.master s.side s.side.from_it s.deceived lines few none h
 lane-deed setting count stations place ToMaster Lose s lines few none h =
@@ -95,21 +96,21 @@ lane-deed setting count stations place ToMaster Lose s lines few none h =
 lane-deed setting count stations place ToMaster (Alter mask) s lines few none h =
     rw (append-nil lines) (lane-from setting count stations place s.master s.side (altered mask s.side.from_it) s.deceived s.deceived lines h (way-altered h.this.sent mask s.side.from_it (kept_at s.master.stations place) (filter (is_from s.side.number) h.heard) h.this.back))
 lane-deed setting count stations place ToMaster (Foreign byte) s lines few none h =
-    master-arrival setting count stations place s.master s.side (bare byte) s.side.from_it s.deceived lines few (plus-none s.deceived (deceptions_at ToMaster s (bare byte)) none)
+    master-arrival setting count stations place s.master s.side (bare byte) s.side.from_it s.deceived lines few (plus-none s.deceived (deceptions_at plain_node ToMaster s (bare byte)) none)
     (lane-from setting count stations place s.master s.side (bare byte ∷ s.side.from_it) s.deceived s.deceived lines h (way-bare h.this.sent (marks s.side.from_it) (kept_at s.master.stations place) (filter (is_from s.side.number) h.heard) h.this.back))
 
 -- ---- either
 
-pub link-deed : (setting : Setting) (count : ℕ) (stations : List LineStationState) (place : ℕ) (deed : LinkDeed) (s : LinkState) (lines : List Line) → count ≤ 65535
-    → (after_link_deed s deed).deceived ≡ 0 → LinkHolds setting count stations place s lines → LinkHolds setting count stations place (after_link_deed s deed) (lines ++ link_lines s deed)
+pub link-deed : (setting : Setting) (count : ℕ) (stations : List LineStationState) (place : ℕ) (deed : LinkDeed) (s : LinkState NodeState) (lines : List Line) → count ≤ 65535
+    → (after_link_deed plain_node s deed).deceived ≡ 0 → LinkHolds setting count stations place s lines → LinkHolds setting count stations place (after_link_deed plain_node s deed) (lines ++ link_lines plain_node s deed)
 link-deed setting count stations place StationGives s lines few none h = rw (append-nil lines) (link-gives setting count stations place s lines h)
 link-deed setting count stations place (OnLane way deed) s lines few none h = lane-deed setting count stations place way deed s lines few none h
 
 -- a count never falls
-arrived-none : (way : LineStation) (s : LinkState) (o : Option LaneCell) → (after_arrival way s o).deceived ≡ 0 → s.deceived ≡ 0
+arrived-none : (way : LineStation) (s : LinkState NodeState) (o : Option LaneCell) → (after_arrival plain_node way s o).deceived ≡ 0 → s.deceived ≡ 0
 arrived-none way s None none = none
 arrived-none way s (Some cell) none = omega (arith, none)
 
-pub earlier : (deed : LinkDeed) (s : LinkState) → (after_link_deed s deed).deceived ≡ 0 → s.deceived ≡ 0
+pub earlier : (deed : LinkDeed) (s : LinkState NodeState) → (after_link_deed plain_node s deed).deceived ≡ 0 → s.deceived ≡ 0
 earlier StationGives s none = none
 earlier (OnLane way deed) s none = arrived-none way (moved way s deed) (arriving (lane_of way s.side) deed) none

@@ -40,6 +40,7 @@ use Rattle.each_once.proofs.StationAnswers.{IsToldReply, reply-told}
 use Rattle.each_once.proofs.StationReplies.{fits-fields}
 use Rattle.each_once.proofs.Sublists.{Has, has-filter, filter-keeps, filter-drops}
 use Rattle.each_once.proofs.ToldLines.{IsTold, told-stays, silent-none, told-answers, told-strays}
+use Rattle.half_line.specs.Behind.{plain_node}
 use Rattle.half_line.specs.declared.way.Way.TheVariants.{ToMaster}
 use Rattle.half_line.specs.Acts.{LineStationState, link_state, after_cell, cell_lines, deceptions_at}
 use Rattle.half_line.proofs.Once.Honest.{honest}
@@ -119,8 +120,8 @@ is-own setting count stations place m side d lines b a h has =
     }
 
 arrives-accepted : (setting : Setting) (count : ℕ) (stations : List LineStationState) (place : ℕ) (m : MasterState NodeState) (side : LineStationState) (cell : LaneCell) (cells : List LaneCell) (d : ℕ) (lines : List Line) → count ≤ 65535
-    → deceptions_at ToMaster (link_state m (leaving side cells) d) cell ≡ 0 → Accepts node_host m cell.byte → LinkHolds setting count stations place (link_state m (leaving side (cell ∷ cells)) d) lines
-    → LinkHolds setting count stations place (after_cell ToMaster (link_state m (leaving side cells) d) cell) (lines ++ cell_lines ToMaster (link_state m (leaving side cells) d) cell)
+    → deceptions_at plain_node ToMaster (link_state m (leaving side cells) d) cell ≡ 0 → Accepts node_host m cell.byte → LinkHolds setting count stations place (link_state m (leaving side (cell ∷ cells)) d) lines
+    → LinkHolds setting count stations place (after_cell plain_node ToMaster (link_state m (leaving side cells) d) cell) (lines ++ cell_lines plain_node ToMaster (link_state m (leaving side cells) d) cell)
 arrives-accepted setting count stations place m side cell cells d lines few none a h =
     let this = h.this in
     let number = side.number in
@@ -139,7 +140,7 @@ arrives-accepted setting count stations place m side cell cells d lines few none
     let heard_now : filter (is_from number) heard ≡ before ++ body ∷ [] = filter-keeps (is_from number) h.heard body from in
     let key_now : kept_at after.stations place ≡ Some (key_of body) = ap (kept_at after.stations) (sym own.same_place) ∙ key-after node_host m cell.byte a in
     let answered = answered_place m.host.initiator.issued body in
-    let more : cell_lines ToMaster (link_state m (leaving side cells) d) cell ≡ reply_line body answered ∷ [] =
+    let more : cell_lines plain_node ToMaster (link_state m (leaving side cells) d) cell ≡ reply_line body answered ∷ [] =
     step-accepts step (body_of after) body (did_reply answered) a.act (a.did ∙ ap Some (reply-did m.host body own.replies.is_a_reply)) a.news same ∙ reply-line body answered in
     let continues : Continues (issued_of m) (issued_of after) = subst (λ (node : NodeState). Continues (issued_of m) node.initiator.issued) (sym a.host) (continues-accept m.host body) in
     let executes = way-within h.commands (marks side.to_it) side.slave.kept this.executed this.way in
@@ -176,7 +177,7 @@ arrives-accepted setting count stations place m side cell cells d lines few none
       others = λ p other at differ.
           let apart = other-number setting stations place p number other h.numbers_are h.is_at at differ in
           let not_from : is_from other.number body ≡ false = not-equal (is_from other.number body) (λ is. apart (sym (eqb-true _ _ is) ∙ own.from)) in
-          side-lines (cell_lines ToMaster (link_state m (leaving side cells) d) cell)
+          side-lines (cell_lines plain_node ToMaster (link_state m (leaving side cells) d) cell)
           (subst (λ (all : List Line). IsSilentOf other.number all) (sym more) (other-reply other.number body answered not_from))
           (side-issued (issued_of after) continues.stays
           (side-heard heard (kept_at after.stations p) (filter-drops (is_from other.number) h.heard body not_from) (other-keys node_host m cell.byte a p (λ is. differ (is ∙ own.same_place)))
@@ -200,13 +201,13 @@ side-left side cell cells all first kept h =
 
 arrives-passed : (setting : Setting) (count : ℕ) (stations : List LineStationState) (place : ℕ) (m : MasterState NodeState) (side : LineStationState) (cell : LaneCell) (cells : List LaneCell) (d : ℕ) (lines : List Line)
     → PassesOver node_host m cell.byte → LinkHolds setting count stations place (link_state m (leaving side (cell ∷ cells)) d) lines
-    → LinkHolds setting count stations place (after_cell ToMaster (link_state m (leaving side cells) d) cell) (lines ++ cell_lines ToMaster (link_state m (leaving side cells) d) cell)
+    → LinkHolds setting count stations place (after_cell plain_node ToMaster (link_state m (leaving side cells) d) cell) (lines ++ cell_lines plain_node ToMaster (link_state m (leaving side cells) d) cell)
 arrives-passed setting count stations place m side cell cells d lines o h =
     let this = h.this in
     let number = side.number in
     let after = master_after_byte node_host m cell.byte in
     let step = step_at_byte node_host m cell.byte in
-    let more = cell_lines ToMaster (link_state m (leaving side cells) d) cell in
+    let more = cell_lines plain_node ToMaster (link_state m (leaving side cells) d) cell in
     let silent : (station : ℕ) → IsSilentOf station more = λ station. step-silent station M step (body_of after) o.act in
     let continues : Continues (issued_of m) (issued_of after) = subst (λ (node : NodeState). Continues (issued_of m) node.initiator.issued) (sym o.host) (told-continues m.host o.fate) in
     let key : (p : ℕ) → kept_at after.stations p ≡ kept_at m.stations p = λ p. ap (λ l. kept_at l p) o.stations in
@@ -227,8 +228,8 @@ arrives-passed setting count stations place m side cell cells d lines o h =
     }
 
 pub master-arrival : (setting : Setting) (count : ℕ) (stations : List LineStationState) (place : ℕ) (m : MasterState NodeState) (side : LineStationState) (cell : LaneCell) (cells : List LaneCell) (d : ℕ) (lines : List Line) → count ≤ 65535
-    → deceptions_at ToMaster (link_state m (leaving side cells) d) cell ≡ 0 → LinkHolds setting count stations place (link_state m (leaving side (cell ∷ cells)) d) lines
-    → LinkHolds setting count stations place (after_cell ToMaster (link_state m (leaving side cells) d) cell) (lines ++ cell_lines ToMaster (link_state m (leaving side cells) d) cell)
+    → deceptions_at plain_node ToMaster (link_state m (leaving side cells) d) cell ≡ 0 → LinkHolds setting count stations place (link_state m (leaving side (cell ∷ cells)) d) lines
+    → LinkHolds setting count stations place (after_cell plain_node ToMaster (link_state m (leaving side cells) d) cell) (lines ++ cell_lines plain_node ToMaster (link_state m (leaving side cells) d) cell)
 master-arrival setting count stations place m side cell cells d lines few none h = elim (at-byte node_host m cell.byte) [
   | accepts a ↦ arrives-accepted setting count stations place m side cell cells d lines few none a h
   | passes o ↦ arrives-passed setting count stations place m side cell cells d lines o h

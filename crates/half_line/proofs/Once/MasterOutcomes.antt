@@ -41,6 +41,7 @@ use Rattle.each_once.specs.NodeHost.{node_host}
 use Rattle.each_once.proofs.CommandBodies.{bodies-accept, bodies-after_told, bodies-after_tick, bodies-next, next-first}
 use Rattle.each_once.proofs.Sublists.{Has, same-some}
 use Rattle.each_once.proofs.ToldOutcomes.{TellNone, none-both, outcomes-start, outcomes-silent, outcomes-issue, outcomes-accept, outcomes-told, outcomes-next, outcomes-tick}
+use Rattle.half_line.specs.Behind.{plain_node}
 use Rattle.half_line.proofs.Once.EachStation.{listed-numbers}
 use Rattle.half_line.proofs.Once.WholeRun.{IsPlain, ArePlain, plain-with, plain-master, plain-take}
 use Rattle.half_line.specs.declared.way.Way.{Way}
@@ -170,12 +171,12 @@ tick-bodies : (ticked : Bool) (what : Option Fate) (host : NodeState) → map (�
 tick-bodies true what host = bodies-told (after_tick host) what ∙ bodies-after_tick host
 tick-bodies false what host = bodies-told host what
 
-recounts-tick : (numbers : List ℕ) (m : MasterState NodeState) (lines : List Line) → Recounts numbers m lines → Recounts numbers (master_after_tick node_host m) (lines ++ master_lines m Tick)
+recounts-tick : (numbers : List ℕ) (m : MasterState NodeState) (lines : List Line) → Recounts numbers m lines → Recounts numbers (master_after_tick node_host m) (lines ++ master_lines plain_node m Tick)
 recounts-tick numbers m lines r =
     let t = at-tick node_host m in
     let after = master_after_tick node_host m in
     let more : List Line = turn_lines M (turn_of node_host t.fate (ticked_host t.ticked m.host)) ++ gone_lines M (if t.ticked then gone_unanswered m.host else []) in
-    let same : master_lines m Tick ≡ more = ap₂ (λ (x : Turn) (y : List ℕ). turn_lines M x ++ gone_lines M y) t.turn t.gone in
+    let same : master_lines plain_node m Tick ≡ more = ap₂ (λ (x : Turn) (y : List ℕ). turn_lines M x ++ gone_lines M y) t.turn t.gone in
     subst (λ all. Recounts numbers after (lines ++ all)) (sym same)
     (with-bodies numbers m after (host_told node_host t.fate (ticked_host t.ticked m.host)) lines more (signal-numbers node_host m TickLetter ∙ r.numbers_are) t.host (tick-bodies t.ticked t.fate m.host) r.declared
     (tick-outcomes t.ticked t.fate m.host lines t.one r.outcomes))
@@ -230,7 +231,7 @@ declared-push numbers [] body all is (suc k) other at = absurd cc
 declared-push numbers (b ∷ bodies) body all is zero other at = all zero other at
 declared-push numbers (b ∷ bodies) body all is (suc k) other at = declared-push numbers bodies body (λ j x y. all (suc j) x y) is k other at
 
-recounts-issue : (numbers : List ℕ) (m : MasterState NodeState) (src : Option ℕ) (dst : ℕ) (payload : List ℕ) (lines : List Line) → is_declared numbers dst ≡ true → Recounts numbers m lines → Recounts numbers (master_after m (Issue src dst payload)) lines
+recounts-issue : (numbers : List ℕ) (m : MasterState NodeState) (src : Option ℕ) (dst : ℕ) (payload : List ℕ) (lines : List Line) → is_declared numbers dst ≡ true → Recounts numbers m lines → Recounts numbers (master_after plain_node m (Issue src dst payload)) lines
 recounts-issue numbers m src dst payload lines is r =
     let issued = issued_of m in
     let new : Issued = record { body = next_issued m.host.initiator (unwrap_or src m.host.initiator.node) dst payload; standing = Waiting } in
@@ -242,47 +243,47 @@ recounts-issue numbers m src dst payload lines is r =
 
 -- ---- unit steps
 
-recounts-arrival : (numbers : List ℕ) (way : Way) (s t : LinkState) (o : Option LaneCell) (lines : List Line) → t.master ≡ s.master → Recounts numbers s.master lines → Recounts numbers (after_arrival way t o).master (lines ++ arrival_lines way s o)
+recounts-arrival : (numbers : List ℕ) (way : Way) (s t : LinkState NodeState) (o : Option LaneCell) (lines : List Line) → t.master ≡ s.master → Recounts numbers s.master lines → Recounts numbers (after_arrival plain_node way t o).master (lines ++ arrival_lines plain_node way s o)
 recounts-arrival numbers way s t None lines same r = rw (append-nil lines) (subst (λ (m : MasterState NodeState). Recounts numbers m lines) (sym same) r)
 recounts-arrival numbers ToStation s t (Some cell) lines same r =
-    subst (λ (m : MasterState NodeState). Recounts numbers m (lines ++ arrival_lines ToStation s (Some cell))) (sym same)
-    (silently numbers s.master lines (arrival_lines ToStation s (Some cell)) (other-step (step_of ToStation s cell) s.side.number (body_heard ToStation s cell)) r)
+    subst (λ (m : MasterState NodeState). Recounts numbers m (lines ++ arrival_lines plain_node ToStation s (Some cell))) (sym same)
+    (silently numbers s.master lines (arrival_lines plain_node ToStation s (Some cell)) (other-step (step_of plain_node ToStation s cell) s.side.number (body_heard plain_node ToStation s cell)) r)
 recounts-arrival numbers ToMaster s t (Some cell) lines same r =
-    subst (λ (m : MasterState NodeState). Recounts numbers (master_after_byte node_host m cell.byte) (lines ++ arrival_lines ToMaster s (Some cell))) (sym same) (recounts-byte numbers s.master cell.byte lines r)
+    subst (λ (m : MasterState NodeState). Recounts numbers (master_after_byte node_host m cell.byte) (lines ++ arrival_lines plain_node ToMaster s (Some cell))) (sym same) (recounts-byte numbers s.master cell.byte lines r)
 
-recounts-link : (numbers : List ℕ) (s : LinkState) (deed : LinkDeed) (lines : List Line) → Recounts numbers s.master lines → Recounts numbers (after_link_deed s deed).master (lines ++ link_lines s deed)
+recounts-link : (numbers : List ℕ) (s : LinkState NodeState) (deed : LinkDeed) (lines : List Line) → Recounts numbers s.master lines → Recounts numbers (after_link_deed plain_node s deed).master (lines ++ link_lines plain_node s deed)
 recounts-link numbers s StationGives lines r = rw (append-nil lines) r
 recounts-link numbers s (OnLane way deed) lines r = recounts-arrival numbers way s (moved way s deed) (arriving (lane_of way s.side) deed) lines refl r
 
-recounts-with : (numbers : List ℕ) (s : HalfState) (place : ℕ) (deed : LinkDeed) (o : Option LineStationState) (lines : List Line) → Recounts numbers s.master lines → Recounts numbers (after_with s place deed o).master (lines ++ lines_with s deed o)
+recounts-with : (numbers : List ℕ) (s : HalfState NodeState) (place : ℕ) (deed : LinkDeed) (o : Option LineStationState) (lines : List Line) → Recounts numbers s.master lines → Recounts numbers (after_with plain_node s place deed o).master (lines ++ lines_with plain_node s deed o)
 recounts-with numbers s place deed None lines r = rw (append-nil lines) r
 recounts-with numbers s place deed (Some side) lines r = recounts-link numbers (link_of s side) deed lines r
 
-recounts-step : (numbers : List ℕ) (step : UnitStep) → IsPlain step → (s : HalfState) (lines : List Line) → Recounts numbers s.master lines → Recounts numbers (after_step s step).master (lines ++ lines_at s step)
+recounts-step : (numbers : List ℕ) (step : UnitStep) → IsPlain step → (s : HalfState NodeState) (lines : List Line) → Recounts numbers s.master lines → Recounts numbers (after_step plain_node s step).master (lines ++ lines_at plain_node s step)
 recounts-step numbers (AtMaster (Issue src dst payload)) plain s lines r = absurd plain
 recounts-step numbers (AtMaster Give) plain s lines r = rw (append-nil lines) (recounts-give numbers s.master lines r)
 recounts-step numbers (AtMaster Tick) plain s lines r = recounts-tick numbers s.master lines r
 recounts-step numbers (AtStation place deed) plain s lines r = recounts-with numbers s place deed (slice_get s.stations place) lines r
 
-recounts-steps : (numbers : List ℕ) (steps : List UnitStep) → ArePlain steps → (s : HalfState) (lines : List Line) → Recounts numbers s.master lines → Recounts numbers (after_steps s steps).master (lines ++ lines_over s steps)
+recounts-steps : (numbers : List ℕ) (steps : List UnitStep) → ArePlain steps → (s : HalfState NodeState) (lines : List Line) → Recounts numbers s.master lines → Recounts numbers (after_steps plain_node s steps).master (lines ++ lines_over plain_node s steps)
 recounts-steps numbers [] plain s lines r = rw (append-nil lines) r
 recounts-steps numbers (step ∷ steps) plain s lines r =
-    subst (λ (all : List Line). Recounts numbers (after_steps (after_step s step) steps).master all) (append_assoc lines (lines_at s step) (lines_over (after_step s step) steps))
-    (recounts-steps numbers steps plain.1 (after_step s step) (lines ++ lines_at s step) (recounts-step numbers step plain.0 s lines r))
+    subst (λ (all : List Line). Recounts numbers (after_steps plain_node (after_step plain_node s step) steps).master all) (append_assoc lines (lines_at plain_node s step) (lines_over plain_node (after_step plain_node s step) steps))
+    (recounts-steps numbers steps plain.1 (after_step plain_node s step) (lines ++ lines_at plain_node s step) (recounts-step numbers step plain.0 s lines r))
 
 -- ---- events
 
-with-bytes : (numbers : List ℕ) (s : HalfState) (e : Event) (lines : List Line) → Recounts numbers (after_event s e).master (lines ++ lines_over s (steps_of s e)) → Recounts numbers (after_event s e).master (lines ++ lines_of s e)
+with-bytes : (numbers : List ℕ) (s : HalfState NodeState) (e : Event) (lines : List Line) → Recounts numbers (after_event plain_node s e).master (lines ++ lines_over plain_node s (steps_of s e)) → Recounts numbers (after_event plain_node s e).master (lines ++ lines_of plain_node s e)
 with-bytes numbers s e lines r =
-    let over = lines_over s (steps_of s e) in
-    let sent = sent_lines (giver (station_at e)) (bytes_over s (steps_of s e)) in
-    subst (λ (all : List Line). Recounts numbers (after_event s e).master all) (append_assoc lines over sent)
-    (silently numbers (after_event s e).master (lines ++ over) sent (none-sent (giver (station_at e)) (bytes_over s (steps_of s e))) r)
+    let over = lines_over plain_node s (steps_of s e) in
+    let sent = sent_lines (giver (station_at e)) (bytes_over plain_node s (steps_of s e)) in
+    subst (λ (all : List Line). Recounts numbers (after_event plain_node s e).master all) (append_assoc lines over sent)
+    (silently numbers (after_event plain_node s e).master (lines ++ over) sent (none-sent (giver (station_at e)) (bytes_over plain_node s (steps_of s e))) r)
 
-plain-event : (numbers : List ℕ) (s : HalfState) (e : Event) (lines : List Line) → ArePlain (steps_of s e) → Recounts numbers s.master lines → Recounts numbers (after_event s e).master (lines ++ lines_of s e)
+plain-event : (numbers : List ℕ) (s : HalfState NodeState) (e : Event) (lines : List Line) → ArePlain (steps_of s e) → Recounts numbers s.master lines → Recounts numbers (after_event plain_node s e).master (lines ++ lines_of plain_node s e)
 plain-event numbers s e lines plain r = with-bytes numbers s e lines (recounts-steps numbers (steps_of s e) plain s lines r)
 
-recounts-event : (numbers : List ℕ) (e : Event) (s : HalfState) (lines : List Line) → IsHalfPossible numbers e → Recounts numbers s.master lines → Recounts numbers (after_event s e).master (lines ++ lines_of s e)
+recounts-event : (numbers : List ℕ) (e : Event) (s : HalfState NodeState) (lines : List Line) → IsHalfPossible numbers e → Recounts numbers s.master lines → Recounts numbers (after_event plain_node s e).master (lines ++ lines_of plain_node s e)
 recounts-event numbers (event.Issue who src dst payload) s lines may r = rw (append-nil lines) (recounts-issue numbers s.master src dst payload lines may.1 r)
 recounts-event numbers (event.Take who n) s lines may r = plain-event numbers s (event.Take who n) lines (plain-take s.stations who n (number_of who)) r
 recounts-event numbers (event.Deliver lane n) s lines may r =
@@ -295,14 +296,14 @@ recounts-event numbers (event.Foreign lane bytes) s lines may r =
     plain-event numbers s (event.Foreign lane bytes) lines (plain-with (place_of s.stations (station_between lane.from lane.to)) (map (λ byte. OnLane (way_from lane.from) (Foreign byte)) bytes)) r
 recounts-event numbers (event.Tick who n) s lines may r = plain-event numbers s (event.Tick who n) lines (plain-master Tick tt n) r
 
-recounts-events : (numbers : List ℕ) (events : List Event) (s : HalfState) (lines : List Line) → All (IsHalfPossible numbers) events → Recounts numbers s.master lines → Recounts numbers (state_after s events).master (lines ++ lines_after s events)
+recounts-events : (numbers : List ℕ) (events : List Event) (s : HalfState NodeState) (lines : List Line) → All (IsHalfPossible numbers) events → Recounts numbers s.master lines → Recounts numbers (state_after plain_node s events).master (lines ++ lines_after plain_node s events)
 recounts-events numbers [] s lines possible r = rw (append-nil lines) r
 recounts-events numbers (e ∷ events) s lines possible r =
-    subst (λ (all : List Line). Recounts numbers (state_after (after_event s e) events).master all) (append_assoc lines (lines_of s e) (lines_after (after_event s e) events))
-    (recounts-events numbers events (after_event s e) (lines ++ lines_of s e) (All-tail (IsHalfPossible numbers) e events possible)
+    subst (λ (all : List Line). Recounts numbers (state_after plain_node (after_event plain_node s e) events).master all) (append_assoc lines (lines_of plain_node s e) (lines_after plain_node (after_event plain_node s e) events))
+    (recounts-events numbers events (after_event plain_node s e) (lines ++ lines_of plain_node s e) (All-tail (IsHalfPossible numbers) e events possible)
     (recounts-event numbers e s lines (All-head (IsHalfPossible numbers) e events possible) r))
 
-pub outcomes-run : (script : Script) → IsHalfPlayable script → AreOutcomesTold M (issued_of (last_state script).master) (lines_after (start script) script.events)
+pub outcomes-run : (script : Script) → IsHalfPlayable script → AreOutcomesTold M (issued_of (last_state script).master) (lines_after plain_node (start script) script.events)
 outcomes-run script playable =
     (recounts-events (numbers_of script.ends) script.events (start script) [] playable.events
     (record { numbers_are = listed-numbers (numbers_of script.ends); declared = λ k body at. absurd cc; outcomes = outcomes-start M })).outcomes

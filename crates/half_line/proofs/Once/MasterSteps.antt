@@ -24,6 +24,7 @@ use Rattle.each_once.proofs.ContinuedCommands.{Continues, continues-same, contin
 use Rattle.each_once.proofs.IssuingNode.{Issues, issues-issue, issues-told, issues-tick, issues-next}
 use Rattle.each_once.proofs.Sublists.{from-map}
 use Rattle.each_once.proofs.ToldLines.{stays-more}
+use Rattle.half_line.specs.Behind.{plain_node}
 use Rattle.half_line.specs.Acts.{LineStationState, HalfState, Issue, Give, Tick, after_master_deed, master_lines, cells_given, joined}
 use Rattle.half_line.proofs.Once.GivenCell.{way-given}
 use Rattle.half_line.specs.Issues.{issued_of}
@@ -43,8 +44,8 @@ pub payload-command : (payload : List ℕ) → IsTrue (is_payload payload) → e
 payload-command [] h = absurd cc
 payload-command (cmd ∷ rest) h = sym (and_64 cmd) ∙ ap not (and-parts (nat_le (length (cmd ∷ rest)) 245) (bit_and cmd 0x40 == 0) h)
 
-pub holds-issue : (setting : Setting) (count : ℕ) (s : HalfState) (src : Option ℕ) (dst : ℕ) (payload : List ℕ) (lines : List Line) → IsTrue (is_payload payload) → count < 65535 → Holds setting count s lines
-    → Holds setting (count + 1) (after_master_deed s (Issue src dst payload)) lines
+pub holds-issue : (setting : Setting) (count : ℕ) (s : HalfState NodeState) (src : Option ℕ) (dst : ℕ) (payload : List ℕ) (lines : List Line) → IsTrue (is_payload payload) → count < 65535 → Holds setting count s lines
+    → Holds setting (count + 1) (after_master_deed plain_node s (Issue src dst payload)) lines
 holds-issue setting count s src dst payload lines may few h =
     let m = s.master in
     let source = unwrap_or src m.host.initiator.node in
@@ -75,7 +76,7 @@ ticked-continues : (node : NodeState) (ticked : Bool) → Continues node.initiat
 ticked-continues node true = continues-tick node
 ticked-continues node false = continues-same node.initiator.issued
 
-pub holds-tick : (setting : Setting) (count : ℕ) (s : HalfState) (lines : List Line) → Holds setting count s lines → Holds setting count (after_master_deed s Tick) (lines ++ master_lines s.master Tick)
+pub holds-tick : (setting : Setting) (count : ℕ) (s : HalfState NodeState) (lines : List Line) → Holds setting count s lines → Holds setting count (after_master_deed plain_node s Tick) (lines ++ master_lines plain_node s.master Tick)
 holds-tick setting count s lines h =
     let m = s.master in
     let after = master_after_tick node_host m in
@@ -93,10 +94,10 @@ holds-tick setting count s lines h =
         count_is = continues.count ∙ h.master.count_is;
         numbers_are = signal-numbers node_host m TickLetter ∙ h.master.numbers_are;
       };
-      replies = master-mute setting.numbers lines (master_lines m Tick) (tick-mute M (turn_at_tick node_host m) (gone_at_tick node_host m)) h.replies;
+      replies = master-mute setting.numbers lines (master_lines plain_node m Tick) (tick-mute M (turn_at_tick node_host m) (gone_at_tick node_host m)) h.replies;
       numbers_are = h.numbers_are;
       sides = λ p side at.
-          side-lines (master_lines m Tick) (tick-silent side.number M (turn_at_tick node_host m) (gone_at_tick node_host m))
+          side-lines (master_lines plain_node m Tick) (tick-silent side.number M (turn_at_tick node_host m) (gone_at_tick node_host m))
           (side-issued (issued_of after) continues.stays (side-heard h.heard (kept_at after.stations p) refl (ap (λ l. kept_at l p) t.stations) (h.sides p side at)));
     }
 
@@ -121,14 +122,14 @@ joined-numbers : (cells : List LaneCell) (stations : List LineStationState) → 
 joined-numbers cells [] = refl
 joined-numbers cells (side ∷ stations) = ap (λ ns. side.number ∷ ns) (joined-numbers cells stations)
 
-pub holds-give : (setting : Setting) (count : ℕ) (s : HalfState) (lines : List Line) → Holds setting count s lines → Holds setting count (after_master_deed s Give) lines
+pub holds-give : (setting : Setting) (count : ℕ) (s : HalfState NodeState) (lines : List Line) → Holds setting count s lines → Holds setting count (after_master_deed plain_node s Give) lines
 holds-give setting count s lines h =
     let m = s.master in
     let after = master_after_take node_host m in
     let next = message_next node_host m in
     let more = option_to_list next in
     let b = begins setting.of_master m h.commands h.heard next refl h.master.issues in
-    let cells = cells_given m in
+    let cells = cells_given plain_node m in
     let given : (p : ℕ) (side : LineStationState) → slice_get s.stations p ≡ Some side → SideHolds (shared (h.commands ++ more) h.heard (issued_of after) lines) (setting.first p) (kept_at after.stations p) (joined cells side) = λ p side at.
     let old = side-issued (issued_of after) b.1.stays (side-heard h.heard (kept_at after.stations p) refl (ap (λ l. kept_at l p) b.2) (side-commands more (h.sides p side at))) in
     side-lanes (side.to_it ++ cells) side.from_it old

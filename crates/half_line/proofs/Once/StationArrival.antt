@@ -29,6 +29,7 @@ use Rattle.each_once.proofs.IssuingNode.{commands-plain}
 use Rattle.each_once.proofs.OneDirection.{Way, way-more, way-leaves, way-accepts, way-within}
 use Rattle.each_once.proofs.Sublists.{Has, within-has, get-last, same-some}
 use Rattle.each_once.proofs.ToldLines.{IsTold, told-executes}
+use Rattle.half_line.specs.Behind.{plain_node}
 use Rattle.half_line.specs.declared.way.Way.TheVariants.{ToStation}
 use Rattle.half_line.specs.Acts.{LineStationState, link_state, after_cell, cell_lines, deceptions_at}
 use Rattle.half_line.proofs.Once.Honest.{honest-station}
@@ -72,8 +73,8 @@ abbrev pub coming : LineStationState → List LaneCell → LineStationState
 coming side cells = record { number = side.number; slave = side.slave; to_it = cells; from_it = side.from_it }
 
 arrives-accepted : (setting : Setting) (count : ℕ) (stations : List LineStationState) (place : ℕ) (m : MasterState NodeState) (side : LineStationState) (cell : LaneCell) (cells : List LaneCell) (d : ℕ) (lines : List Line)
-    → deceptions_at ToStation (link_state m (coming side cells) d) cell ≡ 0 → Accepts side.slave cell.byte → LinkHolds setting count stations place (link_state m (coming side (cell ∷ cells)) d) lines
-    → LinkHolds setting count stations place (after_cell ToStation (link_state m (coming side cells) d) cell) (lines ++ cell_lines ToStation (link_state m (coming side cells) d) cell)
+    → deceptions_at plain_node ToStation (link_state m (coming side cells) d) cell ≡ 0 → Accepts side.slave cell.byte → LinkHolds setting count stations place (link_state m (coming side (cell ∷ cells)) d) lines
+    → LinkHolds setting count stations place (after_cell plain_node ToStation (link_state m (coming side cells) d) cell) (lines ++ cell_lines plain_node ToStation (link_state m (coming side cells) d) cell)
 arrives-accepted setting count stations place m side cell cells d lines none a h =
     let this = h.this in
     let first = setting.first place in
@@ -88,7 +89,7 @@ arrives-accepted setting count stations place m side cell cells d lines none a h
     let way = way-accepts h.commands body (marks cells) s.kept this.executed a.new (subst (λ (o : Option (List ℕ)). Way h.commands (o ∷ marks cells) s.kept this.executed) mark this.way) in
     let has : Has h.commands body = within-has (this.executed ++ body ∷ []) h.commands body (way-within h.commands (marks cells) (Some (key_of body)) (this.executed ++ body ∷ []) way) (get-last this.executed body) in
     let plain = commands-plain body h.master.issues has in
-    let more : cell_lines ToStation (link_state m (coming side cells) d) cell ≡ line.Exec (S side.number) body ∷ [] =
+    let more : cell_lines plain_node ToStation (link_state m (coming side cells) d) cell ≡ line.Exec (S side.number) body ∷ [] =
     step-executes (S side.number) step (body_of after) body a.act (a.did ∙ ap Some (executed-did s.host body plain)) a.news same in
     let issued = issued_of m in
     record {
@@ -112,21 +113,21 @@ arrives-accepted setting count stations place m side cell cells d lines none a h
         told = subst (λ (all : List Line). IsTold M (S side.number) first issued (this.executed ++ body ∷ []) (lines_of side.number (lines ++ all))) (sym more)
             (own-exec side.number first issued this.executed lines body this.told);
       };
-      others = λ p other at differ. side-lines (cell_lines ToStation (link_state m (coming side cells) d) cell)
+      others = λ p other at differ. side-lines (cell_lines plain_node ToStation (link_state m (coming side cells) d) cell)
           (subst (λ (all : List Line). IsSilentOf other.number all) (sym more) (other-exec other.number side.number body (other-number setting stations place p side.number other h.numbers_are h.is_at at differ)))
           (h.others p other at differ);
     }
 
 arrives-passed : (setting : Setting) (count : ℕ) (stations : List LineStationState) (place : ℕ) (m : MasterState NodeState) (side : LineStationState) (cell : LaneCell) (cells : List LaneCell) (d : ℕ) (lines : List Line)
     → PassesOver side.slave cell.byte → LinkHolds setting count stations place (link_state m (coming side (cell ∷ cells)) d) lines
-    → LinkHolds setting count stations place (after_cell ToStation (link_state m (coming side cells) d) cell) (lines ++ cell_lines ToStation (link_state m (coming side cells) d) cell)
+    → LinkHolds setting count stations place (after_cell plain_node ToStation (link_state m (coming side cells) d) cell) (lines ++ cell_lines plain_node ToStation (link_state m (coming side cells) d) cell)
 arrives-passed setting count stations place m side cell cells d lines o h =
     let this = h.this in
     let first = setting.first place in
     let s = side.slave in
     let after = slave_after_byte node_host s cell.byte in
     let step = step_at_byte node_host s cell.byte in
-    let more = cell_lines ToStation (link_state m (coming side cells) d) cell in
+    let more = cell_lines plain_node ToStation (link_state m (coming side cells) d) cell in
     let silent : (station : ℕ) → IsSilentOf station more = λ station. step-silent station (S side.number) step (body_of after) o.act in
     let keeps = o.keeps this.keeps in
     let told = filter (is_from side.number) h.heard in
@@ -151,8 +152,8 @@ arrives-passed setting count stations place m side cell cells d lines o h =
     }
 
 pub station-arrival : (setting : Setting) (count : ℕ) (stations : List LineStationState) (place : ℕ) (m : MasterState NodeState) (side : LineStationState) (cell : LaneCell) (cells : List LaneCell) (d : ℕ) (lines : List Line)
-    → deceptions_at ToStation (link_state m (coming side cells) d) cell ≡ 0 → LinkHolds setting count stations place (link_state m (coming side (cell ∷ cells)) d) lines
-    → LinkHolds setting count stations place (after_cell ToStation (link_state m (coming side cells) d) cell) (lines ++ cell_lines ToStation (link_state m (coming side cells) d) cell)
+    → deceptions_at plain_node ToStation (link_state m (coming side cells) d) cell ≡ 0 → LinkHolds setting count stations place (link_state m (coming side (cell ∷ cells)) d) lines
+    → LinkHolds setting count stations place (after_cell plain_node ToStation (link_state m (coming side cells) d) cell) (lines ++ cell_lines plain_node ToStation (link_state m (coming side cells) d) cell)
 station-arrival setting count stations place m side cell cells d lines none h = elim (at-byte side.slave cell.byte) [
   | accepts a ↦ arrives-accepted setting count stations place m side cell cells d lines none a h
   | passes o ↦ arrives-passed setting count stations place m side cell cells d lines o h

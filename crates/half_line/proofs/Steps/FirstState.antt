@@ -4,7 +4,6 @@ use Rattle.std.specs.Prelude.{All}
 use Rattle.std.proofs.Math.ListN.{get_or-map}
 use Rattle.std.proofs.Math.Seq.{take-length}
 use Rattle.std.proofs.lemmas.List.{length-map}
-use Rattle.df1_node.specs.Node.{NodeState}
 use Rattle.half_master.specs.declared.MasterSetup.{MasterSetup}
 use Rattle.half_master.specs.Master.{MasterState, new_master}
 use Rattle.script_parts.specs.declared.script.EndPlan.{EndPlan}
@@ -12,13 +11,12 @@ use Rattle.script_parts.specs.declared.script.Script.{Script}
 use Rattle.script_parts.specs.Plans.{first_plan}
 use Rattle.script_parts.specs.Playable.{IsPlanOf}
 use Rattle.script_parts.specs.HalfPlayable.{AreHalfEnds, IsStationPlan, IsStationNumber, station_plans}
-use Rattle.outset.specs.Outset.{first_node}
 use Rattle.script_statement.specs.declared.who.Who.TheVariants.{M}
 use Rattle.replay_report.specs.declared.record.Line.{Line}
 use Rattle.half_master.specs.Stations.{IsNumber, AreStations}
 use Rattle.half_line.specs.Acts.{LineStationState, half_state}
 use Rattle.half_line.specs.Run.{master_setup, first_side, plan_of_m}
-use Rattle.half_line.specs.Plays.{begun}
+use Rattle.half_line.specs.Plays.{begun_with}
 
 -- the plans behind the first
 pub rest-is : (ends : List EndPlan) → take (length ends - 1) (drop 1 ends) ≡ station_plans ends
@@ -52,10 +50,14 @@ first-is : (ends : List EndPlan) (d other : EndPlan) → AreHalfEnds ends → ge
 first-is [] d other h = absurd h
 first-is (master ∷ stations) d other h = refl
 
-pub begins : (script : Script) (plan d : EndPlan) (m : MasterState NodeState) (setup : MasterSetup) (host : NodeState) (numbers : List ℕ) (sides : List LineStationState) (lines : List Line) → AreHalfEnds script.ends
-    → plan ≡ get_or script.ends 0 d → m ≡ new_master setup numbers host → setup ≡ master_setup script.check plan → host ≡ first_node plan
+-- the plan of the master is the first
+plan-of-m : (script : Script) (plan d : EndPlan) → AreHalfEnds script.ends → plan ≡ get_or script.ends 0 d → plan ≡ plan_of_m script
+plan-of-m script plan d ends is = is ∙ first-is script.ends d (first_plan M 0) ends
+
+pub begins : {H : Type 0} (script : Script) (plan d : EndPlan) (m : MasterState H) (setup : MasterSetup) (host : H) (numbers : List ℕ) (sides : List LineStationState) (lines : List Line) → AreHalfEnds script.ends
+    → plan ≡ get_or script.ends 0 d → m ≡ new_master setup numbers host → setup ≡ master_setup script.check plan
     → numbers ≡ map (λ (p : EndPlan). p.node) (station_plans script.ends) → sides ≡ map (first_side script.check) (station_plans script.ends) → lines ≡ []
-    → record { state = half_state m sides 0; lines = lines; events = 0 } ≡ begun script
-begins script plan d m setup host numbers sides lines ends is master sets hosts counted stations told =
-    let first : plan ≡ plan_of_m script = is ∙ first-is script.ends d (first_plan M 0) ends in
-    rw (master, sets, hosts, counted, stations, told, first) refl
+    → record { state = half_state m sides 0; lines = lines; events = 0 } ≡ begun_with script host
+begins script plan d m setup host numbers sides lines ends is master sets counted stations told =
+    let first = plan-of-m script plan d ends is in
+    rw (master, sets, counted, stations, told, first) refl

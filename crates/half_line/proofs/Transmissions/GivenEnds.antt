@@ -1,8 +1,8 @@
 -- What an end gave: the ends of its transmissions, each with its number and its body.
 use Rattle.std.proofs.Common.{◌≡◌, ◌∙◌, ◌⊎◌, ◌<◌, ◌≤◌, ◌^◌, ℕ, zero, suc, ◌+◌, Bool, true, false, List, [], ◌∷◌, ◌++◌, length, map, Option, Some, None, inl, inr, refl, sym, ap, subst, append-nil, append_assoc, arith, length-append}
-use Rattle.std.specs.Prelude.{slice_get, slice_index, if◌then◌else◌}
+use Rattle.std.specs.Prelude.{slice_index, if◌then◌else◌}
 use Rattle.std.specs.Option.{option_map, option_to_list}
-use Rattle.std.specs.List.{fold, filter_map, last_or}
+use Rattle.std.specs.List.{fold, last_or}
 use Rattle.std.proofs.lemmas.List.{map-append}
 use Rattle.std.proofs.lemmas.List.Elements.{filter_map-append}
 use Rattle.std.proofs.lemmas.Grind.{fold-append}
@@ -11,7 +11,7 @@ use Rattle.df1_base.specs.declared.link.Out.{Out}
 use Rattle.df1_node.specs.Node.{NodeState}
 use Rattle.half_frame.specs.declared.heard.SlaveHeard.{SlaveHeard}
 use Rattle.half_frame.specs.declared.heard.SlaveHeard.TheVariants as heard
-use Rattle.half_mouth.specs.Transmissions.{numbers_ended, with_again, transmission_at}
+use Rattle.half_mouth.specs.Transmissions.{numbers_ended, transmission_at}
 use Rattle.half_slave.specs.declared.held.Held.{Held}
 use Rattle.half_slave.specs.Slave.{SlaveState, is_answered, told, fate_at_poll, fate_at, heard_at, listened, out_at_take, slave_after_take}
 use Rattle.half_slave.specs.Emission as slave
@@ -27,7 +27,7 @@ use Rattle.half_master.specs.Fates as master_fates
 use Rattle.half_master.specs.Past as master_past
 use Rattle.half_master.proofs.CourseLemmas.{by-test}
 use Rattle.half_master.proofs.Giving as master_giving
-use Rattle.lane_cells.specs.Cells.{LaneCell, Ending, cell_of, ending_of}
+use Rattle.lane_cells.specs.Cells.{Ending, cell_of, ending_of}
 use Rattle.each_once.specs.NodeHost.{node_host}
 use Rattle.each_once.proofs.Sublists.{Has, get-more}
 use Rattle.half_line.specs.Transmissions.{ends_in}

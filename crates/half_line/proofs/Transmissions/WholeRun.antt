@@ -1,16 +1,14 @@
 -- Over a whole run: the ends of transmissions that arrive, and those on their way, stand among those that were given, in their order.
-use Rattle.std.proofs.Common.{◌≡◌, ◌∙◌, ◌⊎◌, ◌<◌, ◌≤◌, ◌^◌, ◌*◌, ℕ, zero, suc, ◌+◌, ◌-◌, Bool, true, false, List, [], ◌∷◌, ◌++◌, length, map, Option, Some, None, inl, inr, refl, sym, ap, subst, append-nil, append_assoc, arith, length-append}
-use Rattle.std.specs.Prelude.{IsTrue, All, ◌==◌, slice_get, slice_set, slice_index, replicate, sum_by, count_by, unwrap_or, if◌then◌else◌}
+use Rattle.std.proofs.Common.{◌≡◌, ◌∙◌, ◌<◌, ◌≤◌, ◌^◌, ◌*◌, ℕ, zero, suc, ◌+◌, ◌-◌, Bool, true, false, List, [], ◌∷◌, ◌++◌, length, map, Option, Some, None, inl, inr, refl, sym, ap, subst, append-nil, append_assoc, arith}
+use Rattle.std.specs.Prelude.{IsTrue, All, ◌==◌, slice_get, slice_set, replicate, sum_by, count_by, unwrap_or, if◌then◌else◌}
 use Rattle.std.specs.Option.{option_to_list}
-use Rattle.std.specs.List.{filter_map}
-use Rattle.std.specs.List.Sorted.{IsStrictlyIncreasing}
 use Rattle.std.proofs.lemmas.Bool.{eqb-true, eqb-false}
 use Rattle.std.proofs.lemmas.List.{length-map}
 use Rattle.std.proofs.lemmas.List.Elements.{filter_map-append, All-head, All-tail}
 use Rattle.std.proofs.lemmas.List.Sums.{sum_by-cons}
 use Rattle.std.proofs.lemmas.Option.{slice_get-get_or}
 use Rattle.df1_node.specs.Node.{NodeState, after_node_issue}
-use Rattle.half_mouth.specs.Transmissions.{numbers_ended, counted_to, transmission_at}
+use Rattle.half_mouth.specs.Transmissions.{counted_to}
 use Rattle.half_slave.specs.Emission as slave
 use Rattle.half_slave.specs.Fates as slave_fates
 use Rattle.half_slave.specs.Past as slave_past
@@ -24,7 +22,6 @@ use Rattle.half_master.proofs.Reaching.{reached-carries}
 use Rattle.script_statement.specs.declared.who.Who.{Who}
 use Rattle.script_statement.specs.declared.who.Who.TheVariants.{A, B, M, S}
 use Rattle.script_statement.specs.Statements.{is_payload}
-use Rattle.script_parts.specs.declared.script.EndPlan.{EndPlan}
 use Rattle.script_parts.specs.declared.script.Event.{Event}
 use Rattle.script_parts.specs.declared.script.Event.TheVariants as event
 use Rattle.script_parts.specs.declared.script.Script.{Script}
@@ -35,18 +32,19 @@ use Rattle.each_once.proofs.AnsweringStation.{within-through}
 use Rattle.each_once.proofs.MessageLengths.{issue-holds}
 use Rattle.each_once.proofs.RisingPlaces.{RiseFrom, rise-lower, increasing}
 use Rattle.each_once.proofs.Sublists.{Has, IsWithin, nothing, skips, keeps, within-has, same-some, from-map, within-all}
+use Rattle.half_line.specs.Behind.{plain_node}
 use Rattle.half_line.specs.declared.way.Way.TheVariants.{ToStation, ToMaster}
-use Rattle.half_line.specs.Acts.{LineStationState, HalfState, LinkState, link_state, MasterDeed, Issue, Give, Tick, LinkDeed, StationGives, OnLane, LaneDeed, Deliver, Lose, Alter, Foreign, arriving, lane_after, joined, cells_given, after_issue, after_arrival, after_link_deed}
+use Rattle.half_line.specs.Acts.{LineStationState, HalfState, LinkState, link_state, Issue, Give, Tick, LinkDeed, StationGives, OnLane, LaneDeed, Deliver, Lose, Alter, Foreign, arriving, lane_after, joined, cells_given, after_issue, after_arrival, after_link_deed}
 use Rattle.half_line.specs.Steps.{UnitStep, AtMaster, AtStation, link_of, after_with, after_step, after_steps}
-use Rattle.half_line.specs.Run.{station_at, number_of, station_between, way_from, place_of, master_deeds, link_deeds, steps_with, steps_at, steps_of, after_event, state_after, start, last_state, first_side}
-use Rattle.half_line.specs.Plays.{issued_by, IsUnspent}
-use Rattle.half_line.specs.Transmissions.{over_steps, over_events, cells_at, cells_with, arrived, master_signals, master_events, side_events, events_with, station_events, transmissions_of_m, transmissions_of, ends_in, AreInOrder, LinkInOrder, AreAllInOrder}
+use Rattle.half_line.specs.Run.{number_of, station_between, way_from, place_of, link_deeds, steps_with, steps_at, steps_of, after_event, state_after, start, last_state, first_side}
+use Rattle.half_line.specs.Plays.{issued_by}
+use Rattle.half_line.specs.Transmissions.{over_steps, over_events, cells_at, cells_with, arrived, master_events, side_events, events_with, station_events, transmissions_of_m, transmissions_of, ends_in, AreInOrder, AreAllInOrder}
 use Rattle.half_line.proofs.Once.Places.{set-same, set-other}
 use Rattle.half_line.proofs.Steps.EventsToCome.{room-of-m, unspent}
 use Rattle.half_line.proofs.Wire.MasterEnd.{node_keeps}
 use Rattle.half_line.proofs.Wire.Told.{slave_keeps, start-came, station-came}
 use Rattle.half_line.proofs.Wire.WholeRun.{May, MayAll, event-may}
-use Rattle.half_line.proofs.Transmissions.GivenEnds.{given_ends, Carry, MasterEnds, master_given, master-signal, StationEnds, station-byte, station-take}
+use Rattle.half_line.proofs.Transmissions.GivenEnds.{Carry, MasterEnds, master-signal, StationEnds, station-byte, station-take}
 
 -- ---- lists within lists
 
@@ -153,14 +151,14 @@ side-later of_m side events to from most later more h = record { given = h.given
 side-still : (of_m : List Ending) (side : LineStationState) (events : List slave_fates.Event) (to from : List LaneCell) (most : ℕ) → SideEnds of_m side events to from most → SideEnds of_m side (events ++ []) (to ++ []) (from ++ []) (most + 1)
 side-still of_m side events to from most h = rw (append-nil events, append-nil to, append-nil from) (side-later of_m side events to from most (most + 1) (omega arith) h)
 
-record LineEnds (s : HalfState) (of_m : List master_fates.Event) (of_s : ℕ → List slave_fates.Event) (to from : ℕ → List LaneCell) (most : ℕ) : Type 0 where
+record LineEnds (s : HalfState NodeState) (of_m : List master_fates.Event) (of_s : ℕ → List slave_fates.Event) (to from : ℕ → List LaneCell) (most : ℕ) : Type 0 where
   pub given : List Ending
   pub master : MasterEnds s.master of_m most given
   pub sides : (p : ℕ) (side : LineStationState) → slice_get s.stations p ≡ Some side → SideEnds given side (of_s p) (to p) (from p) most
 
 -- ---- with one station
 
-record LinkEnds (link : LinkState) (given : List Ending) (of_m : List master_fates.Event) (of_s : List slave_fates.Event) (to from : List LaneCell) (most : ℕ) : Type 0 where
+record LinkEnds (link : LinkState NodeState) (given : List Ending) (of_m : List master_fates.Event) (of_s : List slave_fates.Event) (to from : List LaneCell) (most : ℕ) : Type 0 where
   pub master : MasterEnds link.master of_m most given
   pub side : SideEnds given link.side of_s to from most
 
@@ -168,8 +166,8 @@ record LinkEnds (link : LinkState) (given : List Ending) (of_m : List master_fat
 abbrev master_with : MasterState NodeState → List LaneCell → List master_fates.Event
 master_with e cells = master_fates.events node_host e (map (λ (cell : LaneCell). master.Byte cell.byte) cells)
 
-link-gives : (s : LinkState) (given : List Ending) (of_m : List master_fates.Event) (of_s : List slave_fates.Event) (to from : List LaneCell) (most : ℕ) → most + 1 < 2 ^ 64 → LinkEnds s given of_m of_s to from most
-    → LinkEnds (after_link_deed s StationGives) given (of_m ++ []) (of_s ++ []) (to ++ []) (from ++ []) (most + 1)
+link-gives : (s : LinkState NodeState) (given : List Ending) (of_m : List master_fates.Event) (of_s : List slave_fates.Event) (to from : List LaneCell) (most : ℕ) → most + 1 < 2 ^ 64 → LinkEnds s given of_m of_s to from most
+    → LinkEnds (after_link_deed plain_node s StationGives) given (of_m ++ []) (of_s ++ []) (to ++ []) (from ++ []) (most + 1)
 link-gives s given of_m of_s to from most small h = record {
   master = rw (append-nil of_m) (master-later s.master of_m most (most + 1) given (omega arith) h.master);
   side = rw (append-nil of_s, append-nil to, append-nil from) (record {
@@ -180,9 +178,9 @@ link-gives s given of_m of_s to from most small h = record {
   });
 }
 
-to-station : (s : LinkState) (lane : List LaneCell) (cell : Option LaneCell) (given : List Ending) (of_m : List master_fates.Event) (of_s : List slave_fates.Event) (to from : List LaneCell) (most : ℕ) → MasterEnds s.master of_m most given
+to-station : (s : LinkState NodeState) (lane : List LaneCell) (cell : Option LaneCell) (given : List Ending) (of_m : List master_fates.Event) (of_s : List slave_fates.Event) (to from : List LaneCell) (most : ℕ) → MasterEnds s.master of_m most given
     → (h : SideEnds given s.side of_s to from most) → LaneHolds (to ++ option_to_list cell) lane given
-    → LinkEnds (after_arrival ToStation (link_state s.master (record s.side { to_it = lane }) s.deceived) cell) given (of_m ++ []) (of_s ++ slave_fates.events node_host s.side.slave (map (λ (c : LaneCell). slave.Byte c.byte) (option_to_list cell)))
+    → LinkEnds (after_arrival plain_node ToStation (link_state s.master (record s.side { to_it = lane }) s.deceived) cell) given (of_m ++ []) (of_s ++ slave_fates.events node_host s.side.slave (map (λ (c : LaneCell). slave.Byte c.byte) (option_to_list cell)))
     (to ++ option_to_list cell) (from ++ []) (most + 1)
 to-station s lane None given of_m of_s to from most m h now = record {
   master = rw (append-nil of_m) (master-later s.master of_m most (most + 1) given (omega arith) m);
@@ -198,9 +196,9 @@ to-station s lane (Some cell) given of_m of_s to from most m h now = record {
   };
 }
 
-to-master : (s : LinkState) (lane : List LaneCell) (cell : Option LaneCell) (given : List Ending) (of_m : List master_fates.Event) (of_s : List slave_fates.Event) (to from : List LaneCell) (most : ℕ) → most + 1 < 2 ^ 64 → MasterEnds s.master of_m most given
+to-master : (s : LinkState NodeState) (lane : List LaneCell) (cell : Option LaneCell) (given : List Ending) (of_m : List master_fates.Event) (of_s : List slave_fates.Event) (to from : List LaneCell) (most : ℕ) → most + 1 < 2 ^ 64 → MasterEnds s.master of_m most given
     → (h : SideEnds given s.side of_s to from most) → LaneHolds (from ++ option_to_list cell) lane h.given
-    → LinkEnds (after_arrival ToMaster (link_state s.master (record s.side { from_it = lane }) s.deceived) cell) given (of_m ++ master_with s.master (option_to_list cell)) (of_s ++ []) (to ++ []) (from ++ option_to_list cell) (most + 1)
+    → LinkEnds (after_arrival plain_node ToMaster (link_state s.master (record s.side { from_it = lane }) s.deceived) cell) given (of_m ++ master_with s.master (option_to_list cell)) (of_s ++ []) (to ++ []) (from ++ option_to_list cell) (most + 1)
 to-master s lane None given of_m of_s to from most small m h now = record {
   master = rw (append-nil of_m) (master-later s.master of_m most (most + 1) given (omega arith) m);
   side = record { given = h.given; station = rw (append-nil of_s) (station-later s.side of_s most (most + 1) h.given (omega arith) h.station); to_it = rw (append-nil to) h.to_it; from_it = now };
@@ -212,8 +210,8 @@ to-master s lane (Some cell) given of_m of_s to from most small m h now = record
   side = record { given = h.given; station = rw (append-nil of_s) (station-later s.side of_s most (most + 1) h.given (omega arith) h.station); to_it = rw (append-nil to) h.to_it; from_it = now };
 }
 
-link-step : (s : LinkState) (deed : LinkDeed) (given : List Ending) (of_m : List master_fates.Event) (of_s : List slave_fates.Event) (to from : List LaneCell) (most : ℕ) → most + 1 < 2 ^ 64 → LinkEnds s given of_m of_s to from most
-    → LinkEnds (after_link_deed s deed) given (of_m ++ master_with s.master (cells_at ToMaster s.side deed)) (of_s ++ side_events s.side deed) (to ++ cells_at ToStation s.side deed) (from ++ cells_at ToMaster s.side deed) (most + 1)
+link-step : (s : LinkState NodeState) (deed : LinkDeed) (given : List Ending) (of_m : List master_fates.Event) (of_s : List slave_fates.Event) (to from : List LaneCell) (most : ℕ) → most + 1 < 2 ^ 64 → LinkEnds s given of_m of_s to from most
+    → LinkEnds (after_link_deed plain_node s deed) given (of_m ++ master_with s.master (cells_at ToMaster s.side deed)) (of_s ++ side_events s.side deed) (to ++ cells_at ToStation s.side deed) (from ++ cells_at ToMaster s.side deed) (most + 1)
 link-step s StationGives given of_m of_s to from most small h = link-gives s given of_m of_s to from most small h
 link-step s (OnLane ToStation deed) given of_m of_s to from most small h =
     to-station s (lane_after s.side.to_it deed) (arriving s.side.to_it deed) given of_m of_s to from most h.master h.side (lane-deed deed to s.side.to_it given h.side.to_it)
@@ -236,7 +234,7 @@ no-cell : (same : Bool) → (if same then no_cells else no_cells) ≡ no_cells
 no-cell true = refl
 no-cell false = refl
 
-side-step : (s : HalfState) (place : ℕ) (was now : LineStationState) (given : List Ending) (of_s : ℕ → List slave_fates.Event) (to from : ℕ → List LaneCell) (events : List slave_fates.Event) (more_to more_from : List LaneCell) (most : ℕ) → slice_get s.stations place ≡ Some was
+side-step : (s : HalfState NodeState) (place : ℕ) (was now : LineStationState) (given : List Ending) (of_s : ℕ → List slave_fates.Event) (to from : ℕ → List LaneCell) (events : List slave_fates.Event) (more_to more_from : List LaneCell) (most : ℕ) → slice_get s.stations place ≡ Some was
     → ((p : ℕ) (side : LineStationState) → slice_get s.stations p ≡ Some side → SideEnds given side (of_s p) (to p) (from p) most) → SideEnds given now (of_s place ++ events) (to place ++ more_to) (from place ++ more_from) (most + 1)
     → (p : ℕ) (side : LineStationState) → slice_get (slice_set s.stations place now) p ≡ Some side → (same : Bool) → (place == p) ≡ same
     → SideEnds given side (of_s p ++ (if same then events else [])) (to p ++ (if same then more_to else [])) (from p ++ (if same then more_from else [])) (most + 1)
@@ -249,8 +247,8 @@ side-step s place was now given of_s to from events more_to more_from most is be
     let differ : (p ≡ place → ⊥) = λ e. eqb-false place p same (sym e) in
     side-still given side (of_s p) (to p) (from p) most (before p side (sym (set-other s.stations place p now differ) ∙ at))
 
-with-step : (s : HalfState) (place : ℕ) (deed : LinkDeed) (o : Option LineStationState) (of_m : List master_fates.Event) (of_s : ℕ → List slave_fates.Event) (to from : ℕ → List LaneCell) (most : ℕ) → slice_get s.stations place ≡ o → most + 1 < 2 ^ 64 → LineEnds s of_m of_s to from most
-    → LineEnds (after_with s place deed o) (of_m ++ master_with s.master (cells_with ToMaster deed o)) (λ p. of_s p ++ (if place == p then events_with deed o else [])) (λ p. to p ++ (if place == p then cells_with ToStation deed o else []))
+with-step : (s : HalfState NodeState) (place : ℕ) (deed : LinkDeed) (o : Option LineStationState) (of_m : List master_fates.Event) (of_s : ℕ → List slave_fates.Event) (to from : ℕ → List LaneCell) (most : ℕ) → slice_get s.stations place ≡ o → most + 1 < 2 ^ 64 → LineEnds s of_m of_s to from most
+    → LineEnds (after_with plain_node s place deed o) (of_m ++ master_with s.master (cells_with ToMaster deed o)) (λ p. of_s p ++ (if place == p then events_with deed o else [])) (λ p. to p ++ (if place == p then cells_with ToStation deed o else []))
     (λ p. from p ++ (if place == p then cells_with ToMaster deed o else [])) (most + 1)
 with-step s place deed None of_m of_s to from most is small h = record {
   given = h.given;
@@ -262,10 +260,10 @@ with-step s place deed (Some side) of_m of_s to from most is small h =
     record {
       given = h.given;
       master = l.master;
-      sides = λ p other at. side-step s place side (after_link_deed (link_of s side) deed).side h.given of_s to from (side_events side deed) (cells_at ToStation side deed) (cells_at ToMaster side deed) most is h.sides l.side p other at (place == p) refl;
+      sides = λ p other at. side-step s place side (after_link_deed plain_node (link_of s side) deed).side h.given of_s to from (side_events side deed) (cells_at ToStation side deed) (cells_at ToMaster side deed) most is h.sides l.side p other at (place == p) refl;
     }
 
-master-issue : (e : MasterState NodeState) (src : Option ℕ) (dst : ℕ) (payload : List ℕ) (of_m : List master_fates.Event) (most : ℕ) (given : List Ending) → IsTrue (is_payload payload) → MasterEnds e of_m most given → MasterEnds (after_issue e src dst payload) of_m most given
+master-issue : (e : MasterState NodeState) (src : Option ℕ) (dst : ℕ) (payload : List ℕ) (of_m : List master_fates.Event) (most : ℕ) (given : List Ending) → IsTrue (is_payload payload) → MasterEnds e of_m most given → MasterEnds (after_issue plain_node e src dst payload) of_m most given
 master-issue e src dst payload of_m most given may m =
     let source = unwrap_or src e.host.initiator.node in
     let host = after_node_issue e.host source dst payload in
@@ -278,15 +276,15 @@ master-issue e src dst payload of_m most given may m =
       few = m.few;
     }
 
-line-step : (s : HalfState) (step : UnitStep) (of_m : List master_fates.Event) (of_s : ℕ → List slave_fates.Event) (to from : ℕ → List LaneCell) (most : ℕ) → May s step → most + 1 < 2 ^ 64 → LineEnds s of_m of_s to from most
-    → LineEnds (after_step s step) (of_m ++ master_events s step) (λ p. of_s p ++ station_events p s step) (λ p. to p ++ arrived ToStation p s step) (λ p. from p ++ arrived ToMaster p s step) (most + 1)
+line-step : (s : HalfState NodeState) (step : UnitStep) (of_m : List master_fates.Event) (of_s : ℕ → List slave_fates.Event) (to from : ℕ → List LaneCell) (most : ℕ) → May s step → most + 1 < 2 ^ 64 → LineEnds s of_m of_s to from most
+    → LineEnds (after_step plain_node s step) (of_m ++ master_events s step) (λ p. of_s p ++ station_events p s step) (λ p. to p ++ arrived ToStation p s step) (λ p. from p ++ arrived ToMaster p s step) (most + 1)
 line-step s (AtMaster (Issue src dst payload)) of_m of_s to from most may small h = record {
   given = h.given;
   master = rw (append-nil of_m) (master-issue s.master src dst payload of_m (most + 1) h.given may.0 (master-later s.master of_m most (most + 1) h.given (omega arith) h.master));
   sides = λ p side at. side-still h.given side (of_s p) (to p) (from p) most (h.sides p side at);
 }
 line-step s (AtMaster Give) of_m of_s to from most may small h =
-    let cells = cells_given s.master in
+    let cells = cells_given plain_node s.master in
     record {
       given = h.given ++ ends_in cells;
       master = rw (append-nil (master_fates.events_at node_host s.master master.Take)) (master-signal s.master of_m most h.given master.Take small h.master);
@@ -306,7 +304,7 @@ line-step s (AtMaster Tick) of_m of_s to from most may small h = record {
 line-step s (AtStation place deed) of_m of_s to from most may small h = with-step s place deed (slice_get s.stations place) of_m of_s to from most refl small h
 
 -- the same, said otherwise
-same-ends : (s : HalfState) (of_m now_m : List master_fates.Event) (of_s now_s : ℕ → List slave_fates.Event) (to now_to from now_from : ℕ → List LaneCell) (most later : ℕ) → of_m ≡ now_m → ((p : ℕ) → of_s p ≡ now_s p) → ((p : ℕ) → to p ≡ now_to p) → ((p : ℕ) → from p ≡ now_from p) → most ≤ later
+same-ends : (s : HalfState NodeState) (of_m now_m : List master_fates.Event) (of_s now_s : ℕ → List slave_fates.Event) (to now_to from now_from : ℕ → List LaneCell) (most later : ℕ) → of_m ≡ now_m → ((p : ℕ) → of_s p ≡ now_s p) → ((p : ℕ) → to p ≡ now_to p) → ((p : ℕ) → from p ≡ now_from p) → most ≤ later
     → LineEnds s of_m of_s to from most → LineEnds s now_m now_s now_to now_from later
 same-ends s of_m now_m of_s now_s to now_to from now_from most later same_m same_s same_to same_from more h = record {
   given = h.given;
@@ -318,15 +316,15 @@ same-ends s of_m now_m of_s now_s to now_to from now_from most later same_m same
       (subst (λ (l : List slave_fates.Event). SideEnds h.given side l (to p) (from p) later) (same_s p) one));
 }
 
-line-steps : (steps : List UnitStep) (s : HalfState) (of_m : List master_fates.Event) (of_s : ℕ → List slave_fates.Event) (to from : ℕ → List LaneCell) (most : ℕ) → MayAll s steps → most + length steps < 2 ^ 64 → LineEnds s of_m of_s to from most
-    → LineEnds (after_steps s steps) (of_m ++ over_steps master_events s steps) (λ p. of_s p ++ over_steps (station_events p) s steps) (λ p. to p ++ over_steps (arrived ToStation p) s steps) (λ p. from p ++ over_steps (arrived ToMaster p) s steps) (most + length steps)
+line-steps : (steps : List UnitStep) (s : HalfState NodeState) (of_m : List master_fates.Event) (of_s : ℕ → List slave_fates.Event) (to from : ℕ → List LaneCell) (most : ℕ) → MayAll s steps → most + length steps < 2 ^ 64 → LineEnds s of_m of_s to from most
+    → LineEnds (after_steps plain_node s steps) (of_m ++ over_steps master_events s steps) (λ p. of_s p ++ over_steps (station_events p) s steps) (λ p. to p ++ over_steps (arrived ToStation p) s steps) (λ p. from p ++ over_steps (arrived ToMaster p) s steps) (most + length steps)
 line-steps [] s of_m of_s to from most may small h =
     same-ends s of_m (of_m ++ []) of_s (λ p. of_s p ++ []) to (λ p. to p ++ []) from (λ p. from p ++ []) most (most + 0) (sym (append-nil of_m)) (λ p. sym (append-nil (of_s p))) (λ p. sym (append-nil (to p))) (λ p. sym (append-nil (from p))) (omega arith) h
 line-steps (step ∷ steps) s of_m of_s to from most may small h =
-    let next = after_step s step in
+    let next = after_step plain_node s step in
     let one = line-step s step of_m of_s to from most may.0 (omega (arith, small)) h in
     let rest = line-steps steps next (of_m ++ master_events s step) (λ p. of_s p ++ station_events p s step) (λ p. to p ++ arrived ToStation p s step) (λ p. from p ++ arrived ToMaster p s step) (most + 1) may.1 (omega (arith, small)) one in
-    same-ends (after_steps next steps) _ _ _ _ _ _ _ _ (most + 1 + length steps) (most + length (step ∷ steps)) (append_assoc of_m (master_events s step) (over_steps master_events next steps))
+    same-ends (after_steps plain_node next steps) _ _ _ _ _ _ _ _ (most + 1 + length steps) (most + length (step ∷ steps)) (append_assoc of_m (master_events s step) (over_steps master_events next steps))
     (λ p. append_assoc (of_s p) (station_events p s step) (over_steps (station_events p) next steps)) (λ p. append_assoc (to p) (arrived ToStation p s step) (over_steps (arrived ToStation p) next steps))
     (λ p. append_assoc (from p) (arrived ToMaster p s step) (over_steps (arrived ToMaster p) next steps)) (omega arith) rest
 
@@ -354,10 +352,10 @@ take-most numbers stations M n =
     let same = length-map (replicate n Give) AtMaster in let copies = length-copies n Give in let more = times-more n (master_weight numbers) (weight-some numbers) in omega (arith, same, copies, more)
 take-most numbers stations (S number) n = let most = with-most (place_of stations number) (replicate n StationGives) in let copies = length-copies n StationGives in omega (arith, most, copies)
 
-lane-most : (numbers : List ℕ) (s : HalfState) (o : Option ℕ) (n : ℕ) (deed : LinkDeed) → length (steps_with o (replicate n deed)) ≤ n
+lane-most : (numbers : List ℕ) (s : HalfState NodeState) (o : Option ℕ) (n : ℕ) (deed : LinkDeed) → length (steps_with o (replicate n deed)) ≤ n
 lane-most numbers s o n deed = let most = with-most o (replicate n deed) in let copies = length-copies n deed in omega (arith, most, copies)
 
-event-most : (numbers : List ℕ) (s : HalfState) (e : Event) → length (steps_of s e) ≤ half_count_of numbers e
+event-most : (numbers : List ℕ) (s : HalfState NodeState) (e : Event) → length (steps_of s e) ≤ half_count_of numbers e
 event-most numbers s (event.Issue who src dst payload) = omega arith
 event-most numbers s (event.Take who n) = take-most numbers s.stations who n
 event-most numbers s (event.Deliver lane n) = lane-most numbers s _ n _
@@ -368,19 +366,19 @@ event-most numbers s (event.Tick who n) = let same = length-map (replicate n Tic
 
 -- ---- events
 
-line-events : (numbers : List ℕ) (events : List Event) (s : HalfState) (of_m : List master_fates.Event) (of_s : ℕ → List slave_fates.Event) (to from : ℕ → List LaneCell) (most : ℕ) → All (IsHalfPossible numbers) events → issued_by s.master + count_by is_issue events ≤ 65535
+line-events : (numbers : List ℕ) (events : List Event) (s : HalfState NodeState) (of_m : List master_fates.Event) (of_s : ℕ → List slave_fates.Event) (to from : ℕ → List LaneCell) (most : ℕ) → All (IsHalfPossible numbers) events → issued_by plain_node s.master + count_by is_issue events ≤ 65535
     → most + sum_by (half_count_of numbers) events ≤ 5000000 → LineEnds s of_m of_s to from most
-    → LineEnds (state_after s events) (of_m ++ over_events master_events s events) (λ p. of_s p ++ over_events (station_events p) s events) (λ p. to p ++ over_events (arrived ToStation p) s events) (λ p. from p ++ over_events (arrived ToMaster p) s events) 5000000
+    → LineEnds (state_after plain_node s events) (of_m ++ over_events master_events s events) (λ p. of_s p ++ over_events (station_events p) s events) (λ p. to p ++ over_events (arrived ToStation p) s events) (λ p. from p ++ over_events (arrived ToMaster p) s events) 5000000
 line-events numbers [] s of_m of_s to from most possible few small h =
     same-ends s of_m (of_m ++ []) of_s (λ p. of_s p ++ []) to (λ p. to p ++ []) from (λ p. from p ++ []) most 5000000 (sym (append-nil of_m)) (λ p. sym (append-nil (of_s p))) (λ p. sym (append-nil (to p))) (λ p. sym (append-nil (from p))) (omega (arith, small)) h
 line-events numbers (e ∷ events) s of_m of_s to from most possible few small h =
-    let next = after_event s e in
+    let next = after_event plain_node s e in
     let steps = steps_of s e in
     let weight = event-most numbers s e in
     let sum = sum_by-cons (half_count_of numbers) e events in
-    let one = line-steps steps s of_m of_s to from most (event-may numbers s e (All-head (IsHalfPossible numbers) e events possible) (unspent s e events few)) (omega (arith, small, sum, weight)) h in
+    let one = line-steps steps s of_m of_s to from most (event-may numbers s e (All-head (IsHalfPossible numbers) e events possible) (unspent plain_node s e events few)) (omega (arith, small, sum, weight)) h in
     let rest = line-events numbers events next _ _ _ _ (most + length steps) (All-tail (IsHalfPossible numbers) e events possible) (room-of-m s e events few) (omega (arith, small, sum, weight)) one in
-    same-ends (state_after next events) _ _ _ _ _ _ _ _ 5000000 5000000 (append_assoc of_m (over_steps master_events s steps) (over_events master_events next events))
+    same-ends (state_after plain_node next events) _ _ _ _ _ _ _ _ 5000000 5000000 (append_assoc of_m (over_steps master_events s steps) (over_events master_events next events))
     (λ p. append_assoc (of_s p) (over_steps (station_events p) s steps) (over_events (station_events p) next events)) (λ p. append_assoc (to p) (over_steps (arrived ToStation p) s steps) (over_events (arrived ToStation p) next events))
     (λ p. append_assoc (from p) (over_steps (arrived ToMaster p) s steps) (over_events (arrived ToMaster p) next events)) (omega arith) rest
 

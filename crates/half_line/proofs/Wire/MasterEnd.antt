@@ -1,5 +1,5 @@
 -- At each point of a run: what the master gave, and that its messages are its own.
-use Rattle.std.proofs.Common.{◌≡◌, ◌∙◌, ℕ, ◌<◌, Bool, true, false, List, [], ◌∷◌, ◌++◌, length, map, not, Option, Some, None, refl, sym, ap, subst, append-nil, append_assoc, option_map}
+use Rattle.std.proofs.Common.{◌≡◌, ◌∙◌, ℕ, ◌<◌, Bool, true, false, List, [], ◌∷◌, ◌++◌, not, Option, Some, None, refl, sym, ap, subst, append-nil, option_map}
 use Rattle.std.specs.Prelude.{IsTrue, option_to_list, slice_index, unwrap_or, if◌then◌else◌}
 use Rattle.std.specs.List.{filter, flat_map}
 use Rattle.std.proofs.lemmas.List.{map-append}
@@ -14,7 +14,7 @@ use Rattle.df1_check.specs.declared.Check.{Check}
 use Rattle.pccc_envelope.specs.Envelope.{is_reply}
 use Rattle.df1_node.specs.Answer.{StationState}
 use Rattle.df1_node.specs.HostLaws.{next_is_body, bodies_at_accept, bodies_at_next, bodies_at_told, bodies_at_tick}
-use Rattle.df1_node.specs.Node.{NodeState, after_node_issue, after_next, after_told, holds_bodies}
+use Rattle.df1_node.specs.Node.{NodeState, after_node_issue, after_next, after_told}
 use Rattle.half_mouth.specs.Transmissions.{bytes_given}
 use Rattle.half_master.specs.declared.table.Effect.{Effect}
 use Rattle.half_master.specs.declared.table.Effect.TheVariants as effect
@@ -43,7 +43,8 @@ use Rattle.each_once.proofs.NodeSteps.{hosts-issue, hosts-told, hosts-tick, host
 use Rattle.each_once.proofs.SentAndExecuted.{ExecuteNothing, tick-execute, command_at_act, DidAsNode, step-own}
 use Rattle.each_once.proofs.Sublists.{IsWithin, within-front, filter-keeps, filter-drops}
 use Rattle.each_once.proofs.ToldLines.{adds-none}
-use Rattle.half_line.specs.Acts.{Issue, Give, Tick, after_issue, byte_given, master_bytes, master_lines}
+use Rattle.half_line.specs.Behind.{plain_node}
+use Rattle.half_line.specs.Acts.{Give, Tick, after_issue, master_bytes, master_lines}
 use Rattle.half_line.specs.Plays.{issued_by}
 use Rattle.half_line.proofs.Once.MasterSteps.{payload-command}
 
@@ -78,8 +79,8 @@ gave-silent check first e lines more bytes none g = record {
 
 -- ---- a command is issued
 
-pub gave-issue : (check : Check) (first : StationState) (e : MasterState NodeState) (src : Option ℕ) (dst : ℕ) (payload : List ℕ) (lines : List Line) (bytes : List ℕ) → IsTrue (is_payload payload) → issued_by e < 65535 → MasterGave check first e lines bytes
-    → MasterGave check first (after_issue e src dst payload) lines bytes
+pub gave-issue : (check : Check) (first : StationState) (e : MasterState NodeState) (src : Option ℕ) (dst : ℕ) (payload : List ℕ) (lines : List Line) (bytes : List ℕ) → IsTrue (is_payload payload) → issued_by plain_node e < 65535 → MasterGave check first e lines bytes
+    → MasterGave check first (after_issue plain_node e src dst payload) lines bytes
 gave-issue check first e src dst payload lines bytes may few g =
     let source = unwrap_or src e.host.initiator.node in
     let host = after_node_issue e.host source dst payload in
@@ -118,7 +119,7 @@ begun-hands first e messages heard handed (Some body) is hosts within =
     (record { hosts = next; within = within-both body handed messages within })
     (record { hosts = hosts-told next fate.Undelivered; within = rw (append-nil handed) (within-front handed messages (body ∷ []) within) })
 
-pub gave-take : (check : Check) (first : StationState) (e : MasterState NodeState) (lines : List Line) (bytes : List ℕ) → MasterGave check first e lines bytes → MasterGave check first (master_after_take node_host e) lines (bytes ++ master_bytes e Give)
+pub gave-take : (check : Check) (first : StationState) (e : MasterState NodeState) (lines : List Line) (bytes : List ℕ) → MasterGave check first e lines bytes → MasterGave check first (master_after_take node_host e) lines (bytes ++ master_bytes plain_node e Give)
 gave-take check first e lines bytes g =
     let next = message_next node_host e in
     let handed = begun-hands first e g.messages g.heard (handed_out g.past.events) next refl g.hosts g.within in
@@ -158,11 +159,11 @@ hosts-ticked : (ticked : Bool) (first : StationState) (node : NodeState) (messag
 hosts-ticked true first node messages heard h = hosts-tick h
 hosts-ticked false first node messages heard h = h
 
-pub gave-tick : (check : Check) (first : StationState) (e : MasterState NodeState) (lines : List Line) (bytes : List ℕ) → MasterGave check first e lines bytes → MasterGave check first (master_after_tick node_host e) (lines ++ master_lines e Tick) bytes
+pub gave-tick : (check : Check) (first : StationState) (e : MasterState NodeState) (lines : List Line) (bytes : List ℕ) → MasterGave check first e lines bytes → MasterGave check first (master_after_tick node_host e) (lines ++ master_lines plain_node e Tick) bytes
 gave-tick check first e lines bytes g =
     let t = at-tick node_host e in
     let hosts = hosts-fate t.fate first (if t.ticked then node_host.after_tick e.host else e.host) g.messages g.heard (hosts-ticked t.ticked first e.host g.messages g.heard g.hosts) in
-    gave-silent check first (master_after_tick node_host e) lines (master_lines e Tick) bytes (tick-execute M M (turn_at_tick node_host e) (gone_at_tick node_host e)) (record {
+    gave-silent check first (master_after_tick node_host e) lines (master_lines plain_node e Tick) bytes (tick-execute M M (turn_at_tick node_host e) (gone_at_tick node_host e)) (record {
       past = record { events = g.past.events ++ events_at node_host e TickLetter; gave = g.past.gave ++ []; course = _ };
       messages = g.messages;
       heard = g.heard;

@@ -1,5 +1,5 @@
 -- At each point of a run: what a station gave, and that its messages are its own.
-use Rattle.std.proofs.Common.{◌≡◌, ◌∙◌, ℕ, Bool, true, false, List, [], ◌∷◌, ◌++◌, map, Option, Some, None, refl, sym, ap, subst, append-nil, option_map}
+use Rattle.std.proofs.Common.{◌≡◌, ◌∙◌, ℕ, Bool, true, false, List, [], ◌∷◌, ◌++◌, Option, Some, None, refl, sym, ap, subst, append-nil, option_map}
 use Rattle.std.specs.Prelude.{option_to_list, if◌then◌else◌}
 use Rattle.std.specs.List.{flat_map}
 use Rattle.std.proofs.lemmas.List.{map-append}
@@ -19,7 +19,7 @@ use Rattle.half_frame.specs.declared.heard.SlaveHeard.{SlaveHeard}
 use Rattle.half_frame.specs.declared.heard.SlaveHeard.TheVariants as heard
 use Rattle.half_mouth.specs.Transmissions.{bytes_given}
 use Rattle.half_slave.specs.declared.held.Held.{Held}
-use Rattle.half_slave.specs.Slave.{SlaveState, body_of, is_own, is_answered, verdict, verdict_act, told, received, offered, answered, polled, reset, fate_at_poll, fate_at_ack, fate_at_reset, heard_at, listened, act_at, slave_after_heard, slave_after_byte, step_at_byte, out_at_take, slave_after_take}
+use Rattle.half_slave.specs.Slave.{SlaveState, body_of, is_own, is_answered, verdict, verdict_act, told, received, offered, answered, polled, fate_at_poll, fate_at_ack, fate_at_reset, heard_at, listened, act_at, slave_after_heard, slave_after_byte, step_at_byte, out_at_take, slave_after_take}
 use Rattle.half_slave.specs.Emission.{Byte, Take}
 use Rattle.half_slave.specs.Fates.{telling, sending_begun, events_of_poll, events_at_heard, events_at}
 use Rattle.half_slave.specs.Past.{Past, Came, goes_on, handed_at, handed_out}

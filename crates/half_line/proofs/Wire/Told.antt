@@ -1,5 +1,5 @@
 -- What each end sent in a run is DF1, as the report tells it.
-use Rattle.std.proofs.Common.{◌≡◌, ◌∙◌, ℕ, suc, ◌≤◌, Bool, true, false, cond, List, [], ◌∷◌, ◌++◌, length, map, not, Some, refl, sym, ap, subst, arith}
+use Rattle.std.proofs.Common.{◌≡◌, ◌∙◌, ℕ, suc, ◌≤◌, Bool, true, false, cond, List, [], ◌∷◌, length, map, not, Some, refl, sym, ap, subst, arith}
 use Rattle.std.specs.Prelude.{All, slice_get, slice_index, slice_index_or}
 use Rattle.std.specs.List.{filter}
 use Rattle.std.specs.Option.{option_map}
@@ -12,7 +12,6 @@ use Rattle.df1_node.specs.Answer.{StationState}
 use Rattle.df1_node.specs.Node.{NodeState, holds_bodies}
 use Rattle.half_frame.specs.MasterGives.{IsGivenByMaster}
 use Rattle.half_frame.specs.SlaveGives.{IsGivenBySlave}
-use Rattle.half_mouth.specs.Transmissions.{bytes_given}
 use Rattle.half_slave.specs.Past as slave_past
 use Rattle.half_slave.proofs.Giving as slave_giving
 use Rattle.half_slave.proofs.Reaching.{KeepsBodies as SlaveKeeps}
@@ -26,7 +25,6 @@ use Rattle.script_parts.specs.declared.script.Script.{Script}
 use Rattle.script_parts.specs.Plans.{first_plan}
 use Rattle.script_parts.specs.Playable.{IsPlanOf}
 use Rattle.script_parts.specs.HalfPlayable.{AreHalfEnds, IsHalfPlayable, IsStationPlan, station_plans, numbers_of}
-use Rattle.replay_report.specs.declared.record.Line.{Line}
 use Rattle.replay_report.specs.declared.record.Record.{Record}
 use Rattle.outset.specs.Outset.{first_station, first_node}
 use Rattle.report_lines.specs.SentBytes.{sent_by}
@@ -37,14 +35,15 @@ use Rattle.each_once.specs.Exchanges.{replies_to}
 use Rattle.each_once.specs.NodeHost.{node_host}
 use Rattle.each_once.specs.Tells.{executed_in}
 use Rattle.each_once.proofs.AcceptedReplies.{handed-differ}
-use Rattle.each_once.proofs.AnsweringStation.{Serves, serves-start, sent-within, sent-replies, within-through}
+use Rattle.each_once.proofs.AnsweringStation.{serves-start, sent-within, sent-replies, within-through}
 use Rattle.each_once.proofs.HandedOrder.{none-in-turn}
-use Rattle.each_once.proofs.HandedOut.{Hosts, waits_of}
+use Rattle.each_once.proofs.HandedOut.{waits_of}
 use Rattle.each_once.proofs.NodeSteps.{hosts-start}
 use Rattle.each_once.proofs.OwnKeys.{own-keys}
 use Rattle.each_once.proofs.RisingPlaces.{some-of, some-in-turn}
 use Rattle.each_once.proofs.StationReplies.{exchanges-tns}
 use Rattle.each_once.proofs.Sublists.{Has, IsWithin, nothing, skips, keeps, within-all, within-front, within-filter, from-map, Differ, differ-within}
+use Rattle.half_line.specs.Behind.{plain_node}
 use Rattle.half_line.specs.Acts.{LineStationState}
 use Rattle.half_line.specs.Issues.{commands_of_m, issued_of}
 use Rattle.half_line.specs.Run.{master_setup, slave_setup, first_side, plan_of_m, start, last_state, lines_after, record_from}
@@ -54,7 +53,7 @@ use Rattle.half_line.proofs.Steps.FirstState.{half-listed, half-stations}
 use Rattle.half_line.proofs.Wire.MasterEnd.{MasterGave, node_keeps}
 use Rattle.half_line.proofs.Wire.OwnKeys.{run-numbered}
 use Rattle.half_line.proofs.Wire.StationEnd.{StationGave}
-use Rattle.half_line.proofs.Wire.WholeRun.{Setting, LineGave, LinesGave, events-gave}
+use Rattle.half_line.proofs.Wire.WholeRun.{Setting, LinesGave, events-gave}
 
 pub slave_keeps : SlaveKeeps node_host
 slave_keeps = record { next_is = next_is_body; at_accept = bodies_at_accept; at_next = bodies_at_next; at_told = bodies_at_told; at_clear = bodies_at_clear }
@@ -220,11 +219,11 @@ at-plan script playable stations r p plan are at undeceived all =
     subst (λ (n : ℕ). IsDf1Wire (IsGivenBySlave script.check) (S n) [] (first_station plan) r) side.2
     (subst (λ (x : EndPlan). IsDf1Wire (IsGivenBySlave script.check) (S side.0.number) [] (first_station x) r) first wire)
 
-pub all-df1 : (script : Script) → IsHalfPlayable script → map (λ c. c.body) (issued_of (last_state script).master) ≡ commands_of_m script → AreDf1Wires script (record_from (last_state script) (lines_after (start script) script.events))
+pub all-df1 : (script : Script) → IsHalfPlayable script → map (λ c. c.body) (issued_of (last_state script).master) ≡ commands_of_m script → AreDf1Wires script (record_from plain_node (last_state script) (lines_after plain_node (start script) script.events))
 all-df1 script playable bodies =
     let s = last_state script in
-    let lines = lines_after (start script) script.events in
-    let r = record_from s lines in
+    let lines = lines_after plain_node (start script) script.events in
+    let r = record_from plain_node s lines in
     let plans = station_plans script.ends in
     let setting = setting_of script playable in
     let first = first_station (plan_of_m script) in
