@@ -13,7 +13,6 @@ use Rattle.script_parts.specs.declared.script.WordOf.{WordOf}
 use Rattle.end_settings.specs.declared.key.Key.{Key}
 use Rattle.end_settings.specs.declared.key.Key.TheVariants.{Node}
 use Rattle.end_settings.specs.declared.row.Role.{Role}
-use Rattle.end_settings.specs.declared.row.Role.TheVariants.{Station}
 use Rattle.end_settings.specs.declared.settings.Setting.{Setting}
 use Rattle.end_settings.specs.Table.{has_key}
 use Rattle.end_settings.specs.Given.{AreFitting, chosen, value_of, with_setting}
@@ -141,24 +140,24 @@ same_commands who end (Word None index value) = refl
 same_commands who end (Word (Some file) index value) = refl
 
 -- a key of a station isn't the address
-no_node : (key : Key) → has_key Station key ≡ true → key ≡ Node → ⊥
-no_node key has is = let false_is : has_key Station Node ≡ true = subst (λ (k : Key). has_key Station k ≡ true) is has in cc
+no_node : (role : Role) (key : Key) → has_key role Node ≡ false → has_key role key ≡ true → key ≡ Node → ⊥
+no_node role key without has is = let there : has_key role Node ≡ true = subst (λ (k : Key). has_key role k ≡ true) is has in cc
 
-node_kept : (given : List (Option ℕ)) (x : Setting) → has_key Station x.key ≡ true → value_of (with_setting given x) Node ≡ value_of given Node
-node_kept given x is = value_of-with given x Node (λ o. o ≡ value_of given Node) (λ same. absurd (no_node x.key is same)) refl
+node_kept : (role : Role) (given : List (Option ℕ)) (x : Setting) → has_key role Node ≡ false → has_key role x.key ≡ true → value_of (with_setting given x) Node ≡ value_of given Node
+node_kept role given x without is = value_of-with given x Node (λ o. o ≡ value_of given Node) (λ same. absurd (no_node role x.key without is same)) refl
 
--- no line sets the address of a station
-pub same_node : (who : Who) (end : EndDraft) (line : SetupStatement) → lacks Station end line ≡ false → value_of (with_line who end line).settings Node ≡ value_of end.settings Node
-same_node who end (Set x) there = node_kept end.settings x (no_other (has_key Station x.key) there)
-same_node who end (Compat None) there = refl
-same_node who end (Compat (Some None)) there = refl
-same_node who end (Compat (Some (Some file))) there = refl
-same_node who end (Block None) there = refl
-same_node who end (Block (Some bytes)) there = refl
-same_node who end (File None) there = refl
-same_node who end (File (Some x)) there = refl
-same_node who end (Word None index value) there = refl
-same_node who end (Word (Some file) index value) there = refl
+-- no line sets the address of an end whose kind has no such key
+pub same_node : (role : Role) (who : Who) (end : EndDraft) (line : SetupStatement) → has_key role Node ≡ false → lacks role end line ≡ false → value_of (with_line who end line).settings Node ≡ value_of end.settings Node
+same_node role who end (Set x) without there = node_kept role end.settings x without (no_other (has_key role x.key) there)
+same_node role who end (Compat None) without there = refl
+same_node role who end (Compat (Some None)) without there = refl
+same_node role who end (Compat (Some (Some file))) without there = refl
+same_node role who end (Block None) without there = refl
+same_node role who end (Block (Some bytes)) without there = refl
+same_node role who end (File None) without there = refl
+same_node role who end (File (Some x)) without there = refl
+same_node role who end (Word None index value) without there = refl
+same_node role who end (Word (Some file) index value) without there = refl
 
 -- ---- the plan
 

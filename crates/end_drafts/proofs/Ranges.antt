@@ -5,9 +5,12 @@ use Rattle.std.specs.Str.{bytes_eq}
 use Rattle.std.proofs.lemmas.Bool.{cond_both}
 use Rattle.std.proofs.lemmas.Bool.Decides.{nat_tests}
 use Rattle.df1_base.specs.declared.file_type.FileType.{FileType}
-use Rattle.end_settings.specs.declared.settings.Setting.{Setting}
+use Rattle.end_settings.specs.declared.key.Key.{Key}
+use Rattle.end_settings.specs.Rows.{IfFits}
+use Rattle.end_settings.specs.Table.{key_named, row_of}
+use Rattle.end_settings.proofs.Fitting.{IfFits-fitting}
 use Rattle.script_statement.specs.declared.setup_statement.SetupStatement.{SetupStatement}
-use Rattle.script_statement.specs.declared.setup_statement.SetupStatement.TheVariants.{Block, File}
+use Rattle.script_statement.specs.declared.setup_statement.SetupStatement.TheVariants.{Set, Block, File}
 use Rattle.script_statement.specs.declared.half_event.Way.{Way}
 use Rattle.script_statement.specs.declared.half_event.Way.TheVariants.{ToStation, ToMaster}
 use Rattle.script_statement.specs.declared.half_event.HalfEvent.{HalfEvent}
@@ -21,7 +24,7 @@ use Rattle.script_statement.specs.declared.statement.Statement.TheVariants as st
 use Rattle.script_parts.specs.Playable.{IsBetween}
 use Rattle.script_parts.specs.HalfPlayable.{IsStationNumber}
 use Rattle.script_statement.specs.Words.{number_of, within, hex_of, byte_of, register_of}
-use Rattle.script_statement.specs.Statements.{statement_of, end_of, check_of, setting_of, set_statement, file_number, compat_line, is_block, block_of, block_line, setting_at, end_setting, set_line, file_type, file_spec, file_line, word_line, station_number, station_line, times_of, source_of, is_payload, payload_of, mask_of, foreign_of, verb_of, times_line, issue_line, issue_from, side_from, alter_line, foreign_line, half_issue, half_issue_from, master_take, master_tick, station_take, half_deliver, half_lose, half_alter, half_foreign, way_event, way_once, master_times, once_to_station, master_event, to_station, to_station_from, station_once, station_event, half_line, end_in, letter_in, event_alone, event_with, event_to, event_to_from, bare_event, operand_event, number_operand_event, source_operand_event, one_word, two_words, three_words, five_words}
+use Rattle.script_statement.specs.Statements.{statement_of, station_issue, issue_to, from_station, issue_by, end_of, check_of, number_as, setting_with, setting_of, set_statement, file_number, compat_line, is_block, block_of, block_line, setting_at, end_setting, set_line, file_type, file_spec, file_line, word_line, station_number, station_line, times_of, source_of, is_payload, payload_of, mask_of, foreign_of, verb_of, times_line, issue_line, issue_from, side_from, alter_line, foreign_line, half_issue, half_issue_from, master_take, master_tick, station_take, half_deliver, half_lose, half_alter, half_foreign, way_event, way_once, master_times, once_to_station, master_event, to_station, to_station_from, station_once, station_event, half_line, end_in, letter_in, event_alone, event_with, event_to, event_to_from, bare_event, operand_event, number_operand_event, source_operand_event, one_word, two_words, three_words, five_words}
 
 -- a number within bounds, if there is one
 abbrev pub IfBetween : ℕ → ℕ → Option ℕ → Type 0
@@ -29,6 +32,7 @@ IfBetween least most None = Unit {0}
 IfBetween least most (Some n) = IsBetween least most n
 
 abbrev pub IsSoundLine : SetupStatement → Type 0
+IsSoundLine (Set x) = IfFits (row_of x.key).values x.value
 IsSoundLine (Block (Some bytes)) = IsBetween 1 244 (length bytes)
 IsSoundLine (File (Some spec)) = IsBetween 1 1000 spec.count
 IsSoundLine other = Unit {0}
@@ -36,6 +40,7 @@ IsSoundLine other = Unit {0}
 abbrev pub IsSoundEvent : HalfEvent → Type 0
 IsSoundEvent (half.Issue station (Some payload)) = IsTrue (is_payload payload)
 IsSoundEvent (half.IssueFrom station src (Some payload)) = IsTrue (is_payload payload)
+IsSoundEvent (half.StationIssue station to (Some payload)) = IsTrue (is_payload payload)
 IsSoundEvent (half.MasterTake n) = IfBetween 1 4000000 n
 IsSoundEvent (half.MasterTick n) = IfBetween 1 4000000 n
 IsSoundEvent (half.StationTake station n) = IfBetween 1 4000000 n
@@ -66,7 +71,7 @@ abbrev pub IfSound : Option Statement → Type 0
 IfSound None = Unit {0}
 IfSound (Some s) = IsSound s
 
-abbrev IfSoundEvent : Option HalfEvent → Type 0
+abbrev pub IfSoundEvent : Option HalfEvent → Type 0
 IfSoundEvent None = Unit {0}
 IfSoundEvent (Some event) = IsSoundEvent event
 
@@ -77,10 +82,10 @@ pub IfBetween-within : (least most : ℕ) (o : Option ℕ) → IfBetween least m
 IfBetween-within least most None = tt
 IfBetween-within least most (Some n) = cond_both (nat_le least n && nat_le n most) (Some n) None (IfBetween least most) (bounds least most n) (λ _. tt)
 
-sound_setting : (end : Option EndName) (s : Option Setting) → IfSound (set_statement end s)
-sound_setting None s = tt
-sound_setting (Some end) None = tt
-sound_setting (Some end) (Some s) = tt
+sound_setting : (end : Option EndName) (word : List ℕ) (key : Option Key) → IfSound (set_statement end (option_map (setting_with word) key))
+sound_setting None word key = tt
+sound_setting (Some end) word None = tt
+sound_setting (Some end) word (Some key) = IfFits-fitting (row_of key).values (number_as (row_of key).values word)
 
 sound_compat_line : (end : Option EndName) (file : Option (Option ℕ)) → IfSound (compat_line end file)
 sound_compat_line None file = tt
@@ -100,7 +105,7 @@ named : (compat block : Bool) (end : Option EndName) (name value : List ℕ) →
     else set_statement end (setting_of name value))
 named true block end name value = sound_compat_line end (file_number value)
 named false true end name value = sound_block_line end (hex_of value)
-named false false end name value = sound_setting end (setting_of name value)
+named false false end name value = sound_setting end value (key_named name)
 
 sound_setting_at : (key value : List ℕ) (o : Option ℕ) → IfSound (setting_at key value o)
 sound_setting_at key value None = tt
@@ -282,6 +287,22 @@ sound_station_event station letter operand =
     cond_both (eqb letter 107) (station_take station (number_of operand)) (way_event (ToMaster station) letter operand) IfSoundEvent
     (λ _. sound_times (half.StationTake station) (number_of operand) (λ _ ok. ok)) (λ _. sound_way (ToMaster station) letter operand)
 
+sound_issue_to : (station : ℕ) (to : Option ℕ) (bytes : Option (List ℕ)) → IfSoundEvent (issue_to station to bytes)
+sound_issue_to station None bytes = tt
+sound_issue_to station (Some to) None = tt
+sound_issue_to station (Some to) (Some bytes) = sound_payload (λ o. IsSoundEvent (half.StationIssue station to o)) bytes (λ e. e) tt
+
+sound_from_station : (end : Option EndName) (letter : ℕ) (to : Option ℕ) (operand : List ℕ) → IfSoundEvent (from_station end letter to operand)
+sound_from_station None letter to operand = tt
+sound_from_station (Some (Known side)) letter to operand = tt
+sound_from_station (Some Master) letter to operand = tt
+sound_from_station (Some (Station station)) letter to operand =
+    cond_both (eqb letter 105) (issue_to station to (hex_of operand)) None IfSoundEvent (λ _. sound_issue_to station to (hex_of operand)) (λ _. tt)
+
+sound_issue_by : (word to operand : List ℕ) → IfSoundEvent (issue_by word to operand)
+sound_issue_by [] to operand = tt
+sound_issue_by (byte ∷ rest) to operand = sound_from_station (end_in (byte ∷ rest)) (letter_in (byte ∷ rest)) (number_of to) operand
+
 sound_half : (event : Option HalfEvent) → IfSoundEvent event → IfSound (half_line event)
 sound_half None h = tt
 sound_half (Some event) h = h
@@ -375,3 +396,12 @@ IfSound-statement_of (a ∷ b ∷ c ∷ []) = sound_three a b c
 IfSound-statement_of (a ∷ b ∷ c ∷ d ∷ []) = sound_source_operand a b c d
 IfSound-statement_of (a ∷ b ∷ c ∷ d ∷ e ∷ []) = sound_five a b c d e
 IfSound-statement_of (a ∷ b ∷ c ∷ d ∷ e ∷ f ∷ more) = tt
+
+-- and so is a command of a station
+pub IfSound-station_issue : (words : List (List ℕ)) → IfSoundEvent (station_issue words)
+unfolding station_issue
+IfSound-station_issue [] = tt
+IfSound-station_issue (a ∷ []) = tt
+IfSound-station_issue (a ∷ b ∷ []) = tt
+IfSound-station_issue (a ∷ b ∷ c ∷ []) = sound_issue_by a b c
+IfSound-station_issue (a ∷ b ∷ c ∷ d ∷ more) = tt

@@ -1,7 +1,7 @@
 -- What a row of the table of keys says: which kinds of end have the key, its values, and the first of them.
 use Rattle.std.specs.Prelude.{ℕ, ◌≤◌, Bool, List, Option, None, Some, nat_le, ◌&&◌, if◌then◌else◌}
 use Rattle.end_settings.specs.declared.row.Role.{Role}
-use Rattle.end_settings.specs.declared.row.Role.TheVariants.{Duplex, Master, Station}
+use Rattle.end_settings.specs.declared.row.Role.TheVariants.{Duplex, Master, Station, RoutedStation}
 use Rattle.end_settings.specs.declared.row.Roles.{Roles}
 use Rattle.end_settings.specs.declared.row.Values.{Values}
 use Rattle.end_settings.specs.declared.row.Values.TheVariants.{Switch, Number}
@@ -19,6 +19,7 @@ abbrev pub is_of : Role → Roles → Bool
 is_of Duplex roles = roles.duplex
 is_of Master roles = roles.master
 is_of Station roles = roles.station
+is_of RoutedStation roles = roles.routed_station
 
 -- `off` and `on` are 0 and 1
 abbrev pub least_of : Values → ℕ

@@ -66,6 +66,7 @@ const DUPLEX: Roles = Roles {
     duplex: true,
     master: false,
     station: false,
+    routed_station: false,
 };
 
 /// The ends that issue commands.
@@ -73,6 +74,15 @@ const ISSUERS: Roles = Roles {
     duplex: true,
     master: true,
     station: false,
+    routed_station: true,
+};
+
+/// The ends that are no station: an address is set, and ticks are counted, at these alone.
+const NO_STATION: Roles = Roles {
+    duplex: true,
+    master: true,
+    station: false,
+    routed_station: false,
 };
 
 /// A master alone.
@@ -80,6 +90,7 @@ const MASTER: Roles = Roles {
     duplex: false,
     master: true,
     station: false,
+    routed_station: false,
 };
 
 /// A station alone.
@@ -87,6 +98,7 @@ const STATION: Roles = Roles {
     duplex: false,
     master: false,
     station: true,
+    routed_station: true,
 };
 
 /// Every end.
@@ -94,6 +106,7 @@ const ALL: Roles = Roles {
     duplex: true,
     master: true,
     station: true,
+    routed_station: true,
 };
 
 /// What the table says of a key.
@@ -130,18 +143,18 @@ impl Key {
         ensures first { result.first ≡ (row_of self).first }
     {
         match self {
-            Key::AckTicks => Row::new("ack_ticks", ISSUERS, number(1, TICKS), First::Value(10)),
+            Key::AckTicks => Row::new("ack_ticks", NO_STATION, number(1, TICKS), First::Value(10)),
             Key::Embed => Row::new("embed", DUPLEX, Values::Switch, First::Value(0)),
             Key::MaxEnqs => Row::new("max_enqs", DUPLEX, number(0, 255), First::Value(3)),
             Key::MaxNaks => Row::new("max_naks", DUPLEX, number(0, 255), First::Value(3)),
             Key::MaxResends => Row::new("max_resends", MASTER, number(0, 255), First::Value(3)),
             Key::MaxSends => Row::new("max_sends", STATION, number(1, 255), First::Value(3)),
-            Key::Node => Row::new("node", ISSUERS, number(0, 255), First::Address),
-            Key::PerSource => Row::new("per_source", ISSUERS, number(1, OUT), First::Value(16)),
+            Key::Node => Row::new("node", NO_STATION, number(0, 255), First::Address),
+            Key::PerSource => Row::new("per_source", NO_STATION, number(1, OUT), First::Value(16)),
             Key::PollTicks => Row::new("poll_ticks", MASTER, number(1, TICKS), First::Value(10)),
             Key::ReplyTicks => Row::new(
                 "reply_ticks",
-                ISSUERS,
+                NO_STATION,
                 number(33, TICKS),
                 First::Value(100),
             ),

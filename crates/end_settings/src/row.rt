@@ -11,6 +11,8 @@ pub enum Role {
     Master,
     /// A station of a half-duplex line.
     Station,
+    /// A station of a half-duplex line whose master carries messages between the stations: it issues commands too.
+    RoutedStation,
 }
 
 /// Which kinds of end have a key.
@@ -19,6 +21,7 @@ pub struct Roles {
     pub duplex: bool,
     pub master: bool,
     pub station: bool,
+    pub routed_station: bool,
 }
 
 impl Roles {
@@ -30,6 +33,7 @@ impl Roles {
             Role::Duplex => self.duplex,
             Role::Master => self.master,
             Role::Station => self.station,
+            Role::RoutedStation => self.routed_station,
         }
     }
 }

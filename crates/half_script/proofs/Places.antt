@@ -2,7 +2,7 @@
 use Rattle.std.proofs.Common.{◌≡◌, ℕ, ◌+◌, ◌-◌, ◌<◌, ◌≤◌, Bool, true, false, cond, not, eqb, ltb, List, [], ◌∷◌, ◌++◌, length, get_or, set, take, Option, Some, None, is_some, refl, sym, ap, ◌∙◌, ◌||◌, inl, inr, arith, length-append}
 use Rattle.std.specs.Prelude.{option_map, option_and_then}
 use Rattle.std.specs.List.{position, position_or_len, slice_get}
-use Rattle.std.specs.Option.{option_or, unwrap_or}
+use Rattle.std.specs.Option.{option_map_or, option_or, unwrap_or}
 use Rattle.std.specs.Ordering.{nat_cmp}
 use Rattle.std.specs.Cmp.{unsigned_tied}
 use Rattle.std.specs.BTreeMap.{BTreeMap, Updates, is_at}
@@ -11,10 +11,9 @@ use Rattle.std.proofs.lemmas.Bool.{cases_lt, eqb-true, eq-eqb, le-ltb, lt-ltb, n
 use Rattle.std.proofs.lemmas.List.Folds.{find_at, position_or_len_push}
 use Rattle.std.proofs.lemmas.List.Sums.{prefix_len-le-length}
 use Rattle.std.proofs.lemmas.Option.{slice_get-get_or, slice_get_past, slice_get_within, unwrap_or-slice_get}
-use Rattle.script_statement.specs.declared.setup_statement.SetupStatement.{SetupStatement}
 use Rattle.script_parts.specs.HalfPlayable.{is_declared}
 use Rattle.half_script.specs.declared.stations.StationDraft.{StationDraft}
-use Rattle.half_script.specs.Stations.{ArePlaces, declared, fresh_station, has_number, line_taken, numbers_in, station_at, with_station_line}
+use Rattle.half_script.specs.Stations.{ArePlaces, declared, fresh_station, has_number, numbers_in, station_at}
 
 abbrev place_or_all : ℕ → List StationDraft → ℕ
 place_or_all n stations = position_or_len (has_number n) stations
@@ -22,7 +21,7 @@ place_or_all n stations = position_or_len (has_number n) stations
 -- ---- a number that is declared
 
 -- a station is found where its number is declared
-is_found : (n : ℕ) (stations : List StationDraft) → is_some (station_at stations n) ≡ is_declared (numbers_in stations) n
+pub is_found : (n : ℕ) (stations : List StationDraft) → is_some (station_at stations n) ≡ is_declared (numbers_in stations) n
 is_found n [] = refl
 is_found n (s ∷ stations) =
     elim (eqb s.number n) as (λ b. is_some (cond b (Some s) (station_at stations n)) ≡ (b || is_declared (numbers_in stations) n)) [
@@ -136,9 +135,13 @@ found_in n stations s is =
     let at : slice_get stations (place_or_all n stations) ≡ Some s = sym (find_at (has_number n) stations) ∙ is in
     (slice_get_within stations (place_or_all n stations) s at, sym (unwrap_or-slice_get stations (place_or_all n stations) s) ∙ ap (λ o. unwrap_or o s) at)
 
-pub taken_line : (stations : List StationDraft) (n place : ℕ) (line : SetupStatement) (now next : StationDraft) → Some place ≡ position (has_number n) stations → now ≡ get_or stations place now → next ≡ line_taken now line
-    → set stations place next ≡ with_station_line stations n line
-taken_line stations n place line now next is at taken =
+-- the stations with the first of a number changed, if there is one
+abbrev pub with_change : (StationDraft → StationDraft) → List StationDraft → ℕ → Option StationDraft → List StationDraft
+with_change f stations n o = option_map_or (λ s. set stations (position_or_len (has_number n) stations) (f s)) o stations
+
+pub changed_there : (f : StationDraft → StationDraft) (stations : List StationDraft) (n place : ℕ) (now next : StationDraft) → Some place ≡ position (has_number n) stations → now ≡ get_or stations place now → next ≡ f now
+    → set stations place next ≡ with_change f stations n (station_at stations n)
+changed_there f stations n place now next is at taken =
     let found : station_at stations n ≡ Some now = there n place stations now (sym is) ∙ ap Some (sym at) in
     let here : place_or_all n stations ≡ place = (place_is n place stations (sym is)).0 in
     rw (found, here, taken) refl

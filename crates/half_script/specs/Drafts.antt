@@ -1,20 +1,23 @@
 -- What the lines of a half-duplex script so far say, what is wrong with a statement that follows them, and what it changes.
-use Rattle.std.specs.Prelude.{ℕ, ◌-◌, ◌*◌, Bool, true, false, List, [], ◌∷◌, length, Option, None, Some, is_none, is_some, option_map, not, Result, unwrap_or, nat_le, nat_lt, ◌==◌, ◌||◌}
+use Rattle.std.specs.Prelude.{ℕ, ◌-◌, ◌*◌, Bool, true, false, List, [], ◌∷◌, length, Option, None, Some, is_none, is_some, option_map, not, Result, unwrap_or, nat_le, nat_lt, ◌==◌, ◌&&◌, ◌||◌, if◌then◌else◌}
 use Rattle.std.specs.Option.{option_map_or}
 use Rattle.df1_check.specs.declared.Check.TheVariants.{Bcc}
 use Rattle.end_drafts.specs.declared.end_draft.EndDraft.{EndDraft}
 use Rattle.end_drafts.specs.declared.flaw.Flaw.{Flaw}
 use Rattle.end_drafts.specs.declared.flaw.Flaw.TheVariants as flaw
+use Rattle.end_settings.specs.declared.key.Key.{Key}
+use Rattle.end_settings.specs.declared.key.Key.TheVariants.{Node}
 use Rattle.end_settings.specs.declared.row.Role.{Role}
 use Rattle.end_settings.specs.declared.row.Role.TheVariants as role
 use Rattle.end_drafts.specs.declared.stage.Stage.{Stage}
 use Rattle.end_drafts.specs.declared.stage.Stage.TheVariants.{Settings}
-use Rattle.end_drafts.specs.Drafts.{fresh_end, plan_of, lacks, exceeds, repeats, with_line}
+use Rattle.end_drafts.specs.Drafts.{fresh_end, node_of, plan_of, lacks, exceeds, repeats, with_line}
 use Rattle.end_drafts.specs.Flaws.{first_of, unless_wrong}
 use Rattle.end_drafts.specs.Stages.{is_fresh, is_set_up, stage_after}
 use Rattle.script_statement.specs.declared.who.Who.{Who}
 use Rattle.script_statement.specs.declared.who.Who.TheVariants.{M, S}
 use Rattle.script_statement.specs.declared.setup_statement.SetupStatement.{SetupStatement}
+use Rattle.script_statement.specs.declared.setup_statement.SetupStatement.TheVariants.{Set}
 use Rattle.script_statement.specs.declared.half_event.Way.{Way}
 use Rattle.script_statement.specs.declared.half_event.Way.TheVariants.{ToStation, ToMaster}
 use Rattle.script_statement.specs.declared.half_event.HalfEvent.{HalfEvent}
@@ -30,13 +33,14 @@ use Rattle.script_parts.specs.declared.script.Event.TheVariants as event
 use Rattle.script_parts.specs.declared.script.Lane.{Lane}
 use Rattle.script_parts.specs.declared.script.Script.{Script}
 use Rattle.script_parts.specs.HalfPlayable.{is_declared, master_weight}
+use Rattle.script_parts.specs.RoutePlayable.{is_reached}
 use Rattle.half_script.specs.declared.reader.HalfReader.{HalfReader}
 use Rattle.half_script.specs.declared.stations.StationDraft.{StationDraft}
-use Rattle.half_script.specs.Stations.{declared, numbers_in, plans_of, station_at, with_station, with_station_line}
+use Rattle.half_script.specs.Stations.{declared, numbers_in, plans_of, station_at, with_station, with_station_command, with_station_line}
 
--- after `set mode half` alone: 4,000,000 events may come
-abbrev pub fresh : HalfReader
-fresh = record { stage = Settings; check = None; master = fresh_end; stations = []; events_left = 4000000 }
+-- after `set mode half` alone, of a master that carries messages between its stations or not: 4,000,000 events may come
+abbrev pub fresh_reader : Bool → HalfReader
+fresh_reader routes = record { stage = Settings; routes = routes; check = None; master = fresh_end; stations = []; events_left = 4000000 }
 
 -- the numbers of the stations that are declared
 abbrev pub numbers : HalfReader → List ℕ
@@ -48,10 +52,15 @@ draft_at d (Known side) = None
 draft_at d Master = Some d.master
 draft_at d (Station number) = option_map (λ (station : StationDraft). station.end) (station_at d.stations number)
 
-abbrev pub role_of : EndName → Role
-role_of (Known side) = role.Duplex
-role_of Master = role.Master
-role_of (Station number) = role.Station
+-- the kind of an end, on a line whose master carries messages or not
+abbrev pub role_of : Bool → EndName → Role
+role_of routes (Known side) = role.Duplex
+role_of routes Master = role.Master
+role_of routes (Station number) = if routes then role.RoutedStation else role.Station
+
+-- the address of the master, which is 0 where no line sets it
+abbrev pub master_node : HalfReader → ℕ
+master_node d = node_of d.master 0
 
 -- ---- what may be wrong with a statement, one test for each flaw
 
@@ -72,6 +81,7 @@ station_of (ToMaster station) = station
 abbrev pub named_by : HalfEvent → Option ℕ
 named_by (half.Issue station payload) = Some station
 named_by (half.IssueFrom station src payload) = Some station
+named_by (half.StationIssue station to payload) = Some station
 named_by (half.MasterTake n) = None
 named_by (half.MasterTick n) = None
 named_by (half.StationTake station n) = Some station
@@ -80,21 +90,31 @@ named_by (half.Lose way n) = Some (station_of way)
 named_by (half.Alter way mask) = Some (station_of way)
 named_by (half.Foreign way bytes) = Some (station_of way)
 
--- it names an end or an event that half duplex hasn't, a station that isn't declared, a key that isn't for that end, or a file that isn't declared
+-- an event names a station that isn't declared
+abbrev pub names_none : HalfReader → HalfEvent → Bool
+names_none d event = option_map_or (λ station. not (is_declared (numbers d) station)) (named_by event) false
+
+-- a command of a station is for neither another station nor the master, or the master carries none
+abbrev pub leads_nowhere : HalfReader → HalfEvent → Bool
+leads_nowhere d (half.StationIssue station to payload) = not (d.routes && is_reached (numbers d) (master_node d) station to)
+leads_nowhere d event = false
+
+-- it names an end or an event that half duplex hasn't, a station that isn't declared, an end to which no command of a station gets, a key that isn't for that end, or a file that isn't declared
 abbrev pub is_missing : HalfReader → Statement → Bool
-is_missing d (Setup end line) = option_map_or (λ draft. lacks (role_of end) draft line) (draft_at d end) true
+is_missing d (Setup end line) = option_map_or (λ draft. lacks (role_of d.routes end) draft line) (draft_at d end) true
 is_missing d (Issue side payload) = true
 is_missing d (IssueFrom side src payload) = true
 is_missing d (Times side verb n) = true
 is_missing d (Alter side mask) = true
 is_missing d (Foreign side bytes) = true
-is_missing d (Half event) = option_map_or (λ station. not (is_declared (numbers d) station)) (named_by event) false
+is_missing d (Half event) = leads_nowhere d event || names_none d event
 is_missing d statement = false
 
 -- a number or a length of an event is out of its range
 abbrev pub is_outside : HalfEvent → Bool
 is_outside (half.Issue station payload) = is_none payload
 is_outside (half.IssueFrom station src payload) = is_none src || is_none payload
+is_outside (half.StationIssue station to payload) = is_none payload
 is_outside (half.MasterTake n) = is_none n
 is_outside (half.MasterTick n) = is_none n
 is_outside (half.StationTake station n) = is_none n
@@ -103,11 +123,29 @@ is_outside (half.Lose way n) = is_none n
 is_outside (half.Alter way mask) = is_none mask
 is_outside (half.Foreign way bytes) = is_none bytes
 
--- a number, a word or a length is out of its range, the station is the 33rd, or a compatibility file is of another type than bit or integer
+-- the number of a station is the address of a master that carries messages
+abbrev pub is_masters : HalfReader → Option ℕ → Bool
+is_masters d number = option_map_or (λ n. d.routes && (n == master_node d)) number false
+
+-- a number, a word or a length of a line of an end is out of its range, or a compatibility file is of another type than bit or integer
+abbrev pub exceeds_at : HalfReader → EndName → SetupStatement → Bool
+exceeds_at d end line = option_map_or (λ draft. exceeds draft line) (draft_at d end) false
+
+-- a master that carries messages would have this address, which is the number of a station
+abbrev pub is_stations : HalfReader → Key → Option ℕ → Bool
+is_stations d Node (Some node) = d.routes && is_declared (numbers d) node
+is_stations d key value = false
+
+-- a line gives a master that carries messages the number of a station as its address
+abbrev pub names_station : HalfReader → EndName → SetupStatement → Bool
+names_station d Master (Set setting) = is_stations d setting.key setting.value
+names_station d end line = false
+
+-- a number, a word or a length is out of its range, the station is the 33rd, a master that carries messages would have the address of a station, or a compatibility file is of another type than bit or integer
 abbrev pub is_out_of_range : HalfReader → Statement → Bool
 is_out_of_range d (Check check) = is_none check
-is_out_of_range d (statement.Station number) = is_none number || nat_le 32 (length d.stations)
-is_out_of_range d (Setup end line) = option_map_or (λ draft. exceeds draft line) (draft_at d end) false
+is_out_of_range d (statement.Station number) = (is_none number || nat_le 32 (length d.stations)) || is_masters d number
+is_out_of_range d (Setup end line) = exceeds_at d end line || names_station d end line
 is_out_of_range d (Half event) = is_outside event
 is_out_of_range d statement = false
 
@@ -118,16 +156,18 @@ is_twice d (statement.Station number) = option_map_or (λ station. is_declared (
 is_twice d (Setup end line) = option_map_or (λ draft. repeats draft line) (draft_at d end) false
 is_twice d statement = false
 
--- it is a command of the master, which may issue no more
+-- it is a command of an end that may issue no more
 abbrev pub is_spent : HalfReader → Statement → Bool
 is_spent d (Half (half.Issue station payload)) = d.master.commands_left == 0
 is_spent d (Half (half.IssueFrom station src payload)) = d.master.commands_left == 0
+is_spent d (Half (half.StationIssue station to payload)) = option_map_or (λ (s : StationDraft). s.end.commands_left == 0) (station_at d.stations station) false
 is_spent d statement = false
 
 -- how many events an event of a line counts: each byte of the master goes into the queue of each station
 abbrev pub event_steps : List ℕ → HalfEvent → ℕ
 event_steps numbers (half.Issue station payload) = 1
 event_steps numbers (half.IssueFrom station src payload) = 1
+event_steps numbers (half.StationIssue station to payload) = 1
 event_steps numbers (half.MasterTake n) = unwrap_or n 0 * master_weight numbers
 event_steps numbers (half.MasterTick n) = unwrap_or n 0
 event_steps numbers (half.StationTake station n) = unwrap_or n 0
@@ -176,6 +216,7 @@ settled d (statement.Station (Some number)) = record d { stations = with_station
 settled d (Setup end line) = with_end_line d end line
 settled d (Half (half.Issue station payload)) = record d { master = record d.master { commands_left = d.master.commands_left - 1 } }
 settled d (Half (half.IssueFrom station src payload)) = record d { master = record d.master { commands_left = d.master.commands_left - 1 } }
+settled d (Half (half.StationIssue station to payload)) = record d { stations = with_station_command d.stations station }
 settled d statement = d
 
 abbrev pub who_at : List ℕ → ℕ → Option Who
@@ -200,6 +241,15 @@ issued src station payload = None
 abbrev pub issued_from : Option ℕ → Option ℕ → Option (List ℕ) → Option Event
 issued_from None station payload = None
 issued_from (Some src) station payload = issued (Some src) station payload
+
+-- a command of an end, in its own name
+abbrev pub issued_by : Option Who → Option ℕ → Option (List ℕ) → Option Event
+issued_by (Some who) (Some dst) (Some payload) = Some (event.Issue who None dst payload)
+issued_by who dst payload = None
+
+-- a number, where it can be an address
+abbrev pub address_of : ℕ → Option ℕ
+address_of number = if nat_le number 255 then Some number else None
 
 abbrev pub taken : Option Who → Option ℕ → Option Event
 taken (Some who) (Some n) = Some (event.Take who n)
@@ -229,6 +279,7 @@ heard lane bytes = None
 abbrev pub happening : List ℕ → HalfEvent → Option Event
 happening numbers (half.Issue station payload) = issued None (declared numbers station) payload
 happening numbers (half.IssueFrom station src payload) = issued_from src (declared numbers station) payload
+happening numbers (half.StationIssue station to payload) = issued_by (who_at numbers station) (address_of to) payload
 happening numbers (half.MasterTake n) = taken (Some M) n
 happening numbers (half.MasterTick n) = ticked n
 happening numbers (half.StationTake station n) = taken (who_at numbers station) n

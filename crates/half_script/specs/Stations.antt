@@ -1,5 +1,5 @@
 -- The stations that lines declared, and their numbers.
-use Rattle.std.specs.Prelude.{◌≡◌, ◌≤◌, ℕ, Bool, List, [], ◌∷◌, ◌++◌, length, map, nat_le, find, position, Option, Some, None, slice_set, ◌==◌, if◌then◌else◌}
+use Rattle.std.specs.Prelude.{◌≡◌, ◌-◌, ◌≤◌, ℕ, Bool, List, [], ◌∷◌, ◌++◌, length, map, nat_le, find, position, Option, Some, None, slice_set, ◌==◌, if◌then◌else◌}
 use Rattle.std.specs.List.{position_or_len}
 use Rattle.std.specs.Option.{option_map_or}
 use Rattle.std.specs.Ordering.{nat_cmp}
@@ -42,6 +42,19 @@ line_taken station line = record station { end = with_line (S station.number) st
 abbrev pub with_station_line : List StationDraft → ℕ → SetupStatement → List StationDraft
 with_station_line stations number line =
     option_map_or (λ station. slice_set stations (position_or_len (has_number number) stations) (line_taken station line)) (station_at stations number) stations
+
+-- a station after a command of it
+abbrev pub command_taken : StationDraft → StationDraft
+command_taken station = record station { end = record station.end { commands_left = station.end.commands_left - 1 } }
+
+-- the stations after a command of the first of a number
+abbrev pub with_station_command : List StationDraft → ℕ → List StationDraft
+with_station_command stations number =
+    option_map_or (λ station. slice_set stations (position_or_len (has_number number) stations) (command_taken station)) (station_at stations number) stations
+
+-- how many commands the station of a number may still issue: 65,535 where no station has the number
+abbrev pub commands_left_at : List StationDraft → ℕ → ℕ
+commands_left_at stations number = option_map_or (λ (station : StationDraft). station.end.commands_left) (station_at stations number) 65535
 
 -- the plan of a station: its address is its number
 abbrev pub station_plan : StationDraft → EndPlan

@@ -1,6 +1,6 @@
 //! What a statement with nothing wrong changes, and the event that it is.
 ghost use Rattle.std.specs.Prelude.{◌≡◌, IfOk, OnOk, Some, true, false};
-ghost use Rattle.half_script.specs.Drafts.{altered, delivered, event_of as the_event, happening as the_happening, heard, issued, issued_from, lane_at as the_lane, lost, numbers, sets_up as the_setup_test, settled, taken, ticked, who_at as the_who, with_statement as the_draft};
+ghost use Rattle.half_script.specs.Drafts.{address_of as the_address, altered, delivered, event_of as the_event, happening as the_happening, heard, issued, issued_by, issued_from, lane_at as the_lane, lost, numbers, sets_up as the_setup_test, settled, taken, ticked, who_at as the_who, with_statement as the_draft};
 
 use crate::HalfReader;
 use df1_base::NoMemory;
@@ -8,6 +8,9 @@ use end_drafts::Stage;
 use script_parts::{Event, Lane};
 use script_statement::{Bytes, EndName, HalfEvent, SetupStatement, Statement, Way, Who};
 use std::alloc::Global;
+
+/// The highest address.
+const HIGHEST_ADDRESS: u32 = 255;
 
 impl HalfReader {
     /// Takes a statement, and answers its event, if it is one.
@@ -65,6 +68,9 @@ impl HalfReader {
             Statement::Half(HalfEvent::Issue { .. } | HalfEvent::IssueFrom { .. }) => {
                 self.master.count_command()
             }
+            Statement::Half(HalfEvent::StationIssue { station, .. }) => {
+                self.stations.count_command(*station)
+            }
             _ => {}
         }
         Ok(())
@@ -93,6 +99,11 @@ impl HalfReader {
                 src,
                 payload,
             } => issue_from(src, self.stations.declared(station), payload),
+            HalfEvent::StationIssue {
+                station,
+                to,
+                payload,
+            } => issue_by(self.who(station), address_of(to), payload),
             HalfEvent::MasterTake { n } => take(Some(Who::M), n),
             HalfEvent::MasterTick { n } => tick(n),
             HalfEvent::StationTake { station, n } => take(self.who(station), n),
@@ -151,6 +162,29 @@ fn issue_from(src: Option<u8>, dst: Option<u8>, payload: Option<Bytes>) -> Optio
     ensures { result ≡ issued_from src dst payload }
 {
     issue(Some(src?), dst, payload)
+}
+
+/// A command of an end, in its own name.
+fn issue_by(who: Option<Who>, dst: Option<u8>, payload: Option<Bytes>) -> Option<Event>
+    ensures { result ≡ issued_by who dst payload }
+{
+    Some(Event::Issue {
+        who: who?,
+        src: None,
+        dst: dst?,
+        payload: payload?,
+    })
+}
+
+/// A number, where it can be an address.
+fn address_of(number: u32) -> Option<u8>
+    ensures { result ≡ the_address number }
+{
+    if number <= HIGHEST_ADDRESS {
+        Some(number as u8)
+    } else {
+        None
+    }
 }
 
 /// An end gives bytes.

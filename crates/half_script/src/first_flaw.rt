@@ -1,13 +1,15 @@
 //! What is wrong with a statement that follows those so far: one test for each flaw, and the first that fits.
 ghost use Rattle.std.specs.Prelude.{◌≡◌, ◌<◌, ◌≤◌, ◌^◌, unwrap_or};
 ghost use Rattle.script_parts.specs.HalfPlayable.{master_weight};
-ghost use Rattle.half_script.specs.Drafts.{event_steps as the_event_steps, flaw_of as the_flaw, is_misplaced as the_misplaced, is_missing as the_missing, is_out_of_range as the_range_test, is_outside as the_outside, is_spent as the_spent, is_twice as the_twice, named_by as the_name, numbers, role_of as the_role, station_of as the_station, steps_of as the_steps};
+ghost use Rattle.script_parts.specs.RoutePlayable.{is_reached as the_reach_test};
+ghost use Rattle.half_script.specs.Drafts.{event_steps as the_event_steps, exceeds_at as the_excess_test, flaw_of as the_flaw, is_masters as the_master_test, is_misplaced as the_misplaced, is_missing as the_missing, is_out_of_range as the_range_test, is_outside as the_outside, is_spent as the_spent, is_twice as the_twice, leads_nowhere as the_way_test, master_node as the_master_node, named_by as the_name, names_none as the_name_test, names_station as the_station_test, numbers, role_of as the_role, station_of as the_station, steps_of as the_steps};
 
 use crate::HalfReader;
+use crate::reader::NODE;
 use crate::stations::STATIONS;
 use end_drafts::{Flaw, Stage};
-use end_settings::Role;
-use script_statement::{EndName, HalfEvent, Statement, Way};
+use end_settings::{Key, Role};
+use script_statement::{EndName, HalfEvent, SetupStatement, Statement, Way};
 
 impl HalfReader {
     /// The first flaw that a statement has, in the order of the flaws.
@@ -31,14 +33,14 @@ impl HalfReader {
         }
     }
 
-    /// It names an end or an event that half duplex hasn't, a station that isn't declared, a key that isn't for that end, or
-    /// a file that isn't declared.
+    /// It names an end or an event that half duplex hasn't, a station that isn't declared, an end to which no command of a station
+    /// gets, a key that isn't for that end, or a file that isn't declared.
     fn is_missing(&self, statement: &Statement) -> bool
         ensures { result ≡ the_missing self.now statement.now }
     {
         match statement {
             Statement::Setup { end, line } => match self.end(*end) {
-                Some(draft) => draft.lacks(role_of(*end), line),
+                Some(draft) => draft.lacks(role_of(self.routes, *end), line),
                 None => true,
             },
             Statement::Issue { .. }
@@ -46,27 +48,95 @@ impl HalfReader {
             | Statement::Times { .. }
             | Statement::Alter { .. }
             | Statement::Foreign { .. } => true,
-            Statement::Half(event) => match named_by(event) {
-                Some(station) => !self.stations.has(station),
-                None => false,
-            },
+            Statement::Half(event) => self.leads_nowhere(event) || self.names_none(event),
             _ => false,
         }
     }
 
-    /// A number, a word or a length is out of its range, the station is the 33rd, or a compatibility file is of another type
-    /// than bit or integer.
+    /// An event names a station that isn't declared.
+    fn names_none(&self, event: &HalfEvent) -> bool
+        ensures { result ≡ the_name_test self.now event.now }
+    {
+        match named_by(event) {
+            Some(station) => !self.stations.has(station),
+            None => false,
+        }
+    }
+
+    /// A command of a station is for neither another station nor the master, or the master carries none.
+    fn leads_nowhere(&self, event: &HalfEvent) -> bool
+        ensures { result ≡ the_way_test self.now event.now }
+    {
+        match event {
+            HalfEvent::StationIssue { station, to, .. } => {
+                !(self.routes && self.is_reached(*station, *to))
+            }
+            _ => false,
+        }
+    }
+
+    /// Whether a station can send to this number: it is that of another station, or the master's address.
+    fn is_reached(&self, station: u32, to: u32) -> bool
+        ensures { result ≡ the_reach_test (numbers self.now) (the_master_node self.now) station to }
+    {
+        (self.stations.has(to) && to != station) || to == u32::from(self.master_node())
+    }
+
+    /// The address of the master.
+    fn master_node(&self) -> u8
+        ensures { result ≡ the_master_node self.now }
+    {
+        self.master.node(NODE)
+    }
+
+    /// A number, a word or a length is out of its range, the station is the 33rd, a master that carries messages would have the
+    /// address of a station, or a compatibility file is of another type than bit or integer.
     fn is_out_of_range(&self, statement: &Statement) -> bool
         ensures { result ≡ the_range_test self.now statement.now }
     {
         match statement {
             Statement::Check(check) => check.is_none(),
-            Statement::Station(number) => number.is_none() || self.stations.len() >= STATIONS,
-            Statement::Setup { end, line } => match self.end(*end) {
-                Some(draft) => draft.exceeds(line),
-                None => false,
-            },
+            Statement::Station(number) => {
+                number.is_none() || self.stations.len() >= STATIONS || self.is_masters(*number)
+            }
+            Statement::Setup { end, line } => {
+                self.exceeds(*end, line) || self.names_station(*end, line)
+            }
             Statement::Half(event) => is_outside(event),
+            _ => false,
+        }
+    }
+
+    /// A number, a word or a length of a line of an end is out of its range, or a compatibility file is of another type than bit or
+    /// integer.
+    fn exceeds(&self, end: EndName, line: &SetupStatement) -> bool
+        ensures { result ≡ the_excess_test self.now end line.now }
+    {
+        match self.end(end) {
+            Some(draft) => draft.exceeds(line),
+            None => false,
+        }
+    }
+
+    /// The number of a station is the address of a master that carries messages.
+    fn is_masters(&self, number: Option<u8>) -> bool
+        ensures { result ≡ the_master_test self.now number }
+    {
+        match number {
+            Some(number) => self.routes && number == self.master_node(),
+            None => false,
+        }
+    }
+
+    /// A line gives a master that carries messages the number of a station as its address.
+    fn names_station(&self, end: EndName, line: &SetupStatement) -> bool
+        ensures { result ≡ the_station_test self.now end line.now }
+    {
+        match (end, line) {
+            (EndName::Master, SetupStatement::Set(setting)) => match (setting.key, setting.value) {
+                (Key::Node, Some(node)) => self.routes && self.stations.has(node),
+                _ => false,
+            },
             _ => false,
         }
     }
@@ -86,13 +156,19 @@ impl HalfReader {
         }
     }
 
-    /// It is a command of the master, which may issue no more.
+    /// It is a command of an end that may issue no more.
     fn is_spent(&self, statement: &Statement) -> bool
         ensures { result ≡ the_spent self.now statement.now }
     {
         match statement {
             Statement::Half(HalfEvent::Issue { .. } | HalfEvent::IssueFrom { .. }) => {
                 self.master.commands_left == 0
+            }
+            Statement::Half(HalfEvent::StationIssue { station, .. }) => {
+                match self.stations.find(*station) {
+                    Some(station) => station.end.commands_left == 0,
+                    None => false,
+                }
             }
             _ => false,
         }
@@ -113,7 +189,10 @@ impl HalfReader {
         ensures { result ≡ the_event_steps (numbers self.now) event.now }
     {
         match event {
-            HalfEvent::Issue { .. } | HalfEvent::IssueFrom { .. } | HalfEvent::Alter { .. } => 1,
+            HalfEvent::Issue { .. }
+            | HalfEvent::IssueFrom { .. }
+            | HalfEvent::StationIssue { .. }
+            | HalfEvent::Alter { .. } => 1,
             HalfEvent::MasterTake { n } => number_of(*n) * self.weight(),
             HalfEvent::MasterTick { n }
             | HalfEvent::StationTake { n, .. }
@@ -154,13 +233,14 @@ fn is_misplaced(stage: Stage, statement: &Statement) -> bool
     }
 }
 
-/// The kind of an end.
-fn role_of(end: EndName) -> Role
-    ensures { result ≡ the_role end }
+/// The kind of an end, on a line whose master carries messages or not.
+fn role_of(routes: bool, end: EndName) -> Role
+    ensures { result ≡ the_role routes end }
 {
     match end {
         EndName::Known(_) => Role::Duplex,
         EndName::Master => Role::Master,
+        EndName::Station(_) if routes => Role::RoutedStation,
         EndName::Station(_) => Role::Station,
     }
 }
@@ -172,6 +252,7 @@ fn named_by(event: &HalfEvent) -> Option<u32>
     match event {
         HalfEvent::Issue { station, .. }
         | HalfEvent::IssueFrom { station, .. }
+        | HalfEvent::StationIssue { station, .. }
         | HalfEvent::StationTake { station, .. } => Some(*station),
         HalfEvent::MasterTake { .. } | HalfEvent::MasterTick { .. } => None,
         HalfEvent::Deliver { way, .. }
@@ -195,7 +276,9 @@ fn is_outside(event: &HalfEvent) -> bool
     ensures { result ≡ the_outside event.now }
 {
     match event {
-        HalfEvent::Issue { payload, .. } => payload.is_none(),
+        HalfEvent::Issue { payload, .. } | HalfEvent::StationIssue { payload, .. } => {
+            payload.is_none()
+        }
         HalfEvent::IssueFrom { src, payload, .. } => src.is_none() || payload.is_none(),
         HalfEvent::MasterTake { n }
         | HalfEvent::MasterTick { n }

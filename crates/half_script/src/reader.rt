@@ -2,7 +2,7 @@
 ghost use Rattle.std.specs.Prelude.{◌≡◌, MatchResult, IfOk, Ok, Err, [], option_map, List};
 ghost use Rattle.end_drafts.specs.declared.flaw.Flaw.{Flaw as TheFlaw};
 ghost use Rattle.end_drafts.specs.Flaws.{IsFlawed};
-ghost use Rattle.half_script.specs.Drafts.{fresh, after_statement, draft_at, ends_of as the_ends, script_with};
+ghost use Rattle.half_script.specs.Drafts.{fresh_reader, after_statement, draft_at, ends_of as the_ends, script_with};
 
 use crate::Stations;
 use df1_base::NoMemory;
@@ -13,13 +13,15 @@ use script_statement::{EVENTS, EndName, Items, Statement, Who};
 use std::alloc::Global;
 
 /// The address of the master, where no line sets it.
-const NODE: u8 = 0;
+pub(crate) const NODE: u8 = 0;
 
-/// A reader of the statements behind `set mode half`, which keeps what they say but for the events. After a fault it is
-/// only dropped.
+/// A reader of the statements of a half-duplex script, behind `set mode half` where a line says so, which keeps what they say but for
+/// the events. After a fault it is only dropped.
 #[derive(Drop)]
 pub struct HalfReader {
     pub stage: Stage,
+    /// Whether the master carries messages between the stations, so that these issue commands too.
+    pub(crate) routes: bool,
     pub(crate) check: Option<Check>,
     pub(crate) master: EndDraft,
     pub(crate) stations: Stations,
@@ -27,12 +29,14 @@ pub struct HalfReader {
 }
 
 impl HalfReader {
-    /// A reader of which no statement was fed but `set mode half`.
-    pub fn new(alloc: Global) -> Self
-        ensures { result ≡ fresh }
+    /// A reader of which no statement was fed but `set mode half`; `routes` says whether the master carries messages between the
+    /// stations.
+    pub fn new(alloc: Global, routes: bool) -> Self
+        ensures { result ≡ fresh_reader routes }
     {
         HalfReader {
             stage: Stage::Settings,
+            routes,
             check: None,
             master: EndDraft::new(alloc),
             stations: Stations::new(alloc),

@@ -1,7 +1,7 @@
 //! The stations that lines declared, in the order in which they are polled, and what is known of each.
 ghost use Rattle.std.specs.Prelude.{◌≡◌, ◌≤◌, ◌++◌, [], OnOk, find, length, option_map, position};
 ghost use Rattle.script_parts.specs.HalfPlayable.{is_declared};
-ghost use Rattle.half_script.specs.Stations.{declared as the_declared, has_number, line_taken, numbers_in, plans_of, with_station, with_station_line};
+ghost use Rattle.half_script.specs.Stations.{declared as the_declared, has_number, line_taken, numbers_in, plans_of, with_station, with_station_command, with_station_line};
 
 use df1_base::NoMemory;
 use end_drafts::EndDraft;
@@ -126,6 +126,15 @@ impl Stations {
         match self.place(number) {
             Some(place) => self.list[place].take(line),
             None => Ok(()),
+        }
+    }
+
+    /// Counts a command of the first station of this number, if there is one.
+    pub fn count_command(&mut self, number: u32)
+        ensures { self.new ≡ with_station_command self.old number }
+    {
+        if let Some(place) = self.place(number) {
+            self.list[place].end.count_command();
         }
     }
 

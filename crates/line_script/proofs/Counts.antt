@@ -1,5 +1,5 @@
 -- What is left after some lines is what their events leave of the limits.
-use Rattle.std.proofs.Common.{List, [], ◌∷◌, ◌++◌, Result, Ok, Err}
+use Rattle.std.proofs.Common.{false, List, [], ◌∷◌, ◌++◌, Result, Ok, Err}
 use Rattle.std.specs.Prelude.{IfOk}
 use Rattle.std.specs.Option.{option_to_list}
 use Rattle.line_script.specs.declared.fault.Cause.{Cause}
@@ -15,7 +15,7 @@ use Rattle.line_script.proofs.Standing.{Stands, IfNext, lined}
 
 left-of : (d : Reader) (events : List Event) → Stands d events → IsLeft d events
 left-of (Full d) events h = duplex.left_of d events h
-left-of (Half d) events h = half.left_of d events h
+left-of (Half d) events h = half.left_of false d events h
 
 abbrev IfLeft : Result (Reader × List Event) Cause → Type 0
 IfLeft read = IfOk read (λ r. IsLeft r.0 r.1)

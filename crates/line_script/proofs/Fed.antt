@@ -18,6 +18,7 @@ use Rattle.line_script.specs.declared.fault.ScriptFault.TheVariants as fault
 use Rattle.line_script.specs.Refusal.{IsFaulty, fault_at}
 use Rattle.line_script.specs.Fed.{Fed, StandsFor, EndsFor, IsRefusedFor, IsRefusedAtEnd, lines_of, accepted, accepted_on, accepted_script, script_at}
 use Rattle.line_script.specs.Left.{after_lines, and_then}
+use Rattle.line_script.specs.declared.profile.Profile.TheVariants.{Replay}
 use Rattle.line_script.specs.Lines.{TextLine, text_line, lines_from, after_line, finished, is_ended, script_with}
 use Rattle.line_script.specs.ScriptText.{at_line, with_event, script_from, parts, script_of}
 use Rattle.line_script.specs.Unfinished.{unfinished, unfinished_after}
@@ -221,12 +222,12 @@ refused-by-size text events r b more h within reached short =
       | true ↦ λ is.
           let cut = split-first (λ byte. eqb byte 10) more in
           rw (eqb-true b 10 is, one-part r.line more h.begun, cut.2)
-          (first_over r.reader events r.number r.start r.line true (lines_from (r.start + (length r.line + 1)) (cut.0 ∷ cut.1)) (omega arith) (omega arith))
+          (first_over Replay r.reader events r.number r.start r.line true (lines_from (r.start + (length r.line + 1)) (cut.0 ∷ cut.1)) (omega arith) (omega arith))
       | false ↦ λ is.
           let none : HasNone (r.line ++ b ∷ []) = one-more r.line b h.begun is in
           let cut = begun-part (r.line ++ b ∷ []) more none in
           rw (← append_assoc r.line (b ∷ []) more, cut.2)
-          (at_end r.reader events r.number r.start (r.line ++ b ∷ []) cut.0 cut.1 (omega arith) (omega (arith, length-append r.line (b ∷ []))))
+          (at_end Replay r.reader events r.number r.start (r.line ++ b ∷ []) cut.0 cut.1 (omega arith) (omega (arith, length-append r.line (b ∷ []))))
     ] refl
     ∙ ap (λ (c : Cause). Err (r.number, c)) size
 
@@ -244,7 +245,7 @@ refused-by-length text events r b more h is long within =
     let cut = begun-part (r.line ++ b ∷ []) more none in
     ap script_of (append_assoc text (b ∷ []) more) ∙ goes-on-from-text text events r (b ∷ more) h
     ∙ rw (← append_assoc r.line (b ∷ []) more, cut.2)
-    (refused_last r.reader events r.number r.start (r.line ++ b ∷ []) cut.0 cut.1 (omega (arith, length-append r.line (b ∷ []))))
+    (refused_last Replay r.reader events r.number r.start (r.line ++ b ∷ []) cut.0 cut.1 (omega (arith, length-append r.line (b ∷ []))))
     ∙ ap (λ (c : Cause). Err (r.number, c)) size
 
 -- a line that is faulty by what it says

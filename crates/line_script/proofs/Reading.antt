@@ -8,11 +8,10 @@ use Rattle.line_script.specs.declared.fault.LineFault.{LineFault}
 use Rattle.line_script.specs.declared.fault.LineFault.TheVariants.{Faulty, NoMemory}
 use Rattle.line_script.specs.declared.reader.Reader.{Reader}
 use Rattle.script_parts.specs.declared.script.Event.{Event}
-use Rattle.line_script.specs.Lines.{text_line, lines_from, last_line, after_line, after_words, reaches_limit, is_long, content}
+use Rattle.line_script.specs.Lines.{text_line, lines_from, last_line, line_for, words_for, reaches_limit, is_long, content}
 use Rattle.line_script.specs.declared.profile.Profile.{Profile}
-use Rattle.line_script.specs.Profiles.{line_for, lines_for}
 use Rattle.line_script.specs.Refusal.{IsFaulty, IsRefused, fault_at}
-use Rattle.line_script.specs.ScriptText.{with_event, parts}
+use Rattle.line_script.specs.ScriptText.{lines_for, with_event, parts}
 use Rattle.script_statement.specs.Words.{words}
 use Rattle.line_script.proofs.Cuts.{split-first}
 
@@ -49,10 +48,10 @@ short events x false true r h = cc
 short events x false false r h = (refl, refl)
 
 -- so it leaves the text within its limit
-pub stays_within : (d : Reader) (events : List Event) (x : Reader × List Event) (start : ℕ) (bytes : List ℕ) → with_event events (after_line d (text_line start bytes true)) ≡ Ok x → start ≤ 16777216 → start + (length bytes + 1) ≤ 16777216
-stays_within d events x start bytes h le =
+pub stays_within : (profile : Profile) (d : Reader) (events : List Event) (x : Reader × List Event) (start : ℕ) (bytes : List ℕ) → with_event events (line_for profile d (text_line start bytes true)) ≡ Ok x → start ≤ 16777216 → start + (length bytes + 1) ≤ 16777216
+stays_within profile d events x start bytes h le =
     let line = text_line start bytes true in
-    let tests = short events x (reaches_limit line) (is_long line) (after_words d (words (content line))) h in
+    let tests = short events x (reaches_limit line) (is_long line) (words_for profile d (words (content line))) h in
     let limit : reaches_limit (text_line start bytes true) ≡ false = tests.0 in
     let long : is_long (text_line start bytes true) ≡ false = tests.1 in
     grind (arith, nat_tests, common_steps)

@@ -13,6 +13,7 @@ use Rattle.line_script.specs.declared.fault.ScriptFault.TheVariants as fault
 use Rattle.script_parts.specs.declared.script.Event.{Event}
 use Rattle.script_parts.specs.declared.script.Script.{Script}
 use Rattle.line_script.specs.Fed.{Fed, HasNoFeed, IsRefusedFor, StandsFor, accepted_script}
+use Rattle.line_script.specs.declared.profile.Profile.TheVariants.{Replay}
 use Rattle.line_script.specs.Lines.{after_line, script_with, text_line}
 use Rattle.line_script.specs.Refusal.{IsFaulty, fault_at}
 use Rattle.line_script.specs.ScriptText.{script_of}
@@ -51,7 +52,7 @@ run-past-script text run events r none h within past = run-refused text run even
     let begun = stands-holding text run events r none h in
     let cut = begun-part (r.line ++ run) more begun.begun in
     goes-on-from-text (text ++ run) events (holding r run) more begun
-    ∙ rw (cut.2) (at_end r.reader events r.number r.start (r.line ++ run) cut.0 cut.1 within (omega (arith, length-append r.line run)))
+    ∙ rw (cut.2) (at_end Replay r.reader events r.number r.start (r.line ++ run) cut.0 cut.1 within (omega (arith, length-append r.line run)))
     ∙ ap (λ (c : Cause). Err (r.number, c)) size)
 
 -- the byte past the longest line
@@ -63,7 +64,7 @@ run-past-line text run events r none h long far = run-refused text run events r 
     let begun = stands-holding text run events r none h in
     let cut = begun-part (r.line ++ run) more begun.begun in
     goes-on-from-text (text ++ run) events (holding r run) more begun
-    ∙ rw (cut.2) (refused_last r.reader events r.number r.start (r.line ++ run) cut.0 cut.1 (omega (arith, length-append r.line run)))
+    ∙ rw (cut.2) (refused_last Replay r.reader events r.number r.start (r.line ++ run) cut.0 cut.1 (omega (arith, length-append r.line run)))
     ∙ ap (λ (c : Cause). Err (r.number, c)) size)
 
 -- what is refused stays so with more behind it

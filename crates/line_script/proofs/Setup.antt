@@ -5,6 +5,7 @@ use Rattle.std.specs.Option.{option_to_list}
 use Rattle.line_script.specs.declared.fault.Cause.{Cause}
 use Rattle.line_script.specs.declared.fault.Cause.TheVariants as cause
 use Rattle.script_parts.specs.declared.script.Event.{Event}
+use Rattle.script_parts.specs.declared.script.EndPlan.{EndPlan}
 use Rattle.script_parts.specs.declared.script.Script.{Script}
 use Rattle.script_statement.specs.declared.statement.EndLetter.TheVariants.{A, B}
 use Rattle.script_statement.specs.declared.statement.Statement.{Statement}
@@ -16,6 +17,10 @@ use Rattle.duplex_script.specs.declared.reader.DuplexReader.{DuplexReader}
 use Rattle.duplex_script.specs.Drafts as duplex
 use Rattle.half_script.specs.declared.reader.HalfReader.{HalfReader}
 use Rattle.half_script.specs.Drafts as half
+use Rattle.half_script.specs.Stations.{station_at}
+use Rattle.half_script.proofs.Changes.{plans_after_command}
+use Rattle.script_statement.specs.declared.who.Who.TheVariants.{M}
+use Rattle.end_drafts.specs.Drafts.{plan_of}
 use Rattle.end_drafts.specs.declared.flaw.Flaw.{Flaw}
 use Rattle.end_drafts.specs.declared.flaw.Flaw.TheVariants as flaw
 use Rattle.end_drafts.specs.declared.stage.Stage.{Stage}
@@ -89,9 +94,16 @@ full-stated d (Foreign side (Some bytes)) placed = (λ events. refl, refl)
 full-stated d (statement.Half event) placed = λ begun. (λ events. refl, refl)
 full-stated d End placed = λ begun. (λ events. refl, refl)
 
+-- the script of a master and these stations
+abbrev half-script-of : HalfReader → List EndPlan → List Event → Script
+half-script-of d stations events = record (half.script_with d events) { ends = plan_of M 0 d.master ∷ stations }
+
 half-happens : (d : HalfReader) (x : HalfEvent) → IsKeptBy (Half d) (Half (half.with_statement d (statement.Half x)).0) (half.with_statement d (statement.Half x)).1
 half-happens d (event.Issue station payload) = either (Half d) (Half (half.with_statement d (statement.Half (event.Issue station payload))).0) (half.with_statement d (statement.Half (event.Issue station payload))).1 (λ events. refl) refl
 half-happens d (event.IssueFrom station src payload) = either (Half d) (Half (half.with_statement d (statement.Half (event.IssueFrom station src payload))).0) (half.with_statement d (statement.Half (event.IssueFrom station src payload))).1 (λ events. refl) refl
+half-happens d (event.StationIssue station to payload) =
+    either (Half d) (Half (half.with_statement d (statement.Half (event.StationIssue station to payload))).0) (half.with_statement d (statement.Half (event.StationIssue station to payload))).1
+    (λ events. ap (λ (plans : List EndPlan). half-script-of d plans events) (plans_after_command d.stations station (station_at d.stations station) refl)) refl
 half-happens d (event.MasterTake n) = either (Half d) (Half (half.with_statement d (statement.Half (event.MasterTake n))).0) (half.with_statement d (statement.Half (event.MasterTake n))).1 (λ events. refl) refl
 half-happens d (event.MasterTick n) = either (Half d) (Half (half.with_statement d (statement.Half (event.MasterTick n))).0) (half.with_statement d (statement.Half (event.MasterTick n))).1 (λ events. refl) refl
 half-happens d (event.StationTake station n) = either (Half d) (Half (half.with_statement d (statement.Half (event.StationTake station n))).0) (half.with_statement d (statement.Half (event.StationTake station n))).1 (λ events. refl) refl
@@ -137,7 +149,7 @@ second : (a b : Bool) → (a && b) ≡ true → b ≡ true
 second true b h = h
 second false b h = cc
 
-begins : (d : Reader) (s : Statement) → begins_half d s ≡ true → IsKeptBy d (Half half.fresh) None
+begins : (d : Reader) (s : Statement) → begins_half d s ≡ true → IsKeptBy d (Half (half.fresh_reader false)) None
 begins (Full d) (Mode is_half) is = λ begun. absurd (not_first d.stage (second is_half (is_fresh d.stage) is) begun)
 begins (Full d) s is = cc
 begins (Half d) s is = cc
@@ -145,7 +157,7 @@ begins (Half d) s is = cc
 formed : (d : Reader) (o : Option Statement) → IfKept d (after_form d o)
 formed d None = tt
 formed d (Some s) =
-    elim (begins_half d s) as (λ b. begins_half d s ≡ b → IfKept d (with_cause (cond b (Ok (Half half.fresh, None)) (in_mode d s)))) [
+    elim (begins_half d s) as (λ b. begins_half d s ≡ b → IfKept d (with_cause (cond b (Ok (Half (half.fresh_reader false), None)) (in_mode d s)))) [
       | true ↦ λ is. begins d s is
       | false ↦ λ is. in-its-mode d s
     ] refl

@@ -30,7 +30,7 @@ use Rattle.line_script.specs.ScriptText.{at_line, with_event, script_from, scrip
 
 abbrev pub Stands : Reader → List Event → Type 0
 Stands (Full d) events = duplex.Stands d events
-Stands (Half d) events = half.Stands d events
+Stands (Half d) events = half.Stands false d events
 
 pub stands_at_first : Stands fresh []
 stands_at_first = duplex.stands_at_first
@@ -45,13 +45,13 @@ full_step : (r : Result (DuplexReader × Option Event) Flaw) (events : List Even
 full_step (Err flaw) events h = tt
 full_step (Ok step) events h = h
 
-half_step : (r : Result (HalfReader × Option Event) Flaw) (events : List Event) → half.IfNext events r → IfNext events (with_cause (in_half r))
+half_step : (r : Result (HalfReader × Option Event) Flaw) (events : List Event) → half.IfNext false events r → IfNext events (with_cause (in_half r))
 half_step (Err flaw) events h = tt
 half_step (Ok step) events h = h
 
 in_its_mode : (d : Reader) (events : List Event) (s : Statement) → Stands d events → IsSound s → IfNext events (with_cause (in_mode d s))
 in_its_mode (Full d) events s h sound = full_step (duplex_drafts.after_statement d s) events (duplex.next_of d events s h sound)
-in_its_mode (Half d) events s h sound = half_step (half_drafts.after_statement d s) events (half.next_of d events s h sound)
+in_its_mode (Half d) events s h sound = half_step (half_drafts.after_statement d s) events (half.next_of false d events s h sound (λ is. cc))
 
 -- before the first statement there is no event
 none_yet : (fresh : Bool) (events : List Event) → (events ≡ []) ⊎ (fresh ≡ false) → fresh ≡ true → events ≡ []
@@ -62,16 +62,16 @@ second : (a b : Bool) → (a && b) ≡ true → b ≡ true
 second true b h = h
 second false b h = cc
 
-begun : (d : Reader) (events : List Event) (s : Statement) → Stands d events → begins_half d s ≡ true → Stands (Half half_drafts.fresh) (events ++ [])
+begun : (d : Reader) (events : List Event) (s : Statement) → Stands d events → begins_half d s ≡ true → Stands (Half (half_drafts.fresh_reader false)) (events ++ [])
 begun (Full d) events (Mode is_half) h is =
     let none : events ≡ [] = none_yet (is_fresh d.stage) events h.begun (second is_half (is_fresh d.stage) is) in
-    rw none half.stands_at_first
+    rw none (half.stands_at_first false)
 begun (Full d) events s h is = cc
 begun (Half d) events s h is = cc
 
 stated : (d : Reader) (events : List Event) (s : Statement) → Stands d events → IsSound s → IfNext events (with_cause (after_statement d s))
 stated d events s h sound =
-    elim (begins_half d s) as (λ b. begins_half d s ≡ b → IfNext events (with_cause (cond b (Ok (Half half_drafts.fresh, None)) (in_mode d s)))) [
+    elim (begins_half d s) as (λ b. begins_half d s ≡ b → IfNext events (with_cause (cond b (Ok (Half (half_drafts.fresh_reader false), None)) (in_mode d s)))) [
       | true ↦ λ is. begun d events s h is
       | false ↦ λ is. in_its_mode d events s h sound
     ] refl

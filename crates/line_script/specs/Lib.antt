@@ -3,7 +3,8 @@ pub mod Lines
 pub mod Refusal
 pub mod Steps
 pub mod ScriptText
-pub mod Profiles
+pub mod Rehearsed
 pub mod Left
 pub mod Unfinished
 pub mod Fed
+pub mod Forms

@@ -15,10 +15,12 @@ use Rattle.end_drafts.specs.declared.stage.Stage.{Stage}
 use Rattle.end_drafts.specs.declared.stage.Stage.TheVariants.{Ended}
 use Rattle.line_script.specs.declared.reader.Reader.{Reader}
 use Rattle.line_script.specs.declared.reader.Reader.TheVariants.{Full, Half}
+use Rattle.line_script.specs.declared.profile.Profile.{Profile}
+use Rattle.line_script.specs.declared.profile.Profile.TheVariants.{Replay}
+use Rattle.line_script.specs.Forms.{is_barred, said_for}
 use Rattle.line_script.specs.Readers.{after_statement, stage_of}
 use Rattle.duplex_script.specs.Drafts as duplex
 use Rattle.half_script.specs.Drafts as half
-use Rattle.script_statement.specs.Statements.{statement_of}
 use Rattle.script_statement.specs.Words.{words}
 
 -- a line: how many bytes of the text stand before it, its bytes without its line feed, and whether a line feed ends it
@@ -85,24 +87,41 @@ abbrev pub line_fault : StatementFault → LineFault
 line_fault (stated.Flawed flaw) = line.Faulty (cause_of flaw)
 line_fault stated.NoMemory = line.NoMemory
 
-abbrev pub after_form : Reader → Option Statement → Result (Reader × Option Event) Cause
-after_form d None = Err cause.Form
-after_form d (Some statement) = with_cause (after_statement d statement)
+-- what a form says after the lines before it
+abbrev pub form_for : Profile → Reader → Option Statement → Result (Reader × Option Event) Cause
+form_for profile d None = Err cause.Form
+form_for profile d (Some statement) = if is_barred profile statement then Err cause.Place else with_cause (after_statement d statement)
 
 -- what a line says after the lines before it, of which none may be `end`
-abbrev pub after_said : Reader → Option Statement → Result (Reader × Option Event) Cause
-after_said d said = if is_ended (stage_of d) then Err cause.After else after_form d said
+abbrev pub said_after : Profile → Reader → Option Statement → Result (Reader × Option Event) Cause
+said_after profile d said = if is_ended (stage_of d) then Err cause.After else form_for profile d said
 
 -- the words of a line after the lines before it: what is known then and its event, or the first cause that fits
-abbrev pub after_words : Reader → List (List ℕ) → Result (Reader × Option Event) Cause
-after_words d line = if is_passed_over line then Ok (d, None) else after_said d (statement_of line)
+abbrev pub words_for : Profile → Reader → List (List ℕ) → Result (Reader × Option Event) Cause
+words_for profile d line = if is_passed_over line then Ok (d, None) else said_after profile d (said_for profile line)
 
 -- a line after the lines before it
-abbrev pub after_line : Reader → TextLine → Result (Reader × Option Event) Cause
-after_line d line =
+abbrev pub line_for : Profile → Reader → TextLine → Result (Reader × Option Event) Cause
+line_for profile d line =
     if reaches_limit line then Err cause.Size
     else if is_long line then Err cause.Long
-    else after_words d (words (content line))
+    else words_for profile d (words (content line))
+
+-- ---- the same for a replay
+
+abbrev pub after_form : Reader → Option Statement → Result (Reader × Option Event) Cause
+after_form = form_for Replay
+
+abbrev pub after_said : Reader → Option Statement → Result (Reader × Option Event) Cause
+after_said = said_after Replay
+
+abbrev pub after_words : Reader → List (List ℕ) → Result (Reader × Option Event) Cause
+after_words = words_for Replay
+
+abbrev pub after_line : Reader → TextLine → Result (Reader × Option Event) Cause
+after_line = line_for Replay
+
+-- ---- the script
 
 -- the script of the lines so far, with these events
 abbrev pub script_with : Reader → List Event → Script

@@ -1,5 +1,5 @@
 -- What the lines so far say, in the mode that the first of them chooses, and a statement that follows them.
-use Rattle.std.specs.Prelude.{Bool, false, ◌&&◌, Option, None, Result, Ok, Err, if◌then◌else◌}
+use Rattle.std.specs.Prelude.{Bool, true, false, ◌&&◌, Option, None, Result, Ok, Err, if◌then◌else◌}
 use Rattle.duplex_script.specs.declared.reader.DuplexReader.{DuplexReader}
 use Rattle.duplex_script.specs.Drafts as duplex
 use Rattle.end_drafts.specs.declared.flaw.Flaw.{Flaw}
@@ -10,12 +10,20 @@ use Rattle.half_script.specs.Drafts as half
 use Rattle.script_statement.specs.declared.statement.Statement.{Statement}
 use Rattle.script_statement.specs.declared.statement.Statement.TheVariants.{Mode}
 use Rattle.script_parts.specs.declared.script.Event.{Event}
+use Rattle.line_script.specs.declared.profile.Profile.{Profile}
+use Rattle.line_script.specs.declared.profile.Profile.TheVariants.{Replay, Route, Rehearse}
 use Rattle.line_script.specs.declared.reader.Reader.{Reader}
 use Rattle.line_script.specs.declared.reader.Reader.TheVariants.{Full, Half}
 
 -- before any line: full duplex
 abbrev pub fresh : Reader
 fresh = Full duplex.fresh
+
+-- the same by what is read: for a route a half-duplex line whose master carries messages
+abbrev pub fresh_for : Profile → Reader
+fresh_for Replay = fresh
+fresh_for Route = Half (half.fresh_reader true)
+fresh_for Rehearse = fresh
 
 abbrev pub stage_of : Reader → Stage
 stage_of (Full d) = d.stage
@@ -41,4 +49,4 @@ in_mode (Half d) statement = in_half (half.after_statement d statement)
 
 -- a statement after the lines so far
 abbrev pub after_statement : Reader → Statement → Result (Reader × Option Event) Flaw
-after_statement d statement = if begins_half d statement then Ok (Half half.fresh, None) else in_mode d statement
+after_statement d statement = if begins_half d statement then Ok (Half (half.fresh_reader false), None) else in_mode d statement

@@ -6,8 +6,10 @@ use Rattle.line_script.specs.declared.fault.Cause.{Cause}
 use Rattle.script_parts.specs.declared.script.Event.{Event}
 use Rattle.script_parts.specs.declared.script.Script.{Script}
 use Rattle.line_script.specs.declared.reader.Reader.{Reader}
-use Rattle.line_script.specs.Readers.{fresh}
-use Rattle.line_script.specs.Lines.{TextLine, after_line, finished, lines_from}
+use Rattle.line_script.specs.declared.profile.Profile.{Profile}
+use Rattle.line_script.specs.declared.profile.Profile.TheVariants.{Replay, Route, Rehearse}
+use Rattle.line_script.specs.Readers.{fresh_for}
+use Rattle.line_script.specs.Lines.{TextLine, finished, line_for, lines_from}
 
 -- an answer, or the cause of a line with its number
 abbrev pub at_line : {T : Type 0} → ℕ → Result T Cause → (T → Result Script (ℕ × Cause)) → Result Script (ℕ × Cause)
@@ -20,15 +22,28 @@ with_event events (Err cause) = Err cause
 with_event events (Ok step) = Ok (step.0, events ++ option_to_list step.1)
 
 -- the script, from the lines from a number on: after what is known and the events of the lines before them
+abbrev pub lines_for : Profile → Reader → List Event → ℕ → List TextLine → Result Script (ℕ × Cause)
+lines_for profile d events number [] = at_line number (finished d events) Ok
+lines_for profile d events number (line ∷ lines) =
+    at_line number (with_event events (line_for profile d line)) (λ step. lines_for profile step.0 step.1 (number + 1) lines)
+
 abbrev pub script_from : Reader → List Event → ℕ → List TextLine → Result Script (ℕ × Cause)
-script_from d events number [] = at_line number (finished d events) Ok
-script_from d events number (line ∷ lines) =
-    at_line number (with_event events (after_line d line)) (λ step. script_from step.0 step.1 (number + 1) lines)
+script_from = lines_for Replay
 
 -- the parts of a text between its line feeds
 abbrev pub parts : List ℕ → List (List ℕ)
 parts text = slice_split (λ byte. byte == 10) text
 
+-- the script that the lines of a text say
+abbrev pub text_for : Profile → List ℕ → Result Script (ℕ × Cause)
+text_for profile text = lines_for profile (fresh_for profile) [] 1 (lines_from 0 (parts text))
+
 -- the script that a text says, or the number of its first faulty line, counted from 1, and the first cause that fits it
 unfoldable pub script_of : List ℕ → Result Script (ℕ × Cause)
-script_of text = script_from fresh [] 1 (lines_from 0 (parts text))
+script_of text = text_for Replay text
+
+-- the same by what it is read for
+unfoldable pub script_for : Profile → List ℕ → Result Script (ℕ × Cause)
+script_for Replay text = script_of text
+script_for Route text = text_for Route text
+script_for Rehearse text = text_for Rehearse text

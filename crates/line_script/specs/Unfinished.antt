@@ -3,7 +3,8 @@ use Rattle.std.specs.Prelude.{◌≡◌, ◌⊎◌, ℕ, ◌+◌, ◌-◌, ◌<�
 use Rattle.line_script.specs.declared.fault.Cause.{Cause}
 use Rattle.line_script.specs.declared.fault.Cause.TheVariants as cause
 use Rattle.script_parts.specs.declared.script.Script.{Script}
-use Rattle.line_script.specs.ScriptText.{script_of}
+use Rattle.line_script.specs.declared.profile.Profile.{Profile}
+use Rattle.line_script.specs.ScriptText.{script_for, script_of}
 
 -- how many bytes stand behind the last line feed, where so many stood before the text
 abbrev pub unfinished_after : ℕ → List ℕ → ℕ
@@ -28,5 +29,8 @@ IsAccepted (Ok script) = Unit {0}
 IsAccepted (Err fault) = fault.1 ≡ cause.NoEnd
 
 -- no line of a text is refused yet, whatever may follow
+abbrev pub IsOpenFor : Profile → List ℕ → Type 0
+IsOpenFor profile text = IsAccepted (script_for profile (settled text))
+
 abbrev pub IsOpen : List ℕ → Type 0
 IsOpen text = IsAccepted (script_of (settled text))

@@ -1,24 +1,25 @@
 //! What holds of every text. The functions do nothing.
 ghost use Rattle.std.specs.Prelude.{◌≡◌, ◌≢◌, ◌<◌, ◌++◌, ℕ, List, [], Err, IfOk, length};
 ghost use Rattle.line_script.specs.declared.fault.Cause.{Cause as Fault};
+ghost use Rattle.line_script.specs.declared.profile.Profile.{Profile as Purpose};
 ghost use Rattle.line_script.specs.Readers.{fresh};
 ghost use Rattle.line_script.specs.Left.{IsLeft, after_lines};
 ghost use Rattle.line_script.specs.Lines.{TextLine};
-ghost use Rattle.line_script.specs.ScriptText.{script_of};
+ghost use Rattle.line_script.specs.ScriptText.{script_for};
 ghost use Rattle.line_script.specs.Unfinished.{IsSettled};
 
-/// A text of more than 16,777,216 bytes is no script, and its first 16,777,217 bytes show its first faulty line and the
-/// cause: whatever follows them, line and cause are the same.
+/// A text of more than 16,777,216 bytes is no script, whatever it is read for, and its first 16,777,217 bytes show its first faulty
+/// line and the cause: whatever follows them, line and cause are the same.
 pub fn refused_over_the_limit()
-    ensures { (text more : List ℕ) → 16777216 < length text
-        → (number : ℕ) × (fault : Fault) × (script_of text ≡ Err (number, fault)) × (script_of (text ++ more) ≡ Err (number, fault)) }
+    ensures { (profile : Purpose) (text more : List ℕ) → 16777216 < length text
+        → (number : ℕ) × (fault : Fault) × (script_for profile text ≡ Err (number, fault)) × (script_for profile (text ++ more) ≡ Err (number, fault)) }
 {}
 
 /// A line that is refused is so whatever follows it: where a line feed ends all lines of a text, or its last line is over
 /// 1,024 bytes, every longer text has its first faulty line and cause, unless `end` alone was missing.
 pub fn a_refused_line_stays_refused()
-    ensures { (text more : List ℕ) (number : ℕ) (fault : Fault) → IsSettled text
-        → script_of text ≡ Err (number, fault) → fault ≢ Fault.NoEnd → script_of (text ++ more) ≡ Err (number, fault) }
+    ensures { (profile : Purpose) (text more : List ℕ) (number : ℕ) (fault : Fault) → IsSettled text
+        → script_for profile text ≡ Err (number, fault) → fault ≢ Fault.NoEnd → script_for profile (text ++ more) ≡ Err (number, fault) }
 {}
 
 /// After any lines that were accepted, what is left of the commands of each end is 65,535 less those that the lines issued,

@@ -1,20 +1,90 @@
-//! What a script is read for, and the statements that a rehearsal keeps out.
-ghost use Rattle.std.specs.Prelude.{◌≡◌};
-ghost use Rattle.line_script.specs.Profiles.{is_half_form as the_half_form, is_to_station as the_way_test, issues_at_a as the_issue_test, names_both as the_both_test};
+//! What a script is read for, and the forms and places that follow from it.
+ghost use Rattle.std.specs.Prelude.{◌≡◌, map, true, IfOk};
+ghost use Rattle.half_script.specs.Forms.{is_kept_out as the_outside, kept as the_kept, said_by};
+ghost use Rattle.line_script.specs.Forms.{full_form as the_full_form, is_barred as the_bar, is_half_form as the_half_form, is_to_station as the_way_test, issues_at_a as the_issue_test, names_both as the_both_test, said_for};
 
-use script_statement::{EndLetter, HalfEvent, Statement, Way};
+use df1_base::NoMemory;
+use script_statement::{EndLetter, HalfEvent, Statement, Way, statement_of, station_issue};
+use std::alloc::Global;
 
 /// What a script is read for.
 #[derive(Clone, Copy, Debug, PartialEq, Eq)]
 pub enum Profile {
     /// A replay, of a script of either mode.
     Replay,
+    /// A route, of a half-duplex script whose master carries messages between the stations, so that these issue commands too.
+    Route,
     /// A rehearsal, of a full-duplex script in front of which commands of end a are put: it has none of its own.
     Rehearse,
 }
 
+/// What the words of a line say, if they are one of the forms.
+pub(crate) fn said(
+    alloc: Global,
+    words: &[&[u8]],
+    profile: Profile,
+) -> Result<Option<Statement>, NoMemory>
+    ensures { IfOk result (λ s. s ≡ said_for profile (map (λ x. x.now) words.now)) }
+{
+    match profile {
+        Profile::Replay => statement_of(alloc, words),
+        Profile::Route => routed(alloc, words),
+        Profile::Rehearse => Ok(full_form(statement_of(alloc, words)?)),
+    }
+}
+
+/// What the words of a line say where the master carries messages.
+fn routed(alloc: Global, words: &[&[u8]]) -> Result<Option<Statement>, NoMemory>
+    ensures { IfOk result (λ s. s ≡ said_by true (map (λ x. x.now) words.now)) }
+{
+    match station_issue(alloc, words)? {
+        Some(event) => Ok(Some(Statement::Half(event))),
+        None => Ok(kept(statement_of(alloc, words)?)),
+    }
+}
+
+/// A form, unless there is none such where the master carries messages.
+fn kept(statement: Option<Statement>) -> Option<Statement>
+    ensures { result ≡ the_kept statement }
+{
+    match statement {
+        Some(statement) if is_kept_out(&statement) => None,
+        statement => statement,
+    }
+}
+
+/// Whether there is no such form where the master carries messages: `set mode`, and a command of the master in the name of a source.
+fn is_kept_out(statement: &Statement) -> bool
+    ensures { result ≡ the_outside statement.now }
+{
+    match statement {
+        Statement::Mode { .. } | Statement::Half(HalfEvent::IssueFrom { .. }) => true,
+        _ => false,
+    }
+}
+
+/// A full-duplex form.
+fn full_form(statement: Option<Statement>) -> Option<Statement>
+    ensures { result ≡ the_full_form statement }
+{
+    match statement {
+        Some(statement) if is_half_form(&statement) => None,
+        statement => statement,
+    }
+}
+
+/// Whether a form may not stand there, whatever else is wrong with it.
+pub(crate) fn is_barred(statement: &Statement, profile: Profile) -> bool
+    ensures { result ≡ the_bar profile statement.now }
+{
+    match profile {
+        Profile::Replay | Profile::Route => false,
+        Profile::Rehearse => issues_at_a(statement),
+    }
+}
+
 /// Whether a statement has a form that only half mode has.
-pub(crate) fn is_half_form(statement: &Statement) -> bool
+fn is_half_form(statement: &Statement) -> bool
     ensures { result ≡ the_half_form statement.now }
 {
     match statement {
@@ -45,7 +115,7 @@ fn is_to_station(way: Way) -> bool
 }
 
 /// Whether a statement issues a command at end a.
-pub(crate) fn issues_at_a(statement: &Statement) -> bool
+fn issues_at_a(statement: &Statement) -> bool
     ensures { result ≡ the_issue_test statement.now }
 {
     match statement {

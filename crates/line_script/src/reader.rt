@@ -2,9 +2,8 @@
 //! lines before it said.
 ghost use Rattle.std.specs.Prelude.{◌≡◌, ◌≤◌, [], ◌∷◌, ◌+◌, MatchOption, MatchResult, IfOk, IsErr, Ok, Err, None, Some, List, map, min, length, true, false, if◌then◌else◌};
 ghost use Rattle.end_drafts.specs.Flaws.{IsFlawed};
-ghost use Rattle.line_script.specs.Readers.{after_statement, begins_half as the_half_test, fresh, in_mode, stage_of as the_stage};
-ghost use Rattle.line_script.specs.Lines.{after_line, after_said, cause_of as the_cause, with_cause, after_words, finished, reaches_limit as the_limit_test, script_with, content as the_content, is_ended as the_end_test, is_passed_over as the_passed, line_fault as the_line_fault, text_line};
-ghost use Rattle.line_script.specs.Profiles.{line_for, rehearsed_form, rehearsed_line, rehearsed_words};
+ghost use Rattle.line_script.specs.Readers.{after_statement, begins_half as the_half_test, fresh, fresh_for, in_mode, stage_of as the_stage};
+ghost use Rattle.line_script.specs.Lines.{after_line, after_said, cause_of as the_cause, with_cause, after_words, finished, reaches_limit as the_limit_test, script_with, content as the_content, is_ended as the_end_test, is_passed_over as the_passed, line_fault as the_line_fault, line_for, text_line, words_for};
 ghost use Rattle.line_script.specs.Refusal.{IsFaulty};
 ghost use Rattle.line_script.specs.Steps.{step_before};
 ghost use Rattle.line_script.specs.declared.step.TimesEvent.{TimesEvent as OneStep};
@@ -16,7 +15,7 @@ ghost use Rattle.script_statement.specs.declared.statement.Verb.{Verb as Happeni
 
 use crate::given_command::{GivenCommand, given_command};
 use crate::given_word::{GivenWord, given_word};
-use crate::profile::{Profile, is_half_form, issues_at_a};
+use crate::profile::{Profile, is_barred, said};
 use crate::step::{TimesEvent, step_of};
 use crate::{Cause, Event, Events, LineFault, Script};
 use df1_base::NoMemory;
@@ -37,7 +36,7 @@ pub const LINE: usize = 1024;
 pub enum Reader {
     /// Full duplex, as before any line.
     Full(DuplexReader),
-    /// Half duplex, since `set mode half` was the first line of a form.
+    /// Half duplex, since `set mode half` was the first line of a form, or from the first line on.
     Half(HalfReader),
 }
 
@@ -47,6 +46,16 @@ impl Reader {
         ensures { result ≡ fresh }
     {
         Reader::Full(DuplexReader::new(alloc))
+    }
+
+    /// A reader of which no line was fed, for a profile.
+    pub(crate) fn for_profile(alloc: Global, profile: Profile) -> Self
+        ensures { result ≡ fresh_for profile }
+    {
+        match profile {
+            Profile::Route => Reader::Half(HalfReader::new(alloc, true)),
+            Profile::Replay | Profile::Rehearse => Reader::new(alloc),
+        }
     }
 
     /// Reads the next line, and answers its event, if it is one. `start` is how many bytes of the text stand before the
@@ -78,7 +87,7 @@ impl Reader {
         }
     }
 
-    /// Reads the next line for a profile: for a replay as `read` does, and for a rehearsal by its words.
+    /// Reads the next line for a profile: for a replay as `read` does, and else by its words.
     pub(crate) fn read_for(
         &mut self,
         alloc: Global,
@@ -92,20 +101,23 @@ impl Reader {
     {
         match profile {
             Profile::Replay => self.read(alloc, start, line, is_ended),
-            Profile::Rehearse => self.read_rehearsed(alloc, start, line, is_ended),
+            Profile::Route | Profile::Rehearse => {
+                self.read_formed(alloc, start, line, is_ended, profile)
+            }
         }
     }
 
-    /// Reads the next line of a rehearsal.
-    fn read_rehearsed(
+    /// Reads the next line by its words.
+    fn read_formed(
         &mut self,
         alloc: Global,
         start: usize,
         line: &[u8],
         is_ended: bool,
+        profile: Profile,
     ) -> Result<Option<Event>, LineFault>
-        ensures { MatchResult result (λ event. rehearsed_line self.old (text_line start line.now is_ended) ≡ Ok (self.new, event))
-            (λ fault. IsFaulty fault (rehearsed_line self.old (text_line start line.now is_ended))) }
+        ensures { MatchResult result (λ event. line_for profile self.old (text_line start line.now is_ended) ≡ Ok (self.new, event))
+            (λ fault. IsFaulty fault (line_for profile self.old (text_line start line.now is_ended))) }
     {
         if reaches_limit(start, line, is_ended) {
             return Err(LineFault::Faulty(Cause::Size));
@@ -113,8 +125,7 @@ impl Reader {
         if line.len() > LINE {
             return Err(LineFault::Faulty(Cause::Long));
         }
-        let said = content(line, is_ended);
-        self.read_rehearsed_words(alloc, &first_words(said))
+        self.read_words_for(alloc, &first_words(content(line, is_ended)), profile)
     }
 
     /// Takes the next line, which a line feed ends, as `read` reads it, if it is a step that may follow the lines so far; its
@@ -217,14 +228,15 @@ impl Reader {
         }
     }
 
-    /// Reads the first words of the next line of a rehearsal.
-    fn read_rehearsed_words(
+    /// Reads the first words of the next line for a profile.
+    fn read_words_for(
         &mut self,
         alloc: Global,
         words: &[&[u8]],
+        profile: Profile,
     ) -> Result<Option<Event>, LineFault>
-        ensures { MatchResult result (λ event. rehearsed_words self.old (map (λ x. x.now) words.now) ≡ Ok (self.new, event))
-            (λ fault. IsFaulty fault (rehearsed_words self.old (map (λ x. x.now) words.now))) }
+        ensures { MatchResult result (λ event. words_for profile self.old (map (λ x. x.now) words.now) ≡ Ok (self.new, event))
+            (λ fault. IsFaulty fault (words_for profile self.old (map (λ x. x.now) words.now))) }
     {
         if is_passed_over(words) {
             return Ok(None);
@@ -232,28 +244,13 @@ impl Reader {
         if self.is_ended() {
             return Err(LineFault::Faulty(Cause::After));
         }
-        match statement_of(alloc, words)? {
-            Some(statement) => self.take_rehearsed(alloc, statement),
+        match said(alloc, words, profile)? {
+            Some(statement) if is_barred(&statement, profile) => {
+                Err(LineFault::Faulty(Cause::Place))
+            }
+            Some(statement) => self.take(alloc, statement),
             None => Err(LineFault::Faulty(Cause::Form)),
         }
-    }
-
-    /// Takes a statement of a rehearsal, if it isn't kept out and nothing is wrong with it.
-    fn take_rehearsed(
-        &mut self,
-        alloc: Global,
-        statement: Statement,
-    ) -> Result<Option<Event>, LineFault>
-        ensures { MatchResult result (λ event. rehearsed_form self.old (Some statement) ≡ Ok (self.new, event))
-            (λ fault. IsFaulty fault (rehearsed_form self.old (Some statement))) }
-    {
-        if is_half_form(&statement) {
-            return Err(LineFault::Faulty(Cause::Form));
-        }
-        if issues_at_a(&statement) {
-            return Err(LineFault::Faulty(Cause::Place));
-        }
-        self.take(alloc, statement)
     }
 
     /// Takes a statement, if nothing is wrong with it. One that is refused takes no memory.
@@ -263,7 +260,7 @@ impl Reader {
             (λ fault. IsFaulty fault (with_cause (after_statement self.old statement))) }
     {
         if self.begins_half(&statement) {
-            *self = Reader::Half(HalfReader::new(alloc));
+            *self = Reader::Half(HalfReader::new(alloc, false));
             return Ok(None);
         }
         match self.take_in_mode(alloc, statement) {

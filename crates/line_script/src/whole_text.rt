@@ -1,11 +1,11 @@
 //! Reading a script from a whole text, line by line.
-ghost use Rattle.std.specs.Prelude.{◌≡◌, ◌==◌, ◌<◌, ◌-◌, ◌^◌, ◌∷◌, [], Ok, length, IfOk, MatchResult, MatchOption, position};
+ghost use Rattle.std.specs.Prelude.{◌≡◌, ◌≢◌, ◌==◌, ◌<◌, ◌-◌, ◌^◌, ◌∷◌, [], Ok, length, IfOk, MatchResult, MatchOption, position};
 ghost use Rattle.script_parts.specs.HalfPlayable.{CanBePlayed};
+ghost use Rattle.script_parts.specs.RoutePlayable.{IsRoutePlayable};
 ghost use Rattle.line_script.specs.declared.profile.Profile.{Profile as Purpose};
-ghost use Rattle.line_script.specs.Lines.{finished, last_line, lines_from, text_line};
-ghost use Rattle.line_script.specs.Profiles.{IsRehearsed, line_for, lines_for, script_for};
-ghost use Rattle.line_script.specs.Readers.{fresh};
-ghost use Rattle.line_script.specs.ScriptText.{at_line, parts, script_of, with_event};
+ghost use Rattle.line_script.specs.Lines.{finished, last_line, line_for, text_line};
+ghost use Rattle.line_script.specs.Rehearsed.{IsRehearsed};
+ghost use Rattle.line_script.specs.ScriptText.{at_line, lines_for, parts, script_for, script_of, text_for, with_event};
 ghost use Rattle.line_script.specs.Refusal.{IsFaulty, IsRefused, fault_at};
 
 use crate::{Events, LineFault, Profile, Reader, Script, ScriptFault};
@@ -22,13 +22,20 @@ pub fn read_script(alloc: Global, text: &[u8]) -> Result<Script, ScriptFault>
     read_lines(alloc, text, Profile::Replay)
 }
 
-/// Reads a script for a replay, as `read_script` does, or for a rehearsal: then the forms that only half mode has are none of the
-/// forms, and a command of end a may not stand there, whatever else is wrong with it. `At` comes exactly where the text is no such
-/// script, with its first faulty line and the first cause that fits it. A script that was read for a rehearsal is in full mode and
-/// has no command of end a.
+/// Reads a script for a replay, as `read_script` does, for a route or for a rehearsal. `At` comes exactly where the text is no such
+/// script, with its first faulty line and the first cause that fits it.
+///
+/// For a route it is a half-duplex script from its first line on, with these differences. `set mode full`, `set mode half` and
+/// `mi S SRC HEX` are none of the forms. `Si T HEX` is one: the station S issues a command for T, another station or the address of
+/// the master; another T has the cause `missing`. Stations have the keys `tns` and `window`. A `station` line or a `set m.node` line
+/// by which the master would have the address of a station has the cause `value`.
+///
+/// For a rehearsal the forms that only half mode has are none of the forms, and a command of end a may not stand there, whatever else
+/// is wrong with it; what was read is in full mode and has no command of end a.
 pub fn read_profile(alloc: Global, text: &[u8], profile: Profile) -> Result<Script, ScriptFault>
     ensures exact { MatchResult result (λ script. script_for profile text.now ≡ Ok script) (λ fault. IsRefused fault (script_for profile text.now)) }
-    ensures playable { IfOk result CanBePlayed }
+    ensures playable { profile ≢ Purpose.Route → IfOk result CanBePlayed }
+    ensures routed { profile ≡ Purpose.Route → IfOk result IsRoutePlayable }
     ensures rehearsed { profile ≡ Purpose.Rehearse → IfOk result IsRehearsed }
 {
     read_lines(alloc, text, profile)
@@ -36,10 +43,9 @@ pub fn read_profile(alloc: Global, text: &[u8], profile: Profile) -> Result<Scri
 
 /// Reads all the lines of a text.
 fn read_lines(alloc: Global, text: &[u8], profile: Profile) -> Result<Script, ScriptFault>
-    ensures { MatchResult result (λ script. lines_for profile fresh [] 1 (lines_from 0 (parts text.now)) ≡ Ok script)
-        (λ fault. IsRefused fault (lines_for profile fresh [] 1 (lines_from 0 (parts text.now)))) }
+    ensures { MatchResult result (λ script. text_for profile text.now ≡ Ok script) (λ fault. IsRefused fault (text_for profile text.now)) }
 {
-    let mut reader = Reader::new(alloc);
+    let mut reader = Reader::for_profile(alloc, profile);
     let mut events = Events::new(alloc);
     let mut rest = text;
     let mut number = 1u32;

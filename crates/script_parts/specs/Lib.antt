@@ -1,3 +1,4 @@
 pub mod HalfPlayable
 pub mod Playable
 pub mod Plans
+pub mod RoutePlayable

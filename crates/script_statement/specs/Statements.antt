@@ -323,6 +323,16 @@ station_event station letter operand =
     if letter == 107 then station_take station (number_of operand)
     else way_event (ToMaster station) letter operand
 
+-- a command of a station to the end of another number
+abbrev pub issue_to : ℕ → Option ℕ → Option (List ℕ) → Option HalfEvent
+issue_to station (Some to) (Some bytes) = Some (half.StationIssue station to (payload_of bytes))
+issue_to station to bytes = None
+
+-- a station with the number of another end and an operand: the letter `i`
+abbrev pub from_station : Option EndName → ℕ → Option ℕ → List ℕ → Option HalfEvent
+from_station (Some (Station station)) letter to operand = if letter == 105 then issue_to station to (hex_of operand) else None
+from_station end letter to operand = None
+
 abbrev pub half_line : Option HalfEvent → Option Statement
 half_line event = option_map statement.Half event
 
@@ -399,6 +409,15 @@ statement_of (verb ∷ key ∷ value ∷ []) = three_words verb key value
 statement_of (word ∷ station ∷ src ∷ operand ∷ []) = source_operand_event word station src operand
 statement_of (verb ∷ end ∷ first ∷ second ∷ third ∷ []) = five_words verb end first second third
 statement_of other = None
+
+abbrev pub issue_by : List ℕ → List ℕ → List ℕ → Option HalfEvent
+issue_by [] to operand = None
+issue_by (byte ∷ rest) to operand = from_station (end_in (byte ∷ rest)) (letter_in (byte ∷ rest)) (number_of to) operand
+
+-- what the words of a line say by the one form that isn't among them: a station issues a command
+unfoldable pub station_issue : List (List ℕ) → Option HalfEvent
+station_issue (word ∷ to ∷ operand ∷ []) = issue_by word to operand
+station_issue other = None
 
 -- ---- memory
 

@@ -31,6 +31,12 @@ pub enum HalfEvent {
         src: Option<u8>,
         payload: Option<Bytes>,
     },
+    /// A station issues a command, which the master carries to the station of the number `to`, or takes itself.
+    StationIssue {
+        station: u32,
+        to: u32,
+        payload: Option<Bytes>,
+    },
     /// The master gives up to `n` bytes, which go into the queue of each station.
     MasterTake {
         n: Option<u32>,

@@ -12,6 +12,9 @@
 //! | three | `set mode full`, `set mode half`, `set check VALUE`, `set E.NAME VALUE`; `mi S HEX`, `md S n`, `mx S n`, `mc S HH`, `mn S HEX`; `Ei SRC HEX` of a and b |
 //! | four | `mi S SRC HEX` |
 //! | five | `file E NUMBER TYPE COUNT`; `word E NUMBER INDEX HHHH` |
+//!
+//! `Si T HEX`, by which the station S issues a command to the station T or to the master, isn't among them: it is a form alone where
+//! the master carries messages between the stations.
 #![tactic(auto)]
 
 mod event_line;
@@ -20,6 +23,7 @@ mod items;
 mod set_line;
 mod setup_statement;
 mod statement;
+mod station_command;
 mod who;
 mod words;
 
@@ -28,5 +32,6 @@ pub use half_event::{HalfEvent, Way};
 pub use items::{Bytes, Items};
 pub use setup_statement::SetupStatement;
 pub use statement::{EVENTS, EndLetter, EndName, Statement, Verb, file_number, statement_of};
+pub use station_command::station_issue;
 pub use who::Who;
 pub use words::{FirstWords, first_words, hex_of, number_of, register_of};

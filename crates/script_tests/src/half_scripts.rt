@@ -94,7 +94,7 @@ const FLAWED: [(&str, u32, Flaw); 70] = [
 /// What is read of some lines: the script, or the number of the first line that is none of the forms or refused, with its
 /// fault.
 fn read(alloc: Global, text: &str) -> Result<Script, (u32, Option<StatementFault>)> {
-    let mut reader = HalfReader::new(alloc);
+    let mut reader = HalfReader::new(alloc, false);
     let mut events: Events = Items::new(alloc);
     let mut number = 1u32;
     for line in text.lines() {

@@ -1,35 +1,37 @@
 //! The table of keys, and settings that are given.
 use end_settings::{First, KEYS, Key, Role, Setting, Settings, Values};
 
-/// Which kinds of end have each key: a full-duplex end, a master, a station.
-const ROLES: [(&str, bool, bool, bool); 13] = [
-    ("ack_ticks", true, true, false),
-    ("embed", true, false, false),
-    ("max_enqs", true, false, false),
-    ("max_naks", true, false, false),
-    ("max_resends", false, true, false),
-    ("max_sends", false, false, true),
-    ("node", true, true, false),
-    ("per_source", true, true, false),
-    ("poll_ticks", false, true, false),
-    ("reply_ticks", true, true, false),
-    ("room", true, true, true),
-    ("tns", true, true, false),
-    ("window", true, true, false),
+/// Which kinds of end have each key: a full-duplex end, a master, a station, a station whose master carries messages.
+const ROLES: [(&str, [bool; 4]); 13] = [
+    ("ack_ticks", [true, true, false, false]),
+    ("embed", [true, false, false, false]),
+    ("max_enqs", [true, false, false, false]),
+    ("max_naks", [true, false, false, false]),
+    ("max_resends", [false, true, false, false]),
+    ("max_sends", [false, false, true, true]),
+    ("node", [true, true, false, false]),
+    ("per_source", [true, true, false, false]),
+    ("poll_ticks", [false, true, false, false]),
+    ("reply_ticks", [true, true, false, false]),
+    ("room", [true, true, true, true]),
+    ("tns", [true, true, false, true]),
+    ("window", [true, true, false, true]),
 ];
 
 #[test]
 fn each_kind_of_end_has_its_keys(rt: HostRuntime) {
-    for (name, duplex, master, station) in ROLES {
+    for (name, has) in ROLES {
         let Some(key) = Key::named(name.as_bytes()) else {
             panic!(&rt; "no key");
         };
-        assert!(rt;
-            key.name() == name && key.roles().has(Role::Duplex) == duplex,
-            "{name}"
-        );
-        assert!(rt; key.roles().has(Role::Master) == master, "{name}");
-        assert!(rt; key.roles().has(Role::Station) == station, "{name}");
+        assert!(rt; key.name() == name, "{name}");
+        let found = [
+            key.roles().has(Role::Duplex),
+            key.roles().has(Role::Master),
+            key.roles().has(Role::Station),
+            key.roles().has(Role::RoutedStation),
+        ];
+        assert!(rt; found == has, "{name}");
     }
     assert!(rt; KEYS.len() == ROLES.len() && Key::named(b"ack-ticks") == None);
 }

@@ -1,6 +1,5 @@
 use Rattle.std.proofs.Common.{◌≡◌, ◌==◌, length, false, Ok}
-use Rattle.line_script.specs.Lines.{text_line}
-use Rattle.line_script.specs.Profiles.{line_for}
+use Rattle.line_script.specs.Lines.{line_for, text_line}
 use Rattle.line_script.specs.ScriptText.{with_event}
 use Rattle.line_script.proofs.Reading.{one_line, refused_at_last}
 use Rattle.line_script.proofs.whole_text.read_rest.Goals as goal
