@@ -1,2 +1,3 @@
+pub mod Issues
 pub mod Once
 pub mod Run

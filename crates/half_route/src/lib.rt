@@ -5,6 +5,7 @@
 //! (manual topic: half-duplex protocol, slave-to-slave messages).
 #![tactic(auto)]
 
+pub mod laws;
 mod reading;
 mod running;
 
