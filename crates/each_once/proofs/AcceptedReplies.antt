@@ -82,7 +82,7 @@ found first other station initiator sent heard commands reply s told i within se
 -- ---- the reply answers the command that is out
 
 -- commands of one TNS are one
-tns-place : (tns : ℕ) (issued : List Issued) (p q : ℕ) (c d : Issued) → AreNumbered tns 0 issued → length issued ≤ 65535 → slice_get issued p ≡ Some c → slice_get issued q ≡ Some d → tns_of c.body ≡ tns_of d.body → p ≡ q
+pub tns-place : (tns : ℕ) (issued : List Issued) (p q : ℕ) (c d : Issued) → AreNumbered tns 0 issued → length issued ≤ 65535 → slice_get issued p ≡ Some c → slice_get issued q ≡ Some d → tns_of c.body ≡ tns_of d.body → p ≡ q
 tns-place tns issued p q c d numbered few is-p is-q same =
     let number-p = numbered-at tns 0 issued p c numbered is-p in
     let number-q = numbered-at tns 0 issued q d numbered is-q in

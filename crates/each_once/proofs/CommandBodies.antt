@@ -11,7 +11,7 @@ use Rattle.df1_base.specs.declared.host.Fate.TheVariants as fate
 use Rattle.pccc_envelope.specs.Envelope.{is_reply}
 use Rattle.df1_node.specs.declared.handed.Handed.{Handed}
 use Rattle.df1_node.specs.declared.handed.Handed.TheVariants as handed
-use Rattle.df1_node.specs.Initiator.{Issued, Standing, Waiting, Out, Answered, Undelivered, InitiatorState, is_out, is_waiting, is_reply_to, restated, answered_place, after_reply, is_out_at, after_hand_out, count_out, is_due, next_place, next_command, all_ticked}
+use Rattle.df1_node.specs.Initiator.{Issued, Standing, Waiting, Out, Answered, Undelivered, InitiatorState, is_out, is_waiting, is_reply_to, restated, answered_place, after_reply, is_out_at, after_hand_out, count_out, is_due, next_place, next_command, all_ticked, all_cleared}
 use Rattle.df1_node.specs.Node.{NodeState, after_accept, after_next, after_told, after_tick, initiator_after}
 use Rattle.df1_node.specs.HostLaws.{command-found}
 
@@ -145,6 +145,10 @@ bodies-told s (handed.Command p) = bodies-given_up (is_out_at s.issued p) s.issu
 
 pub bodies-tick : (s : InitiatorState) → map (λ c. c.body) (all_ticked s.issued) ≡ map (λ c. c.body) s.issued
 bodies-tick s = bodies-ticked s.issued
+
+pub bodies-clear : (cs : List Issued) → map (λ c. c.body) (all_cleared cs) ≡ map (λ c. c.body) cs
+bodies-clear [] = refl
+bodies-clear (c ∷ cs) = ap (λ bs. c.body ∷ bs) (bodies-clear cs)
 
 pub bodies-hand_out : (s : InitiatorState) → map (λ c. c.body) (after_hand_out s).issued ≡ map (λ c. c.body) s.issued
 bodies-hand_out s = bodies-at s.issued (next_place s) (Out s.reply_ticks)

@@ -1,5 +1,5 @@
 -- The order in which bodies are handed out: places in a list, those of each source from the front on.
-use Rattle.std.proofs.Common.{◌≡◌, ◌∙◌, ◌⊎◌, ℕ, zero, suc, ◌<◌, Bool, true, false, not, ◌||◌, eqb, List, [], ◌∷◌, ◌++◌, length, map, Some, refl, sym, ap, inl, inr, arith}
+use Rattle.std.proofs.Common.{◌≡◌, ◌∙◌, ◌⊎◌, ℕ, zero, suc, ◌<◌, Bool, true, false, ◌||◌, eqb, List, [], ◌∷◌, ◌++◌, length, map, Some, refl, sym, ap, inl, inr, arith}
 use Rattle.std.specs.Prelude.{slice_get, slice_index, slice_index_or}
 use Rattle.std.proofs.lemmas.Bool.{cases_order, eq-eqb, eqb-true, false_from_ne_true}
 use Rattle.std.proofs.lemmas.List.{get_or_append_left}
@@ -34,12 +34,12 @@ abbrev pub is_among : ℕ → List ℕ → Bool
 is_among place [] = false
 is_among place (p ∷ ps) = eqb place p || is_among place ps
 
--- these bodies were handed out in some order; of the others each waits, behind those of its source
+-- these bodies were handed out in some order, and wait no more; what waits stands behind those of its source
 pub record AreInTurn (bodies : List (List ℕ)) (waits : List Bool) (handed : List (List ℕ)) : Type 0 where
   pub order : List ℕ
   pub are_at : AreAt bodies order handed
   pub rise : RiseBySource bodies order
-  pub waiting : (place : ℕ) (w : Bool) → slice_get waits place ≡ Some w → w ≡ not (is_among place order)
+  pub waiting : (place : ℕ) (w : Bool) → slice_get waits place ≡ Some w → is_among place order ≡ true → w ≡ false
   pub behind : (p q : ℕ) → is_among p order ≡ true → slice_get waits q ≡ Some true → IsEarlier bodies p q
 
 pub none-in-turn : AreInTurn [] [] []
@@ -128,9 +128,9 @@ turn-issue bodies waits handed body same h = record {
   order = h.order;
   are_at = at-more bodies (body ∷ []) h.order handed h.are_at;
   rise = rise-more bodies (body ∷ []) h.order handed h.are_at h.rise;
-  waiting = λ place w is. elim (push-cases waits true place w is) [
-    | inl old ↦ h.waiting place w old
-    | inr new ↦ new.1 ∙ ap not (sym (false_from_ne_true (is_among place h.order) (λ yes. let inside = at-inside bodies h.order handed place h.are_at yes in omega (arith, inside, new.0, same))))
+  waiting = λ place w is among. elim (push-cases waits true place w is) [
+    | inl old ↦ h.waiting place w old among
+    | inr new ↦ absurd (let inside = at-inside bodies h.order handed place h.are_at among in omega (arith, inside, new.0, same))
   ];
   behind = λ p q is at. let inside = at-inside bodies h.order handed p h.are_at is in elim (push-cases waits true q true at) [
     | inl old ↦ let inside_q = slice_get_within waits q true old in earlier-more bodies (body ∷ []) p q inside (omega (arith, inside_q, same)) (h.behind p q is old)
@@ -168,10 +168,10 @@ turn-hand_out bodies waits later handed q body at waits-q first but h = record {
   order = h.order ++ q ∷ [];
   are_at = at-push bodies h.order handed q body at h.are_at;
   rise = rise-push bodies h.order q (λ p is. h.behind p q is waits-q) h.rise;
-  waiting = λ place w is. elim (but place w is) [
-    | inl this ↦ this.1 ∙ ap not (sym (among-push place h.order q ∙ or-right (is_among place h.order) (eqb place q) (eq-eqb place q this.0)))
+  waiting = λ place w is among. elim (but place w is) [
+    | inl this ↦ this.1
     | inr other ↦ h.waiting place w other.1
-        ∙ ap not (sym (among-push place h.order q ∙ or-false (is_among place h.order) (eqb place q) (false_from_ne_true (eqb place q) (λ yes. other.0 (eqb-true place q yes)))))
+        (sym (among-push place h.order q ∙ or-false (is_among place h.order) (eqb place q) (false_from_ne_true (eqb place q) (λ yes. other.0 (eqb-true place q yes)))) ∙ among)
   ];
   behind = λ p r is at-r. elim (but r true at-r) [
     | inl this ↦ absurd (let no : true ≡ false = this.1 in cc)
@@ -190,6 +190,16 @@ turn-hand_out bodies waits later handed q body at waits-q first but h = record {
         | inr above ↦ absurd (first r (omega (arith, above, same)) waits-r (ap (source_at bodies) (sym same) ∙ source))
       ]
     ]
+
+-- nothing waits any more
+pub turn-clear : (bodies : List (List ℕ)) (waits later : List Bool) (handed : List (List ℕ)) → ((place : ℕ) (w : Bool) → slice_get later place ≡ Some w → w ≡ false) → AreInTurn bodies waits handed → AreInTurn bodies later handed
+turn-clear bodies waits later handed none h = record {
+  order = h.order;
+  are_at = h.are_at;
+  rise = h.rise;
+  waiting = λ place w is among. none place w is;
+  behind = λ p q is at. absurd (let no : true ≡ false = none q true at in cc);
+}
 
 -- ---- some of what was handed out
 

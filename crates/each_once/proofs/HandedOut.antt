@@ -1,5 +1,5 @@
 -- What a node has handed out and heard, as far as it matters to each command's being executed once.
-use Rattle.std.proofs.Common.{◌≡◌, ◌∙◌, ℕ, zero, suc, ◌+◌, ◌<◌, Bool, true, false, List, [], ◌∷◌, ◌++◌, map, not, Some, option_map, sym, ap, subst, arith, add-zero}
+use Rattle.std.proofs.Common.{◌≡◌, ◌∙◌, ℕ, zero, suc, ◌+◌, ◌<◌, Bool, true, false, List, [], ◌∷◌, ◌++◌, map, Some, option_map, sym, ap, subst, arith, add-zero}
 use Rattle.std.specs.Prelude.{◌%◌, slice_get}
 use Rattle.std.specs.List.{filter, fold}
 use Rattle.std.proofs.lemmas.Option.{same_Some, slice_get-map}
@@ -19,7 +19,7 @@ bodies_of issued = map (λ c. c.body) issued
 abbrev pub waits_of : List Issued → List Bool
 waits_of issued = map (λ c. is_waiting c.standing) issued
 
--- these commands were handed out, those of each source in the order in which they were issued; the others wait
+-- these commands were handed out, those of each source in the order in which they were issued; what waits wasn't
 abbrev pub AreHanded : List Issued → List (List ℕ) → Type 0
 AreHanded issued handed = AreInTurn (bodies_of issued) (waits_of issued) handed
 
@@ -60,8 +60,8 @@ pub handed-at : (issued : List Issued) (xs : List (List ℕ)) (k : ℕ) (x : Lis
 handed-at issued xs k x h e =
     let at = place-of (bodies_of issued) h.order xs k x h.are_at e in
     let c = from-map (λ (d : Issued). d.body) issued at.0 x at.1 in
-    let waits = h.waiting at.0 (is_waiting c.0.standing) (slice_get-map (λ (d : Issued). is_waiting d.standing) issued at.0 ∙ ap (option_map (λ (d : Issued). is_waiting d.standing)) c.1) in
-    (at.0, c.0, c.1, c.2, waits ∙ ap not at.2)
+    let waits = h.waiting at.0 (is_waiting c.0.standing) (slice_get-map (λ (d : Issued). is_waiting d.standing) issued at.0 ∙ ap (option_map (λ (d : Issued). is_waiting d.standing)) c.1) at.2 in
+    (at.0, c.0, c.1, c.2, waits)
 
 pub numbered-at : (tns place : ℕ) (issued : List Issued) (k : ℕ) (c : Issued) → AreNumbered tns place issued → slice_get issued k ≡ Some c →
     (tns_of c.body ≡ (tns + (place + k)) % 65536) × (is_reply c.body ≡ false)

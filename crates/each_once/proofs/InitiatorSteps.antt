@@ -10,12 +10,12 @@ use Rattle.std.proofs.lemmas.Option.{same_Some, slice_get-map, get_or_from_slice
 use Rattle.pccc_envelope.specs.Envelope.{is_reply, tns_of}
 use Rattle.df1_node.specs.declared.handed.Handed.{Handed}
 use Rattle.df1_node.specs.declared.handed.Handed.TheVariants as last
-use Rattle.df1_node.specs.Initiator.{Issued, Standing, Waiting, Out, Answered, Undelivered, Unanswered, InitiatorState, is_waiting, is_out, is_reply_to, restated, ticked, all_ticked, next_issued, source_of, count_out_of, is_due, next_place, next_command, answered_place, is_out_at, after_issue, after_reply, after_hand_out}
+use Rattle.df1_node.specs.Initiator.{Issued, Standing, Waiting, Out, Answered, Undelivered, Unanswered, InitiatorState, is_waiting, is_out, is_reply_to, restated, ticked, all_ticked, cleared, all_cleared, next_issued, source_of, count_out_of, is_due, next_place, next_command, answered_place, is_out_at, after_issue, after_reply, after_hand_out}
 use Rattle.df1_node.specs.Node.{initiator_after}
 use Rattle.each_once.proofs.Sublists.{Has, from-map, get-seam}
-use Rattle.each_once.proofs.HandedOrder.{AreInTurn, ButOne, source_at, turn-issue, turn-hand_out}
+use Rattle.each_once.proofs.HandedOrder.{AreInTurn, ButOne, source_at, turn-clear, turn-issue, turn-hand_out}
 use Rattle.each_once.proofs.HandedOut.{bodies_of, waits_of, AreHanded, AreNumbered, IsSettledBy, AreSettledBy, Initiates, numbered-at}
-use Rattle.each_once.proofs.CommandBodies.{IsFirst, next-first, answered-some, bodies-restated, bodies-tick, bodies-hand_out}
+use Rattle.each_once.proofs.CommandBodies.{IsFirst, next-first, answered-some, bodies-restated, bodies-tick, bodies-clear, bodies-hand_out}
 
 -- ---- a command more
 
@@ -175,6 +175,39 @@ initiates-tick {s} {handed} {heard} h =
       in_order = handed-same s.issued _ handed (bodies-tick s) (all-ticked-wait s.issued) h.in_order;
       numbered = numbered-bodies s.tns 0 s.issued _ (bodies-tick s) h.numbered;
       settled = settled-ticked heard s.issued h.settled;
+    }
+
+-- ---- what waits is given up
+
+cleared-waits : (standing : Standing) → is_waiting (cleared standing) ≡ false
+cleared-waits Waiting = refl
+cleared-waits (Out left) = refl
+cleared-waits (Answered reply) = refl
+cleared-waits Undelivered = refl
+cleared-waits Unanswered = refl
+
+cleared-settled : (heard : List (List ℕ)) (body : List ℕ) (standing : Standing) → IsSettledBy heard body standing → IsSettledBy heard body (cleared standing)
+cleared-settled heard body Waiting is = tt
+cleared-settled heard body (Out left) is = tt
+cleared-settled heard body (Answered reply) is = is
+cleared-settled heard body Undelivered is = tt
+cleared-settled heard body Unanswered is = tt
+
+none-waits : (cs : List Issued) (place : ℕ) (w : Bool) → slice_get (waits_of (all_cleared cs)) place ≡ Some w → w ≡ false
+none-waits [] place w is = absurd cc
+none-waits (c ∷ cs) zero w is = sym (same_Some _ w is) ∙ cleared-waits c.standing
+none-waits (c ∷ cs) (suc place) w is = none-waits cs place w is
+
+settled-cleared : (heard : List (List ℕ)) (cs : List Issued) → AreSettledBy heard cs → AreSettledBy heard (all_cleared cs)
+settled-cleared heard [] s = tt
+settled-cleared heard (c ∷ cs) s = (cleared-settled heard c.body c.standing s.0, settled-cleared heard cs s.1)
+
+pub initiates-clear : {s : InitiatorState} {handed heard : List (List ℕ)} → Initiates s handed heard → Initiates (record s { issued = all_cleared s.issued }) handed heard
+initiates-clear {s} {handed} {heard} h =
+    record {
+      in_order = subst (λ (bs : List (List ℕ)). AreInTurn bs (waits_of (all_cleared s.issued)) handed) (sym (bodies-clear s.issued)) (turn-clear (bodies_of s.issued) (waits_of s.issued) (waits_of (all_cleared s.issued)) handed (none-waits s.issued) h.in_order);
+      numbered = numbered-bodies s.tns 0 s.issued _ (bodies-clear s.issued) h.numbered;
+      settled = settled-cleared heard s.issued h.settled;
     }
 
 -- ---- the next command

@@ -1,5 +1,5 @@
 -- What the lines of an end and its host tell of the bytes that an end sent, and of the commands that one executed.
-use Rattle.std.proofs.Common.{◌≡◌, ◌∙◌, ℕ, ◌+◌, Bool, true, false, List, [], ◌∷◌, ◌++◌, Option, Some, None, refl, sym, ap, append-nil, append_assoc}
+use Rattle.std.proofs.Common.{◌≡◌, ◌∙◌, ℕ, ◌+◌, Bool, true, false, List, [], ◌∷◌, ◌++◌, Option, Some, None, refl, ap, append-nil}
 use Rattle.std.specs.Prelude.{if◌then◌else◌}
 use Rattle.std.specs.Option.{option_map_or}
 use Rattle.std.proofs.lemmas.List.Concat.{flat_map-append}
@@ -17,7 +17,6 @@ use Rattle.df1_node.specs.Initiator.{answered_place}
 use Rattle.df1_node.specs.Node.{NodeState}
 use Rattle.script_statement.specs.declared.who.Who.{Who}
 use Rattle.replay_report.specs.declared.record.Line.{Line}
-use Rattle.replay_report.specs.declared.record.Line.TheVariants as line
 use Rattle.replay_report.specs.Report.{sent_lines}
 use Rattle.report_lines.specs.NodeLines.{did_lines, act_lines, news_lines, step_lines, turn_lines, gone_lines}
 use Rattle.report_lines.specs.SentBytes.{sent_at, sent_by}

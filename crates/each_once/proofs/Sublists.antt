@@ -154,6 +154,10 @@ contains-at xs k x is = (k, slice_get_within xs k x is, get_or_from_slice_get xs
 pub all-at : {A : Type 0} (P : A → Type 0) (xs : List A) (k : ℕ) (x : A) → All P xs → slice_get xs k ≡ Some x → P x
 all-at P xs k x all is = subst P (get_or_from_slice_get xs k x x is) (all k x (slice_get_within xs k x is))
 
+-- what all have shows what all have
+pub all-as : {A : Type 0} (P Q : A → Type 0) (xs : List A) → ((x : A) → P x → Q x) → All P xs → All Q xs
+all-as P Q xs each all k d inside = each _ (all k d inside)
+
 pub filter-keeps : {A : Type 0} (p : A → Bool) (xs : List A) (x : A) → p x ≡ true → filter p (xs ++ x ∷ []) ≡ filter p xs ++ x ∷ []
 filter-keeps p xs x passes = filter-append p xs (x ∷ []) ∙ rw passes refl
 

@@ -167,7 +167,7 @@ outcomes-told who itself fate.Undelivered node lines told = outcomes-handed who 
 
 -- ---- a command is handed out
 
-outcomes-out : (who : Who) (issued : List Issued) (left : ℕ) (place : Option ℕ) (lines : List Line) → ((p : ℕ) → place ≡ Some p → (c : Issued) × (slice_get issued p ≡ Some c) × (is_waiting c.standing ≡ true)) → AreOutcomesTold who issued lines
+pub outcomes-out : (who : Who) (issued : List Issued) (left : ℕ) (place : Option ℕ) (lines : List Line) → ((p : ℕ) → place ≡ Some p → (c : Issued) × (slice_get issued p ≡ Some c) × (is_waiting c.standing ≡ true)) → AreOutcomesTold who issued lines
     → AreOutcomesTold who (option_map_or (λ (p : ℕ). restated issued p (Out left)) place issued) lines
 outcomes-out who issued left None lines waits told = told
 outcomes-out who issued left (Some p) lines waits told =

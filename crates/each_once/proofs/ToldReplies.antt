@@ -1,6 +1,6 @@
 -- From commands with how each stands to what the lines of a report tell of them.
 use Rattle.std.proofs.Common.{◌≡◌, ◌∙◌, ℕ, zero, suc, ◌≤◌, Bool, true, false, List, [], ◌∷◌, length, map, Option, Some, None, eqb, refl, ap, sym, subst, arith}
-use Rattle.std.specs.Prelude.{if◌then◌else◌}
+use Rattle.std.specs.Prelude.{Contains, if◌then◌else◌}
 use Rattle.std.specs.Option.{option_map}
 use Rattle.std.specs.List.{cons_option}
 use Rattle.std.proofs.lemmas.Bool.Decides.{nat_tests}
@@ -17,7 +17,7 @@ use Rattle.each_once.proofs.Sublists.{Has, contains-at}
 
 -- ---- replies, over the bodies alone
 
-body-at : (issued : List Issued) (number : ℕ) (c : Issued) → command_at issued number ≡ Some c → command_at (map (λ (x : Issued). x.body) issued) number ≡ Some c.body
+pub body-at : (issued : List Issued) (number : ℕ) (c : Issued) → command_at issued number ≡ Some c → command_at (map (λ (x : Issued). x.body) issued) number ≡ Some c.body
 body-at issued zero c is = absurd cc
 body-at issued (suc place) c is = slice_get-map (λ (x : Issued). x.body) issued place ∙ ap (option_map (λ (x : Issued). x.body)) is
 
@@ -89,10 +89,17 @@ up-told (Answered reply) up = absurd cc
 up-told Undelivered up = (zero, refl)
 up-told Unanswered up = (zero, refl)
 
+-- a command that was given up is told as given up
+pub number-told : (who : Who) (issued : List Issued) (lines : List Line) (number : ℕ) (c : Issued) → AreOutcomesTold who issued lines → command_at issued number ≡ Some c → is_given_up c.standing ≡ true → Contains (given_up_in who lines) number
+number-told who issued lines number c told is up =
+    let outcome : outcomes_in who number lines ≡ told_of c.standing = told number ∙ ap told_of_command is in
+    let has = given-up-told who number lines c.standing up (subst (λ (os : List Standing). Has os c.standing) (sym outcome) (up-told c.standing up)) in
+    contains-at (given_up_in who lines) has.0 number has.1
+
 pub astray-told : (who : Who) (issued : List Issued) (lines : List Line) (answered : List (List ℕ × List ℕ)) (reply : List ℕ) → AreOutcomesTold who issued lines → IsOfLost issued answered reply
     → IsAstray (map (λ c. c.body) issued) answered (given_up_in who lines) reply
-astray-told who issued lines answered reply told a =
-    let c = a.replies.command in
-    let outcome : outcomes_in who a.number lines ≡ told_of c.standing = told a.number ∙ ap told_of_command a.replies.is_command in
-    let has = given-up-told who a.number lines c.standing a.given_up (subst (λ (os : List Standing). Has os c.standing) (sym outcome) (up-told c.standing a.given_up)) in
-    record { number = a.number; replies = reply-to issued answered a.number reply a.replies; is_given_up = contains-at (given_up_in who lines) has.0 a.number has.1 }
+astray-told who issued lines answered reply told a = record {
+  number = a.number;
+  replies = reply-to issued answered a.number reply a.replies;
+  is_given_up = number-told who issued lines a.number a.replies.command told a.replies.is_command a.given_up;
+}

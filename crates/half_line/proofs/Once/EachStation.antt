@@ -31,7 +31,7 @@ use Rattle.each_once.proofs.IssuingNode.{issues-start}
 use Rattle.each_once.proofs.KeptCommands.{IsReplyOf, IsOfLost}
 use Rattle.each_once.proofs.OneDirection.{way-start, way-within}
 use Rattle.each_once.proofs.RisingPlaces.{some-in-turn, are-apart}
-use Rattle.each_once.proofs.Sublists.{from-map, same-some}
+use Rattle.each_once.proofs.Sublists.{from-map, same-some, all-as}
 use Rattle.each_once.proofs.ToldLines.{told-start}
 use Rattle.each_once.proofs.ToldReplies.{reply-to, one-outcome, astray-told}
 use Rattle.half_line.specs.Behind.{plain_node}
@@ -113,9 +113,6 @@ holds-start script playable =
 
 -- ---- the end, for one station
 
-all-as : {X : Type 0} (P Q : X → Type 0) (xs : List X) → ((x : X) → P x → Q x) → All P xs → All Q xs
-all-as P Q xs each all k d inside = each _ (all k d inside)
-
 once-of : (setting : Setting) (count : ℕ) (s : HalfState NodeState) (lines : List Line) (p : ℕ) (side : LineStationState) → count ≤ 65535 → AreOutcomesTold M (issued_of s.master) lines → (h : Holds setting count s lines) → slice_get s.stations p ≡ Some side
     → Once M (S side.number) (map (λ c. c.body) (issued_of s.master)) (setting.first p) (lines_of side.number lines)
 once-of setting count s lines p side few told h at =
@@ -164,7 +161,7 @@ at-station script playable count s lines p plan few bodies told h at =
 
 -- ---- the words
 
-words-same : (f : LineStationState → List WordOf) (g : EndPlan → List WordOf) (stations : List LineStationState) (plans : List EndPlan) → map (λ (x : LineStationState). x.number) stations ≡ map (λ (x : EndPlan). x.node) plans
+pub words-same : (f : LineStationState → List WordOf) (g : EndPlan → List WordOf) (stations : List LineStationState) (plans : List EndPlan) → map (λ (x : LineStationState). x.number) stations ≡ map (λ (x : EndPlan). x.node) plans
     → ((p : ℕ) (side : LineStationState) (plan : EndPlan) → slice_get stations p ≡ Some side → slice_get plans p ≡ Some plan → f side ≡ g plan) → flat_map f stations ≡ flat_map g plans
 words-same f g [] [] are each = refl
 words-same f g [] (plan ∷ plans) are each = absurd cc

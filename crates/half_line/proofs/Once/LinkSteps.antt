@@ -9,7 +9,7 @@ use Rattle.replay_report.specs.declared.record.Line.{Line}
 use Rattle.lane_cells.specs.Cells.{LaneCell, altered, bare}
 use Rattle.each_once.specs.OfStation.{is_from}
 use Rattle.each_once.proofs.OneDirection.{Way, way-bare}
-use Rattle.half_line.specs.Behind.{plain_node}
+use Rattle.half_line.specs.Behind.{Behind, plain_node}
 use Rattle.half_line.specs.declared.way.Way.{Way as LineStation}
 use Rattle.half_line.specs.declared.way.Way.TheVariants.{ToStation, ToMaster}
 use Rattle.half_line.specs.Acts.{LineStationState, LinkState, link_state, LinkDeed, LaneDeed, StationGives, OnLane, Deliver, Lose, Alter, Foreign, after_take, arriving, lane_of, moved, after_arrival, deceptions_at, after_link_deed, link_lines}
@@ -63,7 +63,7 @@ lane-from : (setting : Setting) (count : ℕ) (stations : List LineStationState)
     → Way h.this.sent (marks cells) (kept_at m.stations place) (filter (is_from side.number) h.heard) → LinkHolds setting count stations place (link_state m (leaving side cells) e) lines
 lane-from setting count stations place m side cells d e lines h back = with-side setting count stations place m side (leaving side cells) d e lines h refl (side-lanes side.to_it cells h.this h.this.way back)
 
-plus-none : (n m : ℕ) → n + m ≡ 0 → m ≡ 0
+pub plus-none : (n m : ℕ) → n + m ≡ 0 → m ≡ 0
 plus-none n m is = omega (arith, is)
 
 -- the head of a lane arrives
@@ -106,11 +106,11 @@ pub link-deed : (setting : Setting) (count : ℕ) (stations : List LineStationSt
 link-deed setting count stations place StationGives s lines few none h = rw (append-nil lines) (link-gives setting count stations place s lines h)
 link-deed setting count stations place (OnLane way deed) s lines few none h = lane-deed setting count stations place way deed s lines few none h
 
--- a count never falls
-arrived-none : (way : LineStation) (s : LinkState NodeState) (o : Option LaneCell) → (after_arrival plain_node way s o).deceived ≡ 0 → s.deceived ≡ 0
-arrived-none way s None none = none
-arrived-none way s (Some cell) none = omega (arith, none)
+-- a count never falls, whatever stands behind the master
+arrived-none : {H : Type 0} (h : Behind H) (way : LineStation) (s : LinkState H) (o : Option LaneCell) → (after_arrival h way s o).deceived ≡ 0 → s.deceived ≡ 0
+arrived-none h way s None none = none
+arrived-none h way s (Some cell) none = omega (arith, none)
 
-pub earlier : (deed : LinkDeed) (s : LinkState NodeState) → (after_link_deed plain_node s deed).deceived ≡ 0 → s.deceived ≡ 0
-earlier StationGives s none = none
-earlier (OnLane way deed) s none = arrived-none way (moved way s deed) (arriving (lane_of way s.side) deed) none
+pub earlier : {H : Type 0} (h : Behind H) (deed : LinkDeed) (s : LinkState H) → (after_link_deed h s deed).deceived ≡ 0 → s.deceived ≡ 0
+earlier h StationGives s none = none
+earlier h (OnLane way deed) s none = arrived-none h way (moved way s deed) (arriving (lane_of way s.side) deed) none

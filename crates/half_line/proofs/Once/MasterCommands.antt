@@ -1,4 +1,4 @@
--- In every run the master's commands are those that the script issues, whatever host stands before its node that keeps them.
+-- In every run the master's commands are those that the script issues; so at each event, over any host that keeps its node's commands.
 use Rattle.std.proofs.Common.{◌≡◌, ◌∙◌, ℕ, ◌+◌, zero, suc, List, [], ◌∷◌, ◌++◌, map, length, Option, Some, None, refl, ap, sym, subst, append-nil, append_assoc, length-append, arith}
 use Rattle.std.specs.Prelude.{replicate, slice_get, unwrap_or}
 use Rattle.std.proofs.lemmas.List.{length-map}

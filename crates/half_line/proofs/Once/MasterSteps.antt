@@ -118,7 +118,7 @@ begins first e commands heard (Some body) is h =
     (λ listed. (next, one, refl))
     (λ not. (issues-told fate.Undelivered next, continues-both (issued_of e) node.initiator.issued (after_told node fate.Undelivered).initiator.issued one (continues-told node fate.Undelivered), refl))
 
-joined-numbers : (cells : List LaneCell) (stations : List LineStationState) → map (λ (side : LineStationState). side.number) (map (joined cells) stations) ≡ map (λ (side : LineStationState). side.number) stations
+pub joined-numbers : (cells : List LaneCell) (stations : List LineStationState) → map (λ (side : LineStationState). side.number) (map (joined cells) stations) ≡ map (λ (side : LineStationState). side.number) stations
 joined-numbers cells [] = refl
 joined-numbers cells (side ∷ stations) = ap (λ ns. side.number ∷ ns) (joined-numbers cells stations)
 

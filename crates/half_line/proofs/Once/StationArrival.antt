@@ -38,7 +38,7 @@ use Rattle.half_line.proofs.Once.Invariant.{marks, AreTo, side-lines, Setting, L
 use Rattle.half_line.proofs.Once.MasterReplies.{MasterTold, master-mute}
 use Rattle.half_line.proofs.Once.Places.{not-equal}
 use Rattle.half_line.proofs.Once.QuietLines.{step-mute, exec-mute, IsSilentOf, lines-both, step-silent, told-of-silent}
-use Rattle.half_line.proofs.Once.StationSteps.{Accepts, PassesOver, accepts, passes, at-byte, setup-stays, lent-after}
+use Rattle.half_line.proofs.Once.StationSteps.{serving, serving-hands, Accepts, PassesOver, accepts, passes, at-byte, setup-stays, lent-after}
 
 -- ---- what an accept tells
 
@@ -119,9 +119,9 @@ arrives-accepted setting count stations place m side cell cells d lines none a h
     }
 
 arrives-passed : (setting : Setting) (count : ℕ) (stations : List LineStationState) (place : ℕ) (m : MasterState NodeState) (side : LineStationState) (cell : LaneCell) (cells : List LaneCell) (d : ℕ) (lines : List Line)
-    → PassesOver side.slave cell.byte → LinkHolds setting count stations place (link_state m (coming side (cell ∷ cells)) d) lines
+    → (h : LinkHolds setting count stations place (link_state m (coming side (cell ∷ cells)) d) lines) → PassesOver (S side.number) (serving (setting.first place) h.this.executed) side.slave cell.byte
     → LinkHolds setting count stations place (after_cell plain_node ToStation (link_state m (coming side cells) d) cell) (lines ++ cell_lines plain_node ToStation (link_state m (coming side cells) d) cell)
-arrives-passed setting count stations place m side cell cells d lines o h =
+arrives-passed setting count stations place m side cell cells d lines h o =
     let this = h.this in
     let first = setting.first place in
     let s = side.slave in
@@ -129,7 +129,7 @@ arrives-passed setting count stations place m side cell cells d lines o h =
     let step = step_at_byte node_host s cell.byte in
     let more = cell_lines plain_node ToStation (link_state m (coming side cells) d) cell in
     let silent : (station : ℕ) → IsSilentOf station more = λ station. step-silent station (S side.number) step (body_of after) o.act in
-    let keeps = o.keeps this.keeps in
+    let more_sent = o.keeps this.sent lines this.keeps.serves this.keeps.sends in
     let told = filter (is_from side.number) h.heard in
     record {
       commands = h.commands;
@@ -140,12 +140,12 @@ arrives-passed setting count stations place m side cell cells d lines o h =
       is_at = h.is_at;
       this = record {
         executed = this.executed;
-        sent = this.sent ++ keeps.more;
+        sent = this.sent ++ more_sent.more;
         own = ap (λ setup. setup.station) (setup-stays s cell.byte) ∙ this.own;
-        keeps = keeps.keeps;
+        keeps = record { serves = more_sent.holds; sends = more_sent.sends };
         to_it = this.to_it;
         way = subst (λ (k : Option Key). Way h.commands (marks cells) k this.executed) (sym o.kept) (way-leaves h.commands (option_map (λ (e : Ending). e.body) cell.ends) (marks cells) s.kept this.executed this.way);
-        back = way-more this.sent keeps.more (marks side.from_it) (kept_at m.stations place) told this.back;
+        back = way-more this.sent more_sent.more (marks side.from_it) (kept_at m.stations place) told this.back;
         told = told-of-silent side.number first (issued_of m) this.executed lines more (silent side.number) this.told;
       };
       others = λ p other at differ. side-lines more (silent other.number) (h.others p other at differ);
@@ -154,7 +154,7 @@ arrives-passed setting count stations place m side cell cells d lines o h =
 pub station-arrival : (setting : Setting) (count : ℕ) (stations : List LineStationState) (place : ℕ) (m : MasterState NodeState) (side : LineStationState) (cell : LaneCell) (cells : List LaneCell) (d : ℕ) (lines : List Line)
     → deceptions_at plain_node ToStation (link_state m (coming side cells) d) cell ≡ 0 → LinkHolds setting count stations place (link_state m (coming side (cell ∷ cells)) d) lines
     → LinkHolds setting count stations place (after_cell plain_node ToStation (link_state m (coming side cells) d) cell) (lines ++ cell_lines plain_node ToStation (link_state m (coming side cells) d) cell)
-station-arrival setting count stations place m side cell cells d lines none h = elim (at-byte side.slave cell.byte) [
+station-arrival setting count stations place m side cell cells d lines none h = elim (at-byte (S side.number) (serving (setting.first place) h.this.executed) (serving-hands (S side.number) (setting.first place) h.this.executed) side.slave cell.byte) [
   | accepts a ↦ arrives-accepted setting count stations place m side cell cells d lines none a h
-  | passes o ↦ arrives-passed setting count stations place m side cell cells d lines o h
+  | passes o ↦ arrives-passed setting count stations place m side cell cells d lines h o
 ]

@@ -1,4 +1,4 @@
--- What a byte and a take do to a station: what it executed and handed out, and that what it transmits is the reply that it handed out last.
+-- What a byte and a take do to a station: what its node keeps to, and that what it transmits is the message that it handed out last.
 use Rattle.std.proofs.Common.{◌≡◌, ◌∙◌, ℕ, Bool, true, false, List, [], ◌∷◌, ◌++◌, Option, Some, None, is_some, option_map, refl, sym, ap, subst, append-nil}
 use Rattle.std.specs.Prelude.{if◌then◌else◌}
 use Rattle.std.proofs.lemmas.Bool.{eqb-true}
@@ -16,71 +16,117 @@ use Rattle.half_mouth.specs.Giving.{Giving, is_done}
 use Rattle.pccc_envelope.specs.Envelope.{key_of}
 use Rattle.pccc_envelope.specs.Accepted.{Verdict, Repeated, Accepted, Refused, is_kept}
 use Rattle.df1_node.specs.Answer.{StationState}
-use Rattle.df1_node.specs.Node.{NodeState}
+use Rattle.df1_node.specs.Node.{NodeState, next_body, news_told, after_next, after_told, after_clear}
 use Rattle.half_slave.specs.declared.SlaveSetup.{SlaveSetup}
 use Rattle.half_slave.specs.declared.held.Held.{Held}
 use Rattle.half_slave.specs.Slave.{is_whole, station_of, SlaveState, new_slave, body_of, ends_here, after_sending, fate_at_poll, fate_at_ack, fate_at_reset, told, verdict, verdict_act, received, sent, offered, answered, polled, reset, heard_at, listened, is_own, is_answered, slave_after_heard, act_at, fate_at, slave_after_byte, step_at_byte, with_response, mouth_at_take, out_at_take, slave_after_take}
 use Rattle.half_master.proofs.LastMessage.{IsLast, Gives, take-gives, take-ends}
+use Rattle.script_statement.specs.declared.who.Who.{Who}
+use Rattle.replay_report.specs.declared.record.Line.{Line}
+use Rattle.report_lines.specs.NodeLines.{news_lines}
 use Rattle.each_once.specs.NodeHost.{node_host}
 use Rattle.each_once.proofs.AnsweringStation.{Serves, serves-start, serves-next, serves-told, serves-clear}
 
--- ---- a station that executed these commands and handed out these replies
+-- ---- a station that handed out these messages
 
 -- while it holds one, or one is being given, it is the last of them
 pub record Sends (s : SlaveState NodeState) (messages : List (List ℕ)) : Type 0 where
   pub current : is_some s.held ≡ true → IsLast messages s.sending
   pub begun : Gives s.mouth → IsLast messages s.sending
 
+pub sends-start : (setup : SlaveSetup) (node : NodeState) → Sends (new_slave setup node) []
+sends-start setup node = record { current = λ holds. absurd cc; begun = λ gives. absurd (let none = gives.1 in cc) }
+
+-- a station that executed these commands and hands out replies alone
 pub record Keeps (first : StationState) (s : SlaveState NodeState) (executed messages : List (List ℕ)) : Type 0 where
   pub serves : Serves first s.host executed messages
   pub sends : Sends s messages
 
--- it may have handed out more of them
-pub record KeepsMore (first : StationState) (s : SlaveState NodeState) (executed messages : List (List ℕ)) : Type 0 where
-  pub more : List (List ℕ)
-  pub keeps : Keeps first s executed (messages ++ more)
-
-no-more : (first : StationState) (s : SlaveState NodeState) (executed messages : List (List ℕ)) → Keeps first s executed messages → KeepsMore first s executed messages
-no-more first s executed messages k = record { more = []; keeps = subst (λ all. Keeps first s executed all) (sym (append-nil messages)) k }
-
 pub keeps-start : (first : StationState) (setup : SlaveSetup) (node : NodeState) → node.station ≡ first → node.replies ≡ [] → node.initiator.issued ≡ [] → Keeps first (new_slave setup node) [] []
 keeps-start first setup node station replies issued = record {
   serves = serves-start first node station replies issued;
-  sends = record { current = λ holds. absurd cc; begun = λ gives. absurd (let none = gives.1 in cc) };
+  sends = sends-start setup node;
+}
+
+-- ---- what a node keeps to, of what was handed out and of the lines so far: over fates, hand-outs and what is dropped
+
+pub record Hands (who : Who) (P : NodeState → List (List ℕ) → List Line → Type 0) : Type 0 where
+  pub told : (node : NodeState) (messages : List (List ℕ)) (lines : List Line) (what : Fate) → P node messages lines → P (after_told node what) messages (lines ++ news_lines who (news_told node what))
+  pub next : (node : NodeState) (messages : List (List ℕ)) (lines : List Line) (body : List ℕ) → next_body node ≡ Some body → P node messages lines → P (after_next node) (messages ++ body ∷ []) lines
+  pub clear : (node : NodeState) (messages : List (List ℕ)) (lines : List Line) → P node messages lines → P (after_clear node) messages lines
+
+-- as a station does that executed these commands and issues none
+abbrev pub serving : StationState → List (List ℕ) → NodeState → List (List ℕ) → List Line → Type 0
+serving first executed node messages lines = Serves first node executed messages
+
+pub serving-hands : (who : Who) (first : StationState) (executed : List (List ℕ)) → Hands who (serving first executed)
+serving-hands who first executed = record {
+  told = λ node messages lines what h. serves-told what h;
+  next = λ node messages lines body is h. serves-next body is h;
+  clear = λ node messages lines h. serves-clear h;
+}
+
+-- it may have handed out more
+pub record KeepsMore (P : NodeState → List (List ℕ) → List Line → Type 0) (s : SlaveState NodeState) (messages : List (List ℕ)) (lines : List Line) : Type 0 where
+  pub more : List (List ℕ)
+  pub holds : P s.host (messages ++ more) lines
+  pub sends : Sends s (messages ++ more)
+
+no-more : (P : NodeState → List (List ℕ) → List Line → Type 0) (s : SlaveState NodeState) (messages : List (List ℕ)) (lines : List Line) → P s.host messages lines → Sends s messages → KeepsMore P s messages lines
+no-more P s messages lines p sends = record {
+  more = [];
+  holds = subst (λ all. P s.host all lines) (sym (append-nil messages)) p;
+  sends = subst (λ all. Sends s all) (sym (append-nil messages)) sends;
 }
 
 -- ---- a fate, a poll and a reset
 
-told-keeps : (first : StationState) (s : SlaveState NodeState) (executed messages : List (List ℕ)) (what : Option Fate) → Keeps first s executed messages → Keeps first (told node_host s what) executed messages
-told-keeps first s executed messages None k = k
-told-keeps first s executed messages (Some what) k = record { serves = serves-told what k.serves; sends = record { current = λ holds. absurd cc; begun = k.sends.begun } }
+-- the lines of a fate
+abbrev fate_lines : Who → Option Fate → NodeState → List Line
+fate_lines who what host = news_lines who (news_of node_host what host)
 
-offered-keeps : (first : StationState) (s : SlaveState NodeState) (executed messages : List (List ℕ)) (next : Option (List ℕ)) → node_host.next_body s.host ≡ next → is_some s.held ≡ false → Keeps first s executed messages
-    → KeepsMore first (offered node_host s next) executed messages
-offered-keeps first s executed messages None is none k =
-    no-more first (offered node_host s None) executed messages (record { serves = k.serves; sends = record { current = k.sends.current; begun = λ gives. absurd (let number = gives.1 in cc) } })
-offered-keeps first s executed messages (Some body) is none k = record {
+told-keeps : (who : Who) (P : NodeState → List (List ℕ) → List Line → Type 0) → Hands who P → (s : SlaveState NodeState) (messages : List (List ℕ)) (lines : List Line) (what : Option Fate) → P s.host messages lines
+    → P (told node_host s what).host messages (lines ++ fate_lines who what s.host)
+told-keeps who P hands s messages lines None p = rw (append-nil lines) p
+told-keeps who P hands s messages lines (Some what) p = hands.told s.host messages lines what p
+
+told-sends : (s : SlaveState NodeState) (messages : List (List ℕ)) (what : Option Fate) → Sends s messages → Sends (told node_host s what) messages
+told-sends s messages None sends = sends
+told-sends s messages (Some what) sends = record { current = λ holds. absurd cc; begun = sends.begun }
+
+offered-keeps : (who : Who) (P : NodeState → List (List ℕ) → List Line → Type 0) → Hands who P → (s : SlaveState NodeState) (messages : List (List ℕ)) (lines : List Line) (next : Option (List ℕ)) → node_host.next_body s.host ≡ next
+    → P s.host messages lines → Sends s messages → KeepsMore P (offered node_host s next) messages lines
+offered-keeps who P hands s messages lines None is p sends =
+    no-more P (offered node_host s None) messages lines p (record { current = sends.current; begun = λ gives. absurd (let number = gives.1 in cc) })
+offered-keeps who P hands s messages lines (Some body) is p sends = record {
   more = body ∷ [];
-  keeps = record { serves = serves-next body is k.serves; sends = record { current = λ holds. (messages, refl); begun = λ gives. (messages, refl) } };
+  holds = hands.next s.host messages lines body is p;
+  sends = record { current = λ holds. (messages, refl); begun = λ gives. (messages, refl) };
 }
 
 -- whether a message is held decides
-answered-keeps : (first : StationState) (s : SlaveState NodeState) (executed messages : List (List ℕ)) (holds : Bool) → is_some s.held ≡ holds → Keeps first s executed messages
-    → KeepsMore first (answered node_host s s.held) executed messages
-answered-keeps first s executed messages holds is k = elim s.held as (λ h. is_some h ≡ is_some s.held → KeepsMore first (answered node_host s h) executed messages) [
-  | None ↦ λ none. offered-keeps first s executed messages (node_host.next_body s.host) refl (sym none) k
-  | Some message ↦ λ some. no-more first (sent s) executed messages (record { serves = k.serves; sends = record { current = k.sends.current; begun = λ gives. k.sends.current (sym some) } })
+answered-keeps : (who : Who) (P : NodeState → List (List ℕ) → List Line → Type 0) → Hands who P → (s : SlaveState NodeState) (messages : List (List ℕ)) (lines : List Line) → P s.host messages lines → Sends s messages
+    → KeepsMore P (answered node_host s s.held) messages lines
+answered-keeps who P hands s messages lines p sends = elim s.held as (λ h. is_some h ≡ is_some s.held → KeepsMore P (answered node_host s h) messages lines) [
+  | None ↦ λ none. offered-keeps who P hands s messages lines (node_host.next_body s.host) refl p sends
+  | Some message ↦ λ some. no-more P (sent s) messages lines p (record { current = sends.current; begun = λ gives. sends.current (sym some) })
 ] refl
 
-polled-keeps : (first : StationState) (s : SlaveState NodeState) (executed messages : List (List ℕ)) → Keeps first s executed messages → KeepsMore first (polled node_host s) executed messages
-polled-keeps first s executed messages k =
-    let after = told node_host s (fate_at_poll s.setup.max_sends s.held) in
-    answered-keeps first after executed messages (is_some after.held) refl (told-keeps first s executed messages (fate_at_poll s.setup.max_sends s.held) k)
+polled-keeps : (who : Who) (P : NodeState → List (List ℕ) → List Line → Type 0) → Hands who P → (s : SlaveState NodeState) (messages : List (List ℕ)) (lines : List Line) → P s.host messages lines → Sends s messages
+    → KeepsMore P (polled node_host s) messages (lines ++ fate_lines who (fate_at_poll s.setup.max_sends s.held) s.host)
+polled-keeps who P hands s messages lines p sends =
+    let what = fate_at_poll s.setup.max_sends s.held in
+    let after = told node_host s what in
+    answered-keeps who P hands after messages (lines ++ fate_lines who what s.host) (told-keeps who P hands s messages lines what p) (told-sends s messages what sends)
 
-reset-keeps : (first : StationState) (s : SlaveState NodeState) (executed messages : List (List ℕ)) → Keeps first s executed messages → Keeps first (reset node_host s) executed messages
-reset-keeps first s executed messages k =
-    let after = told-keeps first s executed messages (fate_at_reset s.held) k in
-    record { serves = serves-clear after.serves; sends = record { current = after.sends.current; begun = after.sends.begun } }
+reset-keeps : (who : Who) (P : NodeState → List (List ℕ) → List Line → Type 0) → Hands who P → (s : SlaveState NodeState) (messages : List (List ℕ)) (lines : List Line) → P s.host messages lines → Sends s messages
+    → KeepsMore P (reset node_host s) messages (lines ++ fate_lines who (fate_at_reset s.held) s.host)
+reset-keeps who P hands s messages lines p sends =
+    let what = fate_at_reset s.held in
+    let after = told node_host s what in
+    let told_sends = told-sends s messages what sends in
+    no-more P (reset node_host s) messages (lines ++ fate_lines who what s.host) (hands.clear after.host messages (lines ++ fate_lines who what s.host) (told-keeps who P hands s messages lines what p))
+    (record { current = told_sends.current; begun = told_sends.begun })
 
 -- ---- what is heard
 
@@ -119,14 +165,14 @@ pub record Accepts (s : SlaveState NodeState) (b : ℕ) : Type 0 where
   pub sends : {messages : List (List ℕ)} → Sends s messages → Sends (slave_after_byte node_host s b) messages
 
 -- none was
-pub record PassesOver (s : SlaveState NodeState) (b : ℕ) : Type 0 where
+pub record PassesOver (who : Who) (P : NodeState → List (List ℕ) → List Line → Type 0) (s : SlaveState NodeState) (b : ℕ) : Type 0 where
   pub act : (step_at_byte node_host s b).act ≡ act.Accept → ⊥
   pub kept : (slave_after_byte node_host s b).kept ≡ s.kept
-  pub keeps : {first : StationState} {executed messages : List (List ℕ)} → Keeps first s executed messages → KeepsMore first (slave_after_byte node_host s b) executed messages
+  pub keeps : (messages : List (List ℕ)) (lines : List Line) → P s.host messages lines → Sends s messages → KeepsMore P (slave_after_byte node_host s b) messages (lines ++ news_lines who (step_at_byte node_host s b).news)
 
-pub data AtByte (s : SlaveState NodeState) (b : ℕ) : Type 0 where
-  accepts : Accepts s b → AtByte s b
-  passes : PassesOver s b → AtByte s b
+pub data AtByte (who : Who) (P : NodeState → List (List ℕ) → List Line → Type 0) (s : SlaveState NodeState) (b : ℕ) : Type 0 where
+  accepts : Accepts s b → AtByte who P s b
+  passes : PassesOver who P s b → AtByte who P s b
 
 -- the same, of a slave whose ear took the byte, by what it heard
 record Took (s after : SlaveState NodeState) (what : Option SlaveHeard) (a : Act) : Type 0 where
@@ -139,25 +185,32 @@ record Took (s after : SlaveState NodeState) (what : Option SlaveHeard) (a : Act
   is_act : a ≡ act.Accept
   is_sends : {messages : List (List ℕ)} → Sends s messages → Sends after messages
 
-record Passed (s after : SlaveState NodeState) (a : Act) : Type 0 where
+-- over the lines of what is told of it
+record Passed (who : Who) (P : NodeState → List (List ℕ) → List Line → Type 0) (s after : SlaveState NodeState) (what : Option SlaveHeard) (a : Act) : Type 0 where
   is_act : a ≡ act.Accept → ⊥
   is_kept_now : after.kept ≡ s.kept
-  is_keeps : {first : StationState} {executed messages : List (List ℕ)} → Keeps first s executed messages → KeepsMore first after executed messages
+  is_keeps : (messages : List (List ℕ)) (lines : List Line) → P s.host messages lines → Sends s messages → KeepsMore P after messages (lines ++ fate_lines who (fate_at s what) s.host)
 
-data AtHeard (s after : SlaveState NodeState) (what : Option SlaveHeard) (a : Act) : Type 0 where
-  took : Took s after what a → AtHeard s after what a
-  passed : Passed s after a → AtHeard s after what a
+data AtHeard (who : Who) (P : NodeState → List (List ℕ) → List Line → Type 0) (s after : SlaveState NodeState) (what : Option SlaveHeard) (a : Act) : Type 0 where
+  took : Took s after what a → AtHeard who P s after what a
+  passed : Passed who P s after what a → AtHeard who P s after what a
 
-still : (s : SlaveState NodeState) (what : Option SlaveHeard) (a : Act) → (a ≡ act.Accept → ⊥) → AtHeard s s what a
-still s what a not = passed (record { is_act = not; is_kept_now = refl; is_keeps = λ {first} {executed} {messages} k. no-more first s executed messages k })
+-- no fate is told, and the host and what is sent are the same
+untold : (who : Who) (P : NodeState → List (List ℕ) → List Line → Type 0) (s after : SlaveState NodeState) (messages : List (List ℕ)) (lines : List Line) → P after.host messages lines → Sends after messages
+    → KeepsMore P after messages (lines ++ [])
+untold who P s after messages lines p sends = rw (append-nil lines) (no-more P after messages lines p sends)
 
-responds-keeps : (first : StationState) (s : SlaveState NodeState) (r : Option Resp) (executed messages : List (List ℕ)) → Keeps first s executed messages → KeepsMore first (record s { responds = r }) executed messages
-responds-keeps first s r executed messages k = no-more first (record s { responds = r }) executed messages (record { serves = k.serves; sends = record { current = k.sends.current; begun = k.sends.begun } })
+still : (who : Who) (P : NodeState → List (List ℕ) → List Line → Type 0) (s : SlaveState NodeState) (what : Option SlaveHeard) (a : Act) → fate_at s what ≡ None → (a ≡ act.Accept → ⊥) → AtHeard who P s s what a
+still who P s what a none not = passed (record { is_act = not; is_kept_now = refl; is_keeps = λ messages lines p sends. rw none (untold who P s s messages lines p sends) })
 
-judged-heard : (s : SlaveState NodeState) (stn : ℕ) (kept room : Bool) → stn ≡ s.setup.station → is_kept s.kept (key_of (body_of s)) ≡ kept
-    → let v : Verdict = if kept then Repeated else (if room then Accepted else Refused) in AtHeard s (received node_host s v) (Some (heard.Addressed stn)) (verdict_act v)
-judged-heard s stn true room own is = passed (record { is_act = λ no. cc; is_kept_now = refl; is_keeps = λ {first} {executed} {messages} k. responds-keeps first s _ executed messages k })
-judged-heard s stn false true own is = took (record {
+responds-keeps : (who : Who) (P : NodeState → List (List ℕ) → List Line → Type 0) (s : SlaveState NodeState) (r : Option Resp) (messages : List (List ℕ)) (lines : List Line) → P s.host messages lines → Sends s messages
+    → KeepsMore P (record s { responds = r }) messages (lines ++ [])
+responds-keeps who P s r messages lines p sends = untold who P s (record s { responds = r }) messages lines p (record { current = sends.current; begun = sends.begun })
+
+judged-heard : (who : Who) (P : NodeState → List (List ℕ) → List Line → Type 0) (s : SlaveState NodeState) (stn : ℕ) (kept room : Bool) → stn ≡ s.setup.station → is_kept s.kept (key_of (body_of s)) ≡ kept
+    → let v : Verdict = if kept then Repeated else (if room then Accepted else Refused) in AtHeard who P s (received node_host s v) (Some (heard.Addressed stn)) (verdict_act v)
+judged-heard who P s stn true room own is = passed (record { is_act = λ no. cc; is_kept_now = refl; is_keeps = λ messages lines p sends. responds-keeps who P s _ messages lines p sends })
+judged-heard who P s stn false true own is = took (record {
   is_whole_one = refl;
   is_own_one = own;
   is_told_none = refl;
@@ -167,40 +220,45 @@ judged-heard s stn false true own is = took (record {
   is_act = refl;
   is_sends = λ sends. record { current = sends.current; begun = sends.begun };
 })
-judged-heard s stn false false own is = passed (record { is_act = λ no. cc; is_kept_now = refl; is_keeps = λ {first} {executed} {messages} k. responds-keeps first s _ executed messages k })
+judged-heard who P s stn false false own is = passed (record { is_act = λ no. cc; is_kept_now = refl; is_keeps = λ messages lines p sends. responds-keeps who P s _ messages lines p sends })
 
-addressed-heard : (s : SlaveState NodeState) (stn : ℕ) (own : Bool) → is_own s stn ≡ own
-    → AtHeard s (if own then received node_host s (verdict node_host s) else s) (Some (heard.Addressed stn)) (if own then verdict_act (verdict node_host s) else act.Nothing)
-addressed-heard s stn true is = judged-heard s stn (is_kept s.kept (key_of (body_of s))) (node_host.room_for s.host (body_of s)) (eqb-true _ _ is) refl
-addressed-heard s stn false is = still s (Some (heard.Addressed stn)) act.Nothing (λ no. cc)
+addressed-heard : (who : Who) (P : NodeState → List (List ℕ) → List Line → Type 0) (s : SlaveState NodeState) (stn : ℕ) (own : Bool) → is_own s stn ≡ own
+    → AtHeard who P s (if own then received node_host s (verdict node_host s) else s) (Some (heard.Addressed stn)) (if own then verdict_act (verdict node_host s) else act.Nothing)
+addressed-heard who P s stn true is = judged-heard who P s stn (is_kept s.kept (key_of (body_of s))) (node_host.room_for s.host (body_of s)) (eqb-true _ _ is) refl
+addressed-heard who P s stn false is = still who P s (Some (heard.Addressed stn)) act.Nothing refl (λ no. cc)
 
-polled-heard : (s : SlaveState NodeState) (stn : ℕ) (answers : Bool) → AtHeard s (if answers then polled node_host s else s) (Some (heard.Poll stn)) act.Nothing
-polled-heard s stn true = passed (record { is_act = λ no. cc; is_kept_now = (polled-alike s).2; is_keeps = λ {first} {executed} {messages} k. polled-keeps first s executed messages k })
-polled-heard s stn false = still s (Some (heard.Poll stn)) act.Nothing (λ no. cc)
+polled-heard : (who : Who) (P : NodeState → List (List ℕ) → List Line → Type 0) → Hands who P → (s : SlaveState NodeState) (stn : ℕ) (answers : Bool) → is_answered s stn ≡ answers
+    → AtHeard who P s (if answers then polled node_host s else s) (Some (heard.Poll stn)) act.Nothing
+polled-heard who P hands s stn true is = passed (record {
+  is_act = λ no. cc;
+  is_kept_now = (polled-alike s).2;
+  is_keeps = λ messages lines p sends. rw is (polled-keeps who P hands s messages lines p sends);
+})
+polled-heard who P hands s stn false is = still who P s (Some (heard.Poll stn)) act.Nothing (rw is refl) (λ no. cc)
 
 damaged-act : (own : Bool) → (if own then act.Damaged else act.Nothing) ≡ act.Accept → ⊥
 damaged-act true is = cc
 damaged-act false is = cc
 
-at-heard : (s : SlaveState NodeState) (what : Option SlaveHeard) → AtHeard s (slave_after_heard node_host s what) what (act_at node_host s what)
-at-heard s None = still s None act.Nothing (λ no. cc)
-at-heard s (Some (heard.Addressed stn)) = addressed-heard s stn (is_own s stn) refl
-at-heard s (Some (heard.Header stn)) = still s _ act.Nothing (λ no. cc)
-at-heard s (Some (heard.Poll stn)) = polled-heard s stn (is_answered s stn)
-at-heard s (Some heard.BadPoll) = still s _ act.Nothing (λ no. cc)
-at-heard s (Some (heard.Damaged stn)) = still s _ _ (damaged-act (is_own s stn))
-at-heard s (Some heard.Ack) = passed (record {
+at-heard : (who : Who) (P : NodeState → List (List ℕ) → List Line → Type 0) → Hands who P → (s : SlaveState NodeState) (what : Option SlaveHeard) → AtHeard who P s (slave_after_heard node_host s what) what (act_at node_host s what)
+at-heard who P hands s None = still who P s None act.Nothing refl (λ no. cc)
+at-heard who P hands s (Some (heard.Addressed stn)) = addressed-heard who P s stn (is_own s stn) refl
+at-heard who P hands s (Some (heard.Header stn)) = still who P s _ act.Nothing refl (λ no. cc)
+at-heard who P hands s (Some (heard.Poll stn)) = polled-heard who P hands s stn (is_answered s stn) refl
+at-heard who P hands s (Some heard.BadPoll) = still who P s _ act.Nothing refl (λ no. cc)
+at-heard who P hands s (Some (heard.Damaged stn)) = still who P s _ _ refl (damaged-act (is_own s stn))
+at-heard who P hands s (Some heard.Ack) = passed (record {
   is_act = λ no. cc;
   is_kept_now = (told-stays s (fate_at_ack s.held)).2;
-  is_keeps = λ {first} {executed} {messages} k. no-more first (told node_host s (fate_at_ack s.held)) executed messages (told-keeps first s executed messages (fate_at_ack s.held) k);
+  is_keeps = λ messages lines p sends. no-more P (told node_host s (fate_at_ack s.held)) messages _ (told-keeps who P hands s messages lines (fate_at_ack s.held) p) (told-sends s messages (fate_at_ack s.held) sends);
 })
-at-heard s (Some heard.Reset) = passed (record {
+at-heard who P hands s (Some heard.Reset) = passed (record {
   is_act = λ no. cc;
   is_kept_now = (told-stays s (fate_at_reset s.held)).2;
-  is_keeps = λ {first} {executed} {messages} k. no-more first (reset node_host s) executed messages (reset-keeps first s executed messages k);
+  is_keeps = λ messages lines p sends. reset-keeps who P hands s messages lines p sends;
 })
-at-heard s (Some (heard.Stray b)) = still s _ act.Nothing (λ no. cc)
-at-heard s (Some (heard.StrayPair code)) = still s _ act.Nothing (λ no. cc)
+at-heard who P hands s (Some (heard.Stray b)) = still who P s _ act.Nothing refl (λ no. cc)
+at-heard who P hands s (Some (heard.StrayPair code)) = still who P s _ act.Nothing refl (λ no. cc)
 
 -- the ear, and what the slave was set up with
 alike-if : (s t u : SlaveState NodeState) (test : Bool) → (t.setup ≡ s.setup) × (t.ear ≡ s.ear) → (u.setup ≡ s.setup) × (u.ear ≡ s.ear) → ((if test then t else u).setup ≡ s.setup) × ((if test then t else u).ear ≡ s.ear)
@@ -240,11 +298,8 @@ still-held (Some message) change = refl
 listened-sends : (s : SlaveState NodeState) (b : ℕ) (messages : List (List ℕ)) → Sends s messages → Sends (listened s b) messages
 listened-sends s b messages sends = record { current = λ holds. sends.current (sym (still-held s.held _) ∙ holds); begun = sends.begun }
 
-listened-keeps : (first : StationState) (s : SlaveState NodeState) (b : ℕ) (executed messages : List (List ℕ)) → Keeps first s executed messages → Keeps first (listened s b) executed messages
-listened-keeps first s b executed messages k = record { serves = k.serves; sends = listened-sends s b messages k.sends }
-
-of-heard : (s : SlaveState NodeState) (b : ℕ) → AtHeard (listened s b) (slave_after_byte node_host s b) (heard_at s b) (act_at node_host (listened s b) (heard_at s b)) → AtByte s b
-of-heard s b (took t) = accepts (record {
+of-heard : (who : Who) (P : NodeState → List (List ℕ) → List Line → Type 0) (s : SlaveState NodeState) (b : ℕ) → AtHeard who P (listened s b) (slave_after_byte node_host s b) (heard_at s b) (act_at node_host (listened s b) (heard_at s b)) → AtByte who P s b
+of-heard who P s b (took t) = accepts (record {
   whole = t.is_whole_one;
   station = t.is_own_one;
   new = t.is_new;
@@ -255,14 +310,14 @@ of-heard s b (took t) = accepts (record {
   news = ap (λ what. news_of node_host what s.host) t.is_told_none;
   sends = λ {messages} sends. t.is_sends (listened-sends s b messages sends);
 })
-of-heard s b (passed p) = passes (record {
+of-heard who P s b (passed p) = passes (record {
   act = p.is_act;
   kept = p.is_kept_now;
-  keeps = λ {first} {executed} {messages} k. p.is_keeps (listened-keeps first s b executed messages k);
+  keeps = λ messages lines holds sends. p.is_keeps messages lines holds (listened-sends s b messages sends);
 })
 
-pub at-byte : (s : SlaveState NodeState) (b : ℕ) → AtByte s b
-at-byte s b = of-heard s b (at-heard (listened s b) (heard_at s b))
+pub at-byte : (who : Who) (P : NodeState → List (List ℕ) → List Line → Type 0) → Hands who P → (s : SlaveState NodeState) (b : ℕ) → AtByte who P s b
+at-byte who P hands s b = of-heard who P s b (at-heard who P hands (listened s b) (heard_at s b))
 
 -- ---- a take
 
@@ -285,6 +340,6 @@ take-sends s messages sends = record {
 pub take-keeps : (first : StationState) (s : SlaveState NodeState) (executed messages : List (List ℕ)) → Keeps first s executed messages → Keeps first (slave_after_take s) executed messages
 take-keeps first s executed messages k = record { serves = k.serves; sends = take-sends s messages k.sends }
 
--- a byte that ends a transmission ends one of the last reply
+-- a byte that ends a transmission ends one of the last message
 pub sent-ends : (s : SlaveState NodeState) (messages : List (List ℕ)) (out : Out) (number : ℕ) → Sends s messages → out_at_take s ≡ Some out → out.last_of ≡ Some number → IsLast messages (slave_after_take s).sending
 sent-ends s messages out number sends is last = sends.begun (response-gives s.mouth s.responds (is_done s.mouth) (take-ends (mouth_at_take s.mouth s.responds) out number is last))

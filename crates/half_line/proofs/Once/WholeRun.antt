@@ -54,7 +54,7 @@ kept-with : (setting : Setting) (count : ℕ) (place : ℕ) (deed : LinkDeed) (s
 kept-with setting count place deed s None lines few at k none = rw (append-nil lines) (k none)
 kept-with setting count place deed s (Some side) lines few at k none =
     left setting count s (lines ++ link_lines plain_node (link_of s side) deed) place side (after_link_deed plain_node (link_of s side) deed) at
-    (link-deed setting count s.stations place deed (link_of s side) lines few none (entered setting count s lines place side at (k (earlier deed (link_of s side) none))))
+    (link-deed setting count s.stations place deed (link_of s side) lines few none (entered setting count s lines place side at (k (earlier plain_node deed (link_of s side) none))))
 
 pub kept-plain : (setting : Setting) (count : ℕ) (step : UnitStep) → IsPlain step → (s : HalfState NodeState) (lines : List Line) → count ≤ 65535 → Kept setting count s lines → Kept setting count (after_step plain_node s step) (lines ++ lines_at plain_node s step)
 kept-plain setting count (AtMaster (Issue src dst payload)) plain s lines few k none = absurd plain
