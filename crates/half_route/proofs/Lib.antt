@@ -14,3 +14,5 @@ pub mod Issued
 pub mod EventsToCome
 -- The run of a script, event by event.
 pub mod EventByEvent
+-- Each command once between the ends of a route.
+pub mod Once

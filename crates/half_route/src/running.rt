@@ -1,6 +1,7 @@
 //! Running the script of a route, and writing the report of its run.
 ghost use Rattle.std.specs.Prelude.{◌≡◌, OnErr, OnOk, IfOk};
 ghost use Rattle.df1_base.specs.Outside.{Later, Put, Rose, WroteLess};
+ghost use Rattle.half_route.specs.Once.{RoutedOnce};
 ghost use Rattle.half_route.specs.Run.{IsNext, after_event, route_of};
 ghost use Rattle.replay_report.specs.Report.{report as the_report};
 ghost use Rattle.script_parts.specs.RoutePlayable.{IsRoutePlayable};
@@ -22,10 +23,13 @@ pub struct RouteRecord {
     pub report: Record,
 }
 
-/// Runs a script that was read for a route, and answers the record of its run (manual topic: half-duplex protocol).
+/// Runs a script that was read for a route, and answers the record of its run. Where no end was deceived, each command was executed
+/// once at most by the end that it is for, those of each end in their order, and each reply that is told is what that end answered to
+/// that very command (manual topic: half-duplex protocol).
 pub fn route(alloc: Global, script: &RouteScript) -> Result<RouteRecord, NoMemory>
     requires { IsRoutePlayable script.now.script }
-    ensures { IfOk result (λ made. made.report ≡ route_of script.now.script) }
+    ensures exact { IfOk result (λ made. made.report ≡ route_of script.now.script) }
+    ensures once { IfOk result (λ made. made.report.deceived ≡ 0 → RoutedOnce script.now.script made.report) }
 {
     let mut world = HalfWorld::routed(alloc, &script.script)?;
     for event in script.script.events.as_slice() {

@@ -1,9 +1,12 @@
--- One event more, and all of them.
-use Rattle.std.proofs.Common.{◌∙◌, refl, ap, subst}
+-- One event more, and all of them; and what the run shows.
+use Rattle.std.proofs.Common.{◌∙◌, refl, ap, sym, subst}
 use Rattle.std.proofs.lemmas.List.{take_all}
+use Rattle.replay_report.specs.declared.record.Record.{Record}
+use Rattle.half_route.specs.Once.{RoutedOnce}
 use Rattle.half_route.specs.Run.{after_events, begun}
 use Rattle.half_route.proofs.EventsToCome.{AreNext, all-next}
 use Rattle.half_route.proofs.EventByEvent.{is-record, one-after, to-come}
+use Rattle.half_route.proofs.Once.RunShows.{run-shows}
 use Rattle.half_route.proofs.running.route.Goals as goal
 
 pub step-requires : goal.step-requires
@@ -29,4 +32,8 @@ pub returns : goal.returns
 returns c =
     let script = c.args.script.now.script in
     let all = take_all c.loop-event.event-index c.as_slice-event-items.result.now c.loop-event-test.false ∙ c.as_slice-event-items.ensures in
-    c.in_ok-finish.ensures ∙ is-record script c.loop-event.world (c.loop-event.invariant.world ∙ ap (after_events (begun script)) all)
+    let is = c.in_ok-finish.ensures ∙ is-record script c.loop-event.world (c.loop-event.invariant.world ∙ ap (after_events (begun script)) all) in
+    record {
+      exact = is;
+      once = λ none. subst (RoutedOnce script) (sym is) (run-shows script c.requires (ap (λ (r : Record). r.deceived) (sym is) ∙ none));
+    }
