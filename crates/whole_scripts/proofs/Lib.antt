@@ -1,0 +1,3 @@
+mod Printed
+mod Taken
+mod WholeLines

@@ -1,0 +1,4 @@
+pub mod Rehearsals
+pub mod Routes
+pub mod Texts
+pub mod Whole
