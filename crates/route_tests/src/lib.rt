@@ -1,0 +1,7 @@
+//! Tests of scripts that are read whole from an input: routes and rehearsals, with what they print.
+#![tactic(auto)]
+
+#[cfg(test)]
+mod rehearsals;
+#[cfg(test)]
+mod routes;
