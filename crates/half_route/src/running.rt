@@ -24,8 +24,9 @@ pub struct RouteRecord {
 }
 
 /// Runs a script that was read for a route, and answers the record of its run. Where no end was deceived, each command was executed
-/// once at most by the end that it is for, those of each end in their order, and each reply that is told is what that end answered to
-/// that very command (manual topic: half-duplex protocol).
+/// once at most by the end that it is for, those of one end for another in their order; each reply that is told is what an end
+/// answered to a command of the end that has it: to that very command, or, of a stray one, to one that was given up (manual topic:
+/// half-duplex protocol).
 pub fn route(alloc: Global, script: &RouteScript) -> Result<RouteRecord, NoMemory>
     requires { IsRoutePlayable script.now.script }
     ensures exact { IfOk result (λ made. made.report ≡ route_of script.now.script) }
