@@ -4,3 +4,4 @@ pub mod HostLaws
 pub mod Initiator
 pub mod Node
 pub mod Queue
+pub mod Together

@@ -1,6 +1,6 @@
 -- What an initiator keeps of the order of its commands: the places of those that are out, how many may still be answered, and for each
 -- source the places of its commands that wait and how many of them are out.
-use Rattle.std.specs.Prelude.{◌≡◌, ℕ, suc, ◌<◌, Bool, false, ◌&&◌, ◌==◌, not, nat_lt, if◌then◌else◌, List, [], ◌∷◌, map, fold, count_by, Option, None, Some, MatchOption, slice_get}
+use Rattle.std.specs.Prelude.{◌≡◌, ℕ, suc, ◌+◌, ◌≤◌, Bool, false, ◌&&◌, ◌==◌, not, nat_lt, if◌then◌else◌, List, [], ◌∷◌, map, fold, count_by, Option, None, Some, MatchOption, slice_get}
 use Rattle.std.specs.Option.{option_map_or}
 use Rattle.std.specs.List.{list_any}
 use Rattle.std.specs.VecDeque.{deque_len, deque_capacity}
@@ -37,9 +37,9 @@ out_at sources source = option_map_or (λ s. s.out) (slice_get sources source) 0
 abbrev pub is_listed : List ℕ → ℕ → Bool
 is_listed used source = list_any (λ other. other == source) used
 
--- there is room for a command of the source that waits
-abbrev pub HasRoom : List Source → ℕ → Type 0
-HasRoom sources source = MatchOption (slice_get sources source) ⊥ (λ s. deque_len s.waiting < deque_capacity s.waiting)
+-- there is room for so many commands more of the source that wait
+abbrev pub HasRoom : ℕ → List Source → ℕ → Type 0
+HasRoom count sources source = MatchOption (slice_get sources source) ⊥ (λ s. deque_len s.waiting + count ≤ deque_capacity s.waiting)
 
 -- a place put among rising places
 abbrev pub inserted : ℕ → List ℕ → List ℕ

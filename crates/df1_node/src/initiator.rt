@@ -5,12 +5,14 @@
 //! commands, so no step looks at all of them; a clearing starts at the first that waits, and so comes to each command
 //! once at most. The bytes of bodies and replies are kept in one row, each behind those before, and with each command
 //! room is made for the reply to it.
-ghost use Rattle.std.specs.Prelude.{◌≡◌, ℕ, ◌+◌, ◌*◌, ◌≤◌, ◌<◌, [], ◌++◌, ◌∷◌, length, All, IfOk, IfErr, OnOk, OnErr, Err, IfSome, MatchOption, is_some, option_and_then, ◌==◌, IfNone, IsSome, IsTrue, if◌then◌else◌, vec_len, vec_capacity, slice_index, slice_get, remove, position, unwrap_or};
+ghost use Rattle.std.specs.Prelude.{◌≡◌, ℕ, ◌+◌, ◌*◌, ◌≤◌, ◌<◌, [], ◌++◌, ◌∷◌, length, map, All, IfOk, IfErr, OnOk, OnErr, Err, IfSome, MatchOption, is_some, option_and_then, ◌==◌, IfNone, IsSome, IsTrue, if◌then◌else◌, vec_len, vec_capacity, slice_index, slice_get, remove, position, unwrap_or};
 ghost use Rattle.std.specs.Int.{bit_at};
 ghost use Rattle.df1_base.specs.Host.{IsBody};
 ghost use Rattle.pccc_envelope.specs.Envelope.{is_reply, spelling};
 ghost use Rattle.df1_node.specs.Initiator.{InitiatorState, after_give_up, after_hand_out, after_issue, after_reply, all_cleared, all_ticked, answered_place, is_out_at, is_waiting, unanswered_from, issue_fault, next_issued, outcome_of, reply_of, next_command, next_place};
-ghost use Rattle.df1_node.specs.Commands.{kept_at, cleared_from, ticked_at};
+ghost use Rattle.df1_node.specs.Initiator.{Waiting};
+ghost use Rattle.df1_node.specs.Commands.{AreCommands, all_issued, kept_at, cleared_from, ticked_at};
+ghost use Rattle.df1_node.specs.Together.{HasRoomFor, IsPayload, after_all, together_fault};
 ghost use Rattle.df1_node.specs.Queue.{places, out_now};
 
 use crate::issued::{Command, State, is_answered_by};
@@ -28,6 +30,9 @@ const MAX_COMMANDS: usize = 65535;
 
 /// The most commands that may be out.
 const MAX_WINDOW: usize = 16;
+
+/// The place of SRC in a body.
+const SRC: usize = 1;
 
 /// An initiator and its commands, which are numbered from 1.
 #[derive(Drop)]
@@ -123,15 +128,46 @@ impl Initiator {
             sts: 0,
             tns: self.tns.wrapping_add(count as u16),
         };
-        make_room(&mut self.bytes, &mut self.issued, self.queue.unsettled)?;
-        self.queue.reserve(self.alloc, src)?;
-        let body = append(&mut self.bytes, &command_body(&envelope, &payload[1..]));
-        self.issued.push_reserved(Command {
-            body,
-            state: State::Waiting,
-        });
-        self.queue.push(src, count as u32);
+        make_room(&mut self.bytes, &mut self.issued, self.queue.unsettled, 1)?;
+        self.queue.reserve(self.alloc, src, 1)?;
+        let body = command_body(&envelope, &payload[1..]);
+        push_command(&mut self.bytes, &mut self.issued, &mut self.queue, &body);
         Ok(count as u32 + 1)
+    }
+
+    /// Issues a command of each payload to a node, in order and in the name of the initiator's own node: all of them or none.
+    /// The answer is the number of the first. `Spent` comes exactly where fewer numbers are left than there are payloads, and
+    /// else `NoMemory` may come. After a refusal nothing has changed.
+    pub fn issue_all(&mut self, dst: u8, payloads: &[ArrayVec<u8, 245>]) -> Result<u32, IssueFault>
+        requires { All (λ payload. IsPayload payload.items) payloads.now }
+        ensures number { IfOk result (λ number. number ≡ length self.old.issued + 1) }
+        ensures ok { OnOk result (self.new ≡ after_all self.old dst (map (λ payload. payload.items) payloads.now)) }
+        ensures fault { MatchOption (together_fault self.old (length payloads.now)) (IfErr result (λ fault. fault ≡ IssueFault.NoMemory)) (λ fault. result ≡ Err fault) }
+        ensures err { OnErr result (self.new ≡ self.old) }
+    {
+        let first = self.issued.len();
+        if payloads.len() > MAX_COMMANDS - first {
+            return Err(IssueFault::Spent);
+        }
+        make_room(
+            &mut self.bytes,
+            &mut self.issued,
+            self.queue.unsettled,
+            payloads.len(),
+        )?;
+        self.queue.reserve(self.alloc, self.node, payloads.len())?;
+        for payload in payloads {
+            let envelope = Envelope {
+                dst,
+                src: self.node,
+                cmd: payload[0],
+                sts: 0,
+                tns: self.tns.wrapping_add(self.issued.len() as u16),
+            };
+            let body = command_body(&envelope, &payload[1..]);
+            push_command(&mut self.bytes, &mut self.issued, &mut self.queue, &body);
+        }
+        Ok(first as u32 + 1)
     }
 
     /// What became of command `n`, and None exactly where `n` is 0 or a number that was not issued, as each over 65,535.
@@ -344,21 +380,42 @@ fn command(issued: &[Command], n: u32) -> Option<Command>
     issued.get(place as usize).copied()
 }
 
-/// Makes room for one command more, for its body, and for the replies to it and to so many others.
+/// Makes room for so many commands more, for their bodies, and for the replies to them and to so many others.
 fn make_room(
     bytes: &mut Vec<u8>,
     issued: &mut Vec<Command>,
     others: usize,
+    count: usize,
 ) -> Result<(), AllocError>
-    requires { others ≤ 65535 }
+    requires others { others ≤ 65535 }
+    requires count { count ≤ 65535 }
     ensures bytes { bytes.new.items ≡ bytes.old.items }
     ensures issued { issued.new.items ≡ issued.old.items }
     ensures capacity { vec_capacity bytes.old ≤ vec_capacity bytes.new }
-    ensures room { OnOk result (length bytes.new.items + 250 * (others + 2) ≤ vec_capacity bytes.new) }
-    ensures place { OnOk result (vec_len issued.new < vec_capacity issued.new) }
+    ensures room { OnOk result (length bytes.new.items + 250 * (others + 2 * count) ≤ vec_capacity bytes.new) }
+    ensures places { OnOk result (vec_len issued.new + count ≤ vec_capacity issued.new) }
 {
-    issued.reserve(1)?;
-    bytes.reserve(MAX_BODY * (others + 2))
+    issued.reserve(count)?;
+    bytes.reserve(MAX_BODY * (others + 2 * count))
+}
+
+/// Adds a command that waits, for which there is room.
+fn push_command(bytes: &mut Vec<u8>, issued: &mut Vec<Command>, queue: &mut Queue, body: &[u8])
+    requires are { AreCommands bytes.old.items (vec_capacity bytes.old) issued.old.items queue.old 16 }
+    requires room { HasRoomFor 1 (slice_index body.now 1) bytes.old.items (vec_capacity bytes.old) (vec_len issued.old) (vec_capacity issued.old) queue.old }
+    requires few { length issued.old.items < 65535 }
+    requires body { IsBody body.now }
+    ensures are { AreCommands bytes.new.items (vec_capacity bytes.new) issued.new.items queue.new 16 }
+    ensures issued { all_issued bytes.new.items issued.new.items ≡ all_issued bytes.old.items issued.old.items ++ record { body = body.now; standing = Waiting } ∷ [] }
+    ensures room { (count : ℕ) → HasRoomFor (count + 1) (slice_index body.now 1) bytes.old.items (vec_capacity bytes.old) (vec_len issued.old) (vec_capacity issued.old) queue.old → HasRoomFor count (slice_index body.now 1) bytes.new.items (vec_capacity bytes.new) (vec_len issued.new) (vec_capacity issued.new) queue.new }
+{
+    let place = issued.len() as u32;
+    let part = append(bytes, body);
+    issued.push_reserved(Command {
+        body: part,
+        state: State::Waiting,
+    });
+    queue.push(body[SRC], place);
 }
 
 /// The body of a command: its envelope, and what follows.

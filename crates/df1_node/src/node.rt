@@ -1,9 +1,10 @@
 //! The node: what stands behind an end. It executes the commands that come and replies to each, and issues commands of
 //! its own and takes their replies.
-ghost use Rattle.std.specs.Prelude.{◌≡◌, ◌+◌, ◌≤◌, [], length, IfOk, IfErr, OnOk, OnErr, Err, MatchOption, IsTrue, if◌then◌else◌};
+ghost use Rattle.std.specs.Prelude.{◌≡◌, ◌+◌, ◌≤◌, [], All, length, map, IfOk, IfErr, OnOk, OnErr, Err, MatchOption, IsTrue, if◌then◌else◌};
 ghost use Rattle.df1_node.specs.Initiator.{issue_fault};
 ghost use Rattle.data_files.specs.Tables.{has_word};
 ghost use Rattle.df1_node.specs.Node.{NodeState, after_node_issue, with_node_word};
+ghost use Rattle.df1_node.specs.Together.{IsPayload, after_node_all, together_fault};
 ghost use Rattle.df1_node.specs.declared.handed.Handed.TheVariants.{Nothing};
 
 use crate::handed::Handed;
@@ -106,6 +107,17 @@ impl Node {
         ensures err { OnErr result (self.new ≡ self.old) }
     {
         self.initiator.issue_from(src, dst, payload)
+    }
+
+    /// Issues a command of each payload to a node, all of them or none, as `Initiator::issue_all` does.
+    pub fn issue_all(&mut self, dst: u8, payloads: &[ArrayVec<u8, 245>]) -> Result<u32, IssueFault>
+        requires { All (λ payload. IsPayload payload.items) payloads.now }
+        ensures number { IfOk result (λ number. number ≡ length self.old.initiator.issued + 1) }
+        ensures ok { OnOk result (self.new ≡ after_node_all self.old dst (map (λ payload. payload.items) payloads.now)) }
+        ensures fault { MatchOption (together_fault self.old.initiator (length payloads.now)) (IfErr result (λ fault. fault ≡ IssueFault.NoMemory)) (λ fault. result ≡ Err fault) }
+        ensures err { OnErr result (self.new ≡ self.old) }
+    {
+        self.initiator.issue_all(dst, payloads)
     }
 
     /// The data tables of the station.

@@ -67,18 +67,18 @@ impl Queue {
         out.iter().position(|other| *other as usize == place)
     }
 
-    /// Makes room for a command more of a source.
-    pub fn reserve(&mut self, alloc: Global, source: u8) -> Result<(), AllocError>
+    /// Makes room for so many commands more of a source.
+    pub fn reserve(&mut self, alloc: Global, source: u8, count: usize) -> Result<(), AllocError>
         ensures out { self.new.out.items ≡ self.old.out.items }
         ensures unsettled { self.new.unsettled ≡ self.old.unsettled }
         ensures waits { (b : ℕ) → waiting_at self.new.sources.items b ≡ waiting_at self.old.sources.items b }
         ensures outs { (b : ℕ) → out_at self.new.sources.items b ≡ out_at self.old.sources.items b }
         ensures listed { (b : ℕ) → is_listed self.new.used.items b ≡ false → is_listed self.old.used.items b ≡ false }
         ensures known { OnOk result (is_listed self.new.used.items source ≡ true) }
-        ensures room { OnOk result (HasRoom self.new.sources.items source) }
+        ensures room { OnOk result (HasRoom count self.new.sources.items source) }
     {
         make_sources(&mut self.sources, alloc)?;
-        self.sources[source as usize].waiting.reserve(1)?;
+        self.sources[source as usize].waiting.reserve(count)?;
         if !self.used.contains(&source) {
             self.used.reserve(1)?;
             self.used.push_reserved(source);
@@ -88,13 +88,14 @@ impl Queue {
 
     /// A command of a source waits from now on, at a place above those of its others.
     pub fn push(&mut self, source: u8, place: u32)
-        requires room { HasRoom self.old.sources.items source }
+        requires room { HasRoom 1 self.old.sources.items source }
         requires few { self.old.unsettled < 65535 }
         ensures out { self.new.out.items ≡ self.old.out.items }
         ensures unsettled { self.new.unsettled ≡ self.old.unsettled + 1 }
         ensures waits { (b : ℕ) → waiting_at self.new.sources.items b ≡ (if source == b then waiting_at self.old.sources.items b ++ place ∷ [] else waiting_at self.old.sources.items b) }
         ensures outs { (b : ℕ) → out_at self.new.sources.items b ≡ out_at self.old.sources.items b }
         ensures used { self.new.used.items ≡ self.old.used.items }
+        ensures room { (count : ℕ) → HasRoom (count + 1) self.old.sources.items source → HasRoom count self.new.sources.items source }
     {
         let kept = &mut self.sources[source as usize];
         kept.waiting.push_back_reserved(place);
