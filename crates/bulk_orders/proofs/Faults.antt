@@ -1,5 +1,5 @@
 -- The lowest fault of several commands.
-use Rattle.std.proofs.Common.{◌≡◌, ℕ, zero, suc, ◌+◌, ◌-◌, ◌<◌, ◌≤◌, Bool, true, false, List, length, Option, Some, None, refl, sym, ap, ◌∙◌, inl, inr, arith, add-zero, add-one, add-suc}
+use Rattle.std.proofs.Common.{◌≡◌, ℕ, zero, suc, ◌+◌, ◌-◌, ◌<◌, ◌≤◌, Bool, true, false, List, ◌++◌, length, Option, Some, None, refl, sym, ap, ◌∙◌, inl, inr, arith, add-zero, add-one, add-suc}
 use Rattle.std.specs.Prelude.{◌⊎◌, ◌==◌, if◌then◌else◌}
 use Rattle.std.specs.Option.{option_or, unwrap_or}
 use Rattle.df1_node.specs.declared.outcome.Outcome.{Outcome}
@@ -7,7 +7,7 @@ use Rattle.df1_node.specs.declared.outcome.Outcome.TheVariants as outcome
 use Rattle.df1_node.specs.Initiator.{InitiatorState, outcome_of, reply_of}
 use Rattle.bulk_orders.specs.declared.outcome.Bulk.{Bulk}
 use Rattle.bulk_orders.specs.declared.outcome.Bulk.TheVariants.{Whole, Missing, Refused, Odd}
-use Rattle.bulk_orders.specs.Outcomes.{data_of, extension_of, fault_at, fault_of, first_fault, is_whole, result_of, status_of}
+use Rattle.bulk_orders.specs.Outcomes.{data_of, data_pulled_from, extension_of, fault_at, fault_of, first_fault, is_whole, number_of, result_of, status_of}
 
 none-both : (first later : Option Bulk) → option_or first later ≡ None → (first ≡ None) × (later ≡ None)
 none-both None later none = (refl, none)
@@ -93,3 +93,37 @@ outcome-fault n size reply (Some outcome.Unanswered) came told = missing-fault n
 
 pub fault-not-whole : (s : InitiatorState) (size n : ℕ) (came : Bulk) → fault_of s size n ≡ Some came → is_whole came ≡ false
 fault-not-whole s size n came told = outcome-fault n size (reply_of s n) (outcome_of s n) came told
+
+-- ---- the numbers of a transfer's commands
+
+number-after : (before n : ℕ) → number_of (suc before) (n + 1) ≡ suc before + n
+number-after zero n = omega arith
+number-after (suc before) n = let one_less : number_of (suc before) (n + 1) ≡ suc before + n = number-after before n in omega arith
+
+-- order n + 1 has the number of the first and n
+pub number-at : (first n : ℕ) → (1 ≤ n → 1 ≤ first) → number_of first (n + 1) ≡ first + n
+number-at zero zero some = refl
+number-at zero (suc n) some = absurd (let one : 1 ≤ 0 = some (omega arith) in omega (arith, one))
+number-at (suc before) n some = number-after before n
+
+pub numbered : (first j : ℕ) → 1 ≤ first → 1 ≤ j → number_of first j + 1 ≡ first + j
+numbered first zero some one = absurd (omega (arith, one))
+numbered first (suc n) some one =
+    let at : number_of first (n + 1) ≡ first + n = number-at first n (λ _. some) in
+    ap (λ (k : ℕ). number_of first k + 1) (sym (add-one n)) ∙ omega (arith, at)
+
+-- an order is at fault where the command of its number is
+pub fault-at-number : (s : InitiatorState) (size first n number : ℕ) (came : Option Bulk) → (1 ≤ n → 1 ≤ first) → number ≡ first + n → fault_of s size number ≡ came → fault_of s size (number_of first (n + 1)) ≡ came
+fault-at-number s size first n number came some is told = ap (fault_of s size) (number-at first n some ∙ sym is) ∙ told
+
+-- a command more that has a number
+pub next-numbers : (first n number : ℕ) → (1 ≤ n → (1 ≤ first) × (first + n ≤ 65536)) → number ≡ first + n → 1 ≤ number → number ≤ 65535 → (1 ≤ first) × (first + (n + 1) ≤ 65536)
+next-numbers first zero number before is some few = (omega arith, omega arith)
+next-numbers first (suc n) number before is some few = ((before (omega arith)).0, omega arith)
+
+-- and whose reply has these data
+pub pulled-more : (s : InitiatorState) (first n number : ℕ) (data_is into : List ℕ) → (1 ≤ n → 1 ≤ first) → number ≡ first + n → data_is ≡ data_of (reply_of s number) → into ≡ data_pulled_from s first n → into ++ data_is ≡ data_pulled_from s first (n + 1)
+pulled-more s first n number data_is into some is from before =
+    ap (λ (xs : List ℕ). xs ++ data_is) before
+    ∙ ap (λ (d : List ℕ). data_pulled_from s first n ++ d) (from ∙ ap (λ (k : ℕ). data_of (reply_of s k)) (is ∙ sym (number-at first n some) ∙ ap (number_of first) (add-one n)))
+    ∙ sym (ap (data_pulled_from s first) (add-one n))

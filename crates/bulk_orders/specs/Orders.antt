@@ -47,3 +47,8 @@ data_of_orders bytes (suc n) = data_of_orders bytes n ++ data_of_order bytes (su
 -- the order that writes: CMD, FNC, offset, total, address, and the data
 abbrev pub push_payload : ℕ → List ℕ → ℕ → List ℕ
 push_payload file bytes j = 0x0F ∷ 0x00 ∷ place_bytes file (length bytes / 2) j ++ data_of_order bytes j
+
+-- the first so many orders of a transfer, in order
+abbrev pub all_orders : (ℕ → List ℕ) → ℕ → List (List ℕ)
+all_orders order zero = []
+all_orders order (suc n) = all_orders order n ++ order (suc n) ∷ []

@@ -1,4 +1,4 @@
--- What a transfer comes to, by the outcomes of the commands 1, 2 and so on that carry its orders.
+-- What a transfer comes to, by the outcomes of the commands that carry its orders: they are numbered from its first on, each one more than that before.
 use Rattle.std.specs.Prelude.{ℕ, zero, suc, ◌*◌, Bool, true, false, List, [], ◌++◌, length, drop, slice_index, ◌==◌, if◌then◌else◌, Option, Some, None}
 use Rattle.std.specs.Option.{option_or, unwrap_or}
 use Rattle.pccc_envelope.specs.Envelope.{envelope_of}
@@ -40,7 +40,7 @@ fault_at n size reply (Some outcome.Unanswered) = Some (Missing n)
 abbrev pub fault_of : InitiatorState → ℕ → ℕ → Option Bulk
 fault_of s size n = fault_at n size (reply_of s n) (outcome_of s n)
 
--- the fault of the lowest of the first so many commands that has one
+-- the fault of the lowest of the first so many orders that has one
 abbrev pub first_fault : (ℕ → Option Bulk) → ℕ → Option Bulk
 first_fault fault zero = None
 first_fault fault (suc n) = option_or (first_fault fault n) (fault (suc n))
@@ -49,24 +49,31 @@ first_fault fault (suc n) = option_or (first_fault fault n) (fault (suc n))
 abbrev pub result_of : (ℕ → Option Bulk) → ℕ → Bulk
 result_of fault count = unwrap_or (first_fault fault count) Whole
 
--- of a transfer that reads so many words: the reply to each order has the bytes that it asks for
-abbrev pub pull_fault : InitiatorState → ℕ → ℕ → Option Bulk
-pull_fault s words n = fault_of s (2 * words_of_order words n) n
+-- the number of the command that carries an order of a transfer, by the number of the first: of a transfer from command 1 on, order j is
+-- command j, and each command more before its first makes that one more; no command has the number 0
+abbrev pub number_of : (first j : ℕ) → ℕ
+number_of zero j = zero
+number_of (suc zero) j = j
+number_of (suc (suc before)) j = suc (number_of (suc before) j)
 
-abbrev pub pull_result : InitiatorState → ℕ → Bulk
-pull_result s words = result_of (pull_fault s words) (orders_of words)
+-- of a transfer from a command on that reads so many words: the reply to each order has the bytes that it asks for
+abbrev pub pull_fault_from : InitiatorState → (first words j : ℕ) → Option Bulk
+pull_fault_from s first words j = fault_of s (2 * words_of_order words j) (number_of first j)
 
--- of a transfer that writes: the reply to each order has no data
-abbrev pub push_fault : InitiatorState → ℕ → Option Bulk
-push_fault s n = fault_of s 0 n
+abbrev pub pull_result_from : InitiatorState → (first words : ℕ) → Bulk
+pull_result_from s first words = result_of (pull_fault_from s first words) (orders_of words)
 
-abbrev pub push_result : InitiatorState → ℕ → Bulk
-push_result s words = result_of (push_fault s) (orders_of words)
+-- of a transfer from a command on that writes: the reply to each order has no data
+abbrev pub push_fault_from : InitiatorState → (first j : ℕ) → Option Bulk
+push_fault_from s first j = fault_of s 0 (number_of first j)
 
--- the data of the replies to the first so many commands, in order
-abbrev pub data_pulled : InitiatorState → ℕ → List ℕ
-data_pulled s zero = []
-data_pulled s (suc n) = data_pulled s n ++ data_of (reply_of s (suc n))
+abbrev pub push_result_from : InitiatorState → (first words : ℕ) → Bulk
+push_result_from s first words = result_of (push_fault_from s first) (orders_of words)
+
+-- the data of the replies to the first so many orders, in order
+abbrev pub data_pulled_from : InitiatorState → (first count : ℕ) → List ℕ
+data_pulled_from s first zero = []
+data_pulled_from s first (suc n) = data_pulled_from s first n ++ data_of (reply_of s (number_of first (suc n)))
 
 abbrev pub is_whole : Bulk → Bool
 is_whole Whole = true
@@ -74,6 +81,38 @@ is_whole (Missing number) = false
 is_whole (Refused number sts ext) = false
 is_whole (Odd number) = false
 
--- the words of a transfer that reads, low bytes first, where it is whole
+-- the words of a transfer from a command on that reads, low bytes first, where it is whole
+abbrev pub words_pulled_from : InitiatorState → (first words : ℕ) → List ℕ
+words_pulled_from s first words = if is_whole (pull_result_from s first words) then data_pulled_from s first (orders_of words) else []
+
+-- ---- of a transfer whose orders are the commands 1, 2 and so on
+
+abbrev pub pull_result : InitiatorState → ℕ → Bulk
+pull_result s words = pull_result_from s 1 words
+
+abbrev pub push_result : InitiatorState → ℕ → Bulk
+push_result s words = push_result_from s 1 words
+
+abbrev pub data_pulled : InitiatorState → ℕ → List ℕ
+data_pulled s count = data_pulled_from s 1 count
+
 abbrev pub words_pulled : InitiatorState → ℕ → List ℕ
-words_pulled s words = if is_whole (pull_result s words) then data_pulled s (orders_of words) else []
+words_pulled s words = words_pulled_from s 1 words
+
+-- ---- of a transfer so far
+
+-- nothing became of a command yet: it waits or is out
+abbrev pub is_open : Option Outcome → Bool
+is_open None = false
+is_open (Some outcome.Waiting) = true
+is_open (Some outcome.Out) = true
+is_open (Some outcome.Answered) = false
+is_open (Some outcome.Undelivered) = false
+is_open (Some outcome.Unanswered) = false
+
+-- a transfer that came to this so far is still under way: nothing became yet of the command that is told as missing
+abbrev pub is_under_way : InitiatorState → Bulk → Bool
+is_under_way s Whole = false
+is_under_way s (Missing number) = is_open (outcome_of s number)
+is_under_way s (Refused number sts ext) = false
+is_under_way s (Odd number) = false

@@ -1,10 +1,10 @@
 //! What is true of the orders of every transfer, and of what they come to.
-ghost use Rattle.std.specs.Prelude.{◌≡◌, ◌*◌, ◌/◌, ◌<◌, ◌≤◌, ◌↔◌, ℕ, List, drop, length, Option, Some, None, Ok, IsTrue};
+ghost use Rattle.std.specs.Prelude.{◌≡◌, ◌+◌, ◌*◌, ◌/◌, ◌<◌, ◌≤◌, ◌↔◌, ℕ, List, drop, length, Option, Some, None, Ok, IsTrue};
 ghost use Rattle.plc_commands.specs.Order.{RangeRead, RangeWrite, window};
 ghost use Rattle.plc_commands.specs.Reading.{order_of};
 ghost use Rattle.bulk_orders.specs.declared.outcome.Bulk.{Bulk as Came};
 ghost use Rattle.bulk_orders.specs.Orders.{data_of_order, data_of_orders, first_word, is_order, orders_of, pull_payload, push_payload, start_of, words_of_order};
-ghost use Rattle.bulk_orders.specs.Outcomes.{first_fault};
+ghost use Rattle.bulk_orders.specs.Outcomes.{first_fault, number_of};
 
 /// A law: a station takes each order that reads for a word range read, and each that writes for a word range write, of the words
 /// of the order.
@@ -25,4 +25,9 @@ pub fn the_lowest_fault_is_told()
     ensures none { (fault : ℕ → Option Came) (count : ℕ) → first_fault fault count ≡ None ↔ ((n : ℕ) → 1 ≤ n → n ≤ count → fault n ≡ None) }
     ensures lowest { (fault : ℕ → Option Came) (count : ℕ) (came : Came) → first_fault fault count ≡ Some came →
         (n : ℕ) × (1 ≤ n) × (n ≤ count) × (fault n ≡ Some came) × ((k : ℕ) → 1 ≤ k → k < n → fault k ≡ None) }
+{}
+
+/// A law: the commands that carry the orders of a transfer are numbered from its first on.
+pub fn orders_are_numbered_from_the_first()
+    ensures { (first j : ℕ) → 1 ≤ first → 1 ≤ j → number_of first j + 1 ≡ first + j }
 {}

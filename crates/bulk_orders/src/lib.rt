@@ -10,6 +10,6 @@ mod order;
 mod outcome;
 mod telling;
 
-pub use order::{order_count, pull_order, push_order};
-pub use outcome::{Bulk, confirm, gather};
+pub use order::{order_count, pull_order, pull_orders, push_order, push_orders};
+pub use outcome::{Bulk, confirm, confirm_from, gather, gather_from, is_under_way};
 pub use telling::{put_pull_result, put_push_result};

@@ -6,9 +6,10 @@
 //! | offset, total | the first word of the order and the words of the transfer, 2 bytes each, low first |
 //! | level address | the file with element 0 |
 //! | size, or data | how many bytes a read asks for, or the bytes that are written |
-ghost use Rattle.std.specs.Prelude.{◌≡◌, ◌+◌, ◌-◌, ◌*◌, ◌/◌, ◌≤◌, ◌∷◌, ◌++◌, [], length, if◌then◌else◌, min};
+ghost use Rattle.std.specs.Prelude.{◌≡◌, ◌+◌, ◌-◌, ◌*◌, ◌/◌, ◌≤◌, ◌∷◌, ◌++◌, [], All, length, map, if◌then◌else◌, min};
 ghost use Rattle.arrayvec.specs.ArrayVec.{array_vec_len};
-ghost use Rattle.bulk_orders.specs.Orders.{first_word, is_order, orders_of, place_bytes, pull_payload, push_payload, words_of_order};
+ghost use Rattle.df1_node.specs.Together.{IsPayload};
+ghost use Rattle.bulk_orders.specs.Orders.{all_orders, first_word, is_order, orders_of, place_bytes, pull_payload, push_payload, words_of_order};
 
 use arrayvec::ArrayVec;
 use logical_address::{Levels, write_levels};
@@ -71,6 +72,41 @@ pub fn push_order(file: u16, bytes: &[u8], j: u16, into: &mut ArrayVec<u8, 245>)
     into.try_extend_from_slice(&bytes[first..first + count])
         .unwrap();
     true
+}
+
+/// The orders of a transfer that reads so many words, 1 to 3,000, of a file, 0 to 999, in order.
+pub fn pull_orders(file: u16, words: u16) -> ArrayVec<ArrayVec<u8, 245>, 30>
+    requires file { file ≤ 999 }
+    requires words { (1 ≤ words) × (words ≤ 3000) }
+    ensures orders { map (λ order. order.items) result.items ≡ all_orders (pull_payload file words) (orders_of words) }
+    ensures count { length result.items ≡ orders_of words }
+    ensures payloads { All (λ order. IsPayload order.items) result.items }
+{
+    let mut orders = ArrayVec::new();
+    for n in 0..order_count(words) {
+        let mut order = ArrayVec::new();
+        pull_order(file, words, n + 1, &mut order);
+        orders.push(order);
+    }
+    orders
+}
+
+/// The orders of a transfer that writes these data, 1 to 3,000 words with their low bytes first, to a file, 0 to 999, in order.
+pub fn push_orders(file: u16, bytes: &[u8]) -> ArrayVec<ArrayVec<u8, 245>, 30>
+    requires file { file ≤ 999 }
+    requires words { (2 ≤ length bytes.now) × (length bytes.now ≤ 6000) }
+    requires whole { length bytes.now ≡ 2 * (length bytes.now / 2) }
+    ensures orders { map (λ order. order.items) result.items ≡ all_orders (push_payload file bytes.now) (orders_of (length bytes.now / 2)) }
+    ensures count { length result.items ≡ orders_of (length bytes.now / 2) }
+    ensures payloads { All (λ order. IsPayload order.items) result.items }
+{
+    let mut orders = ArrayVec::new();
+    for n in 0..order_count((bytes.len() / 2) as u16) {
+        let mut order = ArrayVec::new();
+        push_order(file, bytes, n + 1, &mut order);
+        orders.push(order);
+    }
+    orders
 }
 
 /// Whether a transfer of so many words has an order of this number.

@@ -1,7 +1,7 @@
-//! What a transfer comes to, by the outcomes of the commands that carry its orders: they are the first commands of their
-//! initiator, from number 1 on.
-ghost use Rattle.std.specs.Prelude.{◌≡◌, ◌+◌, ◌*◌, ◌≤◌, None, Some, MatchResult, length, slice_index};
-ghost use Rattle.bulk_orders.specs.Outcomes.{data_of, extension_of, fault_of, fault_of_reply, pull_result, push_result, status_of, words_pulled};
+//! What a transfer comes to, by the outcomes of the commands that carry its orders: they are numbered from its first on, each one
+//! more than that before. What was issued before a transfer makes no difference to it.
+ghost use Rattle.std.specs.Prelude.{◌≡◌, ◌+◌, ◌*◌, ◌≤◌, None, OnOk, Some, MatchResult, length, slice_index};
+ghost use Rattle.bulk_orders.specs.Outcomes.{data_of, extension_of, fault_of, fault_of_reply, is_open, is_under_way, pull_result, pull_result_from, push_result, push_result_from, status_of, words_pulled, words_pulled_from};
 ghost use Rattle.df1_node.specs.Initiator.{reply_of};
 
 use crate::order::{order_count, word_count};
@@ -36,10 +36,20 @@ pub fn gather(from: &Initiator, words: u16, into: &mut ArrayVec<u8, 6000>) -> Bu
     ensures result { result ≡ pull_result from.now words }
     ensures words { into.new.items ≡ words_pulled from.now words }
 {
+    gather_from(from, 1, words, into)
+}
+
+/// What the transfer came to that read so many words, 1 to 3,000, by the commands of an initiator from number `first` on. Where it
+/// is whole, `into` is replaced by the words, low bytes first; else it is empty.
+pub fn gather_from(from: &Initiator, first: u32, words: u16, into: &mut ArrayVec<u8, 6000>) -> Bulk
+    requires { (1 ≤ words) × (words ≤ 3000) }
+    ensures result { result ≡ pull_result_from from.now first words }
+    ensures words { into.new.items ≡ words_pulled_from from.now first words }
+{
     into.clear();
     for n in 0..order_count(words) {
         let size = 2 * usize::from(word_count(words, n + 1));
-        match data_at(from, u32::from(n) + 1, size) {
+        match data_at(from, first + u32::from(n), size) {
             Ok(data) => into.try_extend_from_slice(data).unwrap(),
             Err(fault) => {
                 into.clear();
@@ -55,17 +65,47 @@ pub fn confirm(from: &Initiator, words: u16) -> Bulk
     requires { (1 ≤ words) × (words ≤ 3000) }
     ensures { result ≡ push_result from.now words }
 {
+    confirm_from(from, 1, words)
+}
+
+/// What the transfer came to that wrote so many words, 1 to 3,000, by the commands of an initiator from number `first` on.
+pub fn confirm_from(from: &Initiator, first: u32, words: u16) -> Bulk
+    requires { (1 ≤ words) × (words ≤ 3000) }
+    ensures { result ≡ push_result_from from.now first words }
+{
     for n in 0..order_count(words) {
-        if let Err(fault) = data_at(from, u32::from(n) + 1, 0) {
+        if let Err(fault) = data_at(from, first + u32::from(n), 0) {
             return fault;
         }
     }
     Bulk::Whole
 }
 
+/// Whether the transfer that came to this so far is still under way: the command that is told as missing waits or is out. Each
+/// command before it was done.
+pub fn is_under_way(from: &Initiator, came: Bulk) -> bool
+    ensures { result ≡ is_under_way from.now came }
+{
+    match came {
+        Bulk::Missing(number) => is_open(from.outcome(number)),
+        Bulk::Whole | Bulk::Refused { .. } | Bulk::Odd(_) => false,
+    }
+}
+
+/// Whether nothing became of a command yet.
+fn is_open(outcome: Option<Outcome>) -> bool
+    ensures { result ≡ is_open outcome }
+{
+    match outcome {
+        Some(Outcome::Waiting | Outcome::Out) => true,
+        Some(Outcome::Answered | Outcome::Undelivered | Outcome::Unanswered) | None => false,
+    }
+}
+
 /// The data of the reply to command `n`, which has so many bytes, or why the command isn't a good order.
 fn data_at(from: &Initiator, n: u32, size: usize) -> Result<&[u8], Bulk>
-    ensures { MatchResult result (λ bytes. (fault_of from.now size n ≡ None) × (bytes.now ≡ data_of (reply_of from.now n)) × (length bytes.now ≡ size)) (λ fault. fault_of from.now size n ≡ Some fault) }
+    ensures data { MatchResult result (λ bytes. (fault_of from.now size n ≡ None) × (bytes.now ≡ data_of (reply_of from.now n)) × (length bytes.now ≡ size)) (λ fault. fault_of from.now size n ≡ Some fault) }
+    ensures number { OnOk result ((1 ≤ n) × (n ≤ 65535)) }
 {
     match from.outcome(n) {
         Some(Outcome::Answered) => reply_data(from.reply(n), n, size),
