@@ -74,10 +74,14 @@ pub enum Code {
     BadPerSource = 32,
     /// A reserved member isn't 0.
     NotReserved = 33,
+    /// A transfer's file is over 999.
+    BadFile = 34,
+    /// A transfer's words are none, over 3,000, or not whole.
+    BadWords = 35,
 }
 
 /// All codes, by their numbers.
-const CODES: [Code; 34] = [
+const CODES: [Code; 36] = [
     Code::Done,
     Code::NoHandle,
     Code::NoMemory,
@@ -112,6 +116,8 @@ const CODES: [Code; 34] = [
     Code::BadWindow,
     Code::BadPerSource,
     Code::NotReserved,
+    Code::BadFile,
+    Code::BadWords,
 ];
 
 impl Code {
@@ -169,6 +175,8 @@ impl Code {
             Code::BadWindow => "window is out of its range",
             Code::BadPerSource => "per_source is out of its range",
             Code::NotReserved => "a reserved member isn't 0",
+            Code::BadFile => "a transfer's file is over 999",
+            Code::BadWords => "a transfer's words are none, over 3,000, or not whole",
         }
     }
 }
