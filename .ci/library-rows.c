@@ -8,7 +8,7 @@
 
 /* ---- Memory that is refused ---- */
 
-static long grants = -1; /* how many more allocations are granted; all where it is negative */
+long grants = -1; /* how many more allocations are granted; all where it is negative */
 
 #ifdef __cplusplus
 extern "C" {
@@ -160,7 +160,7 @@ static int texts(void)
     uint32_t code;
     size_t last;
 
-    for (code = 0; code <= DF1_NOT_RESERVED + 1; code++) {
+    for (code = 0; code <= DF1_BAD_WORDS + 1; code++) {
         size_t length = 0, again = 0;
 
         ROW(df1_code_text(code, text, 0, &length) == DF1_NO_ROOM && length >= 2 && length <= 80);
@@ -168,7 +168,7 @@ static int texts(void)
         ROW(df1_code_text(code, text, length - 1, &again) == DF1_NO_ROOM && again == length && are_all(text, 'x', sizeof text));
         ROW(df1_code_text(code, text, length, &again) == DF1_DONE && again == length);
         ROW(strlen(text) + 1 == length && text[length] == 'x');
-        ROW((strcmp(text, "no code of df1") == 0) == (code > DF1_NOT_RESERVED));
+        ROW((strcmp(text, "no code of df1") == 0) == (code > DF1_BAD_WORDS));
     }
     ROW(df1_code_text(0xFFFFFFFF, text, 80, &last) == DF1_DONE && strcmp(text, "no code of df1") == 0);
     return 0;
@@ -264,6 +264,7 @@ struct written {
     uint32_t number;
     uint16_t value;
     df1_file file;
+    df1_transfer transfer;
 };
 
 /* That no call on an end does anything with a handle that holds none. */
@@ -285,6 +286,13 @@ static int no_end(df1_end *end)
     ROW(df1_end_issue(end, 1, payload, 0, &now.number) == DF1_NO_HANDLE);
     ROW(df1_end_outcome(end, 1, &now.number) == DF1_NO_HANDLE);
     ROW(df1_end_reply(end, 1, now.bytes, 8, &now.length) == DF1_NO_HANDLE);
+    ROW(df1_end_pull(end, 1, 1000, 0, &now.number) == DF1_NO_HANDLE);
+    ROW(df1_end_push(end, 1, 7, payload, 2, &now.number) == DF1_NO_HANDLE);
+    ROW(df1_end_push(end, 1, 1000, payload, 3, &now.number) == DF1_NO_HANDLE);
+    ROW(df1_end_pulled(end, 1, 1, now.bytes, 8, &now.length, &now.transfer) == DF1_NO_HANDLE);
+    ROW(df1_end_pulled(end, 1, 0, now.bytes, 0, &now.length, &now.transfer) == DF1_NO_HANDLE);
+    ROW(df1_end_pushed(end, 1, 1, &now.transfer) == DF1_NO_HANDLE);
+    ROW(df1_end_pushed(end, 1, 0, &now.transfer) == DF1_NO_HANDLE);
     ROW(df1_end_word(end, 7, 0, &now.value) == DF1_NO_HANDLE);
     ROW(df1_end_set_word(end, 7, 0, 1) == DF1_NO_HANDLE);
     ROW(df1_end_files(end, &now.number) == DF1_NO_HANDLE);
@@ -370,6 +378,14 @@ static uint32_t make(enum kind kind, const struct parts *parts, df1_end *end)
                                parts->words, parts->word_count, parts->block, parts->block_length, end);
     return df1_slave_make(&parts->slave, &parts->node, parts->files, parts->file_count, parts->words, parts->word_count,
                           parts->block, parts->block_length, end);
+}
+
+uint32_t made(int kind, df1_end *end)
+{
+    static struct parts parts;
+
+    set_parts(&parts);
+    return make((enum kind)kind, &parts, end);
 }
 
 /* Puts a part out of range, so that this code tells of it. */
@@ -785,7 +801,7 @@ static int of_each_kind(int (*rows)(enum kind))
 int main(void)
 {
     static int (*const all[])(void) = {checks,         spelling,       texts,  hearing, longest_bodies,
-                                       edges_of_links, edges_of_later_members, calls_without_memory, handles, talks};
+                                       edges_of_links, edges_of_later_members, calls_without_memory, handles, transfers, talks};
     static int (*const each[])(enum kind) = {refused, edges_of_nodes, words, issuing, makes_without_memory};
     int failed = 0;
     size_t at;

@@ -16,6 +16,15 @@
 /* The bytes of a hexadecimal text with blanks, and how many they are. */
 size_t bytes_of(const char *text, uint8_t *into);
 
+/* How many more allocations are granted; all where it is negative. */
+extern long grants;
+
+/* Fills a handle with an end of parts in range, at address 1: 0 of a full-duplex link, 1 a master, 2 a slave. Answers the code. */
+uint32_t made(int kind, df1_end *end);
+
+/* Transfers: the line of the first row that fails, or 0. */
+int transfers(void);
+
 /* Ends that talk: the line of the first row that fails, or 0. */
 int talks(void);
 

@@ -10,7 +10,8 @@
  * Threads: a call keeps no state besides the handle, so calls on two handles may run at a time. A handle belongs to one thread,
  * the one that filled it.
  * Memory: what a call is handed it reads and writes only while it runs; it keeps no pointer. A handle takes its memory from
- * malloc: the calls whose names end in _make, df1_end_issue and df1_end_issue_from take some, and say where there is none.
+ * malloc: the calls whose names end in _make, df1_end_issue, df1_end_issue_from, df1_end_pull and df1_end_push take some, and say
+ * where there is none.
  * Time is the caller's: one call of df1_end_tick is one tick, as long as you like.
  * Outside: no call blocks, prints, reads a clock or ends the program.
  * Pointers: none may be null, one of no bytes neither. A caller who breaks this, or tells a length beyond what he owns, has no
@@ -64,7 +65,9 @@ enum df1_code {
     DF1_BAD_MAX_RESENDS = 30,  /* max_resends is out of its range */
     DF1_BAD_WINDOW = 31,       /* window is out of its range */
     DF1_BAD_PER_SOURCE = 32,   /* per_source is out of its range */
-    DF1_NOT_RESERVED = 33      /* a reserved member isn't 0 */
+    DF1_NOT_RESERVED = 33,     /* a reserved member isn't 0 */
+    DF1_BAD_FILE = 34,         /* a transfer's file is over 999 */
+    DF1_BAD_WORDS = 35         /* a transfer's words are none, over 3,000, or not whole */
 };
 
 /* ---- Checks and frames ---- */
@@ -331,6 +334,46 @@ uint32_t df1_end_outcome(df1_end *end, uint32_t number, uint32_t *outcome);
 /* The accepted reply to command `number`, 6 to 250 bytes, DST first, into the `room` bytes at `into`. DF1_NO_HANDLE,
  * DF1_NO_COMMAND, DF1_NOT_ANSWERED, DF1_NO_ROOM. */
 uint32_t df1_end_reply(df1_end *end, uint32_t number, uint8_t *into, size_t room, size_t *length);
+
+/* ---- Transfers ----
+ *
+ * A transfer moves the words 0 to `words` - 1 of a data file, 1 to 3,000, by word range reads or writes of 100 words each: there
+ * is an order for each 100 words, and one for what is left. The orders are commands of the end, numbered `*first`, `*first` + 1
+ * and so on, whose outcomes and replies the calls above tell too. A word is two bytes, the low one first. */
+
+/* Issues the orders of a transfer that reads `words` words of file `file` of the node `dst`, in the end's own name: all of them or
+ * none. DF1_NO_HANDLE, DF1_BAD_FILE, DF1_BAD_WORDS, DF1_SPENT where fewer numbers are left than orders, DF1_NO_MEMORY; none is
+ * issued then. */
+uint32_t df1_end_pull(df1_end *end, uint8_t dst, uint16_t file, uint32_t words, uint32_t *first);
+
+/* The same of a transfer that writes the `length` bytes at `bytes`, 2 for each word, to the file. DF1_BAD_WORDS where `length` is 0,
+ * odd, or over 6,000. */
+uint32_t df1_end_push(df1_end *end, uint8_t dst, uint16_t file, const uint8_t *bytes, size_t length, uint32_t *first);
+
+/* What a transfer came to so far. Of several orders that weren't done the lowest is told. */
+enum df1_transfer_state {
+    DF1_UNDER_WAY = 0, /* command `number` waits or is out, and each order before it was done */
+    DF1_WHOLE = 1,     /* each order was done */
+    DF1_MISSING = 2,   /* command `number` isn't answered, and won't be; or it was never issued */
+    DF1_REFUSED = 3,   /* command `number` was refused, with `sts` and `ext` */
+    DF1_ODD = 4        /* the reply to command `number` has other data than its order asks for */
+};
+
+typedef struct df1_transfer {
+    uint32_t state;  /* enum df1_transfer_state */
+    uint32_t number; /* 0 where `state` names none */
+    uint8_t sts;     /* STS of a refusal, or 0 */
+    uint8_t ext;     /* EXT STS of a refusal, or 0 where STS isn't F0 */
+} df1_transfer;
+
+/* What the transfer came to so far that reads `words` words by the commands from number `first` on. Where it is whole its words go
+ * into the `room` bytes at `into`, and `*length` is how many bytes they have; else `*length` is 0. DF1_NO_HANDLE, DF1_BAD_WORDS,
+ * DF1_NO_ROOM. */
+uint32_t df1_end_pulled(df1_end *end, uint32_t first, uint32_t words, uint8_t *into, size_t room, size_t *length,
+                        df1_transfer *came);
+
+/* What the transfer came to so far that writes `words` words by the commands from number `first` on. DF1_NO_HANDLE, DF1_BAD_WORDS. */
+uint32_t df1_end_pushed(df1_end *end, uint32_t first, uint32_t words, df1_transfer *came);
 
 /* ---- Data files ---- */
 

@@ -48,6 +48,10 @@ class Turn(ctypes.Structure):
     _fields_ = [("turn", u32), ("news", u32), ("news_command", u32), ("gone_count", u32)]
 
 
+class Transfer(ctypes.Structure):
+    _fields_ = [("state", u32), ("number", u32), ("sts", u8), ("ext", u8)]
+
+
 class Out(ctypes.Structure):
     _fields_ = [("there", c_bool), ("byte", u8)]
 
@@ -76,6 +80,10 @@ parameters = {
     "df1_end_issue_from": [handle, u8, u8, c_char_p, c_size_t, POINTER(u32)],
     "df1_end_outcome": [handle, u32, POINTER(u32)],
     "df1_end_reply": [handle, u32, c_char_p, c_size_t, length],
+    "df1_end_pull": [handle, u8, u16, u32, POINTER(u32)],
+    "df1_end_push": [handle, u8, u16, c_char_p, c_size_t, POINTER(u32)],
+    "df1_end_pulled": [handle, u32, u32, c_char_p, c_size_t, length, POINTER(Transfer)],
+    "df1_end_pushed": [handle, u32, u32, POINTER(Transfer)],
     "df1_end_word": [handle, u16, u32, POINTER(u16)],
     "df1_end_set_word": [handle, u16, u32, u16],
     "df1_end_files": [handle, POINTER(u32)],
@@ -203,6 +211,30 @@ class End:
 
     def reply(self, number):
         return self.library.bytes("df1_end_reply", self.handle, number)
+
+    def pull(self, dst, file, words):
+        """Issues the orders of a transfer that reads words of a file, and answers the number of the first."""
+        first = u32()
+        self.library.do("df1_end_pull", self.handle, dst, file, words, first)
+        return first.value
+
+    def push(self, dst, file, data):
+        """Issues the orders of a transfer that writes words, two bytes each, to a file, and answers the number of the first."""
+        first = u32()
+        self.library.do("df1_end_push", self.handle, dst, file, data, len(data), first)
+        return first.value
+
+    def pulled(self, first, words):
+        """What a transfer that reads came to so far, and its bytes where it is whole."""
+        into, count, came = ctypes.create_string_buffer(6000), c_size_t(), Transfer()
+        self.library.do("df1_end_pulled", self.handle, first, words, into, 6000, count, came)
+        return came, into.raw[: count.value]
+
+    def pushed(self, first, words):
+        """What a transfer that writes came to so far."""
+        came = Transfer()
+        self.library.do("df1_end_pushed", self.handle, first, words, came)
+        return came
 
     def word(self, file, index):
         value = u16()

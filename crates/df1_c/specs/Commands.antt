@@ -3,8 +3,6 @@ use Rattle.std.specs.Prelude.{◌≡◌, ◌⊎◌, ℕ, ◌+◌, List, length}
 use Rattle.std.specs.declared.option.Option.{Option}
 use Rattle.std.specs.declared.option.Option.TheVariants.{Some, None}
 use Rattle.std.specs.Option.{option_map}
-use Rattle.df1_node.specs.declared.outcome.IssueFault.{IssueFault}
-use Rattle.df1_node.specs.declared.outcome.IssueFault.TheVariants as fault
 use Rattle.df1_node.specs.declared.outcome.Outcome.{Outcome}
 use Rattle.df1_node.specs.declared.outcome.Outcome.TheVariants as outcome
 use Rattle.df1_node.specs.Initiator.{issue_fault, outcome_of, reply_of}
@@ -13,17 +11,11 @@ use Rattle.c_ends.specs.declared.code.Code.{Code}
 use Rattle.c_ends.specs.declared.code.Code.TheVariants as code
 use Rattle.c_ends.specs.declared.held.Held.{Held}
 use Rattle.c_ends.specs.Code.{code_number}
+use Rattle.c_transfers.specs.Transfers.{fault_code}
 use Rattle.df1_c.specs.Copied.{room_code}
 use Rattle.df1_c.specs.Behind.{node_in}
 
 -- ---- issuing one
-
-abbrev pub fault_code : IssueFault → Code
-fault_code fault.NoMemory = code.NoMemory
-fault_code fault.Empty = code.NoPayload
-fault_code fault.TooLong = code.LongPayload
-fault_code fault.NotCommand = code.NotCommand
-fault_code fault.Spent = code.Spent
 
 -- what stands against a command, but for want of memory
 abbrev pub node_refusal : Option NodeState → List ℕ → Option Code

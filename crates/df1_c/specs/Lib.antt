@@ -9,4 +9,5 @@ pub mod Owned
 pub mod Rows
 pub mod Spelled
 pub mod Told
+pub mod Transfers
 pub mod Words

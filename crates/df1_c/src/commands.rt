@@ -10,13 +10,14 @@ ghost use Rattle.df1_c.specs.Arrived.{IsEndFor};
 ghost use Rattle.df1_c.specs.Copied.{copied};
 ghost use Rattle.df1_c.specs.Held.{holding};
 ghost use Rattle.df1_c.specs.Behind.{code_at, told_at, with_change};
-ghost use Rattle.df1_c.specs.Commands.{IsIssue, fault_code, next_number, node_refusal, outcome_code, outcome_number, outcome_told, refusal, reply_code, reply_told};
+ghost use Rattle.df1_c.specs.Commands.{IsIssue, next_number, node_refusal, outcome_code, outcome_number, outcome_told, refusal, reply_code, reply_told};
 
 use crate::behind::node_of;
 use crate::copying::copy;
 use crate::seat::Seat;
 use c_ends::{Code, Held};
-use df1_node::{IssueFault, Node, Outcome};
+use c_transfers::fault_code;
+use df1_node::{Node, Outcome};
 use std::alloc::Global;
 
 /// Issues a command to a node, in the name of the end's own. The payload is CMD and what follows TNS.
@@ -87,18 +88,6 @@ fn issue_at(node: &mut Node, src: Option<u8>, dst: u8, payload: &[u8], number: &
             Code::Done.number()
         }
         Err(fault) => fault_code(fault).number(),
-    }
-}
-
-fn fault_code(fault: IssueFault) -> Code
-    ensures { result ≡ fault_code fault }
-{
-    match fault {
-        IssueFault::NoMemory => Code::NoMemory,
-        IssueFault::Empty => Code::NoPayload,
-        IssueFault::TooLong => Code::LongPayload,
-        IssueFault::NotCommand => Code::NotCommand,
-        IssueFault::Spent => Code::Spent,
     }
 }
 
