@@ -160,7 +160,7 @@ static int texts(void)
     uint32_t code;
     size_t last;
 
-    for (code = 0; code <= DF1_BAD_WORDS + 1; code++) {
+    for (code = 0; code <= DF1_BAD_ROUTES + 1; code++) {
         size_t length = 0, again = 0;
 
         ROW(df1_code_text(code, text, 0, &length) == DF1_NO_ROOM && length >= 2 && length <= 80);
@@ -168,7 +168,7 @@ static int texts(void)
         ROW(df1_code_text(code, text, length - 1, &again) == DF1_NO_ROOM && again == length && are_all(text, 'x', sizeof text));
         ROW(df1_code_text(code, text, length, &again) == DF1_DONE && again == length);
         ROW(strlen(text) + 1 == length && text[length] == 'x');
-        ROW((strcmp(text, "no code of df1") == 0) == (code > DF1_BAD_WORDS));
+        ROW((strcmp(text, "no code of df1") == 0) == (code > DF1_BAD_ROUTES));
     }
     ROW(df1_code_text(0xFFFFFFFF, text, 80, &last) == DF1_DONE && strcmp(text, "no code of df1") == 0);
     return 0;
@@ -341,7 +341,7 @@ struct parts {
 static void set_parts(struct parts *parts)
 {
     static const df1_duplex duplex = {false, false, 10, 3, 3, {0}};
-    static const df1_master master = {false, 10, 3, 10, {0}};
+    static const df1_master master = {false, 10, 3, 10, 0, {0}};
     static const df1_slave slave = {false, 3, {0}};
     static const df1_node node = {1, 1, 100, 2, true, 7, 0, 0, {0}};
     static const df1_file files[] = {{7, DF1_INTEGER, 16}, {3, DF1_BIT, 4}, {4, DF1_TIMER, 2}};
@@ -407,6 +407,9 @@ static void spoil(struct parts *parts, uint32_t code)
     case DF1_BAD_POLL_TICKS:
         parts->master.poll_ticks = 0;
         break;
+    case DF1_BAD_ROUTES:
+        parts->master.routes = 2;
+        break;
     case DF1_BAD_MAX_SENDS:
         parts->slave.max_sends = 0;
         break;
@@ -464,10 +467,10 @@ static void spoil(struct parts *parts, uint32_t code)
 }
 
 /* The refusals of each kind, in the order of the header; those of one part, of which only one can be told, are one after another. */
-static const uint32_t refusals[3][17] = {
+static const uint32_t refusals[3][18] = {
     {DF1_BAD_ACK_TICKS, DF1_BAD_MAX_NAKS, DF1_BAD_MAX_ENQS, DF1_BAD_REPLY_TICKS, DF1_BAD_ROOM, DF1_BAD_WINDOW, DF1_BAD_PER_SOURCE,
      DF1_NOT_RESERVED, DF1_TOO_MANY_FILES, DF1_BAD_TYPE, DF1_EMPTY_FILE, DF1_BAD_COMPAT, DF1_NO_WORD, DF1_LONG_BLOCK, DF1_DONE},
-    {DF1_BAD_ACK_TICKS, DF1_BAD_MAX_RESENDS, DF1_BAD_POLL_TICKS, DF1_TOO_MANY_STATIONS, DF1_BAD_STATION, DF1_BAD_REPLY_TICKS,
+    {DF1_BAD_ACK_TICKS, DF1_BAD_MAX_RESENDS, DF1_BAD_POLL_TICKS, DF1_BAD_ROUTES, DF1_TOO_MANY_STATIONS, DF1_BAD_STATION, DF1_BAD_REPLY_TICKS,
      DF1_BAD_ROOM, DF1_BAD_WINDOW, DF1_NOT_RESERVED, DF1_TOO_MANY_FILES, DF1_BAD_TYPE, DF1_LARGE_FILE, DF1_BAD_COMPAT, DF1_NO_WORD,
      DF1_LONG_BLOCK, DF1_DONE},
     {DF1_BAD_MAX_SENDS, DF1_BAD_STATION, DF1_BAD_REPLY_TICKS, DF1_BAD_ROOM, DF1_BAD_PER_SOURCE, DF1_NOT_RESERVED,
@@ -575,6 +578,11 @@ static int edges_of_later_members(void)
         parts.node.window = parts.node.per_source = right[at];
         ROW(tried(DUPLEX, &parts) == DF1_DONE && tried(MASTER, &parts) == DF1_DONE && tried(SLAVE, &parts) == DF1_DONE);
     }
+    parts.master.routes = 1;
+    ROW(tried(MASTER, &parts) == DF1_DONE);
+    parts.master.routes = 0xFFFFFFFF;
+    ROW(tried(MASTER, &parts) == DF1_BAD_ROUTES);
+    parts.master.routes = 0;
     parts.node.window = 17;
     ROW(tried(DUPLEX, &parts) == DF1_BAD_WINDOW);
     parts.node.window = 0xFFFFFFFF;
@@ -584,7 +592,8 @@ static int edges_of_later_members(void)
     ROW(tried(SLAVE, &parts) == DF1_BAD_PER_SOURCE);
     for (at = 0; at < 4; at++) {
         set_parts(&parts);
-        parts.duplex.reserved[at] = parts.master.reserved[at] = parts.slave.reserved[at] = 1;
+        parts.duplex.reserved[at] = parts.slave.reserved[at] = 1;
+        parts.master.reserved[at % 3] = 1;
         parts.node.room = 1;
         ROW(tried(DUPLEX, &parts) == DF1_NOT_RESERVED && tried(MASTER, &parts) == DF1_NOT_RESERVED);
         ROW(tried(SLAVE, &parts) == DF1_NOT_RESERVED);
@@ -801,7 +810,8 @@ static int of_each_kind(int (*rows)(enum kind))
 int main(void)
 {
     static int (*const all[])(void) = {checks,         spelling,       texts,  hearing, longest_bodies,
-                                       edges_of_links, edges_of_later_members, calls_without_memory, handles, transfers, talks};
+                                       edges_of_links, edges_of_later_members, calls_without_memory, handles, transfers,
+                                       routes, talks};
     static int (*const each[])(enum kind) = {refused, edges_of_nodes, words, issuing, makes_without_memory};
     int failed = 0;
     size_t at;

@@ -25,6 +25,9 @@ uint32_t made(int kind, df1_end *end);
 /* Transfers: the line of the first row that fails, or 0. */
 int transfers(void);
 
+/* Messages between stations: the line of the first row that fails, or 0. */
+int routes(void);
+
 /* Ends that talk: the line of the first row that fails, or 0. */
 int talks(void);
 

@@ -368,7 +368,7 @@ static int two_sources(void)
 static int polled(void)
 {
     static const uint8_t stations[] = {3, 5};
-    static const df1_master link = {false, 10, 3, 10, {0}};
+    static const df1_master link = {false, 10, 3, 10, 0, {0}};
     static const struct row rows[] = {
         {0, STILL, "", NOTHING, STN3_WRITE},
         {1, STILL, STN3_WRITE, EXECUTED, "10 06"},
@@ -444,7 +444,7 @@ static int acts_of_slave(void)
 static int acts_of_master(void)
 {
     static const uint8_t stations[] = {3};
-    static const df1_master link = {false, 2, 1, 2, {0}};
+    static const df1_master link = {false, 2, 1, 2, 0, {0}};
     static const struct row rows[] = {
         {0, STILL, "", NOTHING, STN3_ECHO("01", "9E")},
         {0, 2, DF1_TURN_STILL, "", NOTHING, STN3_ECHO("01", "9E")},

@@ -67,7 +67,8 @@ enum df1_code {
     DF1_BAD_PER_SOURCE = 32,   /* per_source is out of its range */
     DF1_NOT_RESERVED = 33,     /* a reserved member isn't 0 */
     DF1_BAD_FILE = 34,         /* a transfer's file is over 999 */
-    DF1_BAD_WORDS = 35         /* a transfer's words are none, over 3,000, or not whole */
+    DF1_BAD_WORDS = 35,        /* a transfer's words are none, over 3,000, or not whole */
+    DF1_BAD_ROUTES = 36        /* routes is neither 0 nor 1 */
 };
 
 /* ---- Checks and frames ---- */
@@ -161,7 +162,8 @@ typedef struct df1_master {
     uint32_t ack_ticks;   /* the ticks of a wait for ACK: 1 to 1,000,000 */
     uint32_t max_resends; /* how often a message is given again before it is given up: 0 to 255 */
     uint32_t poll_ticks;  /* the ticks of a wait after a poll: 1 to 1,000,000 */
-    uint32_t reserved[4];
+    uint32_t routes;      /* 1: it carries messages from station to station; 0: each message is its node's */
+    uint32_t reserved[3];
 } df1_master;
 
 /* The link of a half-duplex slave. Its station number is the address of its node, neither 16 nor 255. */
@@ -249,7 +251,8 @@ enum df1_did {
     DF1_NOT_ACCEPTED = 0, /* the act isn't DF1_ACT_ACCEPT */
     DF1_EXECUTED = 1,     /* a command was executed, and its reply waits */
     DF1_ANSWERED = 2,     /* the reply to command `did_command` */
-    DF1_STRAY = 3         /* a reply to no command that is out */
+    DF1_STRAY = 3,        /* a reply to no command that is out */
+    DF1_ROUTED = 4        /* a message to a station, which a master with `routes` keeps until it gives it to that station */
 };
 
 /* What became known of a message that the end gave. */
@@ -298,7 +301,9 @@ uint32_t df1_end_byte(df1_end *end, uint8_t byte, df1_step *step);
 uint32_t df1_end_body(df1_end *end, uint8_t *into, size_t room, size_t *length);
 
 /* A tick has passed: the numbers of the commands that it left unanswered go to the front of the `room` numbers at `gone`, which
- * are at least 16. A slave counts no ticks, and tells DF1_TURN_STILL. DF1_NO_HANDLE, and DF1_NO_ROOM where `room` is under 16. */
+ * are at least 16. At a slave a tick counts for its own commands that are out, and for nothing else, so it tells DF1_TURN_STILL: this
+ * is the library's own addition, since the polled line itself has no ticks of a slave, and a caller who passes none there has a
+ * command wait for its reply for good. DF1_NO_HANDLE, and DF1_NO_ROOM where `room` is under 16. */
 uint32_t df1_end_tick(df1_end *end, df1_turn *turn, uint32_t *gone, size_t room);
 
 /* The end gives the next byte for the line, if there is one. After each byte and each tick take until the end is quiet. A master

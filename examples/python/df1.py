@@ -20,7 +20,8 @@ class Duplex(ctypes.Structure):
 
 
 class Master(ctypes.Structure):
-    _fields_ = [("crc", c_bool), ("ack_ticks", u32), ("max_resends", u32), ("poll_ticks", u32), ("reserved", u32 * 4)]
+    _fields_ = [("crc", c_bool), ("ack_ticks", u32), ("max_resends", u32), ("poll_ticks", u32), ("routes", u32),
+                ("reserved", u32 * 3)]
 
 
 class Slave(ctypes.Structure):

@@ -13,7 +13,7 @@ use Rattle.c_ends.specs.declared.parts.FileParts.{FileParts}
 use Rattle.c_ends.specs.declared.parts.WordParts.{WordParts}
 use Rattle.c_ends.specs.Parts.{node_fault}
 use Rattle.c_ends.specs.Values.{reserved_fault, value_fault}
-use Rattle.c_ends.specs.Links.{duplex_fault, many_fault, master_fault, number_fault, slave_fault, station_fault}
+use Rattle.c_ends.specs.Links.{duplex_fault, many_fault, master_fault, number_fault, routes_fault, slave_fault, station_fault}
 use Rattle.c_ends.proofs.InRange.{first_of-none, value-fits}
 use Rattle.c_ends.proofs.StationLemmas.{are_stations, is_number}
 
@@ -41,13 +41,15 @@ module _ (node : NodeParts) (files : List FileParts) (words : List WordParts) (b
   master_in_range link stations e =
       let after_many : List (Option Code) = station_fault [] stations ∷ behind in
       let after_reserved : List (Option Code) = many_fault stations ∷ after_many in
-      let after_polls : List (Option Code) = reserved_fault link.reserved ∷ after_reserved in
+      let after_routes : List (Option Code) = reserved_fault link.reserved ∷ after_reserved in
+      let after_polls : List (Option Code) = routes_fault link.routes ∷ after_routes in
       let after_resends : List (Option Code) = value_fault PollTicks code.BadPollTicks link.poll_ticks ∷ after_polls in
       let after_acks : List (Option Code) = value_fault MaxResends code.BadMaxResends link.max_resends ∷ after_resends in
       let acks = first_of-none (value_fault AckTicks code.BadAckTicks link.ack_ticks) after_acks e in
       let resends = first_of-none (value_fault MaxResends code.BadMaxResends link.max_resends) after_resends acks.1 in
       let polls = first_of-none (value_fault PollTicks code.BadPollTicks link.poll_ticks) after_polls resends.1 in
-      let reserved = first_of-none (reserved_fault link.reserved) after_reserved polls.1 in
+      let routes = first_of-none (routes_fault link.routes) after_routes polls.1 in
+      let reserved = first_of-none (reserved_fault link.reserved) after_reserved routes.1 in
       let many = first_of-none (many_fault stations) after_many reserved.1 in
       let each = first_of-none (station_fault [] stations) behind many.1 in
       record {

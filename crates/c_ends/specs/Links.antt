@@ -10,6 +10,7 @@ use Rattle.end_settings.specs.declared.key.Key.TheVariants.{AckTicks, MaxEnqs, M
 use Rattle.half_master.specs.declared.MasterSetup.{MasterSetup}
 use Rattle.half_master.specs.Master.{new_master}
 use Rattle.half_slave.specs.declared.SlaveSetup.{SlaveSetup}
+use Rattle.station_router.specs.Router.{new_router}
 use Rattle.half_slave.specs.Slave.{new_slave}
 use Rattle.c_ends.specs.declared.code.Code.{Code}
 use Rattle.c_ends.specs.declared.code.Code.TheVariants as code
@@ -45,6 +46,10 @@ station_fault before (number ∷ numbers) =
 abbrev pub many_fault : List ℕ → Option Code
 many_fault stations = if nat_lt 32 (length stations) then Some code.TooManyStations else None
 
+-- whether a master carries messages between its stations is told by 0 or 1
+abbrev pub routes_fault : ℕ → Option Code
+routes_fault routes = if nat_lt 1 routes then Some code.BadRoutes else None
+
 -- the first of these
 abbrev pub duplex_fault : DuplexLink → NodeParts → List FileParts → List WordParts → List ℕ → Option Code
 duplex_fault link node files words block = first_of (
@@ -59,6 +64,7 @@ master_fault link stations node files words block = first_of (
     value_fault AckTicks code.BadAckTicks link.ack_ticks ∷
     value_fault MaxResends code.BadMaxResends link.max_resends ∷
     value_fault PollTicks code.BadPollTicks link.poll_ticks ∷
+    routes_fault link.routes ∷
     reserved_fault link.reserved ∷
     many_fault stations ∷
     station_fault [] stations ∷
@@ -86,8 +92,12 @@ first_duplex link node files words block = held.Duplex (new_end (duplex_setup li
 abbrev pub master_setup : MasterLink → MasterSetup
 master_setup link = record { check = check_of link.crc; ack_ticks = link.ack_ticks; max_resends = link.max_resends; poll_ticks = link.poll_ticks }
 
+-- the stations between which it carries messages
+abbrev pub carried_by : MasterLink → List ℕ → List ℕ
+carried_by link stations = if link.routes == 1 then stations else []
+
 abbrev pub first_master : MasterLink → List ℕ → NodeParts → List FileParts → List WordParts → List ℕ → Held
-first_master link stations node files words block = held.Master (new_master (master_setup link) stations (first_node node files words block))
+first_master link stations node files words block = held.Master (new_master (master_setup link) stations (new_router (carried_by link stations) (first_node node files words block)))
 
 -- the number of a slave's station is the address of its node
 abbrev pub slave_setup : SlaveLink → NodeParts → SlaveSetup

@@ -78,10 +78,12 @@ pub enum Code {
     BadFile = 34,
     /// A transfer's words are none, over 3,000, or not whole.
     BadWords = 35,
+    /// `routes` is neither 0 nor 1.
+    BadRoutes = 36,
 }
 
 /// All codes, by their numbers.
-const CODES: [Code; 36] = [
+const CODES: [Code; 37] = [
     Code::Done,
     Code::NoHandle,
     Code::NoMemory,
@@ -118,6 +120,7 @@ const CODES: [Code; 36] = [
     Code::NotReserved,
     Code::BadFile,
     Code::BadWords,
+    Code::BadRoutes,
 ];
 
 impl Code {
@@ -177,6 +180,7 @@ impl Code {
             Code::NotReserved => "a reserved member isn't 0",
             Code::BadFile => "a transfer's file is over 999",
             Code::BadWords => "a transfer's words are none, over 3,000, or not whole",
+            Code::BadRoutes => "routes is neither 0 nor 1",
         }
     }
 }

@@ -5,6 +5,7 @@ use df1_node::Node;
 use duplex_end::End;
 use half_master::Master;
 use half_slave::Slave;
+use station_router::Router;
 
 /// What a handle holds: a decoder, or an end of a link over a node.
 #[derive(Drop)]
@@ -13,8 +14,8 @@ pub enum Held {
     Decoder(Decoder<250>),
     /// An end of a full-duplex link.
     Duplex(End<Node>),
-    /// The master of a half-duplex link.
-    Master(Master<Node>),
+    /// The master of a half-duplex link, which may carry messages between its stations.
+    Master(Master<Router<Node>>),
     /// A slave of a half-duplex link.
     Slave(Slave<Node>),
 }

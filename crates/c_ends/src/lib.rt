@@ -1,4 +1,5 @@
-//! The ends that C can have: what a handle may hold, how it is made of plain structs, and the code of each refusal.
+//! The ends that C can have: what a handle may hold, how it is made of plain structs, the code of each refusal, and what is told of
+//! what an end did.
 #![tactic(auto)]
 
 mod code;
@@ -7,9 +8,11 @@ mod held;
 mod links;
 mod node;
 mod parts;
+mod told;
 mod values;
 
 pub use code::Code;
 pub use held::Held;
 pub use links::{check_of, duplex_of, master_of, slave_of};
 pub use parts::{DuplexLink, FileParts, MasterLink, NodeParts, SlaveLink, WordParts};
+pub use told::{OutTold, StepTold, TurnTold, out_of, routed, step_of, turn_of};

@@ -2,10 +2,10 @@
 //! of them counts: the link's members in their order, a master's stations, the number of a slave, then what stands behind
 //! the end.
 
-ghost use Rattle.std.specs.Prelude.{◌≡◌, ◌==◌, [], Err, IfErr, IfOk, MatchOption};
+ghost use Rattle.std.specs.Prelude.{◌≡◌, ◌≤◌, ◌==◌, [], length, Err, IfErr, IfOk, MatchOption};
 ghost use Rattle.std.specs.Option.{option_or};
 ghost use Rattle.std.specs.List.{list_any};
-ghost use Rattle.c_ends.specs.Links.{check_of, duplex_fault, duplex_setup, first_duplex, first_master, first_slave, many_fault, master_fault, master_setup, number_fault, slave_fault, slave_setup, station_fault, twice_fault};
+ghost use Rattle.c_ends.specs.Links.{carried_by, check_of, duplex_fault, duplex_setup, first_duplex, first_master, first_slave, many_fault, master_fault, master_setup, number_fault, routes_fault, slave_fault, slave_setup, station_fault, twice_fault};
 
 use crate::code::Code;
 use crate::held::Held;
@@ -18,6 +18,7 @@ use duplex_sender::Limits;
 use end_settings::Key;
 use half_master::{Master, MasterSetup};
 use half_slave::{Slave, SlaveSetup};
+use station_router::Router;
 use std::alloc::Global;
 
 /// The most stations of a master.
@@ -64,7 +65,10 @@ pub fn master_of(
         return Err(fault);
     }
     match node_of(alloc, node, files, words, block) {
-        Ok(node) => Ok(Held::Master(Master::new(master_setup(link), stations, node))),
+        Ok(node) => {
+            let router = Router::new(carried_by(link, stations), node);
+            Ok(Held::Master(Master::new(master_setup(link), stations, router)))
+        }
         Err(_) => Err(Code::NoMemory),
     }
 }
@@ -123,6 +127,7 @@ fn master_fault(
     value_fault(Key::AckTicks, Code::BadAckTicks, link.ack_ticks)
         .or_else(|| value_fault(Key::MaxResends, Code::BadMaxResends, link.max_resends))
         .or_else(|| value_fault(Key::PollTicks, Code::BadPollTicks, link.poll_ticks))
+        .or_else(|| routes_fault(link.routes))
         .or_else(|| reserved_fault(&link.reserved))
         .or_else(|| many_fault(stations))
         .or_else(|| station_fault(stations))
@@ -179,6 +184,14 @@ fn master_setup(link: &MasterLink) -> MasterSetup
     }
 }
 
+/// The stations between which a master carries messages.
+fn carried_by<'a>(link: &MasterLink, stations: &'a [u8]) -> &'a [u8]
+    ensures stations { result.now ≡ carried_by link.now stations.now }
+    ensures few { length result.now ≤ length stations.now }
+{
+    if link.routes == 1 { stations } else { &[] }
+}
+
 /// How a slave is set up.
 fn slave_setup(link: &SlaveLink, node: &NodeParts) -> SlaveSetup
     ensures { result ≡ slave_setup link.now node.now }
@@ -187,6 +200,17 @@ fn slave_setup(link: &SlaveLink, node: &NodeParts) -> SlaveSetup
         station: node.address,
         check: check_of(link.crc),
         max_sends: link.max_sends,
+    }
+}
+
+/// A number that says neither that a master carries messages nor that it doesn't.
+fn routes_fault(routes: u32) -> Option<Code>
+    ensures { result ≡ routes_fault routes }
+{
+    if routes > 1 {
+        Some(Code::BadRoutes)
+    } else {
+        None
     }
 }
 

@@ -4,6 +4,9 @@
 /// How many reserved members a part has.
 pub(crate) const RESERVED: usize = 4;
 
+/// How many reserved members a master's link has.
+pub(crate) const RESERVED_OF_MASTER: usize = 3;
+
 /// Members that are 0.
 pub type Reserved = [u32; RESERVED];
 
@@ -36,7 +39,9 @@ pub struct MasterLink {
     pub max_resends: u32,
     /// The ticks of a wait after a poll.
     pub poll_ticks: u32,
-    pub reserved: Reserved,
+    /// 1 where the master carries messages between its stations, and else 0.
+    pub routes: u32,
+    pub reserved: [u32; RESERVED_OF_MASTER],
 }
 
 /// The link of a half-duplex slave. Its station number is the address of its node, neither 16 nor 255.

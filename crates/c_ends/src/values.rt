@@ -1,10 +1,10 @@
 //! The values that the keys of an end may have in C.
 
-ghost use Rattle.std.specs.Prelude.{◌≡◌};
+ghost use Rattle.std.specs.Prelude.{◌≡◌, ◌==◌, not};
+ghost use Rattle.std.specs.List.{list_any};
 ghost use Rattle.c_ends.specs.Values.{from_one, given_or_first, reserved_fault, value_fault, values_of as the_values};
 
 use crate::code::Code;
-use crate::parts::Reserved;
 use end_settings::{Key, Values};
 
 /// The values of a key: those of its row, but that a reply may take as few ticks as one, since a tick of the caller's may be as
@@ -50,12 +50,19 @@ pub(crate) fn given_or_first(key: Key, number: u32) -> u32
 }
 
 /// A reserved member that isn't 0.
-pub(crate) fn reserved_fault(reserved: &Reserved) -> Option<Code>
+pub(crate) fn reserved_fault(reserved: &[u32]) -> Option<Code>
     ensures { result ≡ reserved_fault reserved.now }
 {
-    if reserved.iter().any(|member| *member != 0) {
+    if has_other(reserved) {
         Some(Code::NotReserved)
     } else {
         None
     }
+}
+
+/// Whether one of these members isn't 0.
+fn has_other(reserved: &[u32]) -> bool
+    ensures { result ≡ list_any (λ member. not (member == 0)) reserved.now }
+{
+    reserved.iter().any(|member| *member != 0)
 }

@@ -18,8 +18,9 @@ use Rattle.c_ends.specs.declared.held.Held.TheVariants as held
 use Rattle.c_ends.specs.Code.{code_number}
 use Rattle.df1_node.specs.contracts.node.NodeHost.TheImpl.{ghosts as node_host}
 use Rattle.df1_c.specs.declared.decoders.Hearing.{Hearing}
-use Rattle.df1_c.specs.declared.told.StepTold.{StepTold}
+use Rattle.c_ends.specs.declared.told.StepTold.{StepTold}
 use Rattle.df1_c.specs.Arrived.{IsDecoderFor, IsHearing, IsEndFor, HearsWhole, IsBodyOf, Copies}
+use Rattle.df1_c.specs.Behind.{routed_host}
 use Rattle.df1_c.specs.Copied.{copied}
 use Rattle.df1_c.specs.Decoders.{after_fed, heard_in, hearing_told, lent_in, lent_code}
 use Rattle.df1_c.specs.Ends.{after_byte, step_of, body_of, body_code, after_tick, after_take}
@@ -71,7 +72,7 @@ lent-copied (Some (held.Slave end)) into new before count answer coded given cou
 heard : (held : Held) (byte : ℕ) (check : Check) (bytes : List ℕ) → IsEndFor check bytes (Some held) → IsEndFor check (bytes ++ byte ∷ []) (Some (after_byte held byte))
 heard (held.Decoder decoder) byte check bytes stands = absurd stands
 heard (held.Duplex end) byte check bytes stands = duplex.stands-byte node_host end byte check bytes stands
-heard (held.Master end) byte check bytes stands = master.stands-byte node_host end byte check bytes stands
+heard (held.Master end) byte check bytes stands = master.stands-byte routed_host end byte check bytes stands
 heard (held.Slave end) byte check bytes stands = slave.stands-byte node_host end byte check bytes stands
 
 pub byte-stands : (old new : Option Held) (byte : ℕ) → new ≡ option_map (λ held. after_byte held byte) old
@@ -85,7 +86,7 @@ heard-whole : (held : Held) (byte : ℕ) (before : StepTold) (check : Check) (by
     → IsTrue (told_of (Some held) (λ held. step_of held byte) before).whole ↔ HearsWhole check (bytes ++ byte ∷ []) (Some held)
 heard-whole (held.Decoder decoder) byte before check bytes stands = absurd stands
 heard-whole (held.Duplex end) byte before check bytes stands = duplex.whole-byte node_host end byte check bytes stands
-heard-whole (held.Master end) byte before check bytes stands = master.whole-byte node_host end byte check bytes stands
+heard-whole (held.Master end) byte before check bytes stands = master.whole-byte routed_host end byte check bytes stands
 heard-whole (held.Slave end) byte before check bytes stands =
     let tells = slave.byte-tells node_host end byte check bytes stands in
     let station = (step_at_byte node_host end byte).station in
@@ -131,7 +132,7 @@ body-copied (Some (held.Slave end)) into new before count answer coded given cou
 ticked : (held : Held) (check : Check) (bytes : List ℕ) → IsEndFor check bytes (Some held) → IsEndFor check bytes (Some (after_tick held))
 ticked (held.Decoder decoder) check bytes stands = absurd stands
 ticked (held.Duplex end) check bytes stands = stands
-ticked (held.Master end) check bytes stands = master.stands-tick node_host end check bytes stands
+ticked (held.Master end) check bytes stands = master.stands-tick routed_host end check bytes stands
 ticked (held.Slave end) check bytes stands = stands
 
 maybe-ticked : (small : Bool) (held : Held) (check : Check) (bytes : List ℕ) → IsEndFor check bytes (Some held) → IsEndFor check bytes (Some (if small then held else after_tick held))
@@ -149,7 +150,7 @@ tick-stands small old new before after was now is check bytes stands =
 taken : (held : Held) (check : Check) (bytes : List ℕ) → IsEndFor check bytes (Some held) → IsEndFor check bytes (Some (after_take held))
 taken (held.Decoder decoder) check bytes stands = absurd stands
 taken (held.Duplex end) check bytes stands = duplex.stands-take node_host end check bytes stands
-taken (held.Master end) check bytes stands = master.stands-take node_host end check bytes stands
+taken (held.Master end) check bytes stands = master.stands-take routed_host end check bytes stands
 taken (held.Slave end) check bytes stands = stands
 
 pub take-stands : (old new : Option Held) → new ≡ option_map after_take old

@@ -100,10 +100,11 @@ master-never link stations node files words block =
     first-or _ _ (value-never AckTicks code.BadAckTicks link.ack_ticks refl)
     (first-or _ _ (value-never MaxResends code.BadMaxResends link.max_resends refl)
     (first-or _ _ (value-never PollTicks code.BadPollTicks link.poll_ticks refl)
+    (first-or _ _ (one-if (nat_lt 1 link.routes) code.BadRoutes refl)
     (first-or _ _ (reserved-never link.reserved)
     (first-or _ _ (one-if (nat_lt 32 (length stations)) code.TooManyStations refl)
     (first-or _ _ (stations-never [] stations)
-    (first-or _ _ (node-never node files words block) tt))))))
+    (first-or _ _ (node-never node files words block) tt)))))))
 
 pub slave-never : (link : SlaveLink) (node : NodeParts) (files : List FileParts) (words : List WordParts) (block : List ℕ) → NeverDone (slave_fault link node files words block)
 slave-never link node files words block =

@@ -8,6 +8,7 @@ use Rattle.df1_frame.proofs.GrammarLemmas.{machine, works}
 use Rattle.duplex_end.proofs.Arriving as duplex
 use Rattle.half_master.proofs.EarLemmas as master
 use Rattle.half_slave.proofs.Arriving as slave
+use Rattle.station_router.specs.Router.{new_router}
 use Rattle.c_ends.specs.declared.code.Code.{Code}
 use Rattle.c_ends.specs.declared.code.Code.TheVariants as code
 use Rattle.c_ends.specs.declared.held.Held.{Held}
@@ -18,7 +19,7 @@ use Rattle.c_ends.specs.declared.parts.NodeParts.{NodeParts}
 use Rattle.c_ends.specs.declared.parts.FileParts.{FileParts}
 use Rattle.c_ends.specs.declared.parts.WordParts.{WordParts}
 use Rattle.c_ends.specs.Code.{code_number}
-use Rattle.c_ends.specs.Links.{check_of, duplex_fault, first_duplex, duplex_setup, master_fault, first_master, master_setup, slave_fault, first_slave, slave_setup}
+use Rattle.c_ends.specs.Links.{carried_by, check_of, duplex_fault, first_duplex, duplex_setup, master_fault, first_master, master_setup, slave_fault, first_slave, slave_setup}
 use Rattle.c_ends.specs.Parts.{first_node}
 use Rattle.df1_c.specs.Arrived.{IsDecoderFor, IsEndFor}
 use Rattle.df1_c.specs.Decoders.{new_decoder}
@@ -93,7 +94,7 @@ pub master-stands : (link : MasterLink) (stations : List ℕ) (node : NodeParts)
 master-stands link stations node files words block number old new make is =
     let fault = master_fault link stations node files words block in
     let made = done-made (option_or (taken_fault old) fault) (first_master link stations node files words block) number old new (first-or (taken_fault old) fault (taken-never old) (master-never link stations node files words block)) make is in
-    subst (λ (o : Option Held). IsEndFor (check_of link.crc) [] o) (sym made) (master.stands-new (master_setup link) stations (first_node node files words block))
+    subst (λ (o : Option Held). IsEndFor (check_of link.crc) [] o) (sym made) (master.stands-new (master_setup link) stations (new_router (carried_by link stations) (first_node node files words block)))
 
 pub slave-stands : (link : SlaveLink) (node : NodeParts) (files : List FileParts) (words : List WordParts) (block : List ℕ) (number : ℕ) (old new : Option Held)
     → IsMake (option_or (taken_fault old) (slave_fault link node files words block)) (first_slave link node files words block) number old new

@@ -8,6 +8,5 @@ pub mod Held
 pub mod Owned
 pub mod Rows
 pub mod Spelled
-pub mod Told
 pub mod Transfers
 pub mod Words

@@ -2,7 +2,7 @@
 use Rattle.std.specs.Prelude.{ℕ, List, length, nat_lt, if◌then◌else◌}
 use Rattle.std.specs.declared.option.Option.{Option}
 use Rattle.std.specs.declared.option.Option.TheVariants.{Some, None}
-use Rattle.std.specs.Option.{option_and_then, unwrap_or}
+use Rattle.std.specs.Option.{unwrap_or}
 use Rattle.df1_node.specs.Node.{NodeState}
 use Rattle.bulk_orders.specs.Outcomes.{pull_result_from, push_result_from, words_pulled_from}
 use Rattle.c_ends.specs.declared.code.Code.{Code}

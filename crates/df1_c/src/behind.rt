@@ -14,7 +14,7 @@ pub(crate) fn node_of(held: &Held) -> Option<&Node>
     match held {
         Held::Decoder(_) => None,
         Held::Duplex(end) => Some(end.host()),
-        Held::Master(end) => Some(end.host()),
+        Held::Master(end) => Some(end.host().inner()),
         Held::Slave(end) => Some(end.host()),
     }
 }

@@ -70,7 +70,7 @@ fn issue(held: &mut Held, src: Option<u8>, dst: u8, payload: &[u8], number: &mut
     match held {
         Held::Decoder(_) => Code::NoHandle.number(),
         Held::Duplex(end) => issue_at(end.host_mut(), src, dst, payload, number),
-        Held::Master(end) => issue_at(end.host_mut(), src, dst, payload, number),
+        Held::Master(end) => issue_at(end.host_mut().inner_mut(), src, dst, payload, number),
         Held::Slave(end) => issue_at(end.host_mut(), src, dst, payload, number),
     }
 }

@@ -3,19 +3,23 @@
 ghost use Rattle.std.specs.Prelude.{◌≡◌, ◌↔◌, ◌∷◌, ◌++◌, [], ℕ, List, IsTrue, length, nat_lt, if◌then◌else◌, Some, None};
 ghost use Rattle.std.specs.Option.{option_map, unwrap_or};
 ghost use Rattle.df1_check.specs.declared.Check.{Check as CheckKind};
+ghost use Rattle.half_master.specs.Master.{master_after_byte, step_at_byte};
 ghost use Rattle.c_ends.specs.Code.{code_number};
 ghost use Rattle.df1_c.specs.Arrived.{Copies, HearsWhole, IsBodyOf, IsEndFor};
+ghost use Rattle.df1_c.specs.Behind.{routed_host};
 ghost use Rattle.df1_c.specs.Copied.{copied};
 ghost use Rattle.df1_c.specs.Held.{end_code, freed, holding, told_of};
-ghost use Rattle.df1_c.specs.Told.{out_told, step_told, turn_told};
-ghost use Rattle.df1_c.specs.Ends.{after_byte, after_take, after_tick, body_code, body_of, gone_of, out_of as out_in, quiet_of, step_of as step_in, tick_code, turn_of as turn_in, with_room};
+ghost use Rattle.c_ends.specs.Told.{out_told, routed_told, step_told, turn_told};
+ghost use Rattle.df1_c.specs.Ends.{after_byte, after_take, after_tick, body_code, body_of, gone_of, is_carrying, out_of as out_in, quiet_of, step_of as step_in, tick_code, turn_of as turn_in, with_room};
 
 use crate::copying::copy;
 use crate::seat::Seat;
-use crate::told::{OutTold, StepTold, TurnTold, out_of, step_of, turn_of};
 use arrayvec::ArrayVec;
-use c_ends::{Code, Held};
-use df1_base::{Out, Step, Turn};
+use c_ends::{Code, Held, OutTold, StepTold, TurnTold, out_of, routed, step_of, turn_of};
+use df1_base::{Host, Out, Turn};
+use df1_node::Node;
+use half_master::Master;
+use station_router::Router;
 use std::alloc::Global;
 use std::mem::ManuallyDrop;
 
@@ -63,25 +67,35 @@ fn hear(held: &mut Held, byte: u8, step: &mut StepTold) -> Code
     ensures after { held.new ≡ after_byte held.old byte }
     ensures told { step.new ≡ unwrap_or (step_in held.old byte) step.old }
 {
-    let Some(made) = made_of(held, byte) else {
+    let Some(told) = made_of(held, byte) else {
         return Code::NoHandle;
     };
-    *step = step_of(made);
+    *step = told;
     Code::Done
 }
 
 /// What an end made of a byte.
-fn made_of(held: &mut Held, byte: u8) -> Option<Step>
+fn made_of(held: &mut Held, byte: u8) -> Option<StepTold>
     ensures code { result ≡ None → end_code (Some held.old) ≡ Code.NoHandle }
     ensures after { held.new ≡ after_byte held.old byte }
-    ensures told { option_map step_told result ≡ step_in held.old byte }
+    ensures told { result ≡ step_in held.old byte }
 {
     match held {
         Held::Decoder(_) => None,
-        Held::Duplex(end) => Some(end.on_byte(byte)),
-        Held::Master(end) => Some(end.on_byte(byte)),
-        Held::Slave(end) => Some(end.on_byte(byte)),
+        Held::Duplex(end) => Some(step_of(end.on_byte(byte))),
+        Held::Master(end) => Some(routed_step(end, byte)),
+        Held::Slave(end) => Some(step_of(end.on_byte(byte))),
     }
+}
+
+/// What a master made of a byte, and whether it carries the message that it heard.
+fn routed_step(end: &mut Master<Router<Node>>, byte: u8) -> StepTold
+    ensures after { end.new ≡ master_after_byte routed_host end.old byte }
+    ensures told { result ≡ routed_told (is_carrying (master_after_byte routed_host end.old byte)) (step_told (step_at_byte routed_host end.old byte)) }
+{
+    let told = step_of(end.on_byte(byte));
+    let carried = end.host().carries(end.body());
+    routed(carried, told)
 }
 
 /// Copies the body of the frame that ended at the latest byte.
@@ -182,8 +196,8 @@ fn turned(held: &mut Held, gone: &mut ArrayVec<u32, 16>) -> Option<Turn>
         Held::Decoder(_) => None,
         Held::Duplex(end) => Some(end.on_tick(gone)),
         Held::Master(end) => Some(end.on_tick(gone)),
-        Held::Slave(_) => {
-            gone.clear();
+        Held::Slave(end) => {
+            end.host_mut().tick(gone);
             Some(Turn::Still)
         }
     }

@@ -12,6 +12,5 @@ mod pointer;
 mod seat;
 mod spelling;
 mod texts;
-mod told;
 mod transfers;
 mod words;

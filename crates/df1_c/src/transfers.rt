@@ -49,7 +49,7 @@ fn pull(held: &mut Held, dst: u8, file: u16, words: u32, first: &mut u32) -> u32
     match held {
         Held::Decoder(_) => Code::NoHandle.number(),
         Held::Duplex(end) => pull_at(end.host_mut(), dst, file, words, first),
-        Held::Master(end) => pull_at(end.host_mut(), dst, file, words, first),
+        Held::Master(end) => pull_at(end.host_mut().inner_mut(), dst, file, words, first),
         Held::Slave(end) => pull_at(end.host_mut(), dst, file, words, first),
     }
 }
@@ -95,7 +95,7 @@ fn push(held: &mut Held, dst: u8, file: u16, bytes: &[u8], first: &mut u32) -> u
     match held {
         Held::Decoder(_) => Code::NoHandle.number(),
         Held::Duplex(end) => push_at(end.host_mut(), dst, file, bytes, first),
-        Held::Master(end) => push_at(end.host_mut(), dst, file, bytes, first),
+        Held::Master(end) => push_at(end.host_mut().inner_mut(), dst, file, bytes, first),
         Held::Slave(end) => push_at(end.host_mut(), dst, file, bytes, first),
     }
 }

@@ -80,7 +80,7 @@ fn set_word(held: &mut Held, file: u16, index: u32, value: u16) -> Code
     let is_set = match held {
         Held::Decoder(_) => return Code::NoHandle,
         Held::Duplex(end) => end.host_mut().set_word(file, index, value),
-        Held::Master(end) => end.host_mut().set_word(file, index, value),
+        Held::Master(end) => end.host_mut().inner_mut().set_word(file, index, value),
         Held::Slave(end) => end.host_mut().set_word(file, index, value),
     };
     if is_set { Code::Done } else { Code::NoWord }

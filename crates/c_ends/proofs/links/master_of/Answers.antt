@@ -23,3 +23,9 @@ pub node_of-requires : goal.node_of-requires
 node_of-requires c =
     let none : master_fault c.args.link.now c.args.stations.now c.args.node.now c.args.files.now c.args.words.now c.args.block.now ≡ None = grind (arith, c.master_fault.ensures) in
     (master_in_range c.args.node.now c.args.files.now c.args.words.now c.args.block.now c.args.link.now c.args.stations.now none).behind_it
+
+pub new-router-requires : goal.new-router-requires
+new-router-requires c =
+    let none : master_fault c.args.link.now c.args.stations.now c.args.node.now c.args.files.now c.args.words.now c.args.block.now ≡ None = grind (arith, c.master_fault.ensures) in
+    let few = (master_in_range c.args.node.now c.args.files.now c.args.words.now c.args.block.now c.args.link.now c.args.stations.now none).are.at_most in
+    omega (arith, few, c.carried_by.ensures.few)

@@ -1,7 +1,7 @@
-//! What a call tells C. Numbers stand for the cases; the header names them.
+//! What a call tells C of an end. Numbers stand for the cases; the header names them.
 
 ghost use Rattle.std.specs.Prelude.{◌≡◌};
-ghost use Rattle.df1_c.specs.Told.{act_told, did_told, news_told, out_told, step_told, turn_told};
+ghost use Rattle.c_ends.specs.Told.{act_told, did_told, news_told, out_told, routed_told, step_told, turn_told};
 
 use df1_base::{Act, Did, News, Out, Step, Turn};
 
@@ -80,7 +80,7 @@ fn news_numbers(news: News) -> (u32, u32)
 }
 
 /// A step as C sees it.
-pub(crate) fn step_of(step: Step) -> StepTold
+pub fn step_of(step: Step) -> StepTold
     ensures { result ≡ step_told step }
 {
     let (did, did_command) = did_numbers(step.did);
@@ -95,8 +95,25 @@ pub(crate) fn step_of(step: Step) -> StepTold
     }
 }
 
+/// The number by which an accepted message is told that is astray, and by which one that is carried to a station.
+const STRAY: u32 = 3;
+
+const ROUTED: u32 = 4;
+
+/// A step, which may be one at which a message was heard that is carried.
+pub fn routed(carried: bool, told: StepTold) -> StepTold
+    ensures { result ≡ routed_told carried told }
+{
+    let did = if carried && told.did == STRAY {
+        ROUTED
+    } else {
+        told.did
+    };
+    StepTold { did, ..told }
+}
+
 /// A turn as C sees it, with the number of commands that it left unanswered.
-pub(crate) fn turn_of(turn: Turn, gone_count: u32) -> TurnTold
+pub fn turn_of(turn: Turn, gone_count: u32) -> TurnTold
     ensures { result ≡ turn_told turn gone_count }
 {
     match turn {
@@ -125,7 +142,7 @@ pub(crate) fn turn_of(turn: Turn, gone_count: u32) -> TurnTold
 }
 
 /// What goes out as C sees it.
-pub(crate) fn out_of(out: Option<Out>) -> OutTold
+pub fn out_of(out: Option<Out>) -> OutTold
     ensures { result ≡ out_told out }
 {
     match out {

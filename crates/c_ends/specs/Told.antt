@@ -1,5 +1,5 @@
 -- The numbers by which C is told what an end made of a call.
-use Rattle.std.specs.Prelude.{ℕ, true, false}
+use Rattle.std.specs.Prelude.{ℕ, Bool, true, false, ◌&&◌, ◌==◌, if◌then◌else◌}
 use Rattle.std.specs.declared.option.Option.{Option}
 use Rattle.std.specs.declared.option.Option.TheVariants.{Some, None}
 use Rattle.df1_base.specs.declared.link.Act.{Act}
@@ -12,9 +12,9 @@ use Rattle.df1_base.specs.declared.link.Step.{Step}
 use Rattle.df1_base.specs.declared.link.Turn.{Turn}
 use Rattle.df1_base.specs.declared.link.Turn.TheVariants as turn
 use Rattle.df1_base.specs.declared.link.Out.{Out}
-use Rattle.df1_c.specs.declared.told.StepTold.{StepTold}
-use Rattle.df1_c.specs.declared.told.TurnTold.{TurnTold}
-use Rattle.df1_c.specs.declared.told.OutTold.{OutTold}
+use Rattle.c_ends.specs.declared.told.StepTold.{StepTold}
+use Rattle.c_ends.specs.declared.told.TurnTold.{TurnTold}
+use Rattle.c_ends.specs.declared.told.OutTold.{OutTold}
 
 abbrev pub act_told : Act → ℕ
 act_told act.Nothing = 0
@@ -41,6 +41,10 @@ news_told news.Dropped = (2, 0)
 
 abbrev pub step_told : Step → StepTold
 step_told s = record { act = act_told s.act; did = (did_told s.did).0; did_command = (did_told s.did).1; news = (news_told s.news).0; news_command = (news_told s.news).1; whole = s.whole }
+
+-- an accepted message that is carried to a station is told as routed, and not as astray
+abbrev pub routed_told : Bool → StepTold → StepTold
+routed_told carried told = record told { did = if carried && (told.did == 3) then 4 else told.did }
 
 -- with the number of commands that are gone
 abbrev pub turn_told : Turn → ℕ → TurnTold
