@@ -1,5 +1,5 @@
 -- What the bytes that were taken show.
-use Rattle.std.proofs.Common.{◌≡◌, ◌∙◌, ℕ, ◌<◌, List, [], ◌++◌, length, Option, Result, Ok, Err, sym, ap, subst, append_assoc, append-nil}
+use Rattle.std.proofs.Common.{◌≡◌, ◌∙◌, ℕ, ◌<◌, ◌≤◌, List, [], ◌++◌, length, Option, Result, Ok, Err, sym, ap, subst, append_assoc, append-nil, arith, length-append, length-take, take}
 use Rattle.std.specs.Prelude.{IfErr, IfOk, MatchResult}
 use Rattle.std.specs.Io.KnownBytes.{IsAtEnd, Keeps}
 use Rattle.std.proofs.KnownBytes.{Consumes-kept, Consumes-trans}
@@ -13,7 +13,7 @@ use Rattle.line_script.proofs.Unfinished.{stays_refused}
 use Rattle.script_parts.specs.declared.script.Script.{Script}
 use Rattle.whole_scripts.specs.declared.fault.RunFault.{RunFault}
 use Rattle.whole_scripts.specs.declared.fault.RunFault.TheVariants.{Refusal, Input, Output, NoMemory}
-use Rattle.whole_scripts.specs.Whole.{BreaksOff, BrokenOff, IsRead, Judges, Refused, TellsRefusal}
+use Rattle.whole_scripts.specs.Whole.{BreaksOff, BrokenOff, IsRead, Judges, Refused, TellsRefusal, TookFew}
 use Rattle.whole_scripts.proofs.WholeLines.{is-settled, settled-behind}
 
 abbrev Said : Type 0
@@ -81,5 +81,15 @@ refused-before profile text Input left left' left'' took kept is = tt
 refused-before profile text Output left left' left'' took kept is = tt
 refused-before profile text NoMemory left left' left'' took kept is = tt
 
-pub broken-off : (profile : Profile) (text : List ℕ) (left left' left'' : Option (List ℕ)) (faults faults' : ℕ) → Took left left' text → Keeps left' left'' → Rose faults faults' → BreaksOff profile text Input → BrokenOff profile left left'' faults faults'
-broken-off profile text left left' left'' faults faults' took kept rose still = record { bytes = text; took = Consumes-kept left left' left'' text took kept; still = still; rose = rose }
+pub broken-off : (profile : Profile) (text : List ℕ) (left left' left'' : Option (List ℕ)) (faults faults' : ℕ) → length text ≤ 16777216 → Took left left' text → Keeps left' left'' → Rose faults faults' → BreaksOff profile text Input
+    → BrokenOff profile left left'' faults faults'
+broken-off profile text left left' left'' faults faults' few took kept rose still = record { bytes = text; took = Consumes-kept left left' left'' text took kept; few = few; still = still; rose = rose }
+
+-- ---- how much was taken
+
+pub took-few : (text : List ℕ) (count : ℕ) (into : List ℕ) (left left' left'' : Option (List ℕ)) → length text ≤ 16777216 → length into ≤ 4096 → Took left left' text → Took left' left'' (take count into) → TookFew left left''
+took-few text count into left left' left'' few room took more = record {
+  bytes = text ++ take count into;
+  took = Consumes-trans left left' left'' text (take count into) took more;
+  few = (let size = length-append text (take count into) in let less = length-take count into in omega (arith, size, less, few, room));
+}

@@ -1,5 +1,5 @@
 -- What the run of a script comes to that is read whole from an input.
-use Rattle.std.specs.Prelude.{◌≡◌, ◌≢◌, ℕ, List, [], ◌++◌, Option, Ok, Err}
+use Rattle.std.specs.Prelude.{◌≡◌, ◌≢◌, ◌≤◌, ℕ, List, [], ◌++◌, length, Option, Ok, Err}
 use Rattle.std.specs.Io.KnownBytes.{IsAtEnd}
 use Rattle.df1_base.specs.Outside.{Put, Rose, Took, WroteLess}
 use Rattle.line_script.specs.declared.fault.Cause.{Cause}
@@ -29,12 +29,19 @@ pub record Refused (profile : Profile) (left left' : Option (List ℕ)) (line : 
   pub took : Took left left' bytes
   pub refused : (more : List ℕ) → (IsAtEnd left' → more ≡ []) → script_for profile (bytes ++ more) ≡ Err (line, fault)
 
--- a read has failed, and no line of the bytes that were taken is refused yet
+-- a read has failed; no line of the bytes that were taken is refused yet, nor are they more than a script may have
 pub record BrokenOff (profile : Profile) (left left' : Option (List ℕ)) (faults faults' : ℕ) : Type 0 where
   pub bytes : List ℕ
   pub took : Took left left' bytes
+  pub few : length bytes ≤ 16777216
   pub still : IsOpenFor profile bytes
   pub rose : Rose faults faults'
+
+-- at most as many bytes were taken as the longest script has, and 4,096 more
+pub record TookFew (left left' : Option (List ℕ)) : Type 0 where
+  pub bytes : List ℕ
+  pub took : Took left left' bytes
+  pub few : length bytes ≤ 16781312
 
 -- where the fault is a refusal, its line and its cause are such
 abbrev pub TellsRefusal : (ℕ → Cause → Type 0) → RunFault → Type 0
@@ -51,10 +58,6 @@ pub record IsAnswered (profile : Profile) (answer : Script → List ℕ) (Holds 
   pub read : IsRead profile script left left'
   pub put : Put held held' (answer script)
   pub holds : Holds script
-
--- nothing more is said of a script
-abbrev pub NothingMore : Script → Type 0
-NothingMore script = Unit {0}
 
 -- the input was read to its end, and a first part of the text that answers its script is written, and not all
 pub record IsCut (profile : Profile) (answer : Script → List ℕ) (left left' held held' : Option (List ℕ)) : Type 0 where

@@ -1,6 +1,6 @@
 //! Why a script of an input was not run to its end.
 
-use df1_base::NoMemory;
+use df1_base::{Failed, NoMemory};
 use line_script::{Cause, ScriptFault};
 use thiserror::Error;
 
@@ -43,5 +43,17 @@ impl From<NoMemory> for RunFault {
 
     fn from(_: NoMemory) -> Self {
         RunFault::NoMemory
+    }
+}
+
+/// What has failed is the output: a read that fails is judged by what was read.
+impl From<Failed> for RunFault {
+    ghost use Rattle.std.specs.Prelude.{◌≡◌};
+    ghost use Rattle.whole_scripts.specs.declared.fault.RunFault.TheVariants.{Output};
+
+    ghost from_gives = { λ _ e. e ≡ Output };
+
+    fn from(_: Failed) -> Self {
+        RunFault::Output
     }
 }

@@ -1,5 +1,5 @@
 //! Writing what a run has to tell, by large pieces.
-ghost use Rattle.std.specs.Prelude.{◌≡◌, ◌≤◌, [], length, OnErr, OnOk};
+ghost use Rattle.std.specs.Prelude.{◌≡◌, [], OnErr, OnOk};
 ghost use Rattle.df1_base.specs.Outside.{Later, Put, Rose, WroteLess};
 ghost use Rattle.df1_buffer.specs.Buffered.{buffer_name, buffer_out, buffer_waiting};
 ghost use Rattle.whole_scripts.specs.Texts.{IsTold, text_of};
@@ -21,8 +21,8 @@ pub(crate) enum Telling<'a> {
     Pushed(&'a Rehearsal, u16),
 }
 
-/// Writes what a run has to tell, by pieces of 4,096 bytes. `Failed` comes where the sink failed; then it holds a first part of the
-/// text, and not all.
+/// Writes what a run has to tell, by large pieces. `Failed` comes where the sink failed; then it holds a first part of the text, and
+/// not all.
 pub(crate) fn write_by_pieces<K: Sink>(telling: Telling<'_>, out: &mut K) -> Result<(), Failed>
     requires { IsTold telling }
     ensures ok { OnOk result (Put (K.held out.old) (K.held out.new) (text_of telling.entry)) }

@@ -5,7 +5,7 @@ ghost use Rattle.line_script.specs.Rehearsed.{IsRehearsed};
 ghost use Rattle.line_script.specs.ScriptText.{script_for};
 ghost use Rattle.script_parts.specs.HalfPlayable.{CanBePlayed};
 ghost use Rattle.script_parts.specs.RoutePlayable.{IsRoutePlayable};
-ghost use Rattle.whole_scripts.specs.Whole.{BreaksOff, BrokenOff, IsRead, Judges, Refused, TellsRefusal};
+ghost use Rattle.whole_scripts.specs.Whole.{BreaksOff, BrokenOff, IsRead, Judges, Refused, TellsRefusal, TookFew};
 ghost use Rattle.whole_scripts.specs.declared.fault.RunFault.{RunFault as Ending};
 
 use crate::RunFault;
@@ -19,10 +19,10 @@ use std::alloc::Global;
 /// How many bytes one read asks for.
 const PIECE: usize = 4096;
 
-/// Reads an input to its end, at most 4,096 bytes at a time, and the script that it says, by what it is read for. `Refusal` comes
-/// where no text that begins with the bytes taken is such a script, with its first faulty line and the first cause that fits it;
-/// of an input that goes on beyond the longest script nothing more is read. `Input` comes only where the count of faults of the
-/// input rose, and no line of the bytes taken is refused yet. `Output` never comes.
+/// Reads an input to its end, and the script that it says, by what it is read for. `Refusal` comes where no text that begins with the
+/// bytes taken is such a script, with its first faulty line and the first cause that fits it; of an input that goes on beyond the
+/// longest script at most 4,096 bytes more are taken. `Input` comes only where the count of faults of the input rose, and no line of
+/// the bytes taken is refused yet. `Output` never comes.
 pub fn read_input<S: Source>(
     alloc: Global,
     input: &mut S,
@@ -35,6 +35,7 @@ pub fn read_input<S: Source>(
     ensures calm { OnOk result (S.faults input.new ≡ S.faults input.old) }
     ensures refusal { IfErr result (TellsRefusal (Refused profile (S.left input.old) (S.left input.new))) }
     ensures input { IsErrOf result RunFault.Input → BrokenOff profile (S.left input.old) (S.left input.new) (S.faults input.old) (S.faults input.new) }
+    ensures taken { TookFew (S.left input.old) (S.left input.new) }
     ensures later { S.faults input.old ≤ S.faults input.new }
     ensures writes_none { IfErr result (λ fault. fault ≢ Ending.Output) }
 {

@@ -1,9 +1,9 @@
 //! Rehearsals of transfers whose script comes from an input.
-ghost use Rattle.std.specs.Prelude.{◌≡◌, ◌≢◌, ◌≤◌, ◌*◌, ◌/◌, length, IfErr, IsErrOf, OnErr, OnOk};
+ghost use Rattle.std.specs.Prelude.{◌≡◌, ◌≢◌, ◌≤◌, ◌*◌, ◌/◌, length, IfErr, IsErrOf, OnOk};
 ghost use Rattle.df1_base.specs.Outside.{Rose};
 ghost use Rattle.line_script.specs.declared.profile.Profile.{Profile as Purpose};
 ghost use Rattle.whole_scripts.specs.Rehearsals.{HasPulled, HasPushed, pulled_text, pushed_text};
-ghost use Rattle.whole_scripts.specs.Whole.{BrokenOff, IsAnswered, IsCut, Refused, TellsRefusal};
+ghost use Rattle.whole_scripts.specs.Whole.{BrokenOff, IsAnswered, IsCut, Refused, TellsRefusal, TookFew};
 ghost use Rattle.whole_scripts.specs.declared.fault.RunFault.{RunFault as Ending};
 
 use crate::RunFault;
@@ -11,14 +11,14 @@ use crate::printing::{Telling, write_by_pieces};
 use crate::reading::read_input;
 use bulk_orders::order_count;
 use bulk_transfer::{rehearse_pull, rehearse_push};
-use df1_base::{Failed, Sink, Source};
+use df1_base::{Sink, Source};
 use line_script::Profile;
 use std::alloc::Global;
 
 /// Reads the script of a rehearsal from the input, runs it with the orders of a transfer in front that reads so many words, 1 to 3,000,
-/// of a file of end b, 0 to 999, and writes its report and the line of the transfer, by pieces of 4,096 bytes. `Refusal` and `Input`
-/// come as `read_input` tells them, `Output` only where the count of faults of the output rose. Nothing is written but where the whole
-/// script was read; with `Output` something of the text is missing (manual topics: full-duplex protocol, word range read).
+/// of a file of end b, 0 to 999, and writes its report and the line of the transfer. `Refusal` and `Input` come as `read_input` tells
+/// them, `Output` only where the count of faults of the output rose. Nothing is written but where the whole script was read; with
+/// `Output` something of the text is missing (manual topics: full-duplex protocol, word range read).
 pub fn pull_input<S: Source, K: Sink>(
     alloc: Global,
     input: &mut S,
@@ -34,16 +34,14 @@ pub fn pull_input<S: Source, K: Sink>(
     ensures input { IsErrOf result RunFault.Input → BrokenOff Purpose.Rehearse (S.left input.old) (S.left input.new) (S.faults input.old) (S.faults input.new) }
     ensures output { IsErrOf result RunFault.Output → Rose (K.faults out.old) (K.faults out.new) × (S.faults input.new ≡ S.faults input.old)
         × IsCut Purpose.Rehearse (pulled_text file words) (S.left input.old) (S.left input.new) (K.held out.old) (K.held out.new) }
+    ensures taken { TookFew (S.left input.old) (S.left input.new) }
     ensures later { S.faults input.old ≤ S.faults input.new }
     ensures unwritten { IfErr result (λ fault. fault ≢ Ending.Output → out.new ≡ out.old) }
     ensures steady { OnOk result (K.faults out.new ≡ K.faults out.old) }
 {
     let script = read_input(alloc, input, Profile::Rehearse)?;
     let rehearsal = rehearse_pull(alloc, &script, file, words)?;
-    match write_by_pieces(Telling::Pulled(&rehearsal), out) {
-        Ok(()) => Ok(()),
-        Err(Failed) => Err(RunFault::Output),
-    }
+    Ok(write_by_pieces(Telling::Pulled(&rehearsal), out)?)
 }
 
 /// The same of a transfer that writes words, 1 to 3,000 with their low bytes first (manual topics: full-duplex protocol, word range
@@ -64,6 +62,7 @@ pub fn push_input<S: Source, K: Sink>(
     ensures input { IsErrOf result RunFault.Input → BrokenOff Purpose.Rehearse (S.left input.old) (S.left input.new) (S.faults input.old) (S.faults input.new) }
     ensures output { IsErrOf result RunFault.Output → Rose (K.faults out.old) (K.faults out.new) × (S.faults input.new ≡ S.faults input.old)
         × IsCut Purpose.Rehearse (pushed_text file bytes.now) (S.left input.old) (S.left input.new) (K.held out.old) (K.held out.new) }
+    ensures taken { TookFew (S.left input.old) (S.left input.new) }
     ensures later { S.faults input.old ≤ S.faults input.new }
     ensures unwritten { IfErr result (λ fault. fault ≢ Ending.Output → out.new ≡ out.old) }
     ensures steady { OnOk result (K.faults out.new ≡ K.faults out.old) }
@@ -71,8 +70,5 @@ pub fn push_input<S: Source, K: Sink>(
     let script = read_input(alloc, input, Profile::Rehearse)?;
     let rehearsal = rehearse_push(alloc, &script, file, bytes)?;
     let orders = order_count((bytes.len() / 2) as u16);
-    match write_by_pieces(Telling::Pushed(&rehearsal, orders), out) {
-        Ok(()) => Ok(()),
-        Err(Failed) => Err(RunFault::Output),
-    }
+    Ok(write_by_pieces(Telling::Pushed(&rehearsal, orders), out)?)
 }
