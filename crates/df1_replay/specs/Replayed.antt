@@ -1,5 +1,5 @@
--- What a run of `replay` shows that ended well: its script, the report, each command once, all of them where nothing disturbs
--- the line or it recovers, and what is on the wire.
+-- What a run of `replay` shows that ended well: its script, the report, each command once and none overtaken, all of them where
+-- nothing disturbs the line or it recovers, and what is on the wire.
 use Rattle.std.specs.Prelude.{◌≡◌, ℕ, List, Option, Ok}
 use Rattle.std.specs.Io.KnownBytes.{IsAtEnd}
 use Rattle.df1_base.specs.Outside.{Took, Put}
@@ -11,10 +11,12 @@ use Rattle.line_world.specs.Once.{EachCommandOnce}
 use Rattle.line_world.specs.Recovery.{Recovers}
 use Rattle.line_world.specs.Runs.{record_of}
 use Rattle.line_world.specs.Wire.{AreDf1Wires}
+use Rattle.overtaking_laws.specs.Overtaking.{NothingIsOvertaken}
 
 -- The input was read to its end and is a script. The report of its run is written, and nothing else. Where no end was
 -- deceived, each station executed commands that were issued to it, each once, those of each source in their order, and each
--- accepted reply is what it answered to that very command. Where nothing disturbs the line and nothing is under way in the end,
+-- accepted reply is what it answered to that very command; once a command is executed, or a reply to it is told, none of its source
+-- with a lower number is executed any more. Where nothing disturbs the line and nothing is under way in the end,
 -- where each end, or each station, has room for what the other end, or the master, may have out, and no reply is left at a
 -- station, no end was deceived, and all commands were executed and answered. They were too on a full-duplex line that altered
 -- bytes of bodies alone, in few transmissions of each message, and deceived no end. Whatever was heard, what each end sent is
@@ -27,6 +29,7 @@ pub record Replayed (left left' held held' : Option (List ℕ)) : Type 0 where
   pub reads : script_of input ≡ Ok script
   pub put : Put held held' (report (record_of script))
   pub once : (record_of script).deceived ≡ 0 → EachCommandOnce script (record_of script)
+  pub settled : (record_of script).deceived ≡ 0 → NothingIsOvertaken script (record_of script)
   pub complete : IsUndisturbed script → IsComplete script (record_of script)
   pub recovered : Recovers script (record_of script)
   pub wires : AreDf1Wires script (record_of script)
