@@ -3,6 +3,7 @@ from __future__ import annotations
 
 import functools
 import math
+import re
 import xml.etree.ElementTree as ElementTree
 from dataclasses import dataclass
 from pathlib import Path
@@ -11,17 +12,24 @@ from ladder.command import draw
 from ladder.run import Window
 
 TOP = Path(__file__).resolve().parent.parent
-EXAMPLES = sorted((TOP / "examples").glob("*.df1"))
+EXAMPLES = sorted(path for path in (TOP / "examples").iterdir() if path.suffix in (".df1", ".route", ".rehearsal"))
 SVG = "{http://www.w3.org/2000/svg}"
 ADVANCE = {"gutter": 6.6, "title": 9.6, "caption": 6.6, "comment": 6.2, "note": 6.6}
 
 
 @functools.lru_cache(maxsize=None)
-def picture(script, window=Window()):
-    """The picture of a script's file, or of a script that is given as a text."""
-    is_file = isinstance(script, Path)
-    source = script.read_bytes() if is_file else script.encode()
-    return draw(source, script.name if is_file else "a script", [str(TOP / "df1")], window)
+def picture(script, window=Window(), words=("replay",)):
+    """The picture of an example's script, or of a script that is given as a text, by these words of the program."""
+    if isinstance(script, Path):
+        return draw(script.read_bytes(), script.name, [str(TOP / "df1")], window, words_of(script))
+    return draw(script.encode(), "a script", [str(TOP / "df1")], window, words)
+
+
+def words_of(script):
+    """The words of the program that run the script of an example; of a rehearsal they stand in its first line."""
+    if script.suffix == ".rehearsal":
+        return tuple(re.match("# df1 (rehearse .*?):", script.read_text())[1].split())
+    return ("route",) if script.suffix == ".route" else ("replay",)
 
 
 @dataclass(frozen=True)

@@ -14,13 +14,40 @@ def exchange(name, reply, tns):
     return [named(name, tns), "b>a ACK", named(f"reply, {reply}", tns, "b>a"), "a>b ACK"]
 
 
+# how many bytes of a thing are lost on its way to a dead station
+SIZES = {"poll": 4, "ACK": 2, "echo": 16, "reply,": 15}
+
+
+def to_each(stations, *names, dead=None):
+    """The arrows of what a master gives to its stations, one thing after another."""
+    lost = {name: "; {0} of {0} bytes lost".format(SIZES.get(name.split(" ")[0])) for name in names}
+    return [f"m>{station} {name}{lost[name] if station == dead else ''}" for name in names for station in stations]
+
+
 WRITE = named("write N7:0 = 1234")
 ACKS = ["b>a ACK", named("reply, done", 1, "b>a"), "a>b ACK"]
 ECHO = "echo 55, TNS 0001"
 ECHOED = "reply, 55, TNS 0001"
 
+WRITTEN, DONE = "write N7:0 = 1234, TNS 0001", "reply, done, TNS 0001"
+AA, AA_REPLY, BB, BB_REPLY = "echo AA, TNS 0001", "reply, AA, TNS 0001", "echo BB, TNS 0001", "reply, BB, TNS 0001"
+LATER, LATER_REPLY = "echo BB, TNS 0064", "reply, BB, TNS 0064"
+NOTHING_TO_GIVE = [*to_each("543", "poll 3"), "3>m EOT", *to_each("543", "poll 4"), "4>m EOT"]
+
 ARROWS = {
     "ack-turned-into-nak": [WRITE, "b>a ACK; byte 2: 06 → 15", WRITE, *ACKS],
+    "askers-with-one-tns": [
+        *to_each("543", "poll 3"), f"3>m {AA}", *to_each("543", "ACK to 3", AA), "5>m ACK",
+        *to_each("543", "poll 4"), f"4>m {BB}", *to_each("543", "ACK to 4", BB), "5>m ACK",
+        *to_each("543", "poll 5"), f"5>m {AA_REPLY}", *to_each("543", "ACK to 5", AA_REPLY), "3>m ACK", *NOTHING_TO_GIVE,
+        *to_each("543", "poll 5"), f"5>m {BB_REPLY}", *to_each("543", "ACK to 5"),
+    ],
+    "askers-with-tns-apart": [
+        *to_each("543", "poll 3"), f"3>m {AA}", *to_each("543", "ACK to 3", AA), "5>m ACK",
+        *to_each("543", "poll 4"), f"4>m {LATER}", *to_each("543", "ACK to 4", LATER), "5>m ACK",
+        *to_each("543", "poll 5"), f"5>m {AA_REPLY}", *to_each("543", "ACK to 5", AA_REPLY), "3>m ACK", *NOTHING_TO_GIVE,
+        *to_each("543", "poll 5"), f"5>m {LATER_REPLY}", *to_each("543", "ACK to 5", LATER_REPLY), "4>m ACK",
+    ],
     "both-ends-at-once": [
         WRITE, f"b>a {ECHO}", "b>a ACK, embedded", "a>b ACK", f"a>b {ECHOED}", "b>a reply, done, TNS 0001", "a>b ACK, embedded", "b>a ACK",
     ],
@@ -48,6 +75,12 @@ ARROWS = {
         f"{WRITE}; byte 3: 01 → 00", "b>a NAK; 2 of 2 bytes lost", "a>b ENQ", "b>a NAK", WRITE, *ACKS
     ],
     "damaged-message": [f"m>3 {ECHO}; byte 6: 03 → 02"],
+    "dead-station-between": [
+        *to_each("543", "poll 3", dead="4"), f"3>m {AA}", *to_each("543", "ACK to 3", AA, dead="4"), *to_each("543", AA, dead="4"),
+        *to_each("543", "poll 4", dead="4"), *to_each("543", "poll 5", dead="4"), f"5>m {BB}",
+        *to_each("543", "ACK to 5", BB, dead="4"), "3>m ACK", *to_each("543", "poll 3", dead="4"), f"3>m {BB_REPLY}",
+        *to_each("543", "ACK to 3", BB_REPLY, dead="4"), "5>m ACK",
+    ],
     "deception-on-purpose": ["foreign>b write N7:0 = 1234"],
     "embedding": [WRITE, f"b>a {ECHO}", "a>b ACK, embedded"],
     "enqs-run-out": [
@@ -86,6 +119,24 @@ ARROWS = {
         *exchange("write N9:0 = 1234", "refused: no such element", 1), *exchange("write N7:16 = 1234", "refused: past the end", 2),
         *exchange("write F7:0 = 1234", "refused: another type", 3),
         *exchange("unknown command 0F 99", "refused: not understood", 4),
+    ],
+    "rehearsed-pull": exchange("range read N7:0, 2 words", "N7:0 = 1234 5678", 1),
+    "rehearsed-pull-cut": [
+        *exchange("range read N7:0, 100 words", "N7:0 = 100 words", 1), f"{named('range read N7:100', 2)}; 20 of 20 bytes lost",
+    ],
+    "rehearsed-pull-deceived": [
+        named("range read N7:0, 2 words"), "b>a ACK",
+        f"{named('reply, N7:0 = 1234 5678', 1, 'b>a')}; byte 9: 34 → 35, byte 11: 78 → 77", "a>b ACK",
+    ],
+    "rehearsed-pull-refused": exchange("range read 9:0, 2 words", "refused: no such element", 1),
+    "rehearsed-push": exchange("range write N7:0 = 1234", "done", 1),
+    "relayed-write": [
+        *to_each("53", "poll 3"), f"3>m {WRITTEN}", *to_each("53", "ACK to 3", WRITTEN), "5>m ACK",
+        *to_each("53", "poll 5"), f"5>m {DONE}", *to_each("53", "ACK to 5", DONE), "3>m ACK",
+    ],
+    "relayed-write-repeated": [
+        *to_each("53", "poll 3"), f"3>m {WRITTEN}", *to_each("53", "ACK to 3", WRITTEN), "5>m ACK; 2 of 2 bytes lost",
+        *to_each("53", WRITTEN), "5>m ACK", *to_each("53", "poll 5"), f"5>m {DONE}", *to_each("53", "ACK to 5", DONE), "3>m ACK",
     ],
     "repeat-after-lost-ack": [
         f"m>3 {ECHO}", "3>m ACK", "m>3 poll 3", f"3>m {ECHOED}", "m>3 ACK to 3; 2 of 2 bytes lost",
@@ -172,6 +223,8 @@ SHOWN = {
     "polled-write": ["issue 1 to 3", "exec write N7:0 = 1234", "answered 1 by 3, done"],
     "silent-station": ["undelivered 1 to 9"],
     "replies-of-one-tns": ["exec echo 77", "stray from 5: reply, 77"],
+    "relayed-write": ["issue 1 to 5", "routed to 5: write N7:0 = 1234", "exec write N7:0 = 1234", "answered 1 by 5, done"],
+    "dead-station-between": ["issue 1 to 4", "dropped", "answered 1 by 3, BB"],
     "timer-and-float": ["answered 2, T4:1.ACC = 012C", "answered 4, F8:0 = 1"],
 }
 
@@ -180,12 +233,21 @@ FEET = {
     "deception-on-purpose": ["b word 7 0: 0000 → 1234", "deceived 1"],
     "masked-write": ["b word 7 0: 1234 → 12CD", "deceived 0"],
     "polled-write": ["3 word 7 0: 0000 → 1234", "deceived 0"],
+    "rehearsed-push": ["b word 7 0: 0000 → 1234", "pushed 1"],
     "word-range": ["deceived 0"],
 }
 
 
+# The first words of the lines of a report that stand at the foot of its picture.
+AT_THE_FOOT = ("deceived", "pulled", "pushed", "missing", "refused")
+
 # where a frame seems to end before its arrow does
 EARLY = ("byte-becomes-dle", "damaged-etx")
+
+
+def script_of(name):
+    """The script of an example."""
+    return next(script for script in EXAMPLES if script.stem == name)
 
 
 class Examples(unittest.TestCase):
@@ -199,7 +261,7 @@ class Examples(unittest.TestCase):
         for script in EXAMPLES:
             with self.subTest(script.stem):
                 lines = [line.split(" ", 2) for line in script.with_suffix(".report").read_text().splitlines()]
-                told = [line for line in lines if line[1] not in ("sent", "word") and line[0] != "deceived"]
+                told = [line for line in lines if line[1] not in ("sent", "word") and line[0] not in AT_THE_FOOT]
                 words = {line[1] for line in told}
                 labels = [label.split(" ", 2) for label in Seen(picture(script)).labels]
                 self.assertEqual([label for label in labels if label[1] in words], told)
@@ -207,18 +269,18 @@ class Examples(unittest.TestCase):
     def test_what_the_report_tells_is_shown_as_people_name_it(self):
         for name, words in SHOWN.items():
             with self.subTest(name):
-                shown = [text.shown for text in Seen(picture(TOP / "examples" / f"{name}.df1")).texts]
+                shown = [text.shown for text in Seen(picture(script_of(name))).texts]
                 self.assertEqual([one for one in words if one not in shown], [])
 
     def test_some_have_these_labels_beside_their_ends(self):
         for name, labels in LABELS.items():
             with self.subTest(name):
-                self.assertEqual(Seen(picture(TOP / "examples" / f"{name}.df1")).labels, labels)
+                self.assertEqual(Seen(picture(script_of(name))).labels, labels)
 
     def test_some_have_these_words_and_deceptions_at_the_foot(self):
         for name, foot in FEET.items():
             with self.subTest(name):
-                seen = Seen(picture(TOP / "examples" / f"{name}.df1"))
+                seen = Seen(picture(script_of(name)))
                 self.assertEqual([words for words in seen.words() if " word " in words] + seen.words("word")[-1:], foot)
                 self.assertEqual(seen.words("red"), [words for words in foot if words == "deceived 1"])
 
@@ -243,7 +305,7 @@ class Examples(unittest.TestCase):
 
     def test_no_picture_is_stored_of_a_script_that_is_gone(self):
         stored = sorted(path.stem for path in (TOP / "docs" / "pictures").iterdir())
-        self.assertEqual(stored, [script.stem for script in EXAMPLES])
+        self.assertEqual(stored, sorted(script.stem for script in EXAMPLES))
 
 
 if __name__ == "__main__":

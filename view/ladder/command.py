@@ -6,12 +6,12 @@ import os
 import sys
 
 from .painting import paint
-from .program import Stepwise, Stopped, replay
+from .program import REPLAY, Anew, Stepwise, Stopped, run_script
 from .report import NoReport, read_report
 from .run import Misfit, Window, play
 from .script import read_script
 
-DESCRIPTION = "Draws the run of a script of `df1 replay` as a ladder: one SVG picture that stands alone."
+DESCRIPTION = "Draws the run of a script of `df1 replay`, `df1 route` or `df1 rehearse` as a ladder: one SVG picture that stands alone."
 
 EPILOGUE = """\
 The ends are lines from the top down, and time goes downwards, event by event. Each message, response, enquiry, poll and EOT is an
@@ -39,7 +39,8 @@ def main(words, program):
     options = _options(words)
     try:
         name = "standard input" if options.script == "-" else os.path.basename(options.script)
-        _write(options.picture, draw(_read(options.script), name, program, Window(options.first, options.last)))
+        window = Window(options.first, options.last)
+        _write(options.picture, draw(_read(options.script), name, program, window, tuple(options.words.split())))
     except Failed as failure:
         if failure.note:
             print(f"df1-ladder: {failure.note}", file=sys.stderr)
@@ -47,15 +48,15 @@ def main(words, program):
     return 0
 
 
-def draw(source, name, program, window=Window()):
-    """The picture of the run of a script. Raises Failed."""
+def draw(source, name, program, window=Window(), words=REPLAY):
+    """The picture of the run of a script by these words of the program. Raises Failed."""
     try:
-        answer = replay(program, source)
+        answer = run_script(program, words, source)
         if answer.status != 0:
             raise Failed(answer.status)
         lines, foot = read_report(answer.report)
-        with Stepwise(program) as feed:
-            return paint(play(feed, read_script(source), window, lines, foot), name)
+        with Stepwise(program) if words == REPLAY else Anew(program, words) as feed:
+            return paint(play(feed, read_script(source, "half" if words == ("route",) else "full"), window, lines, foot), name)
     except (Misfit, NoReport) as misfit:
         raise Failed(FITS_NOT, str(misfit)) from None
     except Stopped:
@@ -71,12 +72,16 @@ def _options(words):
     )
     to_help = "the last line that is drawn; without it, a long run is cut after 400 arrows or 10,000 steps"
     parser.add_argument("script", metavar="SCRIPT", help="the file of the script, or - for standard input")
+    as_help = "the words of df1 that run the script: replay, route, or as in --as 'rehearse pull 7 2'; without it, replay"
+    parser.add_argument("--as", dest="words", metavar="WORDS", default="replay", help=as_help)
     parser.add_argument("-o", dest="picture", metavar="FILE", help="the file of the picture; without it, standard output")
     parser.add_argument("--from", dest="first", metavar="LINE", type=int, default=1, help="the first line of the script that is drawn")
     parser.add_argument("--to", dest="last", metavar="LINE", type=int, help=to_help)
     options = parser.parse_args(words)
     if options.first < 1 or (options.last is not None and options.last < options.first):
         parser.error("lines are counted from 1, and the last isn't before the first")
+    if options.words.split()[:1] not in (["replay"], ["route"], ["rehearse"]):
+        parser.error("a script is run by replay, route or rehearse")
     return options
 
 

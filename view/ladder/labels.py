@@ -5,7 +5,7 @@ from dataclasses import dataclass
 
 HEIGHT = 16
 MOST_LETTERS = 40
-FINE = ("exec", "answered")
+FINE = ("exec", "answered", "routed")
 
 # With more ends than these the picture is crowded: a station's labels are short, and what it hears of a message to another one stands at
 # one height.
@@ -62,6 +62,9 @@ def _own(run, names, step):
 
 def _rest(run, names, step, told):
     """What follows the word of a line of the report."""
+    if told.kind == "routed":
+        station = str(told.body[0])
+        return f" to {station}: {names.body(told.body, station, step.number)}"
     if told.kind in ("exec", "stray"):
         is_short = told.kind == "exec" and len(run.script.ends) > FEW_ENDS
         return "" if is_short else f"{_sender(run, told)} {names.body(told.body, told.who, step.number)}"

@@ -2,7 +2,7 @@
 from __future__ import annotations
 
 from .arrows import Arrows
-from .labels import label_steps
+from .labels import MOST_LETTERS, label_steps, shortened
 from .layout import CAPTION_LETTER, LETTER, MARGIN, columns, heights, wrapped
 from .names import Names
 from .rows import rows_of
@@ -139,6 +139,8 @@ class Painter:
         if len(changed) > MOST_WORDS:
             lines.append((f"and {len(changed) - MOST_WORDS} further words", "note"))
         lines.append((f"deceived {run.foot.deceived}", "word red" if run.foot.deceived else "word"))
+        if run.foot.transfer:
+            lines.append((shortened(run.foot.transfer, MOST_LETTERS), "word"))
         return self._paint_lines(lines, self._heights.bottom + 24)
 
 

@@ -1,4 +1,4 @@
-"""The program `df1 replay`, run over a whole script, or given a script piece by piece."""
+"""The program, run over a whole script, or over a script that comes piece by piece."""
 from __future__ import annotations
 
 import fcntl
@@ -9,6 +9,10 @@ import subprocess
 import termios
 import time
 from dataclasses import dataclass
+
+from .report import read_report
+
+REPLAY = ("replay",)
 
 
 class Stopped(Exception):
@@ -23,9 +27,9 @@ class Answer:
     report: str
 
 
-def replay(program, source):
-    """Runs the program over a whole script."""
-    run = subprocess.run([*program, "replay"], input=source, stdout=subprocess.PIPE, check=False)
+def run_script(program, words, source):
+    """Runs the program with these words over a whole script."""
+    run = subprocess.run([*program, *words], input=source, stdout=subprocess.PIPE, check=False)
     return Answer(run.returncode, run.stdout.decode("ascii", "replace"))
 
 
@@ -81,6 +85,36 @@ class Stepwise:
                 raise Stopped
             self._told += piece
             seconds = 0.0
+
+
+class Anew:
+    """Runs the program anew at each piece of a script, over all pieces so far, to see which lines of the report the piece makes.
+
+    So it sees that of words by which the program reads a script whole before it writes anything.
+    """
+
+    def __init__(self, program, words):
+        self._program = program
+        self._words = words
+        self._source = b""
+        self._lines = []
+
+    def __enter__(self):
+        return self
+
+    def __exit__(self, *_):
+        pass
+
+    def lines_of(self, piece):
+        """The report's lines that the whole lines of a piece make."""
+        self._source += piece
+        answer = run_script(self._program, self._words, self._source + b"end\n")
+        if answer.status != 0:
+            raise Stopped
+        before, self._lines = self._lines, read_report(answer.report)[0]
+        if self._lines[:len(before)] != before:
+            raise Stopped
+        return self._lines[len(before):]
 
 
 def _waiting(pipe):

@@ -7,11 +7,12 @@ from dataclasses import dataclass
 WHO = r"(?P<who>[abm]|[0-9]{1,3})"
 HEX = r"(?:[0-9A-F]{2})+"
 LINE = re.compile(
-    rf"{WHO} (?P<told>sent {HEX}|exec {HEX}|answered [0-9]+ {HEX}|(?:undelivered|unanswered) [0-9]+|stray {HEX}"
+    rf"{WHO} (?P<told>sent {HEX}|exec {HEX}|answered [0-9]+ {HEX}|(?:undelivered|unanswered) [0-9]+|stray {HEX}|routed {HEX}"
     r"|repeat|full|damaged|enquiry|dropped)"
 )
 WORD = re.compile(rf"{WHO} word (?P<file>[0-9]+) (?P<index>[0-9]+) (?P<value>[0-9A-F]{{4}})")
 LAST = re.compile(r"deceived (?P<count>[0-9]+)")
+TRANSFER = re.compile(rf"pulled {HEX}|pushed [0-9]+|missing [0-9]+|refused [0-9]+ [0-9A-F]{{2}} [0-9A-F]{{2}}|odd [0-9]+")
 
 
 class NoReport(Exception):
@@ -38,7 +39,7 @@ class Told:
     @property
     def body(self):
         """The body that it tells of, or None."""
-        return bytes.fromhex(self.text.split(" ")[-1]) if self.kind in ("exec", "answered", "stray") else None
+        return bytes.fromhex(self.text.split(" ")[-1]) if self.kind in ("exec", "answered", "stray", "routed") else None
 
     @property
     def number(self):
@@ -48,10 +49,11 @@ class Told:
 
 @dataclass(frozen=True)
 class Foot:
-    """The end of a report: the words that aren't 0, and how often an end was deceived."""
+    """The end of a report: the words that aren't 0, how often an end was deceived, and, of a rehearsal, what the transfer came to."""
 
     words: dict[tuple[str, int, int], int]
     deceived: int
+    transfer: str | None = None
 
     def changed(self, first):
         """The words that differ from their first values, each with both; a word that isn't named is 0."""
@@ -71,6 +73,7 @@ def read_line(line):
 def read_report(text):
     """The lines of the events of a whole report, and its foot."""
     lines = text.splitlines()
+    transfer = lines.pop() if lines and TRANSFER.fullmatch(lines[-1]) else None
     last = LAST.fullmatch(lines[-1]) if lines else None
     if not last:
         raise NoReport("the report doesn't end with `deceived N`")
@@ -82,4 +85,4 @@ def read_report(text):
             break
         words[match["who"], int(match["file"]), int(match["index"])] = int(match["value"], 16)
     events = lines[:len(lines) - len(words)]
-    return events, Foot(dict(reversed(list(words.items()))), int(last["count"]))
+    return events, Foot(dict(reversed(list(words.items()))), int(last["count"]), transfer)

@@ -95,9 +95,9 @@ class Script:
         return "master" if end == "m" else "slave"
 
 
-def read_script(source):
-    """The script of these bytes: all that its lines before the first event say."""
-    script = Script(source)
+def read_script(source, mode="full"):
+    """The script of these bytes, which is of this mode where no line says otherwise: all that its lines before the first event say."""
+    script = Script(source, mode, ends=["a", "b"] if mode == "full" else ["m"])
     texts = []
     for one in _statements(source):
         if isinstance(one, Event):
@@ -136,7 +136,8 @@ def _event(number, words):
         return None
     end, kind = match.groups()
     rest = words[1:]
-    station = _name(rest.pop(0)) if end == "m" and kind in NAMES_A_STATION else None
+    is_station = end not in "abm"
+    station = _name(rest.pop(0)) if (end == "m" and kind in NAMES_A_STATION) or (is_station and kind == "i") else None
     source = _name(rest.pop(0)) if kind == "i" and len(rest) > 1 else None
     return Event(number, _name(end), kind, station, rest[0] if rest else None, source)
 

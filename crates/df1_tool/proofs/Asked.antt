@@ -4,10 +4,10 @@ use Rattle.std.specs.Prelude.{IfSome, IsSome, MatchOption, if◌then◌else◌, 
 use Rattle.std.specs.Str.{bytes_eq}
 use Rattle.script_statement.specs.Words.{within, number_of as short_number}
 use Rattle.df1_tool.specs.declared.form.Form.{Form}
-use Rattle.df1_tool.specs.declared.form.Form.TheVariants.{Replay, Serve, Issue, Dissect, Check as Count, Drill, Storm, Vectors, Pull, Push}
+use Rattle.df1_tool.specs.declared.form.Form.TheVariants.{Replay, Serve, Issue, Dissect, Check as Count, Drill, Storm, Vectors, Pull, Push, Route, RehearsePull, RehearsePush}
 use Rattle.df1_tool.specs.declared.form.Rounds.{Rounds}
 use Rattle.df1_capture.specs.declared.capture.Capture.{Capture}
-use Rattle.df1_tool.specs.Forms.{capture_of, data_of, file_of, form_of, form_of_four, form_of_three, number_of, pull_by, push_by, rounds_by, rounds_of}
+use Rattle.df1_tool.specs.Forms.{capture_of, data_of, file_of, form_of, form_of_four, form_of_three, number_of, pull_by, pull_of, push_by, push_of, rehearsed, rounds_by, rounds_of}
 
 -- a drill and a storm have at most 20,000 rounds, and a transfer has a file of 0 to 999, and 1 to 3,000 words
 abbrev Asked : List (List ℕ) → Form → Type 0
@@ -21,6 +21,9 @@ Asked words (Storm rounds) = rounds.count ≤ 20000
 Asked words Vectors = Unit {0}
 Asked words (Pull file count) = (file ≤ 999) × (1 ≤ count) × (count ≤ 3000)
 Asked words (Push file) = (file ≤ 999) × IsSome (data_of (slice_index_or words 3 [])) × (4 ≤ length words)
+Asked words Route = Unit {0}
+Asked words (RehearsePull file count) = (file ≤ 999) × (1 ≤ count) × (count ≤ 3000)
+Asked words (RehearsePush file) = (file ≤ 999) × IsSome (data_of (slice_index_or words 3 [])) × (4 ≤ length words)
 
 of-either : (P : Form → Type 0) (test : Bool) (a b : Option Form) → IfSome a P → IfSome b P → IfSome (if test then a else b) P
 of-either P true a b of-a of-b = of-a
@@ -68,20 +71,45 @@ of-push words None bytes of-file of-bytes many = tt
 of-push words (Some file) None of-file of-bytes many = tt
 of-push words (Some file) (Some bytes) of-file of-bytes many = (of-file file refl, of-bytes refl, many)
 
-of-four : (word plan third fourth : List ℕ) → IfSome (form_of_four word third fourth) (Asked (word ∷ plan ∷ third ∷ fourth ∷ []))
-of-four word plan third fourth =
-    let words = word ∷ plan ∷ third ∷ fourth ∷ [] in
+-- what a rehearsed transfer asks for is what the transfer does
+of-rehearsed : (words : List (List ℕ)) (transfer : Option Form) → IfSome transfer (Asked words) → IfSome (rehearsed transfer) (Asked words)
+of-rehearsed words None asked = tt
+of-rehearsed words (Some Replay) asked = tt
+of-rehearsed words (Some (Serve timed)) asked = tt
+of-rehearsed words (Some Issue) asked = tt
+of-rehearsed words (Some (Dissect capture)) asked = tt
+of-rehearsed words (Some (Count capture)) asked = tt
+of-rehearsed words (Some (Drill rounds)) asked = tt
+of-rehearsed words (Some (Storm rounds)) asked = tt
+of-rehearsed words (Some Vectors) asked = tt
+of-rehearsed words (Some (Pull file count)) asked = asked
+of-rehearsed words (Some (Push file)) asked = asked
+of-rehearsed words (Some Route) asked = tt
+of-rehearsed words (Some (RehearsePull file count)) asked = tt
+of-rehearsed words (Some (RehearsePush file)) asked = tt
+
+of-four : (word second third fourth : List ℕ) → IfSome (form_of_four word second third fourth) (Asked (word ∷ second ∷ third ∷ fourth ∷ []))
+of-four word second third fourth =
+    let words = word ∷ second ∷ third ∷ fourth ∷ [] in
+    let P = Asked words in
     let file : (n : ℕ) → file_of third ≡ Some n → n ≤ 999 = λ n is. (is-within 0 999 n (short_number third) is).1 in
     let count : (n : ℕ) → within 1 3000 (short_number fourth) ≡ Some n → (1 ≤ n) × (n ≤ 3000) = λ n is. is-within 1 3000 n (short_number fourth) is in
-    of-either (Asked words) (bytes_eq word (codes "pull")) _ _ (of-pull words (file_of third) (within 1 3000 (short_number fourth)) file count)
-    (of-either (Asked words) (bytes_eq word (codes "push")) _ _ (of-push words (file_of third) (data_of fourth) file (λ some. some) (lit≤ tt)) tt)
+    let pulls : IfSome (pull_of third fourth) P = of-pull words (file_of third) (within 1 3000 (short_number fourth)) file count in
+    let pushes : IfSome (push_of third fourth) P = of-push words (file_of third) (data_of fourth) file (λ some. some) (lit≤ tt) in
+    of-either P (bytes_eq word (codes "pull")) _ _ pulls
+    (of-either P (bytes_eq word (codes "push")) _ _ pushes
+    (of-either P (bytes_eq word (codes "rehearse")) _ _
+    (of-either P (bytes_eq second (codes "pull")) _ _ (of-rehearsed words (pull_of third fourth) pulls)
+    (of-either P (bytes_eq second (codes "push")) _ _ (of-rehearsed words (push_of third fourth) pushes) tt)) tt))
 
 -- ---- all forms
 
 of-form : (words : List (List ℕ)) → IfSome (form_of words) (Asked words)
 unfolding form_of
 of-form [] = tt
-of-form (word ∷ []) = of-either (Asked (word ∷ [])) (bytes_eq word (codes "replay")) _ _ tt (of-either (Asked (word ∷ [])) (bytes_eq word (codes "vectors")) _ _ tt tt)
+of-form (word ∷ []) =
+    let P = Asked (word ∷ []) in
+    of-either P (bytes_eq word (codes "replay")) _ _ tt (of-either P (bytes_eq word (codes "route")) _ _ tt (of-either P (bytes_eq word (codes "vectors")) _ _ tt tt))
 of-form (word ∷ plan ∷ []) = of-either (Asked (word ∷ plan ∷ [])) (bytes_eq word (codes "issue")) _ _ tt tt
 of-form (word ∷ second ∷ third ∷ []) = of-three (word ∷ second ∷ third ∷ []) word second third
 of-form (word ∷ plan ∷ third ∷ fourth ∷ []) = of-four word plan third fourth
@@ -98,6 +126,12 @@ pulls-within words file count is = let asked = of-form words in rw is at asked
 
 pub pushes-within : (words : List (List ℕ)) (file : ℕ) → form_of words ≡ Some (Push file) → (file ≤ 999) × IsSome (data_of (slice_index_or words 3 [])) × (4 ≤ length words)
 pushes-within words file is = let asked = of-form words in rw is at asked
+
+pub rehearses-pull-within : (words : List (List ℕ)) (file count : ℕ) → form_of words ≡ Some (RehearsePull file count) → (file ≤ 999) × (1 ≤ count) × (count ≤ 3000)
+rehearses-pull-within words file count is = let asked = of-form words in rw is at asked
+
+pub rehearses-push-within : (words : List (List ℕ)) (file : ℕ) → form_of words ≡ Some (RehearsePush file) → (file ≤ 999) × IsSome (data_of (slice_index_or words 3 [])) × (4 ≤ length words)
+rehearses-push-within words file is = let asked = of-form words in rw is at asked
 
 -- ---- the words themselves
 

@@ -1,12 +1,12 @@
 -- What the words of a call ask for.
-use Rattle.std.specs.Prelude.{ℕ, List, [], ◌∷◌, Option, Some, None, true, false, nat_lt, nat_le, ◌%◌, ◌==◌, ◌&&◌, if◌then◌else◌, codes, length, option_and_then, option_map, slice_index_or}
+use Rattle.std.specs.Prelude.{ℕ, Bool, List, [], ◌∷◌, Option, Some, None, true, false, nat_lt, nat_le, ◌%◌, ◌==◌, ◌&&◌, if◌then◌else◌, codes, length, option_and_then, option_map, slice_index_or}
 use Rattle.std.specs.Str.{bytes_eq}
 use Rattle.std.specs.Str.Parse.{digits_value}
 use Rattle.std.specs.Char.{is_ascii_digit}
 use Rattle.std.specs.List.{list_all}
 use Rattle.script_statement.specs.Words.{within, hex_of, number_of as short_number}
 use Rattle.df1_tool.specs.declared.form.Form.{Form}
-use Rattle.df1_tool.specs.declared.form.Form.TheVariants.{Replay, Serve, Issue, Dissect, Check as Count, Drill, Storm, Vectors, Pull, Push}
+use Rattle.df1_tool.specs.declared.form.Form.TheVariants.{Replay, Serve, Issue, Dissect, Check as Count, Drill, Storm, Vectors, Pull, Push, Route, RehearsePull, RehearsePush}
 use Rattle.df1_tool.specs.declared.form.Rounds.{Rounds}
 use Rattle.df1_capture.specs.declared.capture.Capture.{Capture}
 use Rattle.df1_check.specs.declared.Check.{Check}
@@ -75,7 +75,11 @@ push_of file hex = push_by (file_of file) (data_of hex)
 
 -- what one word asks for
 abbrev pub form_of_one : List ℕ → Option Form
-form_of_one word = if bytes_eq word (codes "replay") then Some Replay else if bytes_eq word (codes "vectors") then Some Vectors else None
+form_of_one word =
+    if bytes_eq word (codes "replay") then Some Replay
+    else if bytes_eq word (codes "route") then Some Route
+    else if bytes_eq word (codes "vectors") then Some Vectors
+    else None
 
 -- what two words ask for
 abbrev pub form_of_two : List ℕ → Option Form
@@ -91,11 +95,24 @@ form_of_three word second third =
     else if bytes_eq word (codes "storm") then option_map Storm (rounds_of second third)
     else None
 
+-- a transfer, rehearsed
+abbrev pub rehearsed : Option Form → Option Form
+rehearsed (Some (Pull file count)) = Some (RehearsePull file count)
+rehearsed (Some (Push file)) = Some (RehearsePush file)
+rehearsed other = None
+
+abbrev pub rehearsal_of : List ℕ → List ℕ → List ℕ → Option Form
+rehearsal_of kind file what =
+    if bytes_eq kind (codes "pull") then rehearsed (pull_of file what)
+    else if bytes_eq kind (codes "push") then rehearsed (push_of file what)
+    else None
+
 -- what four words ask for
-abbrev pub form_of_four : List ℕ → List ℕ → List ℕ → Option Form
-form_of_four word third fourth =
+abbrev pub form_of_four : List ℕ → List ℕ → List ℕ → List ℕ → Option Form
+form_of_four word second third fourth =
     if bytes_eq word (codes "pull") then pull_of third fourth
     else if bytes_eq word (codes "push") then push_of third fourth
+    else if bytes_eq word (codes "rehearse") then rehearsal_of second third fourth
     else None
 
 -- what the words ask for
@@ -103,7 +120,7 @@ unfoldable pub form_of : List (List ℕ) → Option Form
 form_of (word ∷ []) = form_of_one word
 form_of (word ∷ plan ∷ []) = form_of_two word
 form_of (word ∷ second ∷ third ∷ []) = form_of_three word second third
-form_of (word ∷ plan ∷ third ∷ fourth ∷ []) = form_of_four word third fourth
+form_of (word ∷ second ∷ third ∷ fourth ∷ []) = form_of_four word second third fourth
 form_of words = None
 
 -- an end that is served over records, with these orders of a transfer
@@ -122,10 +139,20 @@ service_of words (Storm rounds) = None
 service_of words Vectors = None
 service_of words (Pull file count) = Some (record { timed = true; issues = PullOrders file count })
 service_of words (Push file) = option_map (pushing file) (data_of (slice_index_or words 3 []))
+service_of words Route = None
+service_of words (RehearsePull file count) = None
+service_of words (RehearsePush file) = None
 
 -- the same of the words alone
 abbrev pub service_for : List (List ℕ) → Option Serving
 service_for words = option_and_then (service_of words) (form_of words)
+
+-- a form reads its script whole, before anything is written
+abbrev pub reads_whole : Form → Bool
+reads_whole Route = true
+reads_whole (RehearsePull file count) = true
+reads_whole (RehearsePush file) = true
+reads_whole other = false
 
 -- the name of the plan: the second word
 abbrev pub plan_name : List (List ℕ) → List ℕ

@@ -16,7 +16,7 @@ no_memory = codes "df1: no memory\n"
 
 -- the words are none of the forms
 abbrev pub usage : List ℕ
-usage = codes "df1: usage: df1 replay | serve PLAN raw|timed | issue PLAN | dissect SIDE CHECK | check SIDE CHECK | drill SEED COUNT | vectors | storm SEED COUNT | pull PLAN FILE WORDS | push PLAN FILE HEX\n"
+usage = codes "df1: usage: df1 replay | serve PLAN raw|timed | issue PLAN | dissect SIDE CHECK | check SIDE CHECK | drill SEED COUNT | vectors | storm SEED COUNT | route | pull PLAN FILE WORDS | push PLAN FILE HEX | rehearse pull FILE WORDS | rehearse push FILE HEX\n"
 
 -- A note is written and its count of faults stands still, or it failed, and a first part is written and not all.
 abbrev pub IsNoted : Option (List ℕ) → Option (List ℕ) → ℕ → ℕ → List ℕ → Type 0

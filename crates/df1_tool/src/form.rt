@@ -1,6 +1,6 @@
 //! What the words of a call ask for.
 ghost use Rattle.std.specs.Prelude.{◌≡◌, ◌≤◌, IfSome, IsSome, length, map, string_bytes};
-ghost use Rattle.df1_tool.specs.Forms.{capture_of as the_capture, captured, check_of as the_check, form_of as the_form, form_of_four as of_four, form_of_one as of_one, form_of_three as of_three, form_of_two as of_two, mode_of as the_mode, pull_by, pull_of as the_pull, push_of as the_push, rounds_by, rounds_of as the_rounds, service_of, side_of as the_side};
+ghost use Rattle.df1_tool.specs.Forms.{capture_of as the_capture, captured, check_of as the_check, form_of as the_form, form_of_four as of_four, form_of_one as of_one, form_of_three as of_three, form_of_two as of_two, mode_of as the_mode, pull_by, pull_of as the_pull, push_of as the_push, rehearsal_of as the_rehearsal, rehearsed as the_rehearsed, rounds_by, rounds_of as the_rounds, service_of, side_of as the_side};
 
 use crate::data_words::data_of;
 use crate::note::{Note, noted};
@@ -52,6 +52,21 @@ pub(crate) enum Form {
         /// The file, 0 to 999.
         file: u16,
     },
+    /// `route`: reads the script of a route, runs it and prints its report.
+    Route,
+    /// `rehearse pull FILE WORDS`: reads a script, runs it with the orders of a transfer in front that reads the first words of a
+    /// file, prints its report, and tells what the transfer came to.
+    RehearsePull {
+        /// The file, 0 to 999.
+        file: u16,
+        /// How many words, 1 to 3,000.
+        count: u16,
+    },
+    /// `rehearse push FILE HEX`: the same of a transfer that writes the words that the fourth word spells.
+    RehearsePush {
+        /// The file, 0 to 999.
+        file: u16,
+    },
 }
 
 /// The two numbers of a script of rounds.
@@ -81,7 +96,7 @@ impl Refusal for NoForm {
 
     fn note(&self) -> Note {
         noted(
-            b"df1: usage: df1 replay | serve PLAN raw|timed | issue PLAN | dissect SIDE CHECK | check SIDE CHECK | drill SEED COUNT | vectors | storm SEED COUNT | pull PLAN FILE WORDS | push PLAN FILE HEX\n",
+            b"df1: usage: df1 replay | serve PLAN raw|timed | issue PLAN | dissect SIDE CHECK | check SIDE CHECK | drill SEED COUNT | vectors | storm SEED COUNT | route | pull PLAN FILE WORDS | push PLAN FILE HEX | rehearse pull FILE WORDS | rehearse push FILE HEX\n",
         )
     }
 }
@@ -96,7 +111,7 @@ pub(crate) fn form_of(words: &[String]) -> Option<Form>
         [word] => form_of_one(word),
         [word, _] => form_of_two(word),
         [word, second, third] => form_of_three(word, second, third),
-        [word, _, third, fourth] => form_of_four(word, third, fourth),
+        [word, second, third, fourth] => form_of_four(word, second, third, fourth),
         _ => None,
     }
 }
@@ -107,6 +122,7 @@ fn form_of_one(word: &str) -> Option<Form>
 {
     match word {
         "replay" => Some(Form::Replay),
+        "route" => Some(Form::Route),
         "vectors" => Some(Form::Vectors),
         _ => None,
     }
@@ -137,12 +153,35 @@ fn form_of_three(word: &str, second: &str, third: &str) -> Option<Form>
 }
 
 /// What four words ask for.
-fn form_of_four(word: &str, third: &str, fourth: &str) -> Option<Form>
-    ensures { result ≡ of_four word.now third.now fourth.now }
+fn form_of_four(word: &str, second: &str, third: &str, fourth: &str) -> Option<Form>
+    ensures { result ≡ of_four word.now second.now third.now fourth.now }
 {
     match word {
         "pull" => pull_of(third, fourth),
         "push" => push_of(third, fourth),
+        "rehearse" => rehearsal_of(second, third, fourth),
+        _ => None,
+    }
+}
+
+/// The rehearsal of a transfer, if these words are a kind of transfer and what that needs.
+fn rehearsal_of(kind: &str, file: &str, what: &str) -> Option<Form>
+    ensures { result ≡ the_rehearsal kind.now file.now what.now }
+{
+    match kind {
+        "pull" => rehearsed(pull_of(file, what)),
+        "push" => rehearsed(push_of(file, what)),
+        _ => None,
+    }
+}
+
+/// A transfer, rehearsed.
+fn rehearsed(transfer: Option<Form>) -> Option<Form>
+    ensures { result ≡ the_rehearsed transfer }
+{
+    match transfer? {
+        Form::Pull { file, count } => Some(Form::RehearsePull { file, count }),
+        Form::Push { file } => Some(Form::RehearsePush { file }),
         _ => None,
     }
 }

@@ -10,6 +10,7 @@ mod note;
 mod number;
 mod refusal;
 mod replaying;
+mod scripts;
 mod serving;
 mod top;
 mod vectors;

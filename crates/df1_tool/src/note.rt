@@ -1,4 +1,4 @@
-//! The text of a note: at most 191 bytes.
+//! The text of a note: at most 251 bytes.
 ghost use Rattle.std.specs.Prelude.{◌≡◌, ◌+◌, ◌≤◌, ◌++◌, decimal, length};
 ghost use Rattle.arrayvec.specs.ArrayVec.{array_vec_len};
 ghost use Rattle.df1_tool.specs.Notes.{input_failed as the_input, output_failed as the_output, input_too_long as the_size, no_memory as the_want};
@@ -6,7 +6,7 @@ ghost use Rattle.df1_tool.specs.Notes.{input_failed as the_input, output_failed 
 use arrayvec::ArrayVec;
 
 /// Room for a note, in bytes.
-const NOTE: usize = 191;
+const NOTE: usize = 251;
 
 /// A note, or the beginning of one.
 pub(crate) type Note = ArrayVec<u8, NOTE>;

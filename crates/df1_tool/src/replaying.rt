@@ -82,7 +82,7 @@ impl Refusal for ReplayFault {
 }
 
 /// The note of a refused line.
-fn refused(line: u32, cause: Cause) -> Note
+pub(crate) fn refused(line: u32, cause: Cause) -> Note
     ensures { result.items ≡ line_note line cause }
 {
     let mut note = noted(b"df1: line ");

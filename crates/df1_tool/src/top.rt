@@ -13,7 +13,7 @@
 //! | 8 | the input of `serve`, `issue`, `pull`, `push`, `dissect` or `check` is over its limit |
 //!
 //! Of several the one is told that came first, in the order in which things happen.
-ghost use Rattle.std.specs.Prelude.{◌≡◌, ◌⊎◌, ◌↔◌, ◌≢◌, ℕ, None, Some, map, string_bytes, true};
+ghost use Rattle.std.specs.Prelude.{◌≡◌, ◌⊎◌, ◌↔◌, ◌≢◌, ℕ, List, [], None, Some, map, slice_index_or, string_bytes, true, IsTrue};
 ghost use Rattle.std.specs.Option.{ForSome};
 ghost use Rattle.df1_base.specs.Outside.{Rose};
 ghost use Rattle.df1_replay.specs.Outcome.{Answered, BrokenOff, CutOff, Refused, Written, replayed};
@@ -28,10 +28,15 @@ ghost use Rattle.df1_drill.specs.Drill.{drill_script};
 ghost use Rattle.df1_drill.specs.Telling.{drill_line, storm_line};
 ghost use Rattle.df1_tool.specs.Drilling.{LineRun};
 ghost use Rattle.df1_tool.specs.Vectors.{VectorsRun};
+ghost use Rattle.df1_tool.specs.Scripts.{ScriptRun};
+ghost use Rattle.whole_scripts.specs.Rehearsals.{HasPulled, HasPushed, pulled_text, pushed_text};
+ghost use Rattle.whole_scripts.specs.Routes.{HasRouted, route_text};
+ghost use Rattle.line_script.specs.declared.profile.Profile.{Profile as Purpose};
 ghost use Rattle.df1_capture.specs.declared.capture.Capture.{Capture as OneCapture};
-ghost use Rattle.df1_tool.specs.declared.form.Form.TheVariants.{Replay, Dissect, Check as Count, Drill, Storm, Vectors};
+ghost use Rattle.df1_tool.specs.declared.form.Form.{Form as Asked};
+ghost use Rattle.df1_tool.specs.declared.form.Form.TheVariants.{Replay, Dissect, Check as Count, Drill, Storm, Vectors, Route, RehearsePull, RehearsePush};
 ghost use Rattle.df1_tool.specs.declared.form.Rounds.{Rounds as TwoNumbers};
-ghost use Rattle.df1_tool.specs.Forms.{form_of as the_form, plan_name, service_for};
+ghost use Rattle.df1_tool.specs.Forms.{data_of, form_of as the_form, plan_name, reads_whole, service_for};
 ghost use Rattle.df1_tool.specs.Replays.{line_note, note_at, status_for, IsReplayStatus};
 ghost use Rattle.df1_service.specs.Service.{Serving, seen, serving_of};
 ghost use Rattle.line_replay.specs.Fed.{told};
@@ -40,7 +45,7 @@ ghost use Rattle.line_script.specs.declared.fault.Cause.{Cause as Fault};
 use crate::data_words::data_of;
 use crate::form::{Form, NoForm, form_of};
 use crate::refusal::refuse;
-use crate::{checking, dissecting, drilling, replaying, serving, vectors};
+use crate::{checking, dissecting, drilling, replaying, scripts, serving, vectors};
 use df1_base::{Sink, Source};
 use df1_service::{Issues, Service};
 use df1_shelf::Shelf;
@@ -129,6 +134,22 @@ pub fn run<H: Shelf, S: Source, K: Sink, N: Sink>(
         (record { held = K.held result.out; out_faults = K.faults result.out; noted = N.held result.note; note_faults = N.faults result.note })
         result.status }
     ensures input_kept { the_form (map string_bytes words.now) ≡ Some Vectors → result.input ≡ input }
+
+    // `route` and `rehearse`. They write nothing before the whole script is read.
+    ensures routes { the_form (map string_bytes words.now) ≡ Some Route → ScriptRun Purpose.Route route_text HasRouted
+        (record { left = S.left input; input_faults = S.faults input; held = K.held out; out_faults = K.faults out; noted = N.held note; note_faults = N.faults note })
+        (record { left = S.left result.input; input_faults = S.faults result.input; held = K.held result.out; out_faults = K.faults result.out; noted = N.held result.note; note_faults = N.faults result.note })
+        result.status }
+    ensures rehearses_pull { (file count : ℕ) → the_form (map string_bytes words.now) ≡ Some (RehearsePull file count) → ScriptRun Purpose.Rehearse (pulled_text file count) (HasPulled file count)
+        (record { left = S.left input; input_faults = S.faults input; held = K.held out; out_faults = K.faults out; noted = N.held note; note_faults = N.faults note })
+        (record { left = S.left result.input; input_faults = S.faults result.input; held = K.held result.out; out_faults = K.faults result.out; noted = N.held result.note; note_faults = N.faults result.note })
+        result.status }
+    ensures rehearses_push { (file : ℕ) (bytes : List ℕ) → the_form (map string_bytes words.now) ≡ Some (RehearsePush file) → data_of (slice_index_or (map string_bytes words.now) 3 []) ≡ Some bytes
+        → ScriptRun Purpose.Rehearse (pushed_text file bytes) (HasPushed file bytes)
+        (record { left = S.left input; input_faults = S.faults input; held = K.held out; out_faults = K.faults out; noted = N.held note; note_faults = N.faults note })
+        (record { left = S.left result.input; input_faults = S.faults result.input; held = K.held result.out; out_faults = K.faults result.out; noted = N.held result.note; note_faults = N.faults result.note })
+        result.status }
+    ensures unwritten { (form : Asked) → the_form (map string_bytes words.now) ≡ Some form → IsTrue (reads_whole form) → result.status ≢ 0 → result.status ≢ 5 → result.out ≡ out }
 
     // What doesn't serve a plan leaves the shelf.
     ensures same_shelf { service_for (map string_bytes words.now) ≡ None → result.shelf ≡ shelf }
@@ -224,6 +245,19 @@ pub fn run<H: Shelf, S: Source, K: Sink, N: Sink>(
         }
         Form::Vectors => {
             let status = vectors::run(alloc, &mut out, &mut note);
+            Ran::new(status, shelf, input, out, note)
+        }
+        Form::Route => {
+            let status = scripts::route(alloc, &mut input, &mut out, &mut note);
+            Ran::new(status, shelf, input, out, note)
+        }
+        Form::RehearsePull { file, count } => {
+            let status = scripts::pull(alloc, &mut input, &mut out, &mut note, file, count);
+            Ran::new(status, shelf, input, out, note)
+        }
+        Form::RehearsePush { file } => {
+            let bytes = data_of(&words[3]).unwrap();
+            let status = scripts::push(alloc, &mut input, &mut out, &mut note, file, &bytes);
             Ran::new(status, shelf, input, out, note)
         }
     }

@@ -81,7 +81,7 @@ fn ran(
         ShelfMem::new(alloc),
         BytesIn::new(alloc, case.input, piece, case.read_fails)?,
         BytesOut::new(alloc, case.room, 7, &[])?,
-        BytesOut::new(alloc, 200, 200, &[])?,
+        BytesOut::new(alloc, 300, 300, &[])?,
     ))
 }
 
@@ -238,8 +238,8 @@ fn ran_over(alloc: Global, count: u64) -> Result<Ran<ShelfMem, ByteRun, BytesOut
         &words,
         ShelfMem::new(alloc),
         ByteRun::new(0x55, count),
-        BytesOut::new(alloc, 200, 200, &[])?,
-        BytesOut::new(alloc, 200, 200, &[])?,
+        BytesOut::new(alloc, 300, 300, &[])?,
+        BytesOut::new(alloc, 300, 300, &[])?,
     ))
 }
 

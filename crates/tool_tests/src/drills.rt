@@ -55,7 +55,7 @@ fn ran(
         ShelfMem::new(alloc),
         BytesIn::new(alloc, input.as_bytes(), 4096, &[])?,
         BytesOut::new(alloc, room, 4096, &[])?,
-        BytesOut::new(alloc, 200, 200, &[])?,
+        BytesOut::new(alloc, 300, 300, &[])?,
     ))
 }
 

@@ -8,6 +8,8 @@ mod drills;
 #[cfg(test)]
 mod program;
 #[cfg(test)]
+mod scripts;
+#[cfg(test)]
 mod services;
 #[cfg(test)]
 mod vectors;

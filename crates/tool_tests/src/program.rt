@@ -15,7 +15,7 @@ use std::test::Fail;
 
 /// The note where the words are none of the forms.
 pub(crate) const USAGE: &str =
-    "df1: usage: df1 replay | serve PLAN raw|timed | issue PLAN | dissect SIDE CHECK | check SIDE CHECK | drill SEED COUNT | vectors | storm SEED COUNT | pull PLAN FILE WORDS | push PLAN FILE HEX\n";
+    "df1: usage: df1 replay | serve PLAN raw|timed | issue PLAN | dissect SIDE CHECK | check SIDE CHECK | drill SEED COUNT | vectors | storm SEED COUNT | route | pull PLAN FILE WORDS | push PLAN FILE HEX | rehearse pull FILE WORDS | rehearse push FILE HEX\n";
 
 /// What a run of the program is to show.
 #[derive(Drop)]
@@ -46,7 +46,7 @@ fn check<R: Abort + AllocGlobal>(rt: &R, case: &Case) -> Result<(), Fail> {
         ShelfMem::new(rt.alloc()),
         BytesIn::new(rt.alloc(), case.input.as_bytes(), 1, case.read_fails)?,
         BytesOut::new(rt.alloc(), case.room, 7, &[])?,
-        BytesOut::new(rt.alloc(), 200, 200, &[])?,
+        BytesOut::new(rt.alloc(), 300, 300, &[])?,
     );
     assert_eq!(rt; ran.status, case.status);
     assert_eq!(rt; ran.out.held(), case.out.as_bytes());
@@ -321,7 +321,7 @@ fn plays<R: Abort + AllocGlobal>(rt: &R, script: &str, report: &[&str]) -> Resul
         ShelfMem::new(rt.alloc()),
         BytesIn::new(rt.alloc(), script.as_bytes(), 4096, &[])?,
         BytesOut::new(rt.alloc(), 4096, 4096, &[])?,
-        BytesOut::new(rt.alloc(), 200, 200, &[])?,
+        BytesOut::new(rt.alloc(), 300, 300, &[])?,
     );
     let mut expected = String::new(rt.alloc());
     for part in report {
@@ -491,8 +491,8 @@ fn an_end_issues_65535_commands_and_no_more(rt: HostRuntime) -> Result<(), Fail>
             &words,
             ShelfMem::new(rt.alloc()),
             BytesIn::new(rt.alloc(), text.as_bytes(), 4096, &[])?,
-            BytesOut::new(rt.alloc(), 200, 200, &[])?,
-            BytesOut::new(rt.alloc(), 200, 200, &[])?,
+            BytesOut::new(rt.alloc(), 300, 300, &[])?,
+            BytesOut::new(rt.alloc(), 300, 300, &[])?,
         );
         assert_eq!(rt; ran.status, status);
         assert_eq!(rt; ran.note.held(), note.as_bytes());

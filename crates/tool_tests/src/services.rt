@@ -94,7 +94,7 @@ fn served(
         input,
         read_fails: &[],
         room: 4000,
-        note_room: 200,
+        note_room: 300,
         status: 0,
         out,
         note,
@@ -116,7 +116,7 @@ fn stopped(
         input,
         read_fails: &[],
         room: 4000,
-        note_room: 200,
+        note_room: 300,
         status,
         out,
         note,
@@ -381,7 +381,7 @@ fn a_plan_has_at_most_1048576_bytes(rt: HostRuntime) -> Result<(), Fail> {
             shelf,
             BytesIn::new(rt.alloc(), b"", 1, &[])?,
             BytesOut::new(rt.alloc(), 10, 10, &[])?,
-            BytesOut::new(rt.alloc(), 200, 200, &[])?,
+            BytesOut::new(rt.alloc(), 300, 300, &[])?,
         );
         assert_eq!(rt; ran.status, status);
         assert_eq!(rt; ran.note.held(), note.as_bytes());

@@ -21,7 +21,7 @@ fn the_cases_are_told_and_the_input_is_left(rt: HostRuntime) -> Result<(), Fail>
             ShelfMem::new(rt.alloc()),
             BytesIn::new(rt.alloc(), b"end\n", 4096, &[])?,
             BytesOut::new(rt.alloc(), room, 7, &[])?,
-            BytesOut::new(rt.alloc(), 200, 200, &[])?,
+            BytesOut::new(rt.alloc(), 300, 300, &[])?,
         );
         assert_eq!(rt; ran.status, status);
         assert_eq!(rt; ran.out.held(), out.as_bytes());

@@ -4,10 +4,14 @@ use Rattle.std.specs.Prelude.{IsSome, option_and_then, option_map, slice_index_o
 use Rattle.std.proofs.lemmas.List.{length-map}
 use Rattle.df1_service.specs.Service.{CanBeIssued, Commands, PullOrders, PushOrders, Serving, seen, serving_of}
 use Rattle.df1_tool.specs.declared.form.Form.{Form}
-use Rattle.df1_tool.specs.declared.form.Form.TheVariants.{Drill, Storm, Pull, Push}
+use Rattle.df1_tool.specs.declared.form.Form.TheVariants.{Drill, Storm, Pull, Push, RehearsePull, RehearsePush}
 use Rattle.df1_tool.specs.Forms.{data_of, form_of, plan_name, pushing, service_for, service_of}
+use Rattle.df1_tool.specs.Captures.{Streams}
+use Rattle.df1_tool.specs.Scripts.{ScriptRun}
 use Rattle.df1_tool.specs.Served.{Outside, ServiceRun}
-use Rattle.df1_tool.proofs.Asked.{few-drill, few-storm, is-spelled, nth-word, pulls-within, pushes-within, spells}
+use Rattle.line_script.specs.declared.profile.Profile.TheVariants.{Rehearse}
+use Rattle.whole_scripts.specs.Rehearsals.{HasPulled, HasPushed, pulled_text, pushed_text}
+use Rattle.df1_tool.proofs.Asked.{few-drill, few-storm, is-spelled, nth-word, pulls-within, pushes-within, rehearses-pull-within, rehearses-push-within, spells}
 use Rattle.df1_tool.proofs.top.run.Goals as goal
 
 pub drill-status-requires : goal.drill-status-requires
@@ -117,3 +121,81 @@ returns-in-Push-clause-same_shelf g c = λ none.
     let known = ap data_of fourth ∙ spells (λ x. x.items) (data_of c.deref-in-Push.result.now) c.data_of.result c.unwrap-bytes.result c.unwrap-bytes.ensures c.data_of.ensures.value in
     let served : service_for words ≡ Some (pushing c.in-Push.file bytes) = push-served words c.in-Push.file bytes asked known in
     absurd cc
+
+-- ---- `rehearse pull`
+
+pull-asked : (words : List (List ℕ)) (answer : Option Form) (form : Form) (file count : ℕ) → answer ≡ form_of words → answer ≡ Some form → form ≡ RehearsePull file count → form_of words ≡ Some (RehearsePull file count)
+pull-asked words answer form file count value some pull = cc
+
+same-pull : (words : List (List ℕ)) (file count file' count' : ℕ) (before after : Streams) (status : ℕ) → form_of words ≡ Some (RehearsePull file count) → ScriptRun Rehearse (pulled_text file count) (HasPulled file count) before after status
+    → form_of words ≡ Some (RehearsePull file' count') → ScriptRun Rehearse (pulled_text file' count') (HasPulled file' count') before after status
+same-pull words file count file' count' before after status own run asked =
+    let same : Some (RehearsePull file count) ≡ Some (RehearsePull file' count') = sym own ∙ asked in
+    let one : file ≡ file' = cc in
+    let other : count ≡ count' = cc in
+    subst (λ (n : ℕ). ScriptRun Rehearse (pulled_text file' n) (HasPulled file' n) before after status) other
+    (subst (λ (n : ℕ). ScriptRun Rehearse (pulled_text n count) (HasPulled n count) before after status) one run)
+
+pub pull-status-requires-clause-file : goal.pull-status-requires-clause-file
+pull-status-requires-clause-file g c =
+    let words = map string_bytes c.args.words.now in
+    let asked = pull-asked words c.form_of.result c.in-Some.form c.in-RehearsePull.file c.in-RehearsePull.count c.form_of.ensures.value c.in-Some.is c.in-RehearsePull.is in
+    (rehearses-pull-within words c.in-RehearsePull.file c.in-RehearsePull.count asked).0
+
+pub pull-status-requires-clause-words : goal.pull-status-requires-clause-words
+pull-status-requires-clause-words g c =
+    let words = map string_bytes c.args.words.now in
+    let asked = pull-asked words c.form_of.result c.in-Some.form c.in-RehearsePull.file c.in-RehearsePull.count c.form_of.ensures.value c.in-Some.is c.in-RehearsePull.is in
+    let within = rehearses-pull-within words c.in-RehearsePull.file c.in-RehearsePull.count asked in
+    (within.1, within.2)
+
+pub returns-in-RehearsePull-clause-rehearses_pull : goal.returns-in-RehearsePull-clause-rehearses_pull
+returns-in-RehearsePull-clause-rehearses_pull g c = λ file count asked.
+    let words = map string_bytes c.args.words.now in
+    let own = pull-asked words c.form_of.result c.in-Some.form c.in-RehearsePull.file c.in-RehearsePull.count c.form_of.ensures.value c.in-Some.is c.in-RehearsePull.is in
+    rw c.new-in-RehearsePull.ensures (same-pull words c.in-RehearsePull.file c.in-RehearsePull.count file count _ _ c.pull-status.result own c.pull-status.ensures.run asked)
+
+-- ---- `rehearse push`
+
+rehearsed-asked : (words : List (List ℕ)) (answer : Option Form) (form : Form) (file : ℕ) → answer ≡ form_of words → answer ≡ Some form → form ≡ RehearsePush file → form_of words ≡ Some (RehearsePush file)
+rehearsed-asked words answer form file value some push = cc
+
+same-push : (words : List (List ℕ)) (file file' : ℕ) (bytes bytes' : List ℕ) (before after : Streams) (status : ℕ) → form_of words ≡ Some (RehearsePush file) → data_of (slice_index_or words 3 []) ≡ Some bytes
+    → ScriptRun Rehearse (pushed_text file bytes) (HasPushed file bytes) before after status → form_of words ≡ Some (RehearsePush file') → data_of (slice_index_or words 3 []) ≡ Some bytes'
+    → ScriptRun Rehearse (pushed_text file' bytes') (HasPushed file' bytes') before after status
+same-push words file file' bytes bytes' before after status own spelled run asked known =
+    let same : Some (RehearsePush file) ≡ Some (RehearsePush file') = sym own ∙ asked in
+    let one : file ≡ file' = cc in
+    let both : Some bytes ≡ Some bytes' = sym spelled ∙ known in
+    let other : bytes ≡ bytes' = cc in
+    subst (λ (b : List ℕ). ScriptRun Rehearse (pushed_text file' b) (HasPushed file' b) before after status) other
+    (subst (λ (n : ℕ). ScriptRun Rehearse (pushed_text n bytes) (HasPushed n bytes) before after status) one run)
+
+pub bounds-words-3-in-RehearsePush : goal.bounds-words-3-in-RehearsePush
+bounds-words-3-in-RehearsePush g c =
+    let words = map string_bytes c.args.words.now in
+    let asked = rehearsed-asked words c.form_of.result c.in-Some.form c.in-RehearsePush.file c.form_of.ensures.value c.in-Some.is c.in-RehearsePush.is in
+    within-words string_bytes c.args.words.now c.in-RehearsePush.file 3 (rehearses-push-within words c.in-RehearsePush.file asked) (omega arith)
+
+pub unwrap-bytes-requires-in-RehearsePush : goal.unwrap-bytes-requires-in-RehearsePush
+unwrap-bytes-requires-in-RehearsePush g c =
+    let words = map string_bytes c.args.words.now in
+    let asked = rehearsed-asked words c.form_of.result c.in-Some.form c.in-RehearsePush.file c.form_of.ensures.value c.in-Some.is c.in-RehearsePush.is in
+    let pushes = rehearses-push-within words c.in-RehearsePush.file asked in
+    let fourth = nth-word string_bytes c.args.words.now 3 c.index-words-3-in-RehearsePush.result (within-words string_bytes c.args.words.now c.in-RehearsePush.file 3 pushes (omega arith)) c.index-words-3-in-RehearsePush.is ∙ sym c.deref-in-RehearsePush.ensures in
+    is-spelled (λ bytes. bytes.items) (data_of c.deref-in-RehearsePush.result.now) c.data_of-in-RehearsePush.result (subst (λ (word : List ℕ). IsSome (data_of word)) fourth pushes.1) c.data_of-in-RehearsePush.ensures.value
+
+pub push-status-requires-clause-file : goal.push-status-requires-clause-file
+push-status-requires-clause-file g c =
+    let words = map string_bytes c.args.words.now in
+    let asked = rehearsed-asked words c.form_of.result c.in-Some.form c.in-RehearsePush.file c.form_of.ensures.value c.in-Some.is c.in-RehearsePush.is in
+    (rehearses-push-within words c.in-RehearsePush.file asked).0
+
+pub returns-in-RehearsePush-clause-rehearses_push : goal.returns-in-RehearsePush-clause-rehearses_push
+returns-in-RehearsePush-clause-rehearses_push g c = λ file bytes asked known.
+    let words = map string_bytes c.args.words.now in
+    let own = rehearsed-asked words c.form_of.result c.in-Some.form c.in-RehearsePush.file c.form_of.ensures.value c.in-Some.is c.in-RehearsePush.is in
+    let pushes = rehearses-push-within words c.in-RehearsePush.file own in
+    let fourth = nth-word string_bytes c.args.words.now 3 c.index-words-3-in-RehearsePush.result (within-words string_bytes c.args.words.now c.in-RehearsePush.file 3 pushes (omega arith)) c.index-words-3-in-RehearsePush.is ∙ sym c.deref-in-RehearsePush.ensures in
+    let spelled = ap data_of fourth ∙ spells (λ x. x.items) (data_of c.deref-in-RehearsePush.result.now) c.data_of-in-RehearsePush.result c.unwrap-bytes-in-RehearsePush.result c.unwrap-bytes-in-RehearsePush.ensures c.data_of-in-RehearsePush.ensures.value in
+    rw c.new-in-RehearsePush.ensures (same-push words c.in-RehearsePush.file file c.deref-in-RehearsePush-2.result.now bytes _ _ c.push-status.result own (spelled ∙ ap Some (sym c.deref-in-RehearsePush-2.ensures.0)) c.push-status.ensures.run asked known)
