@@ -107,7 +107,7 @@ class Statuses(unittest.TestCase):
         self.assertEqual(self.ladder("script", "-o", "none/x"), (5, "", f"df1-ladder: none/x can't be written: {nothing}"))
 
     def test_words_of_no_form_are_a_usage_error(self):
-        for text in ("", "one two", "one --from x", "one --from 0", "one --from 3 --to 2", "one --fr 1"):
+        for text in ("", "one two", "one --from x", "one --from 0", "one --from 3 --to 2", "one --fr 1", "one --as drill", "one --as"):
             words = text.split()
             with self.subTest(text), contextlib.redirect_stderr(io.StringIO()) as note, self.assertRaises(SystemExit) as exit_:
                 main(words, [])
