@@ -93,6 +93,9 @@ ARROWS = {
     "foreign-ack": [f"{WRITE}; byte 3: 01 → 00", "foreign>a ACK", "b>a NAK"],
     "foreign-frame": ["foreign>b write N7:0 = 1234", *ACKS],
     "foreign-reset": [f"m>3 {ECHO}", "3>m ACK", "foreign>3 NAK, a reset", "m>3 poll 3", "3>m EOT"],
+    "late-before-its-retry": [
+        WRITE, named("write N7:0 = 1234", 2), "b>a ACK", named("reply, done", 1, "b>a"), "a>b ACK", named("reply, done", 2, "b>a"), "a>b ACK",
+    ],
     "late-reply": exchange("echo 55", "55", 1),
     "limits-passed": [f"{WRITE}; 19 of 19 bytes lost", "foreign>a NAK"],
     "lost-ack": [WRITE, "b>a ACK; 2 of 2 bytes lost", "a>b ENQ", *ACKS],
@@ -218,6 +221,7 @@ LABELS = {
 SHOWN = {
     "lost-ack": ["exec write N7:0 = 1234", "answered 1, done"],
     "refused-writes": ["exec write N9:0 = 1234", "answered 1, refused: no such element", "answered 4, refused: not understood"],
+    "late-before-its-retry": ["undelivered 1", "exec write N7:0 = 1234", "stray reply, done", "answered 2, done"],
     "late-reply": ["unanswered 1", "stray reply, 55"],
     "two-sources": ["issue 1", "issue 3 for 9", "exec echo 55", "answered 3, 55"],
     "polled-write": ["issue 1 to 3", "exec write N7:0 = 1234", "answered 1 by 3, done"],
