@@ -1,10 +1,11 @@
-/* Serves a full-duplex end with one Integer file, N7, on a serial device or a pseudo-terminal: serve DEVICE. It ends when the
- * device does. */
+/* Serves a full-duplex end with one Integer file, N7, on a serial device or a pseudo-terminal: serve DEVICE, or serve DEVICE crc on
+ * a line with CRCs. It ends when the device does. */
 #define _POSIX_C_SOURCE 200809L
 #include <errno.h>
 #include <fcntl.h>
 #include <poll.h>
 #include <stdio.h>
+#include <string.h>
 #include <termios.h>
 #include <time.h>
 #include <unistd.h>
@@ -103,7 +104,7 @@ static void serve(df1_end *end, int device)
         long long left = next - now();
 
         if (left <= 0) {
-            next += TICK_MILLISECONDS;
+            next = now() + TICK_MILLISECONDS; /* a tick that is late is one tick */
             goes_on = tick(end, device);
         } else if (poll(&wait, 1, (int)left) > 0) {
             goes_on = hear(end, device);
@@ -114,19 +115,21 @@ static void serve(df1_end *end, int device)
 int main(int argc, char **argv)
 {
     static const uint8_t block[1] = {0};
+    df1_duplex link = full_duplex;
     df1_end end = DF1_NOTHING;
     int device;
 
-    if (argc != 2) {
-        fprintf(stderr, "serve DEVICE\n");
+    if (argc < 2 || argc > 3 || (argc == 3 && strcmp(argv[2], "crc") != 0)) {
+        fprintf(stderr, "serve DEVICE [crc]\n");
         return 2;
     }
+    link.crc = argc == 3;
     device = open(argv[1], O_RDWR | O_NOCTTY);
     if (device < 0 || !make_raw(device)) {
         perror(argv[1]);
         return 1;
     }
-    if (df1_duplex_make(&full_duplex, &node, files, 1, words, 1, block, 0, &end) != DF1_DONE) {
+    if (df1_duplex_make(&link, &node, files, 1, words, 1, block, 0, &end) != DF1_DONE) {
         fprintf(stderr, "no end was made\n");
         return 1;
     }
