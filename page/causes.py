@@ -14,6 +14,8 @@ CAUSES = "| Cause | Where |"
 FORMS = "| Line | Meaning |"
 FORM = re.compile(r"\| (`[^|]+`) \| (.+?) \|$")
 REFUSED = "<!-- refused after: "
+# rows of scripts that aren't replayed
+OTHERS = "<!-- refused "
 
 # So much of a script is read for the line that chooses its mode.
 HEAD = 65536
@@ -42,6 +44,8 @@ class Causes:
         for line in (FORMATS.read_text() if text is None else text).splitlines():
             if line.startswith(REFUSED):
                 table = self.hints["half" if "set mode half" in line else "full"]
+            elif line.startswith(OTHERS):
+                table = None
             elif line in (CAUSES, FORMS):
                 table = self.sentences if line == CAUSES else self.forms
             elif line == "" and isinstance(table, dict):

@@ -29,13 +29,13 @@ def told(script, **words):
 
 
 def rows_of_refusals():
-    """Each row of FORMATS of what usually leads to a cause, with the lines before it."""
+    """Each row of FORMATS of what usually leads to a cause in a script that is replayed, with the lines before it."""
     before = None
     for line in FORMATS.read_text().splitlines():
-        mark = re.fullmatch("<!-- refused after: (.*) -->", line)
+        mark = re.fullmatch("<!-- refused (.*)after: (.*) -->", line)
         row = re.fullmatch(r"\| `([a-z]+)` \| `([^`]*)` \| `([^`]*)` \| (.+?) \|", line)
         if mark:
-            before = mark[1].split(" | ")
+            before = None if mark[1] else mark[2].split(" | ")
         elif row and before:
             yield before, row
 
