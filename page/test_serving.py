@@ -162,6 +162,11 @@ class Failing(Served):
         self.assertEqual(json.loads(self.ask("POST", "/replay", b"end\n")[1])["why"], "The program ended with status 1.")
 
 
+def setUpModule():
+    # Where these run in the background of a shell Ctrl-C is ignored, and so it would be in what they start.
+    signal.signal(signal.SIGINT, signal.default_int_handler)
+
+
 class Command(unittest.TestCase):
     def page(self, *words):
         """A run of the command."""

@@ -50,6 +50,11 @@ reply_ticks = 300
 """
 
 
+def setUpModule():
+    # Where these run in the background of a shell Ctrl-C is ignored, and so it would be in what they start.
+    signal.signal(signal.SIGINT, signal.default_int_handler)
+
+
 class Words(unittest.TestCase):
     def test_an_address_asks_for_its_words(self):
         for text, payloads in [
