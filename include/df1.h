@@ -162,7 +162,8 @@ typedef struct df1_master {
     uint32_t ack_ticks;   /* the ticks of a wait for ACK: 1 to 1,000,000 */
     uint32_t max_resends; /* how often a message is given again before it is given up: 0 to 255 */
     uint32_t poll_ticks;  /* the ticks of a wait after a poll: 1 to 1,000,000 */
-    uint32_t routes;      /* 1: it carries messages from station to station; 0: each message is its node's */
+    uint32_t routes;      /* 1: it carries each message whose DST is a station's number to that station, so its node needs an
+                           * address that no station has; 0: each message is its node's */
     uint32_t reserved[3];
 } df1_master;
 
