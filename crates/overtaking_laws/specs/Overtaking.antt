@@ -25,13 +25,13 @@ pub record IsExecuted (to : Who) (issued : List (List ℕ)) (lines : List Line) 
   pub is_executed : Contains (executed_in to lines) body
 
 -- a reply is told as the answer to command n
-pub record IsAnswered (from : Who) (lines : List Line) (n : ℕ) : Type 0 where
+pub record HasAnswer (from : Who) (lines : List Line) (n : ℕ) : Type 0 where
   pub reply : List ℕ
   pub is_answer : Contains (answers_in from lines) (n, reply)
 
 -- command n was executed, or it is told as answered
 abbrev pub IsSettled : Who → Who → List (List ℕ) → List Line → ℕ → Type 0
-IsSettled from to issued lines n = IsExecuted to issued lines n ⊎ IsAnswered from lines n
+IsSettled from to issued lines n = IsExecuted to issued lines n ⊎ HasAnswer from lines n
 
 -- the source of command n: SRC, its second byte
 abbrev pub source_of : List (List ℕ) → ℕ → Option ℕ
@@ -61,10 +61,10 @@ abbrev pub with_events : Script → List Event → Script
 with_events script events = record { half = script.half; check = script.check; ends = script.ends; events = events }
 
 -- After whichever event a script is cut, the lines of a record are those of what stands before, and then those behind; and nothing overtakes.
-pub record IsCut (script : Script) (r : Record) (front : List Event) : Type 0 where
+pub record IsSettledAfter (script : Script) (r : Record) (front : List Event) : Type 0 where
   pub after : List Line
   pub lines : r.lines ≡ (record_of (with_events script front)).lines ++ after
   pub behind : AtStationsOf script.half script (record_of (with_events script front)).lines after
 
 abbrev pub NothingIsOvertaken : Script → Record → Type 0
-NothingIsOvertaken script r = (front back : List Event) → script.events ≡ front ++ back → IsCut script r front
+NothingIsOvertaken script r = (front back : List Event) → script.events ≡ front ++ back → IsSettledAfter script r front

@@ -1,3 +1,4 @@
 mod Printed
 mod Taken
+mod ToldTransfers
 mod WholeLines

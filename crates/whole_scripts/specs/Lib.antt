@@ -1,4 +1,5 @@
 pub mod Rehearsals
 pub mod Routes
 pub mod Texts
+pub mod ToldTransfers
 pub mod Whole

@@ -3,10 +3,9 @@ use Rattle.std.specs.Prelude.{◌≡◌, ℕ, ◌/◌, List, ◌++◌, length}
 use Rattle.bulk_orders.specs.declared.outcome.Bulk.{Bulk}
 use Rattle.bulk_orders.specs.declared.outcome.Bulk.TheVariants.{Whole}
 use Rattle.bulk_orders.specs.Orders.{orders_of}
-use Rattle.bulk_orders.specs.Outcomes.{pull_result, push_result, words_pulled}
 use Rattle.bulk_orders.specs.Telling.{pull_line, push_line}
 use Rattle.bulk_transfer.specs.Moved.{HasFile, IsPulled, IsPushed, IsSound, IsWritable}
-use Rattle.bulk_transfer.specs.Rehearsal.{initiator_after, pull_script, push_script}
+use Rattle.bulk_transfer.specs.Rehearsal.{pull_script, push_script}
 use Rattle.line_world.specs.Complete.{IsComplete, IsUndisturbed}
 use Rattle.line_world.specs.Once.{EachCommandOnce}
 use Rattle.line_world.specs.Recovery.{Recovers}
@@ -14,15 +13,16 @@ use Rattle.line_world.specs.Runs.{record_of}
 use Rattle.line_world.specs.Wire.{AreDf1Wires}
 use Rattle.replay_report.specs.Report.{report}
 use Rattle.script_parts.specs.declared.script.Script.{Script}
+use Rattle.whole_scripts.specs.ToldTransfers.{pull_told, push_told, words_told}
 
 -- ---- a transfer that reads
 
--- what it came to, and its words, by the outcomes and the replies of end a's commands in the run
+-- what it came to, and its words, by what the report tells of end a's commands
 abbrev pub pulled_bulk : ℕ → ℕ → Script → Bulk
-pulled_bulk file words script = pull_result (initiator_after (pull_script script file words)) words
+pulled_bulk file words script = pull_told (record_of (pull_script script file words)).lines words
 
 abbrev pub pulled_words : ℕ → ℕ → Script → List ℕ
-pulled_words file words script = words_pulled (initiator_after (pull_script script file words)) words
+pulled_words file words script = words_told (record_of (pull_script script file words)).lines words
 
 -- the report of the run with the orders in front of the events, and the line of the transfer
 abbrev pub pulled_text : ℕ → ℕ → Script → List ℕ
@@ -41,7 +41,7 @@ pub record HasPulled (file words : ℕ) (script : Script) : Type 0 where
 -- ---- a transfer that writes
 
 abbrev pub pushed_bulk : ℕ → List ℕ → Script → Bulk
-pushed_bulk file bytes script = push_result (initiator_after (push_script script file bytes)) (length bytes / 2)
+pushed_bulk file bytes script = push_told (record_of (push_script script file bytes)).lines (length bytes / 2)
 
 abbrev pub pushed_text : ℕ → List ℕ → Script → List ℕ
 pushed_text file bytes script = report (record_of (push_script script file bytes)) ++ push_line (pushed_bulk file bytes script) (orders_of (length bytes / 2))
