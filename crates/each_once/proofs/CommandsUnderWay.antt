@@ -32,10 +32,10 @@ abbrev pub IsDone : Standing → Type 0
 IsDone (Answered reply) = Unit {0}
 IsDone other = ⊥
 
--- a command is out, and so many ticks, less those that passed late, are left to it
-abbrev pub IsOutIn : ℕ → ℕ → Standing → Type 0
-IsOutIn ticks late (Out left) = ticks ≤ left + late
-IsOutIn ticks late other = ⊥
+-- a command is out, and so many ticks at least are left to it
+abbrev pub IsOutFor : ℕ → Standing → Type 0
+IsOutFor least (Out left) = least ≤ left
+IsOutFor least other = ⊥
 
 -- how the command at a place stands
 pub record StandsAs (issued : List Issued) (P : Standing → Type 0) (place : ℕ) : Type 0 where
@@ -43,20 +43,21 @@ pub record StandsAs (issued : List Issued) (P : Standing → Type 0) (place : �
   pub is_at : slice_get issued place ≡ Some command
   pub stands : P command.standing
 
--- of the commands at these places the first so many are answered, and the others are out
-abbrev pub StandInTurn : List Issued → ℕ → ℕ → List ℕ → ℕ → Type 0
-StandInTurn issued ticks late [] zero = Unit {0}
-StandInTurn issued ticks late [] (suc done) = ⊥
-StandInTurn issued ticks late (p ∷ ps) zero = StandsAs issued (IsOutIn ticks late) p × StandInTurn issued ticks late ps zero
-StandInTurn issued ticks late (p ∷ ps) (suc done) = StandsAs issued IsDone p × StandInTurn issued ticks late ps done
+-- of the commands at these places the first so many are answered, and the others are out: the first of these, the next, and so on have at least
+-- so many ticks left
+abbrev pub StandInTurn : List Issued → (ℕ → ℕ) → List ℕ → ℕ → Type 0
+StandInTurn issued least [] zero = Unit {0}
+StandInTurn issued least [] (suc done) = ⊥
+StandInTurn issued least (p ∷ ps) zero = StandsAs issued (IsOutFor (least 0)) p × StandInTurn issued (λ j. least (suc j)) ps zero
+StandInTurn issued least (p ∷ ps) (suc done) = StandsAs issued IsDone p × StandInTurn issued least ps done
 
 -- of those that pass the test these bodies were handed out; the first so many of their commands are answered
-pub record AreUnderWay (mine : List ℕ → Bool) (s : InitiatorState) (handed : List (List ℕ)) (done late : ℕ) : Type 0 where
+pub record AreUnderWay (mine : List ℕ → Bool) (s : InitiatorState) (handed : List (List ℕ)) (done : ℕ) (least : ℕ → ℕ) : Type 0 where
   pub order : List ℕ
   pub are_at : AreAt (bodies_of s.issued) order handed
   pub are_mine : (k : ℕ) (body : List ℕ) → slice_get handed k ≡ Some body → mine body ≡ true
   pub differ : Differ order
-  pub stand : StandInTurn s.issued s.reply_ticks late order done
+  pub stand : StandInTurn s.issued least order done
   pub wait : (p : ℕ) (c : Issued) → slice_get s.issued p ≡ Some c → mine c.body ≡ true → (Has order p → ⊥) → is_waiting c.standing ≡ true
   pub counted : done + count_mine mine is_out s.issued ≡ length order
   pub few : count_out s.issued ≤ s.window
@@ -76,17 +77,21 @@ done-ticked : (s : Standing) → IsDone s → IsDone (ticked s)
 done-ticked (Answered reply) d = tt
 done-ticked other d = absurd d
 
-out-out : (ticks late : ℕ) (s : Standing) → IsOutIn ticks late s → is_out s ≡ true
-out-out ticks late (Out left) o = refl
-out-out ticks late other o = absurd o
+out-out : (least : ℕ) (s : Standing) → IsOutFor least s → is_out s ≡ true
+out-out least (Out left) o = refl
+out-out least other o = absurd o
 
-out-waits : (ticks late : ℕ) (s : Standing) → IsOutIn ticks late s → is_waiting s ≡ false
-out-waits ticks late (Out left) o = refl
-out-waits ticks late other o = absurd o
+out-waits : (least : ℕ) (s : Standing) → IsOutFor least s → is_waiting s ≡ false
+out-waits least (Out left) o = refl
+out-waits least other o = absurd o
 
-out-ticked : (ticks late : ℕ) (s : Standing) → late + 1 < ticks → IsOutIn ticks late s → IsOutIn ticks (late + 1) (ticked s)
-out-ticked ticks late (Out left) few o = rw (lt-ltb 1 left (omega (arith, few, o))) (omega (arith, few, o))
-out-ticked ticks late other few o = absurd o
+-- a tick fewer is left, and at least one
+abbrev pub IsTickFewer : ℕ → ℕ → Type 0
+IsTickFewer least later = (1 ≤ later) × (later + 1 ≤ least)
+
+out-ticked : (least later : ℕ) (s : Standing) → IsTickFewer least later → IsOutFor least s → IsOutFor later (ticked s)
+out-ticked least later (Out left) few o = let some = few.0 in let less = few.1 in rw (lt-ltb 1 left (omega (arith, some, less, o))) (omega (arith, less, o))
+out-ticked least later other few o = absurd o
 
 -- ---- places of an order
 
@@ -135,27 +140,27 @@ restated-at (d ∷ cs) (suc p) c s at = restated-at cs p c s at
 stands-there : (cs : List Issued) (q : ℕ) (s : Standing) (P : Standing → Type 0) (p : ℕ) → (p ≡ q → ⊥) → StandsAs cs P p → StandsAs (restated cs q s) P p
 stands-there cs q s P p apart h = record { command = h.command; is_at = get-restated cs q p s (λ same. apart (sym same)) ∙ h.is_at; stands = h.stands }
 
-stand-there : (cs : List Issued) (ticks late : ℕ) (q : ℕ) (s : Standing) (ps : List ℕ) (done : ℕ) → ((k p : ℕ) → slice_get ps k ≡ Some p → p ≡ q → ⊥) → StandInTurn cs ticks late ps done → StandInTurn (restated cs q s) ticks late ps done
-stand-there cs ticks late q s [] zero apart h = tt
-stand-there cs ticks late q s [] (suc done) apart h = absurd h
-stand-there cs ticks late q s (p ∷ ps) zero apart h = (stands-there cs q s (IsOutIn ticks late) p (apart 0 p refl) h.0, stand-there cs ticks late q s ps zero (λ k r at. apart (suc k) r at) h.1)
-stand-there cs ticks late q s (p ∷ ps) (suc done) apart h = (stands-there cs q s IsDone p (apart 0 p refl) h.0, stand-there cs ticks late q s ps done (λ k r at. apart (suc k) r at) h.1)
+stand-there : (cs : List Issued) (least : ℕ → ℕ) (q : ℕ) (s : Standing) (ps : List ℕ) (done : ℕ) → ((k p : ℕ) → slice_get ps k ≡ Some p → p ≡ q → ⊥) → StandInTurn cs least ps done → StandInTurn (restated cs q s) least ps done
+stand-there cs least q s [] zero apart h = tt
+stand-there cs least q s [] (suc done) apart h = absurd h
+stand-there cs least q s (p ∷ ps) zero apart h = (stands-there cs q s (IsOutFor (least 0)) p (apart 0 p refl) h.0, stand-there cs (λ j. least (suc j)) q s ps zero (λ k r at. apart (suc k) r at) h.1)
+stand-there cs least q s (p ∷ ps) (suc done) apart h = (stands-there cs q s IsDone p (apart 0 p refl) h.0, stand-there cs least q s ps done (λ k r at. apart (suc k) r at) h.1)
 
 -- the order, where its commands stand as they stood, or otherwise
-stand-so : (cs ds : List Issued) (ticks late later : ℕ) (ps : List ℕ) (done : ℕ) → ((p : ℕ) → StandsAs cs IsDone p → StandsAs ds IsDone p) → ((p : ℕ) → StandsAs cs (IsOutIn ticks late) p → StandsAs ds (IsOutIn ticks later) p)
-    → StandInTurn cs ticks late ps done → StandInTurn ds ticks later ps done
-stand-so cs ds ticks late later [] zero answered out h = tt
-stand-so cs ds ticks late later [] (suc done) answered out h = absurd h
-stand-so cs ds ticks late later (p ∷ ps) zero answered out h = (out p h.0, stand-so cs ds ticks late later ps zero answered out h.1)
-stand-so cs ds ticks late later (p ∷ ps) (suc done) answered out h = (answered p h.0, stand-so cs ds ticks late later ps done answered out h.1)
+stand-so : (cs ds : List Issued) (least later : ℕ → ℕ) (ps : List ℕ) (done : ℕ) → ((p : ℕ) → StandsAs cs IsDone p → StandsAs ds IsDone p) → ((j p : ℕ) → StandsAs cs (IsOutFor (least j)) p → StandsAs ds (IsOutFor (later j)) p)
+    → StandInTurn cs least ps done → StandInTurn ds later ps done
+stand-so cs ds least later [] zero answered out h = tt
+stand-so cs ds least later [] (suc done) answered out h = absurd h
+stand-so cs ds least later (p ∷ ps) zero answered out h = (out 0 p h.0, stand-so cs ds (λ j. least (suc j)) (λ j. later (suc j)) ps zero answered (λ j. out (suc j)) h.1)
+stand-so cs ds least later (p ∷ ps) (suc done) answered out h = (answered p h.0, stand-so cs ds least later ps done answered out h.1)
 
 stands-so : (cs : List Issued) (P Q : Standing → Type 0) (p : ℕ) → ((x : Standing) → P x → Q x) → StandsAs cs P p → StandsAs cs Q p
 stands-so cs P Q p so h = record { command = h.command; is_at = h.is_at; stands = so h.command.standing h.stands }
 
 -- ---- the start
 
-pub under-way-start : (mine : List ℕ → Bool) (s : InitiatorState) → s.issued ≡ [] → AreUnderWay mine s [] 0 0
-under-way-start mine s none = record {
+pub under-way-start : (mine : List ℕ → Bool) (s : InitiatorState) (least : ℕ → ℕ) → s.issued ≡ [] → AreUnderWay mine s [] 0 least
+under-way-start mine s least none = record {
   order = [];
   are_at = tt;
   are_mine = λ k body at. absurd cc;
@@ -172,8 +177,8 @@ under-way-start mine s none = record {
 stands-more : (cs more : List Issued) (P : Standing → Type 0) (p : ℕ) → StandsAs cs P p → StandsAs (cs ++ more) P p
 stands-more cs more P p h = record { command = h.command; is_at = get-more cs more p h.command h.is_at; stands = h.stands }
 
-pub under-way-issue : (mine : List ℕ → Bool) (s : InitiatorState) (src dst : ℕ) (payload : List ℕ) (handed : List (List ℕ)) (done late : ℕ) → AreUnderWay mine s handed done late → AreUnderWay mine (after_issue s src dst payload) handed done late
-under-way-issue mine s src dst payload handed done late u =
+pub under-way-issue : (mine : List ℕ → Bool) (s : InitiatorState) (src dst : ℕ) (payload : List ℕ) (handed : List (List ℕ)) (done : ℕ) (least : ℕ → ℕ) → AreUnderWay mine s handed done least → AreUnderWay mine (after_issue s src dst payload) handed done least
+under-way-issue mine s src dst payload handed done least u =
     let new : Issued = record { body = next_issued s src dst payload; standing = Waiting } in
     let all = count-more out_now s.issued new in
     let count = count-more (both_of mine is_out) s.issued new in
@@ -186,7 +191,7 @@ under-way-issue mine s src dst payload handed done late u =
       are_at = subst (λ (bodies : List (List ℕ)). AreAt bodies u.order handed) (sym (map-append (λ (c : Issued). c.body) s.issued (new ∷ []))) (at-more (bodies_of s.issued) (new.body ∷ []) u.order handed u.are_at);
       are_mine = u.are_mine;
       differ = u.differ;
-      stand = stand-so s.issued (s.issued ++ new ∷ []) s.reply_ticks late late u.order done (λ p. stands-more s.issued (new ∷ []) IsDone p) (λ p. stands-more s.issued (new ∷ []) (IsOutIn s.reply_ticks late) p) u.stand;
+      stand = stand-so s.issued (s.issued ++ new ∷ []) least least u.order done (λ p. stands-more s.issued (new ∷ []) IsDone p) (λ j p. stands-more s.issued (new ∷ []) (IsOutFor (least j)) p) u.stand;
       wait = λ p c is of none. elim (push-cases s.issued new p c is) [ inl old ↦ u.wait p c old of none | inr last ↦ ap (λ (x : Issued). is_waiting x.standing) last.1 ];
       counted = omega (arith, count, none, u.counted);
       few = omega (arith, all, u.few);
@@ -196,8 +201,8 @@ under-way-issue mine s src dst payload handed done late u =
 -- ---- a command that doesn't pass the test stands otherwise
 
 -- it isn't of the order
-other-order : (mine : List ℕ → Bool) (s : InitiatorState) (q : ℕ) (body : List ℕ) (handed : List (List ℕ)) (done late : ℕ) → slice_get (bodies_of s.issued) q ≡ Some body → mine body ≡ false → (u : AreUnderWay mine s handed done late) → (k p : ℕ) → slice_get u.order k ≡ Some p → p ≡ q → ⊥
-other-order mine s q body handed done late at other u k p found same =
+other-order : (mine : List ℕ → Bool) (s : InitiatorState) (q : ℕ) (body : List ℕ) (handed : List (List ℕ)) (done : ℕ) (least : ℕ → ℕ) → slice_get (bodies_of s.issued) q ≡ Some body → mine body ≡ false → (u : AreUnderWay mine s handed done least) → (k p : ℕ) → slice_get u.order k ≡ Some p → p ≡ q → ⊥
+other-order mine s q body handed done least at other u k p found same =
     let x = at-body (bodies_of s.issued) u.order handed k p u.are_at found in
     let is : x.0 ≡ body = same_Some x.0 body (sym x.2 ∙ ap (slice_get (bodies_of s.issued)) same ∙ at) in
     let clash : true ≡ false = sym (u.are_mine k x.0 x.1) ∙ ap mine is ∙ other in cc
@@ -206,9 +211,9 @@ other-order mine s q body handed done late at other u k p found same =
 pub body-of : (cs : List Issued) (p : ℕ) (c : Issued) → slice_get cs p ≡ Some c → slice_get (bodies_of cs) p ≡ Some c.body
 body-of cs p c at = slice_get-map (λ (x : Issued). x.body) cs p ∙ ap (option_map (λ (x : Issued). x.body)) at
 
-other-restated : (mine : List ℕ → Bool) (s : InitiatorState) (q : ℕ) (c : Issued) (standing : Standing) (handed : List (List ℕ)) (done late : ℕ) → slice_get s.issued q ≡ Some c → mine c.body ≡ false → count_out (restated s.issued q standing) ≤ s.window → AreUnderWay mine s handed done late
-    → AreUnderWay mine (record s { issued = restated s.issued q standing }) handed done late
-other-restated mine s q c standing handed done late at other few u =
+other-restated : (mine : List ℕ → Bool) (s : InitiatorState) (q : ℕ) (c : Issued) (standing : Standing) (handed : List (List ℕ)) (done : ℕ) (least : ℕ → ℕ) → slice_get s.issued q ≡ Some c → mine c.body ≡ false → count_out (restated s.issued q standing) ≤ s.window → AreUnderWay mine s handed done least
+    → AreUnderWay mine (record s { issued = restated s.issued q standing }) handed done least
+other-restated mine s q c standing handed done least at other few u =
     let now : Issued = record c { standing = standing } in
     let out = count-restated (both_of mine is_out) s.issued q c standing at in
     let waits = count-restated (both_of mine is_waiting) s.issued q c standing at in
@@ -222,7 +227,7 @@ other-restated mine s q c standing handed done late at other few u =
       are_at = subst (λ (bodies : List (List ℕ)). AreAt bodies u.order handed) (sym (bodies-restated s.issued q standing)) u.are_at;
       are_mine = u.are_mine;
       differ = u.differ;
-      stand = stand-there s.issued s.reply_ticks late q standing u.order done (other-order mine s q c.body handed done late (body-of s.issued q c at) other u) u.stand;
+      stand = stand-there s.issued least q standing u.order done (other-order mine s q c.body handed done least (body-of s.issued q c at) other u) u.stand;
       wait = λ p d found of none. u.wait p d (sym (get-restated s.issued q p standing (λ same.
           let is : d ≡ now = same_Some d now (sym found ∙ ap (slice_get (restated s.issued q standing)) (sym same) ∙ restated-at s.issued q c standing at) in
           let clash : true ≡ false = sym of ∙ ap (λ (x : Issued). mine x.body) is ∙ other in cc)) ∙ found) of none;
@@ -233,25 +238,25 @@ other-restated mine s q c standing handed done late at other few u =
 
 -- ---- the next command is handed out
 
-stand-push : (cs : List Issued) (ticks late : ℕ) (ps : List ℕ) (done q : ℕ) → StandInTurn cs ticks late ps done → StandsAs cs (IsOutIn ticks late) q → StandInTurn cs ticks late (ps ++ q ∷ []) done
-stand-push cs ticks late [] zero q h new = (new, tt)
-stand-push cs ticks late [] (suc done) q h new = absurd h
-stand-push cs ticks late (p ∷ ps) zero q h new = (h.0, stand-push cs ticks late ps zero q h.1 new)
-stand-push cs ticks late (p ∷ ps) (suc done) q h new = (h.0, stand-push cs ticks late ps done q h.1 new)
+stand-push : (cs : List Issued) (least : ℕ → ℕ) (ps : List ℕ) (done q : ℕ) → StandInTurn cs least ps done → ((j : ℕ) → done + j ≡ length ps → StandsAs cs (IsOutFor (least j)) q) → StandInTurn cs least (ps ++ q ∷ []) done
+stand-push cs least [] zero q h new = (new 0 refl, tt)
+stand-push cs least [] (suc done) q h new = absurd h
+stand-push cs least (p ∷ ps) zero q h new = (h.0, stand-push cs (λ j. least (suc j)) ps zero q h.1 (λ j is. new (suc j) (omega (arith, is))))
+stand-push cs least (p ∷ ps) (suc done) q h new = (h.0, stand-push cs least ps done q h.1 (λ j is. new j (omega (arith, is))))
 
 -- the command at a place of the order is answered or out
-turn-stands : (cs : List Issued) (ticks late : ℕ) (ps : List ℕ) (done k p : ℕ) → StandInTurn cs ticks late ps done → slice_get ps k ≡ Some p → StandsAs cs IsDone p ⊎ StandsAs cs (IsOutIn ticks late) p
-turn-stands cs ticks late [] done k p h at = absurd cc
-turn-stands cs ticks late (q ∷ ps) zero zero p h at = inr (subst (StandsAs cs (IsOutIn ticks late)) (same_Some q p at) h.0)
-turn-stands cs ticks late (q ∷ ps) zero (suc k) p h at = turn-stands cs ticks late ps zero k p h.1 at
-turn-stands cs ticks late (q ∷ ps) (suc done) zero p h at = inl (subst (StandsAs cs IsDone) (same_Some q p at) h.0)
-turn-stands cs ticks late (q ∷ ps) (suc done) (suc k) p h at = turn-stands cs ticks late ps done k p h.1 at
+turn-stands : (cs : List Issued) (least : ℕ → ℕ) (ps : List ℕ) (done k p : ℕ) → StandInTurn cs least ps done → slice_get ps k ≡ Some p → StandsAs cs IsDone p ⊎ ((j : ℕ) × StandsAs cs (IsOutFor (least j)) p)
+turn-stands cs least [] done k p h at = absurd cc
+turn-stands cs least (q ∷ ps) zero zero p h at = inr (0, subst (StandsAs cs (IsOutFor (least 0))) (same_Some q p at) h.0)
+turn-stands cs least (q ∷ ps) zero (suc k) p h at = elim (turn-stands cs (λ j. least (suc j)) ps zero k p h.1 at) [ inl answered ↦ inl answered | inr out ↦ inr (suc out.0, out.1) ]
+turn-stands cs least (q ∷ ps) (suc done) zero p h at = inl (subst (StandsAs cs IsDone) (same_Some q p at) h.0)
+turn-stands cs least (q ∷ ps) (suc done) (suc k) p h at = turn-stands cs least ps done k p h.1 at
 
 -- so it doesn't wait
-turn-waits : (cs : List Issued) (ticks late : ℕ) (ps : List ℕ) (done k p : ℕ) (c : Issued) → StandInTurn cs ticks late ps done → slice_get ps k ≡ Some p → slice_get cs p ≡ Some c → is_waiting c.standing ≡ false
-turn-waits cs ticks late ps done k p c h at is = elim (turn-stands cs ticks late ps done k p h at) [
+turn-waits : (cs : List Issued) (least : ℕ → ℕ) (ps : List ℕ) (done k p : ℕ) (c : Issued) → StandInTurn cs least ps done → slice_get ps k ≡ Some p → slice_get cs p ≡ Some c → is_waiting c.standing ≡ false
+turn-waits cs least ps done k p c h at is = elim (turn-stands cs least ps done k p h at) [
   | inl answered ↦ let same : answered.command ≡ c = same_Some _ _ (sym answered.is_at ∙ is) in ap (λ (x : Issued). is_waiting x.standing) (sym same) ∙ done-waits answered.command.standing answered.stands
-  | inr out ↦ let same : out.command ≡ c = same_Some _ _ (sym out.is_at ∙ is) in ap (λ (x : Issued). is_waiting x.standing) (sym same) ∙ out-waits ticks late out.command.standing out.stands
+  | inr (j, out) ↦ let same : out.command ≡ c = same_Some _ _ (sym out.is_at ∙ is) in ap (λ (x : Issued). is_waiting x.standing) (sym same) ∙ out-waits (least j) out.command.standing out.stands
 ]
 
 -- what is found only where it may be
@@ -298,11 +303,12 @@ handed-few s q c at waits room =
     let was : one_if (is_out c.standing) ≡ 0 = ap one_if (waits-out c.standing waits) in
     omega (arith, now, was, room)
 
-handed-to : (mine : List ℕ → Bool) (s : InitiatorState) (q : ℕ) (handed : List (List ℕ)) (body : List ℕ) (done late : ℕ) (c : Issued) → slice_get s.issued q ≡ Some c → is_waiting c.standing ≡ true → c.body ≡ body → mine body ≡ true → count_out s.issued < s.window → AreUnderWay mine s handed done late
-    → AreUnderWay mine (record s { issued = restated s.issued q (Out s.reply_ticks) }) (handed ++ body ∷ []) done late
-handed-to mine s q handed body done late c at waits is own room u =
+handed-to : (mine : List ℕ → Bool) (s : InitiatorState) (q : ℕ) (handed : List (List ℕ)) (body : List ℕ) (done : ℕ) (least : ℕ → ℕ) (c : Issued) → slice_get s.issued q ≡ Some c → is_waiting c.standing ≡ true → c.body ≡ body → mine body ≡ true → count_out s.issued < s.window → ((j : ℕ) → j < s.window → least j ≤ s.reply_ticks) → AreUnderWay mine s handed done least
+    → AreUnderWay mine (record s { issued = restated s.issued q (Out s.reply_ticks) }) (handed ++ body ∷ []) done least
+handed-to mine s q handed body done least c at waits is own room enough u =
     let out : Standing = Out s.reply_ticks in
-    let here : StandsAs (restated s.issued q out) (IsOutIn s.reply_ticks late) q = record { command = record c { standing = out }; is_at = restated-at s.issued q c out at; stands = omega arith } in
+    let few_out = mine-out mine s.issued in
+    let here : (j : ℕ) → done + j ≡ length u.order → StandsAs (restated s.issued q out) (IsOutFor (least j)) q = λ j is. record { command = record c { standing = out }; is_at = restated-at s.issued q c out at; stands = enough j (omega (arith, is, few_out, room, u.counted)) } in
     let own_here : mine c.body ≡ true = ap mine is ∙ own in
     let now = count-restated (both_of mine is_out) s.issued q c out at in
     let was = none-if (mine c.body) (is_out c.standing) (waits-out c.standing waits) in
@@ -315,11 +321,11 @@ handed-to mine s q handed body done late c at waits is own room u =
     let one = length-append u.order (q ∷ []) in
     record {
       order = u.order ++ q ∷ [];
-      are_at = at-push (bodies_of (restated s.issued q out)) u.order handed q body (body-of (restated s.issued q out) q (record c { standing = out }) here.is_at ∙ ap Some is)
+      are_at = at-push (bodies_of (restated s.issued q out)) u.order handed q body (body-of (restated s.issued q out) q (record c { standing = out }) (restated-at s.issued q c out at) ∙ ap Some is)
           (subst (λ (bodies : List (List ℕ)). AreAt bodies u.order handed) (sym (bodies-restated s.issued q out)) u.are_at);
       are_mine = λ k x found. elim (push-cases handed body k x found) [ inl old ↦ u.are_mine k x old | inr last ↦ ap mine last.1 ∙ own ];
       differ = differ-push u.order q u.differ (λ has. new has.0 q has.1 refl);
-      stand = stand-push (restated s.issued q out) s.reply_ticks late u.order done q (stand-there s.issued s.reply_ticks late q out u.order done new u.stand) here;
+      stand = stand-push (restated s.issued q out) least u.order done q (stand-there s.issued least q out u.order done new u.stand) here;
       wait = λ p d found of none. u.wait p d (sym (get-restated s.issued q p out (λ same. none (subst (Has (u.order ++ q ∷ [])) same (has-last u.order q)))) ∙ found) of (λ has. none (has-push u.order q p has));
       counted = omega (arith, now, was, goes, mine_one, one, u.counted);
       few = handed-few s q c at waits room;
@@ -328,32 +334,32 @@ handed-to mine s q handed body done late c at waits is own room u =
   where
     new : (k p : ℕ) → slice_get u.order k ≡ Some p → p ≡ q → ⊥
     new k p found same =
-        let no = turn-waits s.issued s.reply_ticks late u.order done k p c u.stand found (ap (slice_get s.issued) same ∙ at) in
+        let no = turn-waits s.issued least u.order done k p c u.stand found (ap (slice_get s.issued) same ∙ at) in
         let clash : true ≡ false = sym waits ∙ no in cc
 
-pub under-way-hand_out : (mine : List ℕ → Bool) (s : InitiatorState) (body : List ℕ) (handed : List (List ℕ)) (done late : ℕ) → mine body ≡ true → next_command s ≡ Some body → AreUnderWay mine s handed done late → AreUnderWay mine (after_hand_out s) (handed ++ body ∷ []) done late
-under-way-hand_out mine s body handed done late own next u =
+pub under-way-hand_out : (mine : List ℕ → Bool) (s : InitiatorState) (body : List ℕ) (handed : List (List ℕ)) (done : ℕ) (least : ℕ → ℕ) → mine body ≡ true → next_command s ≡ Some body → ((j : ℕ) → j < s.window → least j ≤ s.reply_ticks) → AreUnderWay mine s handed done least → AreUnderWay mine (after_hand_out s) (handed ++ body ∷ []) done least
+under-way-hand_out mine s body handed done least own next enough u =
     let n = hands-out s body next in
-    subst (λ (place : Option ℕ). AreUnderWay mine (record s { issued = option_map_or (λ p. restated s.issued p (Out s.reply_ticks)) place s.issued }) (handed ++ body ∷ []) done late) (sym n.is_next)
-    (handed-to mine s n.place handed body done late n.command n.is_at n.waits n.has_body own n.room u)
+    subst (λ (place : Option ℕ). AreUnderWay mine (record s { issued = option_map_or (λ p. restated s.issued p (Out s.reply_ticks)) place s.issued }) (handed ++ body ∷ []) done least) (sym n.is_next)
+    (handed-to mine s n.place handed body done least n.command n.is_at n.waits n.has_body own n.room enough u)
 
 -- one that doesn't pass the test
-pub under-way-hand_out-other : (mine : List ℕ → Bool) (s : InitiatorState) (body : List ℕ) (handed : List (List ℕ)) (done late : ℕ) → mine body ≡ false → next_command s ≡ Some body → AreUnderWay mine s handed done late → AreUnderWay mine (after_hand_out s) handed done late
-under-way-hand_out-other mine s body handed done late other next u =
+pub under-way-hand_out-other : (mine : List ℕ → Bool) (s : InitiatorState) (body : List ℕ) (handed : List (List ℕ)) (done : ℕ) (least : ℕ → ℕ) → mine body ≡ false → next_command s ≡ Some body → AreUnderWay mine s handed done least → AreUnderWay mine (after_hand_out s) handed done least
+under-way-hand_out-other mine s body handed done least other next u =
     let n = hands-out s body next in
-    subst (λ (place : Option ℕ). AreUnderWay mine (record s { issued = option_map_or (λ p. restated s.issued p (Out s.reply_ticks)) place s.issued }) handed done late) (sym n.is_next)
-    (other-restated mine s n.place n.command (Out s.reply_ticks) handed done late n.is_at (ap mine n.has_body ∙ other) (handed-few s n.place n.command n.is_at n.waits n.room) u)
+    subst (λ (place : Option ℕ). AreUnderWay mine (record s { issued = option_map_or (λ p. restated s.issued p (Out s.reply_ticks)) place s.issued }) handed done least) (sym n.is_next)
+    (other-restated mine s n.place n.command (Out s.reply_ticks) handed done least n.is_at (ap mine n.has_body ∙ other) (handed-few s n.place n.command n.is_at n.waits n.room) u)
 
 -- ---- the reply to the first command that is out
 
 -- the place in the list of the command at a place of the order
-turn-place : (cs : List Issued) (ticks late : ℕ) (ps : List ℕ) (done : ℕ) (xs : List (List ℕ)) (x : List ℕ) → AreAt (bodies_of cs) ps xs → StandInTurn cs ticks late ps done → slice_get xs done ≡ Some x
-    → (p : ℕ) × (slice_get ps done ≡ Some p) × StandsAs cs (IsOutIn ticks late) p × (slice_get (bodies_of cs) p ≡ Some x)
-turn-place cs ticks late [] done [] x at h is = absurd cc
-turn-place cs ticks late [] done (y ∷ ys) x at h is = absurd at
-turn-place cs ticks late (p ∷ ps) done [] x at h is = absurd at
-turn-place cs ticks late (p ∷ ps) zero (y ∷ ys) x at h is = (p, refl, h.0, at.0 ∙ is)
-turn-place cs ticks late (p ∷ ps) (suc done) (y ∷ ys) x at h is = turn-place cs ticks late ps done ys x at.1 h.1 is
+turn-place : (cs : List Issued) (least : ℕ → ℕ) (ps : List ℕ) (done : ℕ) (xs : List (List ℕ)) (x : List ℕ) → AreAt (bodies_of cs) ps xs → StandInTurn cs least ps done → slice_get xs done ≡ Some x
+    → (p : ℕ) × (slice_get ps done ≡ Some p) × StandsAs cs (IsOutFor (least 0)) p × (slice_get (bodies_of cs) p ≡ Some x)
+turn-place cs least [] done [] x at h is = absurd cc
+turn-place cs least [] done (y ∷ ys) x at h is = absurd at
+turn-place cs least (p ∷ ps) done [] x at h is = absurd at
+turn-place cs least (p ∷ ps) zero (y ∷ ys) x at h is = (p, refl, h.0, at.0 ∙ is)
+turn-place cs least (p ∷ ps) (suc done) (y ∷ ys) x at h is = turn-place cs least ps done ys x at.1 h.1 is
 
 -- the first place at which a test passes, where it passes at one alone
 position-only : (t : Issued → Bool) (cs : List Issued) (p : ℕ) (c : Issued) → slice_get cs p ≡ Some c → t c ≡ true → ((q : ℕ) (d : Issued) → slice_get cs q ≡ Some d → t d ≡ true → q ≡ p) → position t cs ≡ Some p
@@ -376,35 +382,35 @@ one-place s reply few numbered p q c d at-p at-q fits-c fits-d =
     let same : 0 + q ≡ 0 + p = numbered-apart s.tns (0 + q) (0 + p) (omega (arith, inside_q)) (omega (arith, inside_p)) (sym number_q ∙ sym (reply-tns d.body reply fits-d) ∙ reply-tns c.body reply fits-c ∙ number_p) in
     omega (arith, same)
 
-stand-answered : (cs : List Issued) (ticks late : ℕ) (r : List ℕ) (ps : List ℕ) (done p : ℕ) (c : Issued) → slice_get cs p ≡ Some c → Differ ps → slice_get ps done ≡ Some p → StandInTurn cs ticks late ps done → StandInTurn (restated cs p (Answered r)) ticks late ps (suc done)
-stand-answered cs ticks late r [] done p c at differ is h = absurd cc
-stand-answered cs ticks late r (q ∷ ps) zero p c at differ is h =
+stand-answered : (cs : List Issued) (least : ℕ → ℕ) (r : List ℕ) (ps : List ℕ) (done p : ℕ) (c : Issued) → slice_get cs p ≡ Some c → Differ ps → slice_get ps done ≡ Some p → StandInTurn cs least ps done → StandInTurn (restated cs p (Answered r)) (λ j. least (suc j)) ps (suc done)
+stand-answered cs least r [] done p c at differ is h = absurd cc
+stand-answered cs least r (q ∷ ps) zero p c at differ is h =
     let same : q ≡ p = same_Some q p is in
     let here : StandsAs (restated cs p (Answered r)) IsDone p = record { command = record c { standing = Answered r }; is_at = restated-at cs p c (Answered r) at; stands = tt } in
-    (subst (StandsAs (restated cs p (Answered r)) IsDone) (sym same) here, stand-there cs ticks late p (Answered r) ps zero (λ k x found equal. other-at q ps k x differ.0 found (same ∙ sym equal)) h.1)
-stand-answered cs ticks late r (q ∷ ps) (suc done) p c at differ is h =
-    (stands-there cs p (Answered r) IsDone q (λ same. other-at q ps done p differ.0 is same) h.0, stand-answered cs ticks late r ps done p c at differ.1 is h.1)
+    (subst (StandsAs (restated cs p (Answered r)) IsDone) (sym same) here, stand-there cs (λ j. least (suc j)) p (Answered r) ps zero (λ k x found equal. other-at q ps k x differ.0 found (same ∙ sym equal)) h.1)
+stand-answered cs least r (q ∷ ps) (suc done) p c at differ is h =
+    (stands-there cs p (Answered r) IsDone q (λ same. other-at q ps done p differ.0 is same) h.0, stand-answered cs least r ps done p c at differ.1 is h.1)
 
 -- a reply that answers this command
 abbrev answered_at : InitiatorState → ℕ → List ℕ → InitiatorState
 answered_at s p r = record s { issued = restated s.issued p (Answered r) }
 
-answered-mine : (mine : List ℕ → Bool) (s : InitiatorState) (handed : List (List ℕ)) (done late : ℕ) (r : List ℕ) (p : ℕ) (c : Issued) → (u : AreUnderWay mine s handed done late) → slice_get u.order done ≡ Some p → slice_get s.issued p ≡ Some c → mine c.body ≡ true → IsOutIn s.reply_ticks late c.standing
-    → AreUnderWay mine (answered_at s p r) handed (suc done) late
-answered-mine mine s handed done late r p c u found at own out =
+answered-mine : (mine : List ℕ → Bool) (s : InitiatorState) (handed : List (List ℕ)) (done : ℕ) (least : ℕ → ℕ) (r : List ℕ) (p : ℕ) (c : Issued) → (u : AreUnderWay mine s handed done least) → slice_get u.order done ≡ Some p → slice_get s.issued p ≡ Some c → mine c.body ≡ true → IsOutFor (least 0) c.standing
+    → AreUnderWay mine (answered_at s p r) handed (suc done) (λ j. least (suc j))
+answered-mine mine s handed done least r p c u found at own out =
     let now = count-restated (both_of mine is_out) s.issued p c (Answered r) at in
-    let was = same-if (mine c.body) (is_out c.standing) (out-out s.reply_ticks late c.standing out) in
+    let was = same-if (mine c.body) (is_out c.standing) (out-out (least 0) c.standing out) in
     let goes = none-if (mine c.body) false refl in
     let one : one_if (mine c.body) ≡ 1 = ap one_if own in
     let others = count-restated (both_of mine is_waiting) s.issued p c (Answered r) at in
-    let waited = none-if (mine c.body) (is_waiting c.standing) (out-waits s.reply_ticks late c.standing out) in
+    let waited = none-if (mine c.body) (is_waiting c.standing) (out-waits (least 0) c.standing out) in
     let all = count-restated (λ (x : Issued). mine x.body) s.issued p c (Answered r) at in
     record {
       order = u.order;
       are_at = subst (λ (bs : List (List ℕ)). AreAt bs u.order handed) (sym (bodies-restated s.issued p (Answered r))) u.are_at;
       are_mine = u.are_mine;
       differ = u.differ;
-      stand = stand-answered s.issued s.reply_ticks late r u.order done p c at u.differ found u.stand;
+      stand = stand-answered s.issued least r u.order done p c at u.differ found u.stand;
       wait = λ q d is of none. u.wait q d (sym (get-restated s.issued p q (Answered r) (λ same. none (done, found ∙ ap Some same))) ∙ is) of none;
       counted = omega (arith, now, was, goes, one, u.counted);
       few = let fewer = count-restated out_now s.issued p c (Answered r) at in omega (arith, fewer, u.few);
@@ -417,28 +423,28 @@ pub record Answers (s : InitiatorState) (r body : List ℕ) : Type 0 where
   pub is_place : answered_place s.issued r ≡ Some place
   pub is_at : slice_get (bodies_of s.issued) place ≡ Some body
 
-pub under-way-reply : (mine : List ℕ → Bool) (s : InitiatorState) (handed : List (List ℕ)) (done late : ℕ) (body r : List ℕ) → length s.issued ≤ 65535 → AreNumbered s.tns 0 s.issued → slice_get handed done ≡ Some body → is_reply_to body r ≡ true → AreUnderWay mine s handed done late
-    → Answers s r body × AreUnderWay mine (after_reply s r) handed (suc done) late
-under-way-reply mine s handed done late body r few numbered next fits u =
-    let found = turn-place s.issued s.reply_ticks late u.order done handed body u.are_at u.stand next in
+pub under-way-reply : (mine : List ℕ → Bool) (s : InitiatorState) (handed : List (List ℕ)) (done : ℕ) (least : ℕ → ℕ) (body r : List ℕ) → length s.issued ≤ 65535 → AreNumbered s.tns 0 s.issued → slice_get handed done ≡ Some body → is_reply_to body r ≡ true → AreUnderWay mine s handed done least
+    → Answers s r body × AreUnderWay mine (after_reply s r) handed (suc done) (λ j. least (suc j))
+under-way-reply mine s handed done least body r few numbered next fits u =
+    let found = turn-place s.issued least u.order done handed body u.are_at u.stand next in
     let p = found.0 in
     let c = found.2.command in
     let is_body : c.body ≡ body = same_Some _ _ (sym (body-of s.issued p c found.2.is_at) ∙ found.3) in
     let fits-c : is_reply_to c.body r ≡ true = ap (λ b. is_reply_to b r) is_body ∙ fits in
-    let out = out-out s.reply_ticks late c.standing found.2.stands in
+    let out = out-out (least 0) c.standing found.2.stands in
     let passes : (is_out c.standing && is_reply_to c.body r) ≡ true = rw (out, fits-c) refl in
     let is_place : answered_place s.issued r ≡ Some p = position-only (λ x. is_out x.standing && is_reply_to x.body r) s.issued p c found.2.is_at passes
     (λ q d at yes. one-place s r few numbered p q c d found.2.is_at at fits-c (and_parts _ _ yes).1) in
-    let after = answered-mine mine s handed done late r p c u found.1 found.2.is_at (ap mine is_body ∙ u.are_mine done body next) found.2.stands in
-    (record { place = p; is_place = is_place; is_at = found.3 }, subst (λ (place : Option ℕ). AreUnderWay mine (record s { issued = option_map_or (λ x. restated s.issued x (Answered r)) place s.issued }) handed (suc done) late) (sym is_place) after)
+    let after = answered-mine mine s handed done least r p c u found.1 found.2.is_at (ap mine is_body ∙ u.are_mine done body next) found.2.stands in
+    (record { place = p; is_place = is_place; is_at = found.3 }, subst (λ (place : Option ℕ). AreUnderWay mine (record s { issued = option_map_or (λ x. restated s.issued x (Answered r)) place s.issued }) handed (suc done) (λ j. least (suc j))) (sym is_place) after)
 
 -- the reply answers a command that doesn't pass the test
-pub under-way-reply-other : (mine : List ℕ → Bool) (s : InitiatorState) (handed : List (List ℕ)) (done late : ℕ) (body r : List ℕ) → mine body ≡ false → Answers s r body → AreUnderWay mine s handed done late → AreUnderWay mine (after_reply s r) handed done late
-under-way-reply-other mine s handed done late body r other a u =
+pub under-way-reply-other : (mine : List ℕ → Bool) (s : InitiatorState) (handed : List (List ℕ)) (done : ℕ) (least : ℕ → ℕ) (body r : List ℕ) → mine body ≡ false → Answers s r body → AreUnderWay mine s handed done least → AreUnderWay mine (after_reply s r) handed done least
+under-way-reply-other mine s handed done least body r other a u =
     let c = from-map (λ (x : Issued). x.body) s.issued a.place body a.is_at in
     let fewer = count-restated out_now s.issued a.place c.0 (Answered r) c.1 in
-    subst (λ (place : Option ℕ). AreUnderWay mine (record s { issued = option_map_or (λ x. restated s.issued x (Answered r)) place s.issued }) handed done late) (sym a.is_place)
-    (other-restated mine s a.place c.0 (Answered r) handed done late c.1 (ap mine c.2 ∙ other) (omega (arith, fewer, u.few)) u)
+    subst (λ (place : Option ℕ). AreUnderWay mine (record s { issued = option_map_or (λ x. restated s.issued x (Answered r)) place s.issued }) handed done least) (sym a.is_place)
+    (other-restated mine s a.place c.0 (Answered r) handed done least c.1 (ap mine c.2 ∙ other) (omega (arith, fewer, u.few)) u)
 
 -- ---- a tick
 
@@ -463,9 +469,9 @@ has-or-not (q ∷ ps) p = by-test (eqb q p) refl (has-or-not ps p)
         not-at zero at = let yes = eq-eqb q p (same_Some q p at) in let clash : true ≡ false = sym yes ∙ is in cc
         not-at (suc k) at = none (k, at)
 
-ticked-out : (ticks late : ℕ) (x : Standing) → late + 1 < ticks → IsOutIn ticks late x → is_out (ticked x) ≡ is_out x
-ticked-out ticks late (Out left) few o = rw (lt-ltb 1 left (omega (arith, few, o))) refl
-ticked-out ticks late other few o = absurd o
+ticked-out : (least later : ℕ) (x : Standing) → IsTickFewer least later → IsOutFor least x → is_out (ticked x) ≡ is_out x
+ticked-out least later (Out left) few o = let some = few.0 in let less = few.1 in rw (lt-ltb 1 left (omega (arith, some, less, o))) refl
+ticked-out least later other few o = absurd o
 
 ticked-done : (x : Standing) → IsDone x → is_out (ticked x) ≡ is_out x
 ticked-done (Answered reply) d = refl
@@ -516,9 +522,9 @@ count-ticked mine stands cs each = count-same (both_of mine stands) cs (all_tick
     (λ p c d at-c at-d. let same = same-tick cs p c d at-c at-d in
     ap₂ (λ (b : List ℕ) (x : Standing). mine b && stands x) same.1 same.0 ∙ and-same (mine c.body) (stands (ticked c.standing)) (stands c.standing) (λ of. each p c at-c of))
 
-ticked-to : (mine : List ℕ → Bool) (s : InitiatorState) (handed : List (List ℕ)) (done late later : ℕ) → (u : AreUnderWay mine s handed done late) → StandInTurn (all_ticked s.issued) s.reply_ticks later u.order done
+ticked-to : (mine : List ℕ → Bool) (s : InitiatorState) (handed : List (List ℕ)) (done : ℕ) (least later : ℕ → ℕ) → (u : AreUnderWay mine s handed done least) → StandInTurn (all_ticked s.issued) later u.order done
     → ((p : ℕ) (c : Issued) → slice_get s.issued p ≡ Some c → mine c.body ≡ true → is_out (ticked c.standing) ≡ is_out c.standing) → AreUnderWay mine (record s { issued = all_ticked s.issued }) handed done later
-ticked-to mine s handed done late later u stand each =
+ticked-to mine s handed done least later u stand each =
     let size : length (all_ticked s.issued) ≡ length s.issued = length-map {A = Issued} s.issued (λ c. record c { standing = ticked c.standing }) in
     let count = count-ticked mine is_out s.issued each in
     let waits = count-ticked mine is_waiting s.issued (λ p c at of. waits-ticked c.standing) in
@@ -537,9 +543,9 @@ ticked-to mine s handed done late later u stand each =
     }
 
 -- what holds of commands that stand so as those of an order, and of those that wait, holds of each
-each-command : (mine : List ℕ → Bool) (s : InitiatorState) (handed : List (List ℕ)) (done late : ℕ) (P : Standing → Type 0) → (u : AreUnderWay mine s handed done late) → ((k p : ℕ) → slice_get u.order k ≡ Some p → StandsAs s.issued P p) → ((x : Standing) → is_waiting x ≡ true → P x)
+each-command : (mine : List ℕ → Bool) (s : InitiatorState) (handed : List (List ℕ)) (done : ℕ) (least : ℕ → ℕ) (P : Standing → Type 0) → (u : AreUnderWay mine s handed done least) → ((k p : ℕ) → slice_get u.order k ≡ Some p → StandsAs s.issued P p) → ((x : Standing) → is_waiting x ≡ true → P x)
     → (p : ℕ) (c : Issued) → slice_get s.issued p ≡ Some c → mine c.body ≡ true → P c.standing
-each-command mine s handed done late P u turn waits p c at of = elim (has-or-not u.order p) [
+each-command mine s handed done least P u turn waits p c at of = elim (has-or-not u.order p) [
   | inl has ↦
       let stands = turn has.0 p has.1 in
       let same : stands.command ≡ c = same_Some _ _ (sym stands.is_at ∙ at) in
@@ -548,22 +554,22 @@ each-command mine s handed done late P u turn waits p c at of = elim (has-or-not
 ]
 
 -- enough ticks are left to each that is out
-pub under-way-tick : (mine : List ℕ → Bool) (s : InitiatorState) (handed : List (List ℕ)) (done late : ℕ) → late + 1 < s.reply_ticks → AreUnderWay mine s handed done late → AreUnderWay mine (record s { issued = all_ticked s.issued }) handed done (late + 1)
-under-way-tick mine s handed done late few u =
-    ticked-to mine s handed done late (late + 1) u
-    (stand-so s.issued (all_ticked s.issued) s.reply_ticks late (late + 1) u.order done (λ p. stands-ticked s.issued IsDone IsDone p done-ticked)
-    (λ p. stands-ticked s.issued (IsOutIn s.reply_ticks late) (IsOutIn s.reply_ticks (late + 1)) p (λ x o. out-ticked s.reply_ticks late x few o)) u.stand)
-    (each-command mine s handed done late (λ x. is_out (ticked x) ≡ is_out x) u
-    (λ k p at. elim (turn-stands s.issued s.reply_ticks late u.order done k p u.stand at) [
+pub under-way-tick : (mine : List ℕ → Bool) (s : InitiatorState) (handed : List (List ℕ)) (done : ℕ) (least later : ℕ → ℕ) → ((j : ℕ) → IsTickFewer (least j) (later j)) → AreUnderWay mine s handed done least → AreUnderWay mine (record s { issued = all_ticked s.issued }) handed done later
+under-way-tick mine s handed done least later few u =
+    ticked-to mine s handed done least later u
+    (stand-so s.issued (all_ticked s.issued) least later u.order done (λ p. stands-ticked s.issued IsDone IsDone p done-ticked)
+    (λ j p. stands-ticked s.issued (IsOutFor (least j)) (IsOutFor (later j)) p (λ x o. out-ticked (least j) (later j) x (few j) o)) u.stand)
+    (each-command mine s handed done least (λ x. is_out (ticked x) ≡ is_out x) u
+    (λ k p at. elim (turn-stands s.issued least u.order done k p u.stand at) [
       | inl answered ↦ stands-so s.issued IsDone (λ x. is_out (ticked x) ≡ is_out x) p ticked-done answered
-      | inr out ↦ stands-so s.issued (IsOutIn s.reply_ticks late) (λ x. is_out (ticked x) ≡ is_out x) p (λ x o. ticked-out s.reply_ticks late x few o) out
+      | inr (j, out) ↦ stands-so s.issued (IsOutFor (least j)) (λ x. is_out (ticked x) ≡ is_out x) p (λ x o. ticked-out (least j) (later j) x (few j) o) out
     ])
     ticked-waits)
 
--- ---- ticks of which the initiator isn't told
+-- ---- no fewer ticks are known to be left
 
-restood : (mine : List ℕ → Bool) (s : InitiatorState) (handed : List (List ℕ)) (done late later : ℕ) → (u : AreUnderWay mine s handed done late) → StandInTurn s.issued s.reply_ticks later u.order done → AreUnderWay mine s handed done later
-restood mine s handed done late later u stand = record {
+restood : (mine : List ℕ → Bool) (s : InitiatorState) (handed : List (List ℕ)) (done : ℕ) (least later : ℕ → ℕ) → (u : AreUnderWay mine s handed done least) → StandInTurn s.issued later u.order done → AreUnderWay mine s handed done later
+restood mine s handed done least later u stand = record {
   order = u.order;
   are_at = u.are_at;
   are_mine = u.are_mine;
@@ -575,30 +581,30 @@ restood mine s handed done late later u stand = record {
   others = u.others;
 }
 
-out-passed : (ticks late : ℕ) (x : Standing) → IsOutIn ticks late x → IsOutIn ticks (late + 1) x
-out-passed ticks late (Out left) o = omega (arith, o)
-out-passed ticks late other o = absurd o
+fewer-out : (least later : ℕ) (x : Standing) → later ≤ least → IsOutFor least x → IsOutFor later x
+fewer-out least later (Out left) less o = omega (arith, less, o)
+fewer-out least later other less o = absurd o
 
-pub under-way-passed : (mine : List ℕ → Bool) (s : InitiatorState) (handed : List (List ℕ)) (done late : ℕ) → AreUnderWay mine s handed done late → AreUnderWay mine s handed done (late + 1)
-under-way-passed mine s handed done late u =
-    restood mine s handed done late (late + 1) u
-    (stand-so s.issued s.issued s.reply_ticks late (late + 1) u.order done (λ p h. h) (λ p. stands-so s.issued (IsOutIn s.reply_ticks late) (IsOutIn s.reply_ticks (late + 1)) p (out-passed s.reply_ticks late)) u.stand)
+pub under-way-fewer : (mine : List ℕ → Bool) (s : InitiatorState) (handed : List (List ℕ)) (done : ℕ) (least later : ℕ → ℕ) → ((j : ℕ) → later j ≤ least j) → AreUnderWay mine s handed done least → AreUnderWay mine s handed done later
+under-way-fewer mine s handed done least later less u =
+    restood mine s handed done least later u
+    (stand-so s.issued s.issued least later u.order done (λ p h. h) (λ j p. stands-so s.issued (IsOutFor (least j)) (IsOutFor (later j)) p (λ x o. fewer-out (least j) (later j) x (less j) o)) u.stand)
 
 -- ---- none is out
 
 -- where all that were handed out are answered, each is
-turn-done : (cs : List Issued) (ticks late : ℕ) (ps : List ℕ) (done k p : ℕ) → done ≡ length ps → StandInTurn cs ticks late ps done → slice_get ps k ≡ Some p → StandsAs cs IsDone p
-turn-done cs ticks late [] done k p all h at = absurd cc
-turn-done cs ticks late (q ∷ ps) zero k p all h at = absurd (omega (arith, all))
-turn-done cs ticks late (q ∷ ps) (suc done) zero p all h at = subst (StandsAs cs IsDone) (same_Some q p at) h.0
-turn-done cs ticks late (q ∷ ps) (suc done) (suc k) p all h at = turn-done cs ticks late ps done k p (omega (arith, all)) h.1 at
+turn-done : (cs : List Issued) (least : ℕ → ℕ) (ps : List ℕ) (done k p : ℕ) → done ≡ length ps → StandInTurn cs least ps done → slice_get ps k ≡ Some p → StandsAs cs IsDone p
+turn-done cs least [] done k p all h at = absurd cc
+turn-done cs least (q ∷ ps) zero k p all h at = absurd (omega (arith, all))
+turn-done cs least (q ∷ ps) (suc done) zero p all h at = subst (StandsAs cs IsDone) (same_Some q p at) h.0
+turn-done cs least (q ∷ ps) (suc done) (suc k) p all h at = turn-done cs least ps done k p (omega (arith, all)) h.1 at
 
 -- and any ticks may have passed
-turn-later : (cs ds : List Issued) (ticks late later : ℕ) (ps : List ℕ) (done : ℕ) → ((p : ℕ) → StandsAs cs IsDone p → StandsAs ds IsDone p) → done ≡ length ps → StandInTurn cs ticks late ps done → StandInTurn ds ticks later ps done
-turn-later cs ds ticks late later [] zero answered all h = tt
-turn-later cs ds ticks late later [] (suc done) answered all h = absurd h
-turn-later cs ds ticks late later (q ∷ ps) zero answered all h = absurd (omega (arith, all))
-turn-later cs ds ticks late later (q ∷ ps) (suc done) answered all h = (answered q h.0, turn-later cs ds ticks late later ps done answered (omega (arith, all)) h.1)
+turn-later : (cs ds : List Issued) (least later : ℕ → ℕ) (ps : List ℕ) (done : ℕ) → ((p : ℕ) → StandsAs cs IsDone p → StandsAs ds IsDone p) → done ≡ length ps → StandInTurn cs least ps done → StandInTurn ds later ps done
+turn-later cs ds least later [] zero answered all h = tt
+turn-later cs ds least later [] (suc done) answered all h = absurd h
+turn-later cs ds least later (q ∷ ps) zero answered all h = absurd (omega (arith, all))
+turn-later cs ds least later (q ∷ ps) (suc done) answered all h = (answered q h.0, turn-later cs ds least later ps done answered (omega (arith, all)) h.1)
 
 -- as many bodies as places
 at-count : (bodies : List (List ℕ)) (ps : List ℕ) (xs : List (List ℕ)) → AreAt bodies ps xs → length ps ≡ length xs
@@ -607,34 +613,34 @@ at-count bodies [] (x ∷ xs) at = absurd at
 at-count bodies (p ∷ ps) [] at = absurd at
 at-count bodies (p ∷ ps) (x ∷ xs) at = ap suc (at-count bodies ps xs at.1)
 
-full-order : (mine : List ℕ → Bool) (s : InitiatorState) (handed : List (List ℕ)) (done late : ℕ) → done ≡ length handed → (u : AreUnderWay mine s handed done late) → done ≡ length u.order
-full-order mine s handed done late all u = let count = at-count (bodies_of s.issued) u.order handed u.are_at in omega (arith, count, all)
+full-order : (mine : List ℕ → Bool) (s : InitiatorState) (handed : List (List ℕ)) (done : ℕ) (least : ℕ → ℕ) → done ≡ length handed → (u : AreUnderWay mine s handed done least) → done ≡ length u.order
+full-order mine s handed done least all u = let count = at-count (bodies_of s.issued) u.order handed u.are_at in omega (arith, count, all)
 
-pub under-way-later : (mine : List ℕ → Bool) (s : InitiatorState) (handed : List (List ℕ)) (done late later : ℕ) → done ≡ length handed → AreUnderWay mine s handed done late → AreUnderWay mine s handed done later
-under-way-later mine s handed done late later all u =
-    restood mine s handed done late later u (turn-later s.issued s.issued s.reply_ticks late later u.order done (λ p h. h) (full-order mine s handed done late all u) u.stand)
+pub under-way-later : (mine : List ℕ → Bool) (s : InitiatorState) (handed : List (List ℕ)) (done : ℕ) (least later : ℕ → ℕ) → done ≡ length handed → AreUnderWay mine s handed done least → AreUnderWay mine s handed done later
+under-way-later mine s handed done least later all u =
+    restood mine s handed done least later u (turn-later s.issued s.issued least later u.order done (λ p h. h) (full-order mine s handed done least all u) u.stand)
 
 -- and so at a tick
-pub under-way-rests : (mine : List ℕ → Bool) (s : InitiatorState) (handed : List (List ℕ)) (done late later : ℕ) → done ≡ length handed → AreUnderWay mine s handed done late → AreUnderWay mine (record s { issued = all_ticked s.issued }) handed done later
-under-way-rests mine s handed done late later all u =
-    let full = full-order mine s handed done late all u in
-    ticked-to mine s handed done late later u (turn-later s.issued (all_ticked s.issued) s.reply_ticks late later u.order done (λ p. stands-ticked s.issued IsDone IsDone p done-ticked) full u.stand)
-    (each-command mine s handed done late (λ x. is_out (ticked x) ≡ is_out x) u
-    (λ k p at. stands-so s.issued IsDone (λ x. is_out (ticked x) ≡ is_out x) p ticked-done (turn-done s.issued s.reply_ticks late u.order done k p full u.stand at))
+pub under-way-rests : (mine : List ℕ → Bool) (s : InitiatorState) (handed : List (List ℕ)) (done : ℕ) (least later : ℕ → ℕ) → done ≡ length handed → AreUnderWay mine s handed done least → AreUnderWay mine (record s { issued = all_ticked s.issued }) handed done later
+under-way-rests mine s handed done least later all u =
+    let full = full-order mine s handed done least all u in
+    ticked-to mine s handed done least later u (turn-later s.issued (all_ticked s.issued) least later u.order done (λ p. stands-ticked s.issued IsDone IsDone p done-ticked) full u.stand)
+    (each-command mine s handed done least (λ x. is_out (ticked x) ≡ is_out x) u
+    (λ k p at. stands-so s.issued IsDone (λ x. is_out (ticked x) ≡ is_out x) p ticked-done (turn-done s.issued least u.order done k p full u.stand at))
     ticked-waits)
 
 -- ---- what was handed out
 
 -- no more than are answered, and may be out
-pub under-way-few : (mine : List ℕ → Bool) (s : InitiatorState) (handed : List (List ℕ)) (done late : ℕ) → AreUnderWay mine s handed done late → length handed ≤ done + s.window
-under-way-few mine s handed done late u =
+pub under-way-few : (mine : List ℕ → Bool) (s : InitiatorState) (handed : List (List ℕ)) (done : ℕ) (least : ℕ → ℕ) → AreUnderWay mine s handed done least → length handed ≤ done + s.window
+under-way-few mine s handed done least u =
     let count = at-count (bodies_of s.issued) u.order handed u.are_at in
     let out = mine-out mine s.issued in
     omega (arith, count, out, u.counted, u.few)
 
 -- each is the body of a command
-pub under-way-at : (mine : List ℕ → Bool) (s : InitiatorState) (handed : List (List ℕ)) (done late k : ℕ) (body : List ℕ) → slice_get handed k ≡ Some body → AreUnderWay mine s handed done late → (place : ℕ) × (slice_get (bodies_of s.issued) place ≡ Some body)
-under-way-at mine s handed done late k body is u = let p = at-place (bodies_of s.issued) u.order handed k body u.are_at is in (p.0, p.2)
+pub under-way-at : (mine : List ℕ → Bool) (s : InitiatorState) (handed : List (List ℕ)) (done : ℕ) (least : ℕ → ℕ) (k : ℕ) (body : List ℕ) → slice_get handed k ≡ Some body → AreUnderWay mine s handed done least → (place : ℕ) × (slice_get (bodies_of s.issued) place ≡ Some body)
+under-way-at mine s handed done least k body is u = let p = at-place (bodies_of s.issued) u.order handed k body u.are_at is in (p.0, p.2)
 
 -- their TNS differ
 others-differ : (bodies : List (List ℕ)) (p : ℕ) (x : List ℕ) (ps : List ℕ) (xs : List (List ℕ)) → Differ (map tns_of bodies) → slice_get bodies p ≡ Some x → AreAt bodies ps xs → IsOther p ps → IsOther (tns_of x) (map tns_of xs)
@@ -649,8 +655,8 @@ order-differ bodies [] (x ∷ xs) differ at apart = absurd at
 order-differ bodies (p ∷ ps) [] differ at apart = absurd at
 order-differ bodies (p ∷ ps) (x ∷ xs) differ at apart = (others-differ bodies p x ps xs differ at.0 at.1 apart.0, order-differ bodies ps xs differ at.1 apart.1)
 
-pub under-way-differ : (mine : List ℕ → Bool) (s : InitiatorState) (handed : List (List ℕ)) (done late : ℕ) → length s.issued ≤ 65535 → AreNumbered s.tns 0 s.issued → AreUnderWay mine s handed done late → Differ (map tns_of handed)
-under-way-differ mine s handed done late few numbered u = order-differ (bodies_of s.issued) u.order handed (numbers-differ s.tns 0 s.issued (omega (arith, few)) numbered) u.are_at u.differ
+pub under-way-differ : (mine : List ℕ → Bool) (s : InitiatorState) (handed : List (List ℕ)) (done : ℕ) (least : ℕ → ℕ) → length s.issued ≤ 65535 → AreNumbered s.tns 0 s.issued → AreUnderWay mine s handed done least → Differ (map tns_of handed)
+under-way-differ mine s handed done least few numbered u = order-differ (bodies_of s.issued) u.order handed (numbers-differ s.tns 0 s.issued (omega (arith, few)) numbered) u.are_at u.differ
 
 -- ---- nothing waits
 
@@ -678,10 +684,10 @@ abbrev pub IsDoneOrWaits : Standing → Type 0
 IsDoneOrWaits x = IsDone x ⊎ (is_waiting x ≡ true)
 
 -- once all that were handed out are answered, each that passes the test is, or waits
-pub under-way-rested : (mine : List ℕ → Bool) (s : InitiatorState) (handed : List (List ℕ)) (done late : ℕ) → done ≡ length handed → AreUnderWay mine s handed done late → (k : ℕ) (c : Issued) → slice_get s.issued k ≡ Some c → mine c.body ≡ true → IsDoneOrWaits c.standing
-under-way-rested mine s handed done late all u =
-    each-command mine s handed done late IsDoneOrWaits u
-    (λ k p at. stands-so s.issued IsDone IsDoneOrWaits p (λ x h. inl h) (turn-done s.issued s.reply_ticks late u.order done k p (full-order mine s handed done late all u) u.stand at))
+pub under-way-rested : (mine : List ℕ → Bool) (s : InitiatorState) (handed : List (List ℕ)) (done : ℕ) (least : ℕ → ℕ) → done ≡ length handed → AreUnderWay mine s handed done least → (k : ℕ) (c : Issued) → slice_get s.issued k ≡ Some c → mine c.body ≡ true → IsDoneOrWaits c.standing
+under-way-rested mine s handed done least all u =
+    each-command mine s handed done least IsDoneOrWaits u
+    (λ k p at. stands-so s.issued IsDone IsDoneOrWaits p (λ x h. inl h) (turn-done s.issued least u.order done k p (full-order mine s handed done least all u) u.stand at))
     (λ x waits. inr waits)
 
 -- where that is so of all commands, and none is handed out next, each is answered
@@ -697,8 +703,8 @@ all-done s some some-of none each k c at =
     elim (each k c at) [ inl done ↦ done | inr idle ↦ absurd (let clash : true ≡ false = sym idle ∙ waits in cc) ]
 
 -- so as many were handed out as pass the test
-pub under-way-full : (mine : List ℕ → Bool) (s : InitiatorState) (handed : List (List ℕ)) (done late : ℕ) → AreUnderWay mine s handed done late → ((k : ℕ) (c : Issued) → slice_get s.issued k ≡ Some c → IsDone c.standing) → length handed ≡ length (filter mine (bodies_of s.issued))
-under-way-full mine s handed done late u all =
+pub under-way-full : (mine : List ℕ → Bool) (s : InitiatorState) (handed : List (List ℕ)) (done : ℕ) (least : ℕ → ℕ) → AreUnderWay mine s handed done least → ((k : ℕ) (c : Issued) → slice_get s.issued k ≡ Some c → IsDone c.standing) → length handed ≡ length (filter mine (bodies_of s.issued))
+under-way-full mine s handed done least u all =
     let none : count_mine mine is_waiting s.issued ≡ 0 = count-none (both_of mine is_waiting) s.issued (λ p c at. ap (λ (w : Bool). mine c.body && w) (done-waits c.standing (all p c at)) ∙ and-false (mine c.body)) in
     let count = at-count (bodies_of s.issued) u.order handed u.are_at in
     let bodies = count-bodies mine s.issued in

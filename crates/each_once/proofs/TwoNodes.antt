@@ -48,9 +48,9 @@ answer-fits {first} {other} {station} {initiator} {sent} {heard} {commands} {tol
 
 pub few-replies : {first other : StationState} {station initiator : NodeState} {sent heard commands told : List (List ℕ)} → Hosts first station sent heard → Hosts other initiator commands told →
     (command : List ℕ) → commands ≡ heard ++ command ∷ [] → is_reply command ≡ false → (flight : List (List ℕ)) → sent ≡ told ++ flight →
-    (n late : ℕ) → length (filter is_reply told) ≡ n → AreUnderWay each_body initiator.initiator (filter is_command commands) n late → length station.replies < initiator.initiator.window
-few-replies {first} {other} {station} {initiator} {sent} {heard} {commands} {told} s i command sends plain flight flies n late count u =
-    let handed = under-way-few each_body initiator.initiator (filter is_command commands) n late u in
+    (n : ℕ) (least : ℕ → ℕ) → length (filter is_reply told) ≡ n → AreUnderWay each_body initiator.initiator (filter is_command commands) n least → length station.replies < initiator.initiator.window
+few-replies {first} {other} {station} {initiator} {sent} {heard} {commands} {told} s i command sends plain flight flies n least count u =
+    let handed = under-way-few each_body initiator.initiator (filter is_command commands) n least u in
     let one_more = ap length (ap (filter is_command) sends ∙ filter-keeps is_command heard command (ap not plain)) ∙ length-append (filter is_command heard) (command ∷ []) in
     let replied = replied-count s in
     let told_some = ap length (ap (filter is_reply) flies ∙ filter-append is_reply told flight) ∙ length-append (filter is_reply told) (filter is_reply flight) in

@@ -60,3 +60,5 @@ pub mod WholeText
 pub mod WholeRun
 -- The runs of an undisturbed write, and of two commands out at two stations.
 pub mod Witness
+-- Whose turn it is to be polled, and how many ticks the commands of a station have left at least.
+pub mod Turns

@@ -1,11 +1,10 @@
 -- Half-duplex runs that nothing disturbs: no byte is lost, altered or foreign, few ticks come between two states in which nothing is under way, and in the end no reply is left at a station.
-use Rattle.std.specs.Prelude.{◌≡◌, ℕ, ◌+◌, ◌<◌, ◌≤◌, Bool, ◌&&◌, All, List, [], ◌∷◌, slice_get, is_none, min, sum_by, Option, Some, None, IsTrue, if◌then◌else◌}
+use Rattle.std.specs.Prelude.{◌≡◌, ℕ, ◌+◌, ◌*◌, ◌<◌, ◌≤◌, Bool, ◌&&◌, All, List, [], ◌∷◌, slice_get, is_none, length, min, Option, Some, None, IsTrue, if◌then◌else◌}
 use Rattle.std.specs.List.{list_all}
 use Rattle.df1_node.specs.Node.{NodeState}
 use Rattle.half_slave.specs.Slave as slave
 use Rattle.half_master.specs.Master as master
 use Rattle.script_parts.specs.declared.script.Event.{Event}
-use Rattle.script_parts.specs.declared.script.Event.TheVariants as event
 use Rattle.script_parts.specs.declared.script.Script.{Script}
 use Rattle.script_parts.specs.HalfPlayable.{station_plans}
 use Rattle.lane_cells.specs.Cells.{LaneCell}
@@ -92,14 +91,10 @@ IsPrompt script = IsPromptAfter 0 (start script) script.events
 abbrev pub EndsQuiet : Script → Type 0
 EndsQuiet script = IsTrue (is_quiet (last_state script))
 
--- the ticks of an event: the master alone has any
-abbrev pub ticks_at : Event → ℕ
-ticks_at (event.Tick who n) = n
-ticks_at other = 0
-
--- the whole script has fewer ticks than the master waits for a reply
-abbrev pub HasFewTicks : Script → Type 0
-HasFewTicks script = sum_by ticks_at script.events < (plan_of_m script).reply_ticks
+-- each station's turn comes in time: the master waits more ticks for a reply than there are polls in as many rounds of all stations as it
+-- may have commands out
+abbrev pub HasTurns : Script → Type 0
+HasTurns script = (plan_of_m script).window * length (station_plans script.ends) < (plan_of_m script).reply_ticks
 
 -- no reply waits at a station's node, and its slave holds none
 pub record KeepsNone (side : LineStationState) : Type 0 where
@@ -114,10 +109,10 @@ EndsFetched script = All KeepsNone (last_state script).stations
 abbrev pub HasRooms : Script → Type 0
 HasRooms script = All (λ plan. (plan_of_m script).window ≤ plan.room) (station_plans script.ends)
 
--- a run whose stations have room, that nothing disturbs, with few ticks, that ends with nothing under way and no reply left at a station
+-- a run whose stations have room and their turns in time, that nothing disturbs, that ends with nothing under way and no reply left at a station
 pub record IsUndisturbed (script : Script) : Type 0 where
   pub rooms : HasRooms script
   pub prompt : IsPrompt script
   pub quiet : EndsQuiet script
-  pub few_ticks : HasFewTicks script
+  pub turns : HasTurns script
   pub fetched : EndsFetched script

@@ -4,8 +4,8 @@ ghost use Rattle.script_statement.specs.declared.who.Who.TheVariants.{M, S};
 ghost use Rattle.script_parts.specs.declared.script.Script.{Script};
 ghost use Rattle.script_parts.specs.HalfPlayable.{IsHalfPlayable};
 ghost use Rattle.each_once.specs.Tells.{executed_in, answers_in};
-ghost use Rattle.half_line.specs.Run.{record_of};
-ghost use Rattle.half_line.specs.Prompt.{IsUndisturbed};
+ghost use Rattle.half_line.specs.Run.{plan_of_m, record_of};
+ghost use Rattle.half_line.specs.Prompt.{HasTurns, IsUndisturbed};
 ghost use Rattle.half_line.specs.Complete.{IsComplete};
 ghost use Rattle.half_line.specs.Example.{polled_write, the_command, the_reply, two_stations, first_echo, first_echoed, second_echo, second_echoed};
 
@@ -34,12 +34,19 @@ pub fn commands_of_two_stations_are_executed_and_answered()
     ensures answered { answers_in M (record_of two_stations).lines ≡ (2, second_echoed) ∷ (1, first_echoed) ∷ [] }
 {}
 
-/// A law: where each station has room for as many replies as the master may have commands out, in a run that loses, alters
-/// and adds no byte, in which few ticks come while something is under way and fewer in all than the master waits for a
-/// reply, and which ends with nothing under way and no reply left at a station, no end is deceived; each station executes
-/// all commands that were issued to it, each once, those of each source in their order; the master accepts its replies to
-/// them in that order; and each command is told as answered, by its own reply (manual topic: half-duplex protocol).
+/// A law: where each station has room for as many replies as the master may have commands out, and where the master waits more
+/// ticks for a reply than as many times the number of its stations, in a run that loses, alters and adds no byte, in which few
+/// ticks come while something is under way, and which ends with nothing under way and no reply left at a station, no end is
+/// deceived; each station executes all commands that were issued to it, each once, those of each source in their order; the
+/// master accepts its replies to them in that order; and each command is told as answered, by its own reply (manual topic:
+/// half-duplex protocol).
 #[tactic(auto, unfolding(crate::specs::Run::record_of))]
 pub fn an_undisturbed_polled_run_is_complete()
     ensures { (script : Script) → IsHalfPlayable script → IsUndisturbed script → IsComplete script (record_of script) }
+{}
+
+/// A law: a master that may have one command out waits long enough for each station's turn, in every script (manual topic:
+/// half-duplex protocol).
+pub fn one_command_has_its_turn()
+    ensures { (script : Script) → IsHalfPlayable script → (plan_of_m script).window ≡ 1 → HasTurns script }
 {}

@@ -290,7 +290,7 @@ length-push xs x = omega (arith, length-append xs (x ∷ []))
 reply-ahead : (first : StationState) (node : NodeState) (sent heard : List (List ℕ)) (body : List ℕ) (late : ℕ) (command : List ℕ) → is_reply body ≡ true → Hosts first node sent heard → length node.initiator.issued ≤ 65535
     → (a : IsAhead node.initiator (filter is_command sent) heard late) → slice_get (filter is_command sent) a.done ≡ Some command → is_reply_to command body ≡ true → IsAhead (after_accept node body).initiator (filter is_command sent) (heard ++ body ∷ []) late
 reply-ahead first node sent heard body late command reply h few a next fits =
-    let answered = under-way-reply each_body node.initiator (filter is_command sent) a.done late command body few h.initiates.numbered next fits a.under_way in
+    let answered = under-way-reply each_body node.initiator (filter is_command sent) a.done _ command body few h.initiates.numbered next fits a.under_way in
     rw reply (record {
       done = suc a.done;
       under_way = answered.1;
@@ -318,7 +318,7 @@ has-room : (near far : Who) (first far_first : StationState) (end : EndState Nod
 has-room near far first far_first end cell cells b count late dam lines body h arrives true reply = rw reply refl
 has-room near far first far_first end cell cells b count late dam lines body h arrives false command =
     let a = h.end.ahead in
-    let few = few-replies h.far_end.hosts h.end.hosts body arrives command _ h.far_flow.flight a.done late.a a.answers a.under_way in
+    let few = few-replies h.far_end.hosts h.end.hosts body arrives command _ h.far_flow.flight a.done _ a.answers a.under_way in
     let fewer : length b.end.host.replies < b.end.host.room = omega (arith, few, h.end.allowed.window, h.far_end.allowed.room, h.rooms.far_room) in
     rw command (lt-ltb (length b.end.host.replies) b.end.host.room fewer)
 

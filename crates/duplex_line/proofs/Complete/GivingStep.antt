@@ -63,7 +63,7 @@ flows-issue near far first far_first s late dam lines src dst payload may comman
       end = record {
         hosts = hosts-issue h.end.hosts source dst payload command few;
         sends = sends-host s.a.end after h.end.sends;
-        ahead = record { done = h.end.ahead.done; under_way = under-way-issue each_body node.initiator source dst payload (filter is_command h.sent) h.end.ahead.done late.a h.end.ahead.under_way; answers = h.end.ahead.answers };
+        ahead = record { done = h.end.ahead.done; under_way = under-way-issue each_body node.initiator source dst payload (filter is_command h.sent) h.end.ahead.done _ h.end.ahead.under_way; answers = h.end.ahead.answers };
         bodies = h.end.bodies;
         commands = issued-fits node.initiator source dst payload h.end.commands may;
         allowed = record { room = h.end.allowed.room; window = h.end.allowed.window; per_source = h.end.allowed.per_source };

@@ -1,5 +1,5 @@
 -- What holds at each point of a run that nothing disturbs.
-use Rattle.std.proofs.Common.{◌≡◌, ◌∙◌, ℕ, ◌≤◌, Bool, true, false, not, List, [], ◌∷◌, ◌++◌, drop, length, map, Some, is_some, refl, ap, sym, subst}
+use Rattle.std.proofs.Common.{◌≡◌, ◌∙◌, ℕ, ◌-◌, ◌≤◌, Bool, true, false, not, List, [], ◌∷◌, ◌++◌, drop, length, map, Some, is_some, refl, ap, sym, subst, arith}
 use Rattle.std.specs.Prelude.{slice_get, if◌then◌else◌}
 use Rattle.std.specs.Option.{option_or}
 use Rattle.std.specs.List.{filter}
@@ -43,10 +43,11 @@ pub record HaveRoom (near far : Allowance) : Type 0 where
   pub near_some : 1 ≤ near.window
   pub far_some : 1 ≤ far.window
 
--- how far an initiator is that handed out these commands: so many of them are answered, by as many replies
+-- how far an initiator is that handed out these commands: so many of them are answered, by as many replies; each that is out has all ticks
+-- left but those that passed late
 pub record IsAhead (s : InitiatorState) (commands heard : List (List ℕ)) (late : ℕ) : Type 0 where
   pub done : ℕ
-  pub under_way : AreUnderWay each_body s commands done late
+  pub under_way : AreUnderWay each_body s commands done (λ j. s.reply_ticks - late)
   pub answers : length (filter is_reply heard) ≡ done
 
 -- an end that handed out these messages and accepted those
@@ -150,7 +151,7 @@ ahead-next first node body sent heard late next h a = by-replies node.replies re
         let plain : is_reply body ≡ false = next-is-command command h.initiates in
         let after : IsAhead (after_hand_out node.initiator) (filter is_command sent ++ body ∷ []) heard late = record {
           done = a.done;
-          under_way = under-way-hand_out each_body node.initiator body (filter is_command sent) a.done late refl command a.under_way;
+          under_way = under-way-hand_out each_body node.initiator body (filter is_command sent) a.done _ refl command (λ j within. omega arith) a.under_way;
           answers = a.answers;
         } in
         rw is (subst (λ (xs : List (List ℕ)). IsAhead (after_hand_out node.initiator) xs heard late) (sym (filter-keeps is_command sent body (ap not plain))) after)

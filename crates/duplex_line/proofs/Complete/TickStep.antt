@@ -1,5 +1,5 @@
 -- A unit of time passes, in a run that nothing disturbs; and what is so where nothing is under way.
-use Rattle.std.proofs.Common.{◌≡◌, ◌∙◌, ℕ, ◌+◌, ◌<◌, ◌≤◌, Bool, true, false, List, [], ◌∷◌, ◌++◌, length, Option, Some, None, is_none, min, refl, sym, subst, arith, append-nil}
+use Rattle.std.proofs.Common.{◌≡◌, ◌∙◌, ℕ, ◌+◌, ◌-◌, ◌<◌, ◌≤◌, Bool, true, false, List, [], ◌∷◌, ◌++◌, length, Option, Some, None, is_none, min, refl, sym, subst, arith, append-nil}
 use Rattle.std.specs.Prelude.{◌⊎◌, slice_get, ◌&&◌, if◌then◌else◌}
 use Rattle.std.specs.List.{filter}
 use Rattle.std.proofs.Common.{inl, inr}
@@ -143,7 +143,7 @@ later-end : (first : StationState) (allowed : Allowance) (e : EndState NodeState
 later-end first allowed e sent heard late later h all = record {
   hosts = h.hosts;
   sends = h.sends;
-  ahead = record { done = h.ahead.done; under_way = under-way-later each_body e.host.initiator (filter is_command sent) h.ahead.done late later all h.ahead.under_way; answers = h.ahead.answers };
+  ahead = record { done = h.ahead.done; under_way = under-way-later each_body e.host.initiator (filter is_command sent) h.ahead.done _ _ all h.ahead.under_way; answers = h.ahead.answers };
   bodies = h.bodies;
   commands = h.commands;
   allowed = h.allowed;
@@ -257,10 +257,11 @@ later-patient near far first far_first s late dam lines h true is steady = ticke
 later-patient near far first far_first s late dam lines h false is steady = ticked-patient s.a.end.sender.activity s.a.end.sender.limits.ack_ticks late.a h.flow.patient steady
 
 ticked-ahead : (node : NodeState) (commands heard : List (List ℕ)) (late later : ℕ) (a : IsAhead node.initiator commands heard late) → (a.done ≡ length commands) ⊎ ((late + 1 < node.initiator.reply_ticks) × (later ≡ late + 1)) → IsAhead (node_ticked node).initiator commands heard later
-ticked-ahead node commands heard late later a (inl all) = record { done = a.done; under_way = under-way-rests each_body node.initiator commands a.done late later all a.under_way; answers = a.answers }
+ticked-ahead node commands heard late later a (inl all) = record { done = a.done; under_way = under-way-rests each_body node.initiator commands a.done _ _ all a.under_way; answers = a.answers }
 ticked-ahead node commands heard late later a (inr more) = record {
   done = a.done;
-  under_way = subst (λ (n : ℕ). AreUnderWay each_body (node_ticked node).initiator commands a.done n) (sym more.1) (under-way-tick each_body node.initiator commands a.done late more.0 a.under_way);
+  under_way = subst (λ (n : ℕ). AreUnderWay each_body (node_ticked node).initiator commands a.done (λ j. node.initiator.reply_ticks - n)) (sym more.1)
+      (under-way-tick each_body node.initiator commands a.done _ _ (λ j. let few = more.0 in (omega (arith, few), omega (arith, few))) a.under_way);
   answers = a.answers;
 }
 

@@ -470,7 +470,7 @@ start-end : (plan : EndPlan) (script : Script) → IsFit plan → IsEnd (first_s
 start-end plan script fit = record {
   hosts = hosts-start (first_station plan) (first_node plan) refl refl refl;
   sends = sends-start (setup_of script.check plan) (first_node plan);
-  ahead = record { done = 0; under_way = under-way-start each_body (first_node plan).initiator refl; answers = refl };
+  ahead = record { done = 0; under_way = under-way-start each_body (first_node plan).initiator _ refl; answers = refl };
   bodies = tt;
   commands = tt;
   allowed = record { room = refl; window = refl; per_source = fit.per_source };
@@ -528,8 +528,8 @@ each-done from to first other station initiator sent heard commands told late li
     let handed = filter is_command commands in
     let all = all-answered s i all_heard all_told none a.done a.answers in
     let issued = initiator.initiator.issued in
-    let each = all-done initiator.initiator window per_source nothing (λ k c at. under-way-rested each_body initiator.initiator handed a.done late all a.under_way k c at refl) in
-    let full : length handed ≡ length issued = under-way-full each_body initiator.initiator handed a.done late a.under_way each ∙ ap length (filter-each (map (λ c. c.body) issued)) ∙ length-map issued (λ c. c.body) in
+    let each = all-done initiator.initiator window per_source nothing (λ k c at. under-way-rested each_body initiator.initiator handed a.done _ all a.under_way k c at refl) in
+    let full : length handed ≡ length issued = under-way-full each_body initiator.initiator handed a.done _ a.under_way each ∙ ap length (filter-each (map (λ c. c.body) issued)) ∙ length-map issued (λ c. c.body) in
     let count : length (executed_in to lines) ≡ length bodies =
     ap length (executes.executes ∙ ap (filter is_command) (sym all_heard)) ∙ full ∙ sym (length-map issued (λ c. c.body)) ∙ ap length are in
     record {

@@ -1,10 +1,9 @@
 -- At each point of a run, of one end: what it gave is DF1, and its messages are its own.
-use Rattle.std.proofs.Common.{◌≡◌, ◌∙◌, ℕ, ◌<◌, ◌≤◌, true, List, [], ◌++◌, length, map, Option, Some, None, is_none, refl, sym, ap, subst, append-nil, append_assoc, option_map}
+use Rattle.std.proofs.Common.{◌≡◌, ◌∙◌, ℕ, ◌<◌, ◌≤◌, true, List, [], ◌++◌, length, map, Option, Some, None, is_none, refl, sym, ap, subst, append-nil, option_map}
 use Rattle.std.specs.Prelude.{IsTrue, option_to_list, unwrap_or, if◌then◌else◌}
 use Rattle.std.specs.Option.{option_map_or}
 use Rattle.std.specs.List.{filter}
-use Rattle.std.proofs.lemmas.List.Elements.{All-push, All-nil}
-use Rattle.df1_base.specs.Host.{IsBody}
+use Rattle.std.proofs.lemmas.List.Elements.{All-nil}
 use Rattle.df1_base.specs.declared.host.Fate.{Fate}
 use Rattle.df1_base.specs.declared.link.Act.{Act}
 use Rattle.df1_base.specs.declared.link.Out.{Out}
@@ -12,8 +11,7 @@ use Rattle.df1_base.specs.HostAnswers.{did_at}
 use Rattle.df1_check.specs.declared.Check.{Check}
 use Rattle.df1_node.specs.Answer.{StationState}
 use Rattle.df1_node.specs.HostLaws.{next_is_body, bodies_at_accept, bodies_at_next, bodies_at_told, bodies_at_tick}
-use Rattle.df1_node.specs.Initiator.{Issued, Waiting, next_issued}
-use Rattle.df1_node.specs.Node.{NodeState, after_next, after_node_issue, holds_bodies}
+use Rattle.df1_node.specs.Node.{NodeState, after_next, after_node_issue}
 use Rattle.duplex_sender.specs.declared.Phase.{Phase}
 use Rattle.duplex_sender.specs.declared.Phase.TheVariants as phase
 use Rattle.duplex_sender.specs.Sender.{SenderState, phase_of, tick_turn}
@@ -30,7 +28,6 @@ use Rattle.duplex_end.proofs.OnWire.{OnWire, signal-on-wire, host-on-wire, new-o
 use Rattle.script_statement.specs.declared.who.Who.{Who}
 use Rattle.script_statement.specs.Statements.{is_payload}
 use Rattle.replay_report.specs.declared.record.Line.{Line}
-use Rattle.report_lines.specs.NodeLines.{act_lines, news_lines}
 use Rattle.each_once.specs.NodeHost.{node_host}
 use Rattle.each_once.specs.Tells.{is_who, executed_in, executed_at}
 use Rattle.each_once.proofs.HandedOut.{is_command, Hosts}
@@ -41,7 +38,6 @@ use Rattle.each_once.proofs.ToldLines.{adds-none}
 use Rattle.lane_cells.specs.Cells.{LaneCell}
 use Rattle.duplex_line.specs.Acts.{LineEndState, Deed, Issue as Issues, Take as Takes, Deliver, Lose, Alter, Foreign, Tick as Ticks, near_after, after_issue, after_cell, after_arrival, given_at, near_lines, cell_lines, arrival_lines, step_of, body_heard}
 use Rattle.duplex_line.specs.Plays.{issued_by}
-use Rattle.duplex_line.proofs.Once.ArrivingCell.{news-silent}
 use Rattle.duplex_line.proofs.Once.EndSteps.{heard_after, hosts-act, hosts-fate, hosts-handed}
 use Rattle.duplex_line.proofs.Once.LineSteps.{payload-command}
 use Rattle.duplex_line.proofs.Once.SentMessages.{handed_in, handed_at, take-host, take-handed}

@@ -1,7 +1,8 @@
 -- What holds at each point of an undisturbed run: what is awaited, the dealings with all stations, and that no end was deceived; and that it holds at the start.
-use Rattle.std.proofs.Common.{◌≡◌, ℕ, zero, suc, ◌≤◌, List, [], ◌∷◌, length, Option, Some, None, refl, sym, subst}
+use Rattle.std.proofs.Common.{false, ◌≡◌, ℕ, zero, suc, ◌*◌, ◌<◌, ◌≤◌, List, [], ◌∷◌, length, Option, Some, None, refl, sym, subst, arith}
 use Rattle.std.specs.Prelude.{All, slice_get, slice_index_or}
 use Rattle.std.proofs.lemmas.List.Elements.{All-head, All-tail}
+use Rattle.std.proofs.lemmas.List.{length-map}
 use Rattle.std.proofs.lemmas.Option.{get_or_from_slice_get, slice_get_within}
 use Rattle.pccc_envelope.specs.declared.key.Key.{Key}
 use Rattle.half_master.specs.Master.{MasterState}
@@ -17,7 +18,7 @@ use Rattle.replay_report.specs.declared.record.Line.{Line}
 use Rattle.outset.specs.Outset.{first_station, first_node}
 use Rattle.each_once.proofs.Sublists.{same-some, from-map}
 use Rattle.half_line.specs.Acts.{LineStationState, HalfState}
-use Rattle.half_line.specs.Prompt.{HasRooms}
+use Rattle.half_line.specs.Prompt.{HasRooms, HasTurns}
 use Rattle.half_line.specs.Run.{first_side, plan_of_m, start}
 use Rattle.half_line.proofs.Once.EachStation.{plan_at, setting_of, listed-kept}
 use Rattle.half_line.proofs.Once.Invariant.{Setting}
@@ -27,20 +28,20 @@ use Rattle.half_line.proofs.Complete.StationHears.{station_ear}
 use Rattle.half_line.proofs.Complete.StationRests.{free}
 use Rattle.half_line.proofs.Complete.Stages.{SideRests, Now, Idles, Stage}
 use Rattle.half_line.proofs.Complete.Ledger.{SideDealings, Ledger}
+use Rattle.half_line.proofs.Complete.Turns.{least_of}
 
 -- ---- the line
 
--- of a master and its stations, where so many ticks were late, and so many passed
-pub record Course (setting : Setting) (m : MasterState NodeState) (stations : List LineStationState) (late ticks : ℕ) (lines : List Line) : Type 0 where
+-- of a master and its stations, where so many ticks were late
+pub record Course (setting : Setting) (m : MasterState NodeState) (stations : List LineStationState) (late : ℕ) (lines : List Line) : Type 0 where
   pub now : Now
   pub stage : Stage late m stations now
-  pub ledger : Ledger setting m.host.initiator m.stations stations lines now ticks
+  pub ledger : Ledger setting m.host.initiator m.stations stations lines now m.next
 
--- the master waits so long for a reply
-pub record Flow (setting : Setting) (wait : ℕ) (s : HalfState NodeState) (late ticks : ℕ) (lines : List Line) : Type 0 where
-  pub course : Course setting s.master s.stations late ticks lines
+-- the whole line
+pub record Flow (setting : Setting) (s : HalfState NodeState) (late : ℕ) (lines : List Line) : Type 0 where
+  pub course : Course setting s.master s.stations late lines
   pub check : s.master.setup.check ≡ s.master.ear.check
-  pub waits : s.master.host.initiator.reply_ticks ≡ wait
   pub honest : s.deceived ≡ 0
 
 -- ---- the start
@@ -77,8 +78,8 @@ master-sends : (ends : List EndPlan) → AreHalfEnds ends → (other : EndPlan) 
 master-sends [] are other = absurd are
 master-sends (master ∷ stations) are other = ((are.0.settings Window).0, (are.0.settings PerSource).0)
 
-pub flow-start : (script : Script) (playable : IsHalfPlayable script) → HasRooms script → Flow (setting_of script playable) (plan_of_m script).reply_ticks (start script) 0 0 []
-flow-start script playable rooms =
+pub flow-start : (script : Script) (playable : IsHalfPlayable script) → HasRooms script → HasTurns script → Flow (setting_of script playable) (start script) 0 []
+flow-start script playable rooms turns =
     let plans = station_plans script.ends in
     let m = plan_of_m script in
     let sends = master-sends script.ends playable.ends (first_plan M 0) in
@@ -97,17 +98,19 @@ flow-start script playable rooms =
           some_of = sends.1;
           fits = tt;
           declared = λ k body at. absurd cc;
+          enough = (let count = length-map plans (λ (x : EndPlan). x.node) in subst (λ (n : ℕ). m.window * n < m.reply_ticks) (sym count) turns);
+          turn = λ p here. omega (arith, here);
           sides = λ p side at.
               let was = from-map (first_side script.check) plans p side at in
               let plan : plan_at script p ≡ was.0 = get_or_from_slice_get plans p was.0 (first_plan M 0) was.1 in
+              let least : ℕ → ℕ → ℕ = λ q j. least_of (length (numbers_of script.ends)) 0 false q j in
               let room : m.window ≤ was.0.room = subst (λ (x : EndPlan). m.window ≤ x.room) (get_or_from_slice_get plans p was.0 was.0 was.1) (rooms p was.0 (slice_get_within plans p was.0 was.1)) in
               subst (λ (x : LineStationState). SideDealings (setting_of script playable) (first_node m).initiator (listed (numbers_of script.ends)) [] Idles 0 p x) was.2
-              (subst (λ (k : Option Key). Dealings (first_station (plan_at script p)) was.0.node (first_node m).initiator [] [] [] [] k (first_side script.check was.0).slave 0) (sym (listed-kept (numbers_of script.ends) p))
-              (subst (λ (x : EndPlan). Dealings (first_station x) was.0.node (first_node m).initiator [] [] [] [] None (first_side script.check was.0).slave 0) (sym plan)
-              (dealings-start (first_station was.0) was.0.node (first_node m).initiator (first_side script.check was.0).slave refl refl refl room)));
+              (subst (λ (k : Option Key). Dealings (first_station (plan_at script p)) was.0.node (first_node m).initiator [] [] [] [] k (first_side script.check was.0).slave (least p)) (sym (listed-kept (numbers_of script.ends) p))
+              (subst (λ (x : EndPlan). Dealings (first_station x) was.0.node (first_node m).initiator [] [] [] [] None (first_side script.check was.0).slave (least p)) (sym plan)
+              (dealings-start (first_station was.0) was.0.node (first_node m).initiator (first_side script.check was.0).slave (least p) refl refl refl room)));
         };
       };
       check = refl;
-      waits = refl;
       honest = refl;
     }

@@ -1,10 +1,15 @@
 -- The dealings of the master with all stations in an undisturbed run, by what is awaited; and what the master and time change of them.
-use Rattle.std.proofs.Common.{◌≡◌, ◌∙◌, ℕ, ◌+◌, ◌<◌, ◌≤◌, true, false, List, [], ◌∷◌, ◌++◌, map, Some, refl, ap, sym, subst, append-nil}
+use Rattle.std.proofs.Common.{◌≡◌, ◌∙◌, ℕ, ◌+◌, ◌*◌, ◌<◌, ◌≤◌, Bool, true, false, List, [], ◌∷◌, ◌++◌, length, map, Option, Some, refl, ap, sym, subst, append-nil}
 use Rattle.std.specs.Prelude.{IsTrue, slice_get, ◌==◌, if◌then◌else◌}
-use Rattle.std.proofs.lemmas.Bool.{eq-eqb, ne_eqb}
+use Rattle.std.proofs.lemmas.Bool.{eq-eqb, eqb-true, ne_eqb}
 use Rattle.std.proofs.lemmas.List.{map-append}
 use Rattle.std.proofs.lemmas.List.Elements.{filter_map-append}
 use Rattle.df1_node.specs.Initiator.{Issued, InitiatorState, Waiting, next_command, next_issued, after_issue, after_hand_out}
+use Rattle.half_slave.specs.Slave.{SlaveState}
+use Rattle.pccc_envelope.specs.declared.key.Key.{Key}
+use Rattle.df1_node.specs.Answer.{StationState}
+use Rattle.df1_node.specs.Node.{NodeState}
+use Rattle.each_once.proofs.CommandsUnderWay.{IsTickFewer}
 use Rattle.half_master.specs.declared.stations.Station.{Station}
 use Rattle.half_master.specs.Keys.{kept_at}
 use Rattle.script_statement.specs.Statements.{is_payload}
@@ -21,8 +26,9 @@ use Rattle.half_line.proofs.Once.Invariant.{Setting}
 use Rattle.half_line.proofs.Once.LinesOfStation.{executed-same}
 use Rattle.half_line.proofs.Once.MasterOutcomes.{AreDeclared, declared-push}
 use Rattle.half_line.proofs.Once.QuietLines.{IsSilentOf, lines-both}
-use Rattle.half_line.proofs.Complete.Dealings.{Dealings, bodies_in, alike, ticked_all, dealings-issue, dealings-hands, dealings-hands-other, dealings-tick, dealings-later}
+use Rattle.half_line.proofs.Complete.Dealings.{Dealings, bodies_in, alike, ticked_all, dealings-issue, dealings-hands, dealings-hands-other, dealings-tick, dealings-rests}
 use Rattle.half_line.proofs.Complete.StagePlaces.{each-place}
+use Rattle.half_line.proofs.Complete.Turns.{after_turn, is_polled, least_of, least-polled, least-other, least-fits, turn-within}
 use Rattle.half_line.proofs.Complete.Stages.{Receipt, Polling, Ack, Eot, Message, Now, Idles, Awaits}
 
 -- ---- what is on its way to a station, and from it, by what is awaited
@@ -61,25 +67,51 @@ abbrev pub told_in : ℕ → List Line → List (List ℕ)
 told_in number lines = map (λ a. a.1) (answers_in M (lines_of number lines))
 
 abbrev pub SideDealings : Setting → InitiatorState → List Station → List Line → Now → ℕ → ℕ → LineStationState → Type 0
-SideDealings setting i listed lines now ticks p side = Dealings (setting.first p) side.number i (executed_in (S side.number) lines) (told_in side.number lines) (going now p) (back now p) (kept_at listed p) side.slave ticks
+SideDealings setting i listed lines now next p side = Dealings (setting.first p) side.number i (executed_in (S side.number) lines) (told_in side.number lines) (going now p) (back now p) (kept_at listed p) side.slave (λ j. least_of (length setting.numbers) next (is_polled now p) p j)
 
--- of a master with this initiator and this list; the ticks are those that passed
-pub record Ledger (setting : Setting) (i : InitiatorState) (listed : List Station) (stations : List LineStationState) (lines : List Line) (now : Now) (ticks : ℕ) : Type 0 where
+-- of a master with this initiator and this list, which polls the station at this place next; it waits long enough for its commands' turns
+pub record Ledger (setting : Setting) (i : InitiatorState) (listed : List Station) (stations : List LineStationState) (lines : List Line) (now : Now) (next : ℕ) : Type 0 where
   pub some : 1 ≤ i.window
   pub some_of : 1 ≤ i.per_source
   pub fits : AreBodies (bodies_in i)
   pub declared : AreDeclared setting.numbers (bodies_in i)
-  pub sides : (p : ℕ) (side : LineStationState) → slice_get stations p ≡ Some side → SideDealings setting i listed lines now ticks p side
+  pub enough : i.window * length setting.numbers < i.reply_ticks
+  pub turn : (p : ℕ) → p < length setting.numbers → next < length setting.numbers
+  pub sides : (p : ℕ) (side : LineStationState) → slice_get stations p ≡ Some side → SideDealings setting i listed lines now next p side
 
--- the same is on its way, whatever else is awaited
-pub ledger-now : {setting : Setting} {i : InitiatorState} {listed : List Station} {stations : List LineStationState} {lines : List Line} {now : Now} {ticks : ℕ} (after : Now) → ((p : ℕ) → going now p ≡ going after p) → ((p : ℕ) → back now p ≡ back after p)
-    → Ledger setting i listed stations lines now ticks → Ledger setting i listed stations lines after ticks
-ledger-now {lines = lines} {now = now} after same_going same_back l = record {
+-- otherwise written, and of the same station known that it is polled
+pub alike-now : {first : StationState} {number : ℕ} {i : InitiatorState} {executed told going_then back_then : List (List ℕ)} {kept : Option Key} {s : SlaveState NodeState} (n next p : ℕ) (polled polled_now : Bool) (going_now back_now : List (List ℕ)) → going_then ≡ going_now → back_then ≡ back_now → polled ≡ polled_now
+    → Dealings first number i executed told going_then back_then kept s (λ j. least_of n next polled p j) → Dealings first number i executed told going_now back_now kept s (λ j. least_of n next polled_now p j)
+alike-now {first = first} {number = number} {i = i} {executed = executed} {told = told} {going_then = going_then} {back_then = back_then} {kept = kept} {s = s} n next p polled polled_now going_now back_now same_going same_back same d =
+    alike executed executed told told going_then going_now back_then back_now refl refl same_going same_back
+    (subst (λ (b : Bool). Dealings first number i executed told going_then back_then kept s (λ j. least_of n next b p j)) same d)
+
+-- the same is on its way, whatever else is awaited, and the same station is polled
+pub ledger-now : {setting : Setting} {i : InitiatorState} {listed : List Station} {stations : List LineStationState} {lines : List Line} {now : Now} {next : ℕ} (after : Now) → ((p : ℕ) → going now p ≡ going after p) → ((p : ℕ) → back now p ≡ back after p) → ((p : ℕ) → is_polled now p ≡ is_polled after p)
+    → Ledger setting i listed stations lines now next → Ledger setting i listed stations lines after next
+ledger-now {setting = setting} {now = now} {next = next} after same_going same_back same l = record {
   some = l.some;
   some_of = l.some_of;
   fits = l.fits;
   declared = l.declared;
-  sides = λ p side at. alike (executed_in (S side.number) lines) (executed_in (S side.number) lines) (told_in side.number lines) (told_in side.number lines) (going now p) (going after p) (back now p) (back after p) refl refl (same_going p) (same_back p) (l.sides p side at);
+  enough = l.enough;
+  turn = l.turn;
+  sides = λ p side at. alike-now (length setting.numbers) next p (is_polled now p) (is_polled after p) (going after p) (back after p) (same_going p) (same_back p) (same p) (l.sides p side at);
+}
+
+-- the station that was polled has no reply, so that it has executed no command that isn't answered
+pub ledger-ends : {setting : Setting} {i : InitiatorState} {listed : List Station} {stations : List LineStationState} {lines : List Line} {next : ℕ} (place : ℕ) (side : LineStationState) → slice_get stations place ≡ Some side → side.slave.host.replies ≡ []
+    → Ledger setting i listed stations lines (Awaits place Polling) next → Ledger setting i listed stations lines (Awaits place Eot) next
+ledger-ends {setting = setting} {i = i} {listed = listed} {stations = stations} {lines = lines} {next = next} place side at none l = record {
+  some = l.some;
+  some_of = l.some_of;
+  fits = l.fits;
+  declared = l.declared;
+  enough = l.enough;
+  turn = l.turn;
+  sides = each-place (λ p x. SideDealings setting i listed lines (Awaits place Eot) next p x) stations place side at
+      (dealings-rests (λ j. least_of (length setting.numbers) next false place j) none (l.sides place side at))
+      (λ p other there differ. alike-now (length setting.numbers) next p (place == p) false [] [] refl refl (ne_eqb place p (λ same. differ (sym same))) (l.sides p other there));
 }
 
 -- ---- more is told, but of no command and no answer
@@ -99,12 +131,14 @@ same-executed number lines more none = sym (append-nil (executed_in (S number) l
 pub same-told : (number : ℕ) (lines more : List Line) → answers_in M (lines_of number more) ≡ [] → told_in number lines ≡ told_in number (lines ++ more)
 same-told number lines more none = sym (append-nil (told_in number lines)) ∙ more-told number lines more [] none
 
-pub ledger-lines : {setting : Setting} {i : InitiatorState} {listed : List Station} {stations : List LineStationState} {lines : List Line} {now : Now} {ticks : ℕ} (more : List Line) → ((number : ℕ) → IsSilentOf number more) → Ledger setting i listed stations lines now ticks → Ledger setting i listed stations (lines ++ more) now ticks
+pub ledger-lines : {setting : Setting} {i : InitiatorState} {listed : List Station} {stations : List LineStationState} {lines : List Line} {now : Now} {next : ℕ} (more : List Line) → ((number : ℕ) → IsSilentOf number more) → Ledger setting i listed stations lines now next → Ledger setting i listed stations (lines ++ more) now next
 ledger-lines {lines = lines} {now = now} more silent l = record {
   some = l.some;
   some_of = l.some_of;
   fits = l.fits;
   declared = l.declared;
+  enough = l.enough;
+  turn = l.turn;
   sides = λ p side at.
       let n = side.number in
       alike (executed_in (S n) lines) (executed_in (S n) (lines ++ more)) (told_in n lines) (told_in n (lines ++ more)) (going now p) (going now p) (back now p) (back now p)
@@ -113,8 +147,8 @@ ledger-lines {lines = lines} {now = now} more silent l = record {
 
 -- ---- a command is issued
 
-pub ledger-issue : {setting : Setting} {i : InitiatorState} {listed : List Station} {stations : List LineStationState} {lines : List Line} {now : Now} {ticks : ℕ} (src dst : ℕ) (payload : List ℕ) → IsTrue (is_payload payload) → is_declared setting.numbers dst ≡ true
-    → Ledger setting i listed stations lines now ticks → Ledger setting (after_issue i src dst payload) listed stations lines now ticks
+pub ledger-issue : {setting : Setting} {i : InitiatorState} {listed : List Station} {stations : List LineStationState} {lines : List Line} {now : Now} {next : ℕ} (src dst : ℕ) (payload : List ℕ) → IsTrue (is_payload payload) → is_declared setting.numbers dst ≡ true
+    → Ledger setting i listed stations lines now next → Ledger setting (after_issue i src dst payload) listed stations lines now next
 ledger-issue {setting = setting} {i = i} src dst payload may is l =
     let new : Issued = record { body = next_issued i src dst payload; standing = Waiting } in
     record {
@@ -122,39 +156,64 @@ ledger-issue {setting = setting} {i = i} src dst payload may is l =
       some_of = l.some_of;
       fits = issued-fits i src dst payload l.fits may;
       declared = subst (λ (all : List (List ℕ)). AreDeclared setting.numbers all) (sym (map-append (λ (c : Issued). c.body) i.issued (new ∷ []))) (declared-push setting.numbers (bodies_in i) new.body l.declared is);
+      enough = l.enough;
+      turn = l.turn;
       sides = λ p side at. dealings-issue src dst payload (l.sides p side at);
     }
 
--- ---- time passes
+-- ---- time passes, and the next station is polled
 
-pub ledger-tick : {setting : Setting} {i : InitiatorState} {listed : List Station} {stations : List LineStationState} {lines : List Line} {now : Now} {ticks : ℕ} → ticks + 1 < i.reply_ticks → Ledger setting i listed stations lines now ticks → Ledger setting (ticked_all i) listed stations lines now (ticks + 1)
-ledger-tick {setting = setting} {i = i} few l = record {
+polled-side : {first : StationState} {number : ℕ} {i : InitiatorState} {executed told : List (List ℕ)} {kept : Option Key} {s : SlaveState NodeState} (n next p : ℕ) (same : Bool) → (next == p) ≡ same → next < n → p < n
+    → Dealings first number i executed told [] [] kept s (λ j. least_of n next false p j) → Dealings first number (ticked_all i) executed told [] [] kept s (λ j. least_of n (after_turn n next) same p j)
+polled-side n next p true is within here d =
+    dealings-tick (λ j. 1 + j * n) (λ j. subst (λ (q : ℕ). IsTickFewer (least_of n next false q j) (1 + j * n)) (eqb-true next p is) (least-polled n next j within)) d
+polled-side n next p false is within here d =
+    dealings-tick (λ j. least_of n (after_turn n next) false p j) (λ j. least-other n next p j within here (λ same. let clash : true ≡ false = sym (eq-eqb next p (sym same)) ∙ is in cc)) d
+
+pub ledger-polls : {setting : Setting} {i : InitiatorState} {listed : List Station} {stations : List LineStationState} {lines : List Line} {next : ℕ} → ((p : ℕ) (side : LineStationState) → slice_get stations p ≡ Some side → p < length setting.numbers)
+    → Ledger setting i listed stations lines Idles next → Ledger setting (ticked_all i) listed stations lines (Awaits next Polling) (after_turn (length setting.numbers) next)
+ledger-polls {setting = setting} {i = i} {next = next} within l =
+    let n = length setting.numbers in
+    record {
+      some = l.some;
+      some_of = l.some_of;
+      fits = subst AreBodies (sym (bodies-tick i)) l.fits;
+      declared = subst (λ (all : List (List ℕ)). AreDeclared setting.numbers all) (sym (bodies-tick i)) l.declared;
+      enough = l.enough;
+      turn = λ p here. turn-within n next (l.turn p here);
+      sides = λ p side at. polled-side n next p (next == p) refl (l.turn p (within p side at)) (within p side at) (l.sides p side at);
+    }
+
+-- where there is no station, nobody's time passes
+pub ledger-alone : {setting : Setting} {i : InitiatorState} {listed : List Station} {stations : List LineStationState} {lines : List Line} {next : ℕ} → ((p : ℕ) (side : LineStationState) → slice_get stations p ≡ Some side → ⊥)
+    → Ledger setting i listed stations lines Idles next → Ledger setting (ticked_all i) listed stations lines Idles next
+ledger-alone {setting = setting} {i = i} none l = record {
   some = l.some;
   some_of = l.some_of;
   fits = subst AreBodies (sym (bodies-tick i)) l.fits;
   declared = subst (λ (all : List (List ℕ)). AreDeclared setting.numbers all) (sym (bodies-tick i)) l.declared;
-  sides = λ p side at. dealings-tick few (l.sides p side at);
+  enough = l.enough;
+  turn = l.turn;
+  sides = λ p side at. absurd (none p side at);
 }
-
--- of which the initiator isn't told
-pub ledger-later : {setting : Setting} {i : InitiatorState} {listed : List Station} {stations : List LineStationState} {lines : List Line} {now : Now} {ticks : ℕ} → Ledger setting i listed stations lines now ticks → Ledger setting i listed stations lines now (ticks + 1)
-ledger-later l = record { some = l.some; some_of = l.some_of; fits = l.fits; declared = l.declared; sides = λ p side at. dealings-later (l.sides p side at) }
 
 -- ---- the next command is handed out, for the station at this place
 
-pub ledger-hands : {setting : Setting} {i : InitiatorState} {listed : List Station} {stations : List LineStationState} {lines : List Line} {ticks : ℕ} (body : List ℕ) (place : ℕ) (side : LineStationState) → next_command i ≡ Some body → slice_get stations place ≡ Some side → is_to side.number body ≡ true
+pub ledger-hands : {setting : Setting} {i : InitiatorState} {listed : List Station} {stations : List LineStationState} {lines : List Line} {next : ℕ} (body : List ℕ) (place : ℕ) (side : LineStationState) → next_command i ≡ Some body → slice_get stations place ≡ Some side → place < length setting.numbers → is_to side.number body ≡ true
     → ((p : ℕ) (other : LineStationState) → slice_get stations p ≡ Some other → (p ≡ place → ⊥) → is_to other.number body ≡ false)
-    → Ledger setting i listed stations lines Idles ticks → Ledger setting (after_hand_out i) listed stations lines (Awaits place (Receipt body)) ticks
-ledger-hands {setting = setting} {i = i} {listed = listed} {stations = stations} {lines = lines} {ticks = ticks} body place side next at to apart l =
+    → Ledger setting i listed stations lines Idles next → Ledger setting (after_hand_out i) listed stations lines (Awaits place (Receipt body)) next
+ledger-hands {setting = setting} {i = i} {listed = listed} {stations = stations} {lines = lines} {next = next} body place side command at here to apart l =
     let now = Awaits place (Receipt body) in
     record {
       some = l.some;
       some_of = l.some_of;
       fits = subst AreBodies (sym (bodies-hand_out i)) l.fits;
       declared = subst (λ (all : List (List ℕ)). AreDeclared setting.numbers all) (sym (bodies-hand_out i)) l.declared;
-      sides = each-place (λ p x. SideDealings setting (after_hand_out i) listed lines now ticks p x) stations place side at
-          (alike (executed_in (S side.number) lines) (executed_in (S side.number) lines) (told_in side.number lines) (told_in side.number lines) (body ∷ []) (going now place) [] (back now place) refl refl (sym (at-here place body)) refl (dealings-hands body to next (l.sides place side at)))
+      enough = l.enough;
+      turn = l.turn;
+      sides = each-place (λ p x. SideDealings setting (after_hand_out i) listed lines now next p x) stations place side at
+          (alike (executed_in (S side.number) lines) (executed_in (S side.number) lines) (told_in side.number lines) (told_in side.number lines) (body ∷ []) (going now place) [] (back now place) refl refl (sym (at-here place body)) refl (dealings-hands body to command (λ j fewer. least-fits (length setting.numbers) next place j i.window i.reply_ticks (l.turn place here) here l.enough fewer) (l.sides place side at)))
           (λ p other there differ.
           alike (executed_in (S other.number) lines) (executed_in (S other.number) lines) (told_in other.number lines) (told_in other.number lines) [] (going now p) [] (back now p) refl refl (sym (at-other place p body differ)) refl
-          (dealings-hands-other body (apart p other there differ) next (l.sides p other there)));
+          (dealings-hands-other body (apart p other there differ) command (l.sides p other there)));
     }

@@ -1,16 +1,9 @@
 -- What happens at a station, or to the bytes to it or from it, leaves an undisturbed run such.
-use Rattle.std.proofs.Common.{◌≡◌, ◌∙◌, ℕ, zero, suc, ◌+◌, Bool, true, false, List, [], ◌∷◌, ◌++◌, Some, refl, ap, sym, subst, append-nil, arith}
-use Rattle.std.specs.Prelude.{slice_get, slice_set, if◌then◌else◌}
-use Rattle.df1_base.specs.declared.host.Fate.{Fate}
-use Rattle.df1_base.specs.declared.host.Fate.TheVariants as fate
-use Rattle.pccc_envelope.specs.Envelope.{is_reply}
-use Rattle.df1_node.specs.declared.handed.Handed.{Handed}
-use Rattle.df1_node.specs.declared.handed.Handed.TheVariants as handed
-use Rattle.df1_node.specs.Initiator.{InitiatorState}
-use Rattle.df1_node.specs.Node.{NodeState, after_told, initiator_after}
+use Rattle.std.proofs.Common.{◌≡◌, ◌∙◌, ℕ, zero, suc, ◌+◌, List, [], ◌∷◌, ◌++◌, Some, refl, ap, sym, subst, append-nil, arith}
+use Rattle.std.specs.Prelude.{slice_get, slice_set}
+use Rattle.df1_node.specs.Node.{NodeState}
 use Rattle.half_master.specs.declared.MasterSetup.{MasterSetup}
 use Rattle.half_master.specs.Emission.{Byte}
-use Rattle.half_master.proofs.HostSteps.{Keeps, byte-keeps}
 use Rattle.half_master.proofs.Runs.{signal-setup}
 use Rattle.replay_report.specs.declared.record.Line.{Line}
 use Rattle.lane_cells.specs.Cells.{LaneCell}
@@ -31,31 +24,6 @@ use Rattle.half_line.proofs.Complete.Invariant.{Course, Flow}
 use Rattle.half_line.proofs.Complete.CallStep.{At, station-arrives}
 use Rattle.half_line.proofs.Complete.ReplyStep.{master-hears}
 
--- ---- how long the master waits for a reply
-
-either-waits : (b : Bool) (i j : InitiatorState) (n : ℕ) → i.reply_ticks ≡ n → j.reply_ticks ≡ n → (if b then i else j).reply_ticks ≡ n
-either-waits true i j n one other = one
-either-waits false i j n one other = other
-
-told-waits : (i : InitiatorState) (last : Handed) → (initiator_after i last).reply_ticks ≡ i.reply_ticks
-told-waits i handed.Nothing = refl
-told-waits i handed.Reply = refl
-told-waits i (handed.Command place) = refl
-
-fate-waits : (node : NodeState) (what : Fate) → (after_told node what).initiator.reply_ticks ≡ node.initiator.reply_ticks
-fate-waits node fate.Delivered = refl
-fate-waits node fate.Undelivered = told-waits node.initiator node.last
-
-pub keeps-waits : Keeps node_host (λ (host later : NodeState). later.initiator.reply_ticks ≡ host.initiator.reply_ticks)
-keeps-waits = record {
-  same = λ host. refl;
-  both = λ host later last first second. second ∙ first;
-  accept = λ host body. either-waits (is_reply body) _ host.initiator host.initiator.reply_ticks refl refl;
-  told = fate-waits;
-  next = λ host. either-waits _ host.initiator _ host.initiator.reply_ticks refl refl;
-  tick = λ host. refl;
-}
-
 -- ---- nothing changes
 
 set-itself : (stations : List LineStationState) (place : ℕ) (side : LineStationState) → slice_get stations place ≡ Some side → slice_set stations place side ≡ stations
@@ -63,30 +31,28 @@ set-itself [] place side at = absurd cc
 set-itself (first ∷ stations) zero side at = ap (λ (x : LineStationState). x ∷ stations) (sym (same-some first side at))
 set-itself (first ∷ stations) (suc place) side at = ap (λ (rest : List LineStationState). first ∷ rest) (set-itself stations place side at)
 
-flow-same : (setting : Setting) (wait : ℕ) (s : HalfState NodeState) (late ticks : ℕ) (lines : List Line) (place : ℕ) (side : LineStationState) → slice_get s.stations place ≡ Some side → Flow setting wait s late ticks lines → Flow setting wait (rejoined s place (link_of s side)) late ticks (lines ++ [])
-flow-same setting wait s late ticks lines place side at f = record {
-  course = subst (λ (all : List Line). Course setting s.master (slice_set s.stations place side) late ticks all) (sym (append-nil lines))
-      (subst (λ (stations : List LineStationState). Course setting s.master stations late ticks lines) (sym (set-itself s.stations place side at)) f.course);
+flow-same : (setting : Setting) (s : HalfState NodeState) (late : ℕ) (lines : List Line) (place : ℕ) (side : LineStationState) → slice_get s.stations place ≡ Some side → Flow setting s late lines → Flow setting (rejoined s place (link_of s side)) late (lines ++ [])
+flow-same setting s late lines place side at f = record {
+  course = subst (λ (all : List Line). Course setting s.master (slice_set s.stations place side) late all) (sym (append-nil lines))
+      (subst (λ (stations : List LineStationState). Course setting s.master stations late lines) (sym (set-itself s.stations place side at)) f.course);
   check = f.check;
-  waits = f.waits;
   honest = f.honest;
 }
 
 -- ---- a station gives a byte
 
-flow-gives : (setting : Setting) (wait : ℕ) (s : HalfState NodeState) (late ticks : ℕ) (lines : List Line) (place : ℕ) (side : LineStationState) → slice_get s.stations place ≡ Some side → Flow setting wait s late ticks lines
-    → Flow setting wait (rejoined s place (after_link_deed plain_node (link_of s side) StationGives)) late ticks (lines ++ [])
-flow-gives setting wait s late ticks lines place side at f =
+flow-gives : (setting : Setting) (s : HalfState NodeState) (late : ℕ) (lines : List Line) (place : ℕ) (side : LineStationState) → slice_get s.stations place ≡ Some side → Flow setting s late lines
+    → Flow setting (rejoined s place (after_link_deed plain_node (link_of s side) StationGives)) late (lines ++ [])
+flow-gives setting s late lines place side at f =
     let c = f.course in
     let m = s.master in
     record {
-      course = subst (λ (all : List Line). Course setting m (slice_set s.stations place (after_take side)) late ticks all) (sym (append-nil lines)) (record {
+      course = subst (λ (all : List Line). Course setting m (slice_set s.stations place (after_take side)) late all) (sym (append-nil lines)) (record {
         now = c.now;
         stage = stage-gives late m s.stations c.now place side at c.stage;
         ledger = ledger-side place side (after_take side) at refl (same-node side.slave.host side.slave.host refl) refl c.ledger;
       });
       check = f.check;
-      waits = f.waits;
       honest = f.honest;
     }
 
@@ -95,55 +61,53 @@ flow-gives setting wait s late ticks lines place side at f =
 none-more : (n m : ℕ) → n ≡ 0 → m ≡ 0 → n + m ≡ 0
 none-more n m first second = omega (arith, first, second)
 
-flow-arrives : (setting : Setting) (wait : ℕ) (s : HalfState NodeState) (late ticks : ℕ) (lines : List Line) (place : ℕ) (side : LineStationState) (cell : LaneCell) (cells : List LaneCell) → At setting s.master s.stations lines place (lane_left side (cell ∷ cells)) → Flow setting wait s late ticks lines
-    → Flow setting wait (rejoined s place (after_link_deed plain_node (link_of s (lane_left side (cell ∷ cells))) (OnLane ToStation Deliver))) late ticks (lines ++ link_lines plain_node (link_of s (lane_left side (cell ∷ cells))) (OnLane ToStation Deliver))
-flow-arrives setting wait s late ticks lines place side cell cells at f =
+flow-arrives : (setting : Setting) (s : HalfState NodeState) (late : ℕ) (lines : List Line) (place : ℕ) (side : LineStationState) (cell : LaneCell) (cells : List LaneCell) → At setting s.master s.stations lines place (lane_left side (cell ∷ cells)) → Flow setting s late lines
+    → Flow setting (rejoined s place (after_link_deed plain_node (link_of s (lane_left side (cell ∷ cells))) (OnLane ToStation Deliver))) late (lines ++ link_lines plain_node (link_of s (lane_left side (cell ∷ cells))) (OnLane ToStation Deliver))
+flow-arrives setting s late lines place side cell cells at f =
     let was = lane_left side (cell ∷ cells) in
-    let a = station-arrives setting s.master s.stations late ticks lines place was cell cells at refl f.course in
+    let a = station-arrives setting s.master s.stations late lines place was cell cells at refl f.course in
     record {
       course = a.course;
       check = f.check;
-      waits = f.waits;
       honest = none-more s.deceived _ f.honest (station-deceived (moved ToStation (link_of s was) Deliver) cell a.honest);
     }
 
-lane-to : (setting : Setting) (wait : ℕ) (s : HalfState NodeState) (late ticks : ℕ) (lines : List Line) (place : ℕ) (side : LineStationState) (cells : List LaneCell) (deed : LaneDeed) → IsGentleOn cells deed → At setting s.master s.stations lines place (lane_left side cells) → Flow setting wait s late ticks lines
-    → Flow setting wait (rejoined s place (after_link_deed plain_node (link_of s (lane_left side cells)) (OnLane ToStation deed))) late ticks (lines ++ link_lines plain_node (link_of s (lane_left side cells)) (OnLane ToStation deed))
-lane-to setting wait s late ticks lines place side [] Deliver gentle at f = flow-same setting wait s late ticks lines place (lane_left side []) at.is_at f
-lane-to setting wait s late ticks lines place side (cell ∷ cells) Deliver gentle at f = flow-arrives setting wait s late ticks lines place side cell cells at f
-lane-to setting wait s late ticks lines place side [] Lose gentle at f = flow-same setting wait s late ticks lines place (lane_left side []) at.is_at f
-lane-to setting wait s late ticks lines place side (cell ∷ cells) Lose gentle at f = absurd cc
-lane-to setting wait s late ticks lines place side [] (Alter mask) gentle at f = flow-same setting wait s late ticks lines place (lane_left side []) at.is_at f
-lane-to setting wait s late ticks lines place side (cell ∷ cells) (Alter mask) gentle at f = absurd cc
-lane-to setting wait s late ticks lines place side cells (Foreign byte) gentle at f = absurd gentle
+lane-to : (setting : Setting) (s : HalfState NodeState) (late : ℕ) (lines : List Line) (place : ℕ) (side : LineStationState) (cells : List LaneCell) (deed : LaneDeed) → IsGentleOn cells deed → At setting s.master s.stations lines place (lane_left side cells) → Flow setting s late lines
+    → Flow setting (rejoined s place (after_link_deed plain_node (link_of s (lane_left side cells)) (OnLane ToStation deed))) late (lines ++ link_lines plain_node (link_of s (lane_left side cells)) (OnLane ToStation deed))
+lane-to setting s late lines place side [] Deliver gentle at f = flow-same setting s late lines place (lane_left side []) at.is_at f
+lane-to setting s late lines place side (cell ∷ cells) Deliver gentle at f = flow-arrives setting s late lines place side cell cells at f
+lane-to setting s late lines place side [] Lose gentle at f = flow-same setting s late lines place (lane_left side []) at.is_at f
+lane-to setting s late lines place side (cell ∷ cells) Lose gentle at f = absurd cc
+lane-to setting s late lines place side [] (Alter mask) gentle at f = flow-same setting s late lines place (lane_left side []) at.is_at f
+lane-to setting s late lines place side (cell ∷ cells) (Alter mask) gentle at f = absurd cc
+lane-to setting s late lines place side cells (Foreign byte) gentle at f = absurd gentle
 
-flow-hears : (setting : Setting) (wait : ℕ) (s : HalfState NodeState) (late ticks : ℕ) (lines : List Line) (place : ℕ) (side : LineStationState) (cell : LaneCell) (cells : List LaneCell) → At setting s.master s.stations lines place (back_left side (cell ∷ cells)) → Flow setting wait s late ticks lines
-    → Flow setting wait (rejoined s place (after_link_deed plain_node (link_of s (back_left side (cell ∷ cells))) (OnLane ToMaster Deliver))) late ticks (lines ++ link_lines plain_node (link_of s (back_left side (cell ∷ cells))) (OnLane ToMaster Deliver))
-flow-hears setting wait s late ticks lines place side cell cells at f =
+flow-hears : (setting : Setting) (s : HalfState NodeState) (late : ℕ) (lines : List Line) (place : ℕ) (side : LineStationState) (cell : LaneCell) (cells : List LaneCell) → At setting s.master s.stations lines place (back_left side (cell ∷ cells)) → Flow setting s late lines
+    → Flow setting (rejoined s place (after_link_deed plain_node (link_of s (back_left side (cell ∷ cells))) (OnLane ToMaster Deliver))) late (lines ++ link_lines plain_node (link_of s (back_left side (cell ∷ cells))) (OnLane ToMaster Deliver))
+flow-hears setting s late lines place side cell cells at f =
     let was = back_left side (cell ∷ cells) in
     let m = s.master in
-    let r = master-hears setting m s.stations late ticks lines place was cell cells at refl f.course in
+    let r = master-hears setting m s.stations late lines place was cell cells at refl f.course in
     record {
       course = r.course;
       check = ap (λ (setup : MasterSetup). setup.check) (signal-setup node_host m (Byte cell.byte)) ∙ f.check ∙ sym r.ear_check;
-      waits = byte-keeps node_host _ keeps-waits m cell.byte ∙ f.waits;
       honest = none-more s.deceived _ f.honest (master-deceived (moved ToMaster (link_of s was) Deliver) cell r.honest);
     }
 
-lane-from : (setting : Setting) (wait : ℕ) (s : HalfState NodeState) (late ticks : ℕ) (lines : List Line) (place : ℕ) (side : LineStationState) (cells : List LaneCell) (deed : LaneDeed) → IsGentleOn cells deed → At setting s.master s.stations lines place (back_left side cells) → Flow setting wait s late ticks lines
-    → Flow setting wait (rejoined s place (after_link_deed plain_node (link_of s (back_left side cells)) (OnLane ToMaster deed))) late ticks (lines ++ link_lines plain_node (link_of s (back_left side cells)) (OnLane ToMaster deed))
-lane-from setting wait s late ticks lines place side [] Deliver gentle at f = flow-same setting wait s late ticks lines place (back_left side []) at.is_at f
-lane-from setting wait s late ticks lines place side (cell ∷ cells) Deliver gentle at f = flow-hears setting wait s late ticks lines place side cell cells at f
-lane-from setting wait s late ticks lines place side [] Lose gentle at f = flow-same setting wait s late ticks lines place (back_left side []) at.is_at f
-lane-from setting wait s late ticks lines place side (cell ∷ cells) Lose gentle at f = absurd cc
-lane-from setting wait s late ticks lines place side [] (Alter mask) gentle at f = flow-same setting wait s late ticks lines place (back_left side []) at.is_at f
-lane-from setting wait s late ticks lines place side (cell ∷ cells) (Alter mask) gentle at f = absurd cc
-lane-from setting wait s late ticks lines place side cells (Foreign byte) gentle at f = absurd gentle
+lane-from : (setting : Setting) (s : HalfState NodeState) (late : ℕ) (lines : List Line) (place : ℕ) (side : LineStationState) (cells : List LaneCell) (deed : LaneDeed) → IsGentleOn cells deed → At setting s.master s.stations lines place (back_left side cells) → Flow setting s late lines
+    → Flow setting (rejoined s place (after_link_deed plain_node (link_of s (back_left side cells)) (OnLane ToMaster deed))) late (lines ++ link_lines plain_node (link_of s (back_left side cells)) (OnLane ToMaster deed))
+lane-from setting s late lines place side [] Deliver gentle at f = flow-same setting s late lines place (back_left side []) at.is_at f
+lane-from setting s late lines place side (cell ∷ cells) Deliver gentle at f = flow-hears setting s late lines place side cell cells at f
+lane-from setting s late lines place side [] Lose gentle at f = flow-same setting s late lines place (back_left side []) at.is_at f
+lane-from setting s late lines place side (cell ∷ cells) Lose gentle at f = absurd cc
+lane-from setting s late lines place side [] (Alter mask) gentle at f = flow-same setting s late lines place (back_left side []) at.is_at f
+lane-from setting s late lines place side (cell ∷ cells) (Alter mask) gentle at f = absurd cc
+lane-from setting s late lines place side cells (Foreign byte) gentle at f = absurd gentle
 
 -- ---- either
 
-pub flow-link : (setting : Setting) (wait : ℕ) (s : HalfState NodeState) (late ticks : ℕ) (lines : List Line) (place : ℕ) (side : LineStationState) (deed : LinkDeed) → IsGentleAt side deed → At setting s.master s.stations lines place side → Flow setting wait s late ticks lines
-    → Flow setting wait (rejoined s place (after_link_deed plain_node (link_of s side) deed)) late ticks (lines ++ link_lines plain_node (link_of s side) deed)
-flow-link setting wait s late ticks lines place side StationGives gentle at f = flow-gives setting wait s late ticks lines place side at.is_at f
-flow-link setting wait s late ticks lines place side (OnLane ToStation deed) gentle at f = lane-to setting wait s late ticks lines place side side.to_it deed gentle at f
-flow-link setting wait s late ticks lines place side (OnLane ToMaster deed) gentle at f = lane-from setting wait s late ticks lines place side side.from_it deed gentle at f
+pub flow-link : (setting : Setting) (s : HalfState NodeState) (late : ℕ) (lines : List Line) (place : ℕ) (side : LineStationState) (deed : LinkDeed) → IsGentleAt side deed → At setting s.master s.stations lines place side → Flow setting s late lines
+    → Flow setting (rejoined s place (after_link_deed plain_node (link_of s side) deed)) late (lines ++ link_lines plain_node (link_of s side) deed)
+flow-link setting s late lines place side StationGives gentle at f = flow-gives setting s late lines place side at.is_at f
+flow-link setting s late lines place side (OnLane ToStation deed) gentle at f = lane-to setting s late lines place side side.to_it deed gentle at f
+flow-link setting s late lines place side (OnLane ToMaster deed) gentle at f = lane-from setting s late lines place side side.from_it deed gentle at f

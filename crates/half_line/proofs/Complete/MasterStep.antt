@@ -3,6 +3,7 @@ use Rattle.std.proofs.Common.{◌≡◌, ◌∙◌, ℕ, zero, suc, Bool, true, 
 use Rattle.std.specs.Prelude.{IsTrue, slice_get, slice_index, unwrap_or, ◌==◌, ◌||◌, ◌&&◌, if◌then◌else◌}
 use Rattle.std.specs.Option.{option_or}
 use Rattle.std.proofs.lemmas.Bool.{and_parts, eqb-true, eq-eqb}
+use Rattle.std.proofs.lemmas.Option.{slice_get_within}
 use Rattle.df1_node.specs.Initiator.{InitiatorState, next_command, after_hand_out}
 use Rattle.df1_node.specs.Node.{NodeState, next_body, after_next}
 use Rattle.half_mouth.specs.Giving.{is_done}
@@ -38,9 +39,9 @@ use Rattle.half_line.proofs.Complete.LineFacts.{Known, elsewhere, not-theirs}
 
 -- ---- a command is issued
 
-pub course-issue : (setting : Setting) (m : MasterState NodeState) (stations : List LineStationState) (late ticks : ℕ) (lines : List Line) (src : Option ℕ) (dst : ℕ) (payload : List ℕ) → IsTrue (is_payload payload) → is_declared setting.numbers dst ≡ true → Course setting m stations late ticks lines
-    → Course setting (after_issue plain_node m src dst payload) stations late ticks lines
-course-issue setting m stations late ticks lines src dst payload may is c = record {
+pub course-issue : (setting : Setting) (m : MasterState NodeState) (stations : List LineStationState) (late : ℕ) (lines : List Line) (src : Option ℕ) (dst : ℕ) (payload : List ℕ) → IsTrue (is_payload payload) → is_declared setting.numbers dst ≡ true → Course setting m stations late lines
+    → Course setting (after_issue plain_node m src dst payload) stations late lines
+course-issue setting m stations late lines src dst payload may is c = record {
   now = c.now;
   stage = stage-alike late m (after_issue plain_node m src dst payload) stations c.now (record { ear = refl; mouth = refl; sending = refl }) refl refl c.stage;
   ledger = ledger-issue (unwrap_or src m.host.initiator.node) dst payload may is c.ledger;
@@ -91,9 +92,9 @@ may-begin m body next = by-test (is_done m.mouth && master.is_idle m.phase) refl
     by-test true is next = let parts = and_parts (is_done m.mouth) (master.is_idle m.phase) is in (parts.0, idle-phase m.phase parts.1)
     by-test false is next = absurd cc
 
-begins-course : (setting : Setting) (m : MasterState NodeState) (stations : List LineStationState) (late ticks : ℕ) (lines : List Line) (body : List ℕ) → Known setting m stations lines → m.setup.check ≡ m.ear.check → is_done m.mouth ≡ true → m.phase ≡ phase.Idle → next_body m.host ≡ Some body → Idling m stations
-    → Ledger setting m.host.initiator m.stations stations lines Idles ticks → Course setting (begun node_host m) stations late ticks lines
-begins-course setting m stations late ticks lines body k check given idle nexts stage l =
+begins-course : (setting : Setting) (m : MasterState NodeState) (stations : List LineStationState) (late : ℕ) (lines : List Line) (body : List ℕ) → Known setting m stations lines → m.setup.check ≡ m.ear.check → is_done m.mouth ≡ true → m.phase ≡ phase.Idle → next_body m.host ≡ Some body → Idling m stations
+    → Ledger setting m.host.initiator m.stations stations lines Idles m.next → Course setting (begun node_host m) stations late lines
+begins-course setting m stations late lines body k check given idle nexts stage l =
     let i = m.host.initiator in
     let next = next-command m.host body k.replies_none nexts in
     let at = next-has i body next in
@@ -108,46 +109,48 @@ begins-course setting m stations late ticks lines body k check given idle nexts 
     (λ p other there differ same. apart p other there differ (sym same))
     check fits.0 fits.1 (sym f.number) refl refl refl in
     let same : after.host.initiator ≡ after_hand_out i = handed-initiator m.host k.replies_none in
-    let course : Course setting after stations late ticks lines = record {
+    let course : Course setting after stations late lines = record {
       now = Awaits f.place (Receipt body);
       stage = record { waits = record { left = m.setup.ack_ticks; resent = 0; phase = refl; patient = omega arith }; expects = expects };
-      ledger = subst (λ (x : InitiatorState). Ledger setting x m.stations stations lines (Awaits f.place (Receipt body)) ticks) (sym same)
-          (ledger-hands body f.place f.side next f.is_at to (λ p other there differ. not-theirs f.side other body to (apart p other there differ)) l);
+      ledger = subst (λ (x : InitiatorState). Ledger setting x m.stations stations lines (Awaits f.place (Receipt body)) m.next) (sym same)
+          (ledger-hands body f.place f.side next f.is_at (slice_get_within setting.numbers f.place (slice_index body 0) f.number_at) to (λ p other there differ. not-theirs f.side other body to (apart p other there differ)) l);
     } in
-    subst (λ (e : MasterState NodeState). Course setting e stations late ticks lines) (sym (take-begins node_host m body given idle nexts listed)) course
+    subst (λ (e : MasterState NodeState). Course setting e stations late lines) (sym (take-begins node_host m body given idle nexts listed)) course
 
 -- then nothing is awaited
-begins-now : (setting : Setting) (m : MasterState NodeState) (stations : List LineStationState) (late ticks : ℕ) (lines : List Line) (body : List ℕ) (now : Now) → Known setting m stations lines → m.setup.check ≡ m.ear.check → message_next node_host m ≡ Some body → Stage late m stations now
-    → Ledger setting m.host.initiator m.stations stations lines now ticks → Course setting (begun node_host m) stations late ticks lines
-begins-now setting m stations late ticks lines body Idles k check next stage l =
+begins-now : (setting : Setting) (m : MasterState NodeState) (stations : List LineStationState) (late : ℕ) (lines : List Line) (body : List ℕ) (now : Now) → Known setting m stations lines → m.setup.check ≡ m.ear.check → message_next node_host m ≡ Some body → Stage late m stations now
+    → Ledger setting m.host.initiator m.stations stations lines now m.next → Course setting (begun node_host m) stations late lines
+begins-now setting m stations late lines body Idles k check next stage l =
     let may = may-begin m body next in
-    begins-course setting m stations late ticks lines body k check may.0 may.1 (next-of node_host m body next) stage l
-begins-now setting m stations late ticks lines body (Awaits place awaited) k check next stage l =
+    begins-course setting m stations late lines body k check may.0 may.1 (next-of node_host m body next) stage l
+begins-now setting m stations late lines body (Awaits place awaited) k check next stage l =
     absurd (let no : true ≡ false = sym (ap master.is_idle (may-begin m body next).1) ∙ waits-busy late m place awaited stage.waits in cc)
 
-begun-course : (setting : Setting) (m : MasterState NodeState) (stations : List LineStationState) (late ticks : ℕ) (lines : List Line) (o : Option (List ℕ)) → Known setting m stations lines → m.setup.check ≡ m.ear.check → message_next node_host m ≡ o → Course setting m stations late ticks lines
-    → Course setting (begun_of node_host m o) stations late ticks lines
-begun-course setting m stations late ticks lines None k check next c = c
-begun-course setting m stations late ticks lines (Some body) k check next c =
-    subst (λ (o : Option (List ℕ)). Course setting (begun_of node_host m o) stations late ticks lines) next (begins-now setting m stations late ticks lines body c.now k check next c.stage c.ledger)
+begun-course : (setting : Setting) (m : MasterState NodeState) (stations : List LineStationState) (late : ℕ) (lines : List Line) (o : Option (List ℕ)) → Known setting m stations lines → m.setup.check ≡ m.ear.check → message_next node_host m ≡ o → Course setting m stations late lines
+    → Course setting (begun_of node_host m o) stations late lines
+begun-course setting m stations late lines None k check next c = c
+begun-course setting m stations late lines (Some body) k check next c =
+    subst (λ (o : Option (List ℕ)). Course setting (begun_of node_host m o) stations late lines) next (begins-now setting m stations late lines body c.now k check next c.stage c.ledger)
 
 -- ---- a byte is given
 
-ledger-given : {setting : Setting} {stations : List LineStationState} {lines : List Line} {now : Now} {ticks : ℕ} (e : MasterState NodeState) → Ledger setting e.host.initiator e.stations stations lines now ticks → Ledger setting e.host.initiator e.stations (map (with_given e) stations) lines now ticks
-ledger-given {setting = setting} {stations = stations} {lines = lines} {now = now} {ticks = ticks} e l = record {
+ledger-given : {setting : Setting} {stations : List LineStationState} {lines : List Line} {now : Now} (e : MasterState NodeState) → Ledger setting e.host.initiator e.stations stations lines now e.next → Ledger setting e.host.initiator e.stations (map (with_given e) stations) lines now e.next
+ledger-given {setting = setting} {stations = stations} {lines = lines} {now = now} e l = record {
   some = l.some;
   some_of = l.some_of;
   fits = l.fits;
   declared = l.declared;
+  enough = l.enough;
+  turn = l.turn;
   sides = λ p side at.
       let was = at-given e stations p side at in
-      subst (λ (x : LineStationState). SideDealings setting e.host.initiator e.stations lines now ticks p x) was.2 (l.sides p was.0 was.1);
+      subst (λ (x : LineStationState). SideDealings setting e.host.initiator e.stations lines now e.next p x) was.2 (l.sides p was.0 was.1);
 }
 
-given-course : (setting : Setting) (e : MasterState NodeState) (stations : List LineStationState) (late ticks : ℕ) (lines : List Line) → Course setting e stations late ticks lines → Course setting (given_next e) (map (with_given e) stations) late ticks lines
-given-course setting e stations late ticks lines c = record { now = c.now; stage = stage-given late e stations c.now c.stage; ledger = ledger-given e c.ledger }
+given-course : (setting : Setting) (e : MasterState NodeState) (stations : List LineStationState) (late : ℕ) (lines : List Line) → Course setting e stations late lines → Course setting (given_next e) (map (with_given e) stations) late lines
+given-course setting e stations late lines c = record { now = c.now; stage = stage-given late e stations c.now c.stage; ledger = ledger-given e c.ledger }
 
-pub course-give : (setting : Setting) (m : MasterState NodeState) (stations : List LineStationState) (late ticks : ℕ) (lines : List Line) → Known setting m stations lines → m.setup.check ≡ m.ear.check → Course setting m stations late ticks lines
-    → Course setting (master_after_take node_host m) (map (with_given (begun node_host m)) stations) late ticks lines
-course-give setting m stations late ticks lines k check c =
-    given-course setting (begun node_host m) stations late ticks lines (begun-course setting m stations late ticks lines (message_next node_host m) k check refl c)
+pub course-give : (setting : Setting) (m : MasterState NodeState) (stations : List LineStationState) (late : ℕ) (lines : List Line) → Known setting m stations lines → m.setup.check ≡ m.ear.check → Course setting m stations late lines
+    → Course setting (master_after_take node_host m) (map (with_given (begun node_host m)) stations) late lines
+course-give setting m stations late lines k check c =
+    given-course setting (begun node_host m) stations late lines (begun-course setting m stations late lines (message_next node_host m) k check refl c)

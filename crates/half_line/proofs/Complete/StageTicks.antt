@@ -98,6 +98,7 @@ pub record Waited (m : MasterState NodeState) (W : MasterState NodeState → Typ
   pub stations_are : after.stations ≡ m.stations
   pub alike : IsAlike m after
   pub setup : after.setup ≡ m.setup
+  pub next_is : after.next ≡ m.next
   pub waits : W after
 
 ack-by : (late : ℕ) (m : MasterState NodeState) (done : Bool) → is_done m.mouth ≡ done → late + 1 < m.setup.ack_ticks → WaitsForAck late m → Waited m (λ after. WaitsForAck (late + 1) after)
@@ -108,6 +109,7 @@ ack-by late m false gives few w = record {
   stations_are = refl;
   alike = record { ear = refl; mouth = refl; sending = refl };
   setup = refl;
+  next_is = refl;
   waits = record { left = w.left; resent = w.resent; phase = w.phase; patient = omega (arith, w.patient) };
 }
 ack-by late m true done few w = record {
@@ -117,6 +119,7 @@ ack-by late m true done few w = record {
   stations_are = refl;
   alike = record { ear = refl; mouth = refl; sending = refl };
   setup = refl;
+  next_is = refl;
   waits = record { left = w.left - 1; resent = w.resent; phase = refl; patient = omega (arith, w.patient, few) };
 }
 
@@ -128,6 +131,7 @@ poll-by late m place false gives few w = record {
   stations_are = refl;
   alike = record { ear = refl; mouth = refl; sending = refl };
   setup = refl;
+  next_is = refl;
   waits = record { left = w.left; phase = w.phase; patient = omega (arith, w.patient) };
 }
 poll-by late m place true done few w = record {
@@ -137,6 +141,7 @@ poll-by late m place true done few w = record {
   stations_are = refl;
   alike = record { ear = refl; mouth = refl; sending = refl };
   setup = refl;
+  next_is = refl;
   waits = record { left = w.left - 1; phase = refl; patient = omega (arith, w.patient, few) };
 }
 

@@ -1,11 +1,13 @@
 -- A unit of time passes in an undisturbed run: a wait goes on, and an idle master polls, or has a message to give.
-use Rattle.std.proofs.Common.{◌≡◌, ◌∙◌, ℕ, ◌+◌, ◌<◌, Bool, true, false, List, [], ◌++◌, map, min, Option, Some, None, refl, ap, ap₂, sym, subst, arith}
+use Rattle.std.proofs.Common.{◌≡◌, ◌∙◌, ℕ, ◌+◌, ◌<◌, Bool, true, false, List, [], ◌++◌, length, get_or, map, min, Option, Some, None, refl, ap, ap₂, sym, subst, arith}
 use Rattle.std.specs.Prelude.{slice_get, if◌then◌else◌}
 use Rattle.std.specs.Option.{option_map}
 use Rattle.std.proofs.Math.Nat.{min-le_left, min-le_right}
-use Rattle.std.proofs.lemmas.Option.{slice_get-map}
+use Rattle.std.proofs.lemmas.List.{length-map}
+use Rattle.std.proofs.lemmas.Option.{slice_get-map, slice_get_within, slice_get-get_or}
 use Rattle.std.specs.List.{list_all}
 use Rattle.std.specs.Prelude.{is_none, ◌&&◌}
+use Rattle.df1_node.specs.Initiator.{InitiatorState}
 use Rattle.df1_node.specs.Node.{NodeState, next_body, after_tick}
 use Rattle.half_frame.specs.Spelling.{poll_bytes, unmarked}
 use Rattle.half_mouth.specs.Giving.{give, is_done}
@@ -32,14 +34,16 @@ use Rattle.half_line.proofs.Complete.StageBegins.{poll-begins}
 use Rattle.half_line.proofs.Complete.StageTicks.{stage-alike, expects-same, tick-waited}
 use Rattle.half_line.proofs.Complete.StagePlaces.{awaits-busy}
 use Rattle.half_line.proofs.Complete.QuietLine.{done-left}
-use Rattle.half_line.proofs.Complete.Ledger.{Ledger, ledger-now, ledger-lines, ledger-tick, ledger-later}
+use Rattle.half_line.proofs.Complete.Dealings.{ticked_all}
+use Rattle.half_line.proofs.Complete.Ledger.{Ledger, ledger-alone, ledger-lines, ledger-polls}
+use Rattle.half_line.proofs.Complete.Turns.{after_turn}
 use Rattle.half_line.proofs.Complete.Invariant.{Course}
 use Rattle.half_line.proofs.Complete.LineFacts.{Known}
 
 -- the course after a tick that leaves this master: of the commands that are executed and answered nothing is told
-left-course : (setting : Setting) (m after : MasterState NodeState) (stations : List LineStationState) (late ticks : ℕ) (lines : List Line) (lost : List ℕ) → TickLeaves node_host m after lost → Course setting after stations late ticks lines → Course setting (master_after_tick node_host m) stations late ticks (lines ++ master_lines plain_node m Tick)
-left-course setting m after stations late ticks lines lost t c =
-    subst (λ (e : MasterState NodeState). Course setting e stations late ticks (lines ++ master_lines plain_node m Tick)) (sym t.master)
+left-course : (setting : Setting) (m after : MasterState NodeState) (stations : List LineStationState) (late : ℕ) (lines : List Line) (lost : List ℕ) → TickLeaves node_host m after lost → Course setting after stations late lines → Course setting (master_after_tick node_host m) stations late (lines ++ master_lines plain_node m Tick)
+left-course setting m after stations late lines lost t c =
+    subst (λ (e : MasterState NodeState). Course setting e stations late (lines ++ master_lines plain_node m Tick)) (sym t.master)
     (record { now = c.now; stage = c.stage; ledger = ledger-lines (master_lines plain_node m Tick) (λ number. tick-silent number M (turn_at_tick node_host m) (gone_at_tick node_host m)) c.ledger })
 
 -- ---- while something is awaited
@@ -66,9 +70,9 @@ late-one s late place awaited a =
 few-left : (n a b : ℕ) → n < min a b → (n < a) × (n < b)
 few-left n a b few = let left = min-le_left a b in let right = min-le_right a b in (omega (arith, few, left), omega (arith, few, right))
 
-waiting-tick : (setting : Setting) (s : HalfState NodeState) (late ticks : ℕ) (lines : List Line) (place : ℕ) (awaited : Awaited) → late_after late s (AtMaster Tick) < patience (after_master_deed plain_node s Tick) → Awaiting late s.master s.stations place awaited
-    → Ledger setting s.master.host.initiator s.master.stations s.stations lines (Awaits place awaited) ticks → Course setting (master_after_tick node_host s.master) s.stations (late_after late s (AtMaster Tick)) (ticks + 1) (lines ++ master_lines plain_node s.master Tick)
-waiting-tick setting s late ticks lines place awaited few a l =
+waiting-tick : (setting : Setting) (s : HalfState NodeState) (late : ℕ) (lines : List Line) (place : ℕ) (awaited : Awaited) → late_after late s (AtMaster Tick) < patience (after_master_deed plain_node s Tick) → Awaiting late s.master s.stations place awaited
+    → Ledger setting s.master.host.initiator s.master.stations s.stations lines (Awaits place awaited) s.master.next → Course setting (master_after_tick node_host s.master) s.stations (late_after late s (AtMaster Tick)) (lines ++ master_lines plain_node s.master Tick)
+waiting-tick setting s late lines place awaited few a l =
     let m = s.master in
     let now = Awaits place awaited in
     let one = late-one s late place awaited a in
@@ -77,62 +81,79 @@ waiting-tick setting s late ticks lines place awaited few a l =
     let each = few-left (late + 1) m.setup.ack_ticks m.setup.poll_ticks few_now in
     let w = tick-waited late m place awaited each.0 each.1 a.waits in
     let stage : Stage (late + 1) w.after s.stations now = record { waits = w.waits; expects = expects-same m w.after s.stations place awaited w.alike a.expects } in
-    let course : Course setting w.after s.stations (late + 1) (ticks + 1) lines = record {
+    let course : Course setting w.after s.stations (late + 1) lines = record {
       now = now;
       stage = stage;
-      ledger = subst (λ (listed : List Station). Ledger setting w.after.host.initiator listed s.stations lines now (ticks + 1)) (sym w.stations_are)
-          (subst (λ (node : NodeState). Ledger setting node.initiator m.stations s.stations lines now (ticks + 1)) (sym w.host) (ledger-later l));
+      ledger = subst (λ (listed : List Station). Ledger setting w.after.host.initiator listed s.stations lines now w.after.next) (sym w.stations_are)
+          (subst (λ (node : NodeState). Ledger setting node.initiator m.stations s.stations lines now w.after.next) (sym w.host)
+          (subst (λ (next : ℕ). Ledger setting m.host.initiator m.stations s.stations lines now next) (sym w.next_is) l));
     } in
-    subst (λ (n : ℕ). Course setting (master_after_tick node_host m) s.stations n (ticks + 1) (lines ++ master_lines plain_node m Tick)) (sym one) (left-course setting m w.after s.stations (late + 1) (ticks + 1) lines [] w.leaves course)
+    subst (λ (n : ℕ). Course setting (master_after_tick node_host m) s.stations n (lines ++ master_lines plain_node m Tick)) (sym one) (left-course setting m w.after s.stations (late + 1) lines [] w.leaves course)
 
 -- ---- where nothing is awaited
 
 -- the tick doesn't reach the host
-same-tick : (setting : Setting) (m : MasterState NodeState) (stations : List LineStationState) (other ticks : ℕ) (lines : List Line) → TickLeaves node_host m m [] → Idling m stations
-    → Ledger setting m.host.initiator m.stations stations lines Idles ticks → Course setting (master_after_tick node_host m) stations other (ticks + 1) (lines ++ master_lines plain_node m Tick)
-same-tick setting m stations other ticks lines t idling l =
-    let course : Course setting m stations other (ticks + 1) lines = record { now = Idles; stage = idling; ledger = ledger-later l } in
-    left-course setting m m stations other (ticks + 1) lines [] t course
+same-tick : (setting : Setting) (m : MasterState NodeState) (stations : List LineStationState) (other : ℕ) (lines : List Line) → TickLeaves node_host m m [] → Idling m stations
+    → Ledger setting m.host.initiator m.stations stations lines Idles m.next → Course setting (master_after_tick node_host m) stations other (lines ++ master_lines plain_node m Tick)
+same-tick setting m stations other lines t idling l =
+    let course : Course setting m stations other lines = record { now = Idles; stage = idling; ledger = l } in
+    left-course setting m m stations other lines [] t course
 
 -- it does, and a station is polled, if there is one
-polls-course : (setting : Setting) (e : MasterState NodeState) (stations : List LineStationState) (other ticks : ℕ) (lines : List Line) (o : Option Station) → slice_get e.stations e.next ≡ o → numbers_of e.stations ≡ setting.numbers → map (λ (x : LineStationState). x.number) stations ≡ setting.numbers → e.mouth.left ≡ [] → Idling e stations
-    → Ledger setting e.host.initiator e.stations stations lines Idles ticks → Course setting (polled e o) stations other ticks lines
-polls-course setting e stations other ticks lines None is list_is numbers_are given idling l = record { now = Idles; stage = idling; ledger = l }
-polls-course setting e stations other ticks lines (Some station) is list_is numbers_are given idling l =
+polls-course : (setting : Setting) (e : MasterState NodeState) (i : InitiatorState) (stations : List LineStationState) (other : ℕ) (lines : List Line) (o : Option Station) → slice_get e.stations e.next ≡ o → numbers_of e.stations ≡ setting.numbers → map (λ (x : LineStationState). x.number) stations ≡ setting.numbers → e.mouth.left ≡ [] → Idling e stations
+    → e.host.initiator ≡ ticked_all i → Ledger setting i e.stations stations lines Idles e.next → Course setting (polled e o) stations other lines
+polls-course setting e i stations other lines None is list_is numbers_are given idling ticked l = record {
+  now = Idles;
+  stage = idling;
+  ledger = subst (λ (x : InitiatorState). Ledger setting x e.stations stations lines Idles e.next) (sym ticked) (ledger-alone (λ p side at. none-listed (l.turn p (within p side at))) l);
+}
+  where
+    within : (p : ℕ) (side : LineStationState) → slice_get stations p ≡ Some side → p < length setting.numbers
+    within p side at = slice_get_within setting.numbers p side.number (number-at setting.numbers stations p side numbers_are at)
+
+    none-listed : e.next < length setting.numbers → ⊥
+    none-listed inside =
+        let some = slice_get-get_or setting.numbers e.next 0 inside in
+        let none : slice_get setting.numbers e.next ≡ None = ap (λ (ns : List ℕ). slice_get ns e.next) (sym list_is) ∙ slice_get-map (λ (x : Station). x.number) e.stations e.next ∙ ap (option_map (λ (x : Station). x.number)) is in
+        let clash : None ≡ Some (get_or setting.numbers e.next 0) = sym none ∙ some in cc
+polls-course setting e i stations other lines (Some station) is list_is numbers_are given idling ticked l =
     let number : slice_get setting.numbers e.next ≡ Some station.number = ap (λ (ns : List ℕ). slice_get ns e.next) (sym list_is) ∙ slice_get-map (λ (x : Station). x.number) e.stations e.next ∙ ap (option_map (λ (x : Station). x.number)) is in
     let side = from-map (λ (x : LineStationState). x.number) stations e.next station.number (ap (λ (ns : List ℕ). slice_get ns e.next) numbers_are ∙ number) in
     let after = polled e (Some station) in
     let expects = poll-begins e after stations e.next side.0 given idling.outside idling.rest side.1
     (λ p far there differ same. other-number setting stations e.next p side.0.number far numbers_are (number-at setting.numbers stations e.next side.0 numbers_are side.1) there differ (sym same))
     refl (ap (λ (n : ℕ). give e.mouth (unmarked (poll_bytes n))) (sym side.2)) in
+    let count : length setting.numbers ≡ length e.stations = ap length (sym list_is) ∙ length-map e.stations (λ (x : Station). x.number) in
     record {
       now = Awaits e.next Polling;
       stage = record { waits = record { left = e.setup.poll_ticks; phase = refl; patient = omega arith }; expects = expects };
-      ledger = ledger-now (Awaits e.next Polling) (λ p. refl) (λ p. refl) l;
+      ledger = subst (λ (x : InitiatorState). Ledger setting x e.stations stations lines (Awaits e.next Polling) after.next) (sym ticked)
+          (subst (λ (n : ℕ). Ledger setting (ticked_all i) e.stations stations lines (Awaits e.next Polling) (after_turn n e.next)) count
+          (ledger-polls (λ p far at. slice_get_within setting.numbers p far.number (number-at setting.numbers stations p far numbers_are at)) l));
     }
 
-polls-tick : (setting : Setting) (m : MasterState NodeState) (stations : List LineStationState) (other ticks : ℕ) (lines : List Line) → Known setting m stations lines → ticks + 1 < m.host.initiator.reply_ticks → is_done m.mouth ≡ true → next_body m.host ≡ None → Idling m stations
-    → Ledger setting m.host.initiator m.stations stations lines Idles ticks → Course setting (master_after_tick node_host m) stations other (ticks + 1) (lines ++ master_lines plain_node m Tick)
-polls-tick setting m stations other ticks lines k few gives next idling l =
+polls-tick : (setting : Setting) (m : MasterState NodeState) (stations : List LineStationState) (other : ℕ) (lines : List Line) → Known setting m stations lines → is_done m.mouth ≡ true → next_body m.host ≡ None → Idling m stations
+    → Ledger setting m.host.initiator m.stations stations lines Idles m.next → Course setting (master_after_tick node_host m) stations other (lines ++ master_lines plain_node m Tick)
+polls-tick setting m stations other lines k gives next idling l =
     let e : MasterState NodeState = with_host m (after_tick m.host) in
     let after = polled e (slice_get m.stations m.next) in
     let still = stage-alike 0 m e stations Idles (record { ear = refl; mouth = refl; sending = refl }) refl refl idling in
-    left-course setting m after stations other (ticks + 1) lines _ (tick-polls node_host m gives idling.idle next)
-    (polls-course setting e stations other (ticks + 1) lines (slice_get m.stations m.next) refl k.list_is k.numbers_are (done-left m.mouth.left gives) still (ledger-tick few l))
+    left-course setting m after stations other lines _ (tick-polls node_host m gives idling.idle next)
+    (polls-course setting e m.host.initiator stations other lines (slice_get m.stations m.next) refl k.list_is k.numbers_are (done-left m.mouth.left gives) still refl l)
 
-idle-tick : (setting : Setting) (m : MasterState NodeState) (stations : List LineStationState) (other ticks : ℕ) (lines : List Line) (given : Bool) (next : Option (List ℕ)) → is_done m.mouth ≡ given → next_body m.host ≡ next → Known setting m stations lines → ticks + 1 < m.host.initiator.reply_ticks
-    → Idling m stations → Ledger setting m.host.initiator m.stations stations lines Idles ticks → Course setting (master_after_tick node_host m) stations other (ticks + 1) (lines ++ master_lines plain_node m Tick)
-idle-tick setting m stations other ticks lines false next gives is k few idling l = same-tick setting m stations other ticks lines (tick-giving node_host m gives) idling l
-idle-tick setting m stations other ticks lines true (Some body) gives is k few idling l = same-tick setting m stations other ticks lines (tick-ready node_host m body gives idling.idle is) idling l
-idle-tick setting m stations other ticks lines true None gives is k few idling l = polls-tick setting m stations other ticks lines k few gives is idling l
+idle-tick : (setting : Setting) (m : MasterState NodeState) (stations : List LineStationState) (other : ℕ) (lines : List Line) (given : Bool) (next : Option (List ℕ)) → is_done m.mouth ≡ given → next_body m.host ≡ next → Known setting m stations lines
+    → Idling m stations → Ledger setting m.host.initiator m.stations stations lines Idles m.next → Course setting (master_after_tick node_host m) stations other (lines ++ master_lines plain_node m Tick)
+idle-tick setting m stations other lines false next gives is k idling l = same-tick setting m stations other lines (tick-giving node_host m gives) idling l
+idle-tick setting m stations other lines true (Some body) gives is k idling l = same-tick setting m stations other lines (tick-ready node_host m body gives idling.idle is) idling l
+idle-tick setting m stations other lines true None gives is k idling l = polls-tick setting m stations other lines k gives is idling l
 
 -- ---- whatever is awaited
 
-pub course-tick : (setting : Setting) (s : HalfState NodeState) (late ticks : ℕ) (lines : List Line) → Known setting s.master s.stations lines → ticks + 1 < s.master.host.initiator.reply_ticks → late_after late s (AtMaster Tick) < patience (after_master_deed plain_node s Tick) → Course setting s.master s.stations late ticks lines
-    → Course setting (master_after_tick node_host s.master) s.stations (late_after late s (AtMaster Tick)) (ticks + 1) (lines ++ master_lines plain_node s.master Tick)
-course-tick setting s late ticks lines k few patient c = by-now c.now c.stage c.ledger
+pub course-tick : (setting : Setting) (s : HalfState NodeState) (late : ℕ) (lines : List Line) → Known setting s.master s.stations lines → late_after late s (AtMaster Tick) < patience (after_master_deed plain_node s Tick) → Course setting s.master s.stations late lines
+    → Course setting (master_after_tick node_host s.master) s.stations (late_after late s (AtMaster Tick)) (lines ++ master_lines plain_node s.master Tick)
+course-tick setting s late lines k patient c = by-now c.now c.stage c.ledger
   where
-    by-now : (now : Now) → Stage late s.master s.stations now → Ledger setting s.master.host.initiator s.master.stations s.stations lines now ticks
-        → Course setting (master_after_tick node_host s.master) s.stations (late_after late s (AtMaster Tick)) (ticks + 1) (lines ++ master_lines plain_node s.master Tick)
-    by-now Idles stage l = idle-tick setting s.master s.stations (late_after late s (AtMaster Tick)) ticks lines (is_done s.master.mouth) (next_body s.master.host) refl refl k few stage l
-    by-now (Awaits place awaited) stage l = waiting-tick setting s late ticks lines place awaited patient stage l
+    by-now : (now : Now) → Stage late s.master s.stations now → Ledger setting s.master.host.initiator s.master.stations s.stations lines now s.master.next
+        → Course setting (master_after_tick node_host s.master) s.stations (late_after late s (AtMaster Tick)) (lines ++ master_lines plain_node s.master Tick)
+    by-now Idles stage l = idle-tick setting s.master s.stations (late_after late s (AtMaster Tick)) lines (is_done s.master.mouth) (next_body s.master.host) refl refl k stage l
+    by-now (Awaits place awaited) stage l = waiting-tick setting s late lines place awaited patient stage l

@@ -1,13 +1,13 @@
 -- Over a whole run that nothing disturbs, and that ends with nothing under way and no reply left at a station: each command executed and answered.
-use Rattle.std.proofs.Common.{◌≡◌, ◌∙◌, ℕ, zero, suc, ◌+◌, ◌<◌, ◌≤◌, true, List, [], ◌∷◌, ◌++◌, length, map, get_or, Option, Some, None, refl, ap, sym, subst, append_assoc, append-nil, arith}
-use Rattle.std.specs.Prelude.{All, replicate, count_by, sum_by, slice_get, slice_index}
+use Rattle.std.proofs.Common.{◌≡◌, ◌∙◌, ℕ, zero, suc, ◌+◌, ◌*◌, ◌<◌, ◌≤◌, true, false, List, [], ◌∷◌, ◌++◌, length, get_or, Option, Some, None, refl, ap, sym, subst, append_assoc, append-nil, arith}
+use Rattle.std.specs.Prelude.{All, count_by, slice_get, slice_index, slice_index_or}
 use Rattle.std.specs.List.{filter}
 use Rattle.std.specs.Option.{option_or}
 use Rattle.std.proofs.lemmas.Bool.{eq-eqb}
 use Rattle.std.proofs.lemmas.List.{length-map}
 use Rattle.std.proofs.lemmas.List.Elements.{All-head, All-tail}
-use Rattle.std.proofs.lemmas.List.Sums.{sum_by-cons}
 use Rattle.std.proofs.lemmas.Option.{slice_get_within, slice_get-get_or, get_or_from_slice_get}
+use Rattle.end_settings.specs.declared.key.Key.TheVariants.{ReplyTicks}
 use Rattle.pccc_envelope.specs.declared.key.Key.{Key}
 use Rattle.df1_node.specs.Answer.{StationState}
 use Rattle.df1_node.specs.Initiator.{Issued, Standing, Waiting, Answered, InitiatorState, next_command}
@@ -21,7 +21,7 @@ use Rattle.script_parts.specs.declared.script.Event.{Event}
 use Rattle.script_parts.specs.declared.script.Event.TheVariants as event
 use Rattle.script_parts.specs.declared.script.EndPlan.{EndPlan}
 use Rattle.script_parts.specs.declared.script.Script.{Script}
-use Rattle.script_parts.specs.HalfPlayable.{IsHalfPossible, IsHalfPlayable, is_declared, is_issue, station_plans}
+use Rattle.script_parts.specs.HalfPlayable.{AreHalfEnds, IsHalfPossible, IsHalfPlayable, is_declared, is_issue, station_plans}
 use Rattle.script_parts.specs.Plans.{first_plan}
 use Rattle.replay_report.specs.declared.record.Line.{Line}
 use Rattle.replay_report.specs.Report.{sent_lines}
@@ -38,16 +38,15 @@ use Rattle.each_once.proofs.CommandsUnderWay.{AreUnderWay, IsDone, IsDoneOrWaits
 use Rattle.each_once.proofs.HandedOut.{waits_of, IsSettledBy, settled-at}
 use Rattle.each_once.proofs.OneDirection.{way-within}
 use Rattle.each_once.proofs.RisingPlaces.{passing-in-turn}
-use Rattle.each_once.proofs.StationReplies.{exchanges-length}
 use Rattle.each_once.proofs.Sublists.{all-at, from-map, contains-at}
 use Rattle.half_line.specs.Behind.{plain_node}
-use Rattle.half_line.specs.Acts.{LineStationState, HalfState, LinkDeed, Give, Tick, StationGives}
+use Rattle.half_line.specs.Acts.{LineStationState, HalfState, Tick}
 use Rattle.half_line.specs.Complete.{is_to, exchanges_at, AllDoneAt, IsAnsweredByOne, IsComplete}
 use Rattle.half_line.specs.Issues.{commands_of_m, issued_of, bodies_of}
 use Rattle.half_line.specs.Once.{OnceAtStation, EachOnce}
-use Rattle.half_line.specs.Prompt.{is_quiet, ticks_at, late_event, IsPromptOver, IsPromptAfter, KeepsNone, IsUndisturbed}
-use Rattle.half_line.specs.Run.{plan_of_m, start, station_at, number_of, station_between, place_of, link_deeds, steps_with, steps_at, steps_of, after_event, giver, lines_of, state_after, lines_after, last_state, record_from}
-use Rattle.half_line.specs.Steps.{AtMaster, AtStation, bytes_over, lines_over}
+use Rattle.half_line.specs.Prompt.{HasTurns, is_quiet, late_event, IsPromptOver, IsPromptAfter, KeepsNone, IsUndisturbed}
+use Rattle.half_line.specs.Run.{plan_of_m, start, station_at, number_of, station_between, place_of, link_deeds, steps_of, after_event, giver, lines_of, state_after, lines_after, last_state, record_from}
+use Rattle.half_line.specs.Steps.{bytes_over, lines_over}
 use Rattle.half_line.proofs.Once.EachStation.{plan_at, setting_of, holds-start, side-of, each-once}
 use Rattle.half_line.proofs.Once.Invariant.{marks, Setting, Holds}
 use Rattle.half_line.proofs.Once.LinesOfStation.{executed-same, own-answer}
@@ -55,113 +54,79 @@ use Rattle.half_line.proofs.Once.MasterCommands.{issued-run}
 use Rattle.half_line.proofs.Once.MasterOutcomes.{AreDeclared, next-has, outcomes-run}
 use Rattle.half_line.proofs.Once.QuietLines.{sent-silent}
 use Rattle.half_line.proofs.Once.WholeRun.{ArePlain, plain-with, plain-master, plain-take, counted, counted-more, with-bytes}
-use Rattle.half_line.proofs.Complete.Dealings.{Dealings}
+use Rattle.half_line.proofs.Complete.Dealings.{Dealings, none-left}
 use Rattle.half_line.proofs.Complete.Invariant.{Flow, blocks, flow-start}
 use Rattle.half_line.proofs.Complete.Ledger.{told_in, Ledger, ledger-lines}
 use Rattle.half_line.proofs.Complete.LineFacts.{AreShort, Known, known, from-here}
 use Rattle.half_line.proofs.Complete.MasterStep.{found}
 use Rattle.half_line.proofs.Complete.QuietLine.{nothing-ready}
-use Rattle.half_line.proofs.Complete.RunSteps.{Along, ticks_over, along-steps, along-issue}
+use Rattle.half_line.proofs.Complete.RunSteps.{Along, along-steps, along-issue}
 use Rattle.half_line.proofs.Complete.StagePlaces.{awaits-busy}
+use Rattle.half_line.proofs.Complete.Turns.{least_of}
 use Rattle.half_line.proofs.Complete.Stages.{Now, Idles, Awaits, Stage}
-
--- ---- how many ticks an event has
-
-ticks-stations : (place : ℕ) (deeds : List LinkDeed) → ticks_over (map (AtStation place) deeds) ≡ 0
-ticks-stations place [] = refl
-ticks-stations place (deed ∷ deeds) = let more = ticks-stations place deeds in omega (arith, more)
-
-ticks-with : (o : Option ℕ) (deeds : List LinkDeed) → ticks_over (steps_with o deeds) ≡ 0
-ticks-with None deeds = refl
-ticks-with (Some place) deeds = ticks-stations place deeds
-
-gives-none : (n : ℕ) → ticks_over (map AtMaster (replicate n Give)) ≡ 0
-gives-none zero = refl
-gives-none (suc n) = let more = gives-none n in omega (arith, more)
-
-all-ticks : (n : ℕ) → ticks_over (map AtMaster (replicate n Tick)) ≡ n
-all-ticks zero = refl
-all-ticks (suc n) = let more = all-ticks n in omega (arith, more)
-
-take-ticks : (stations : List LineStationState) (who : Who) (n : ℕ) (o : Option ℕ) → ticks_over (steps_at stations o (event.Take who n)) ≡ 0
-take-ticks stations who n None = gives-none n
-take-ticks stations who n (Some number) = ticks-with (place_of stations number) (replicate n StationGives)
-
-event-ticks : (s : HalfState NodeState) (e : Event) → ticks_over (steps_of s e) ≡ ticks_at e
-event-ticks s (event.Issue who src dst payload) = refl
-event-ticks s (event.Take who n) = take-ticks s.stations who n (number_of who)
-event-ticks s (event.Deliver lane n) = ticks-with (place_of s.stations (station_between lane.from lane.to)) (link_deeds (event.Deliver lane n))
-event-ticks s (event.Lose lane n) = ticks-with (place_of s.stations (station_between lane.from lane.to)) (link_deeds (event.Lose lane n))
-event-ticks s (event.Alter lane mask) = ticks-with (place_of s.stations (station_between lane.from lane.to)) (link_deeds (event.Alter lane mask))
-event-ticks s (event.Foreign lane bytes) = ticks-with (place_of s.stations (station_between lane.from lane.to)) (link_deeds (event.Foreign lane bytes))
-event-ticks s (event.Tick who n) = all-ticks n
 
 -- ---- events
 
-flow-lines : (setting : Setting) (wait : ℕ) (s : HalfState NodeState) (late ticks : ℕ) (lines : List Line) (who : Who) (bytes : List ℕ) → Flow setting wait s late ticks lines → Flow setting wait s late ticks (lines ++ sent_lines who bytes)
-flow-lines setting wait s late ticks lines who bytes f =
+flow-lines : (setting : Setting) (s : HalfState NodeState) (late : ℕ) (lines : List Line) (who : Who) (bytes : List ℕ) → Flow setting s late lines → Flow setting s late (lines ++ sent_lines who bytes)
+flow-lines setting s late lines who bytes f =
     let c = f.course in
     record {
       course = record { now = c.now; stage = c.stage; ledger = ledger-lines (sent_lines who bytes) (λ number. sent-silent number who bytes) c.ledger };
       check = f.check;
-      waits = f.waits;
       honest = f.honest;
     }
 
-plain-along : (setting : Setting) (wait count : ℕ) (s : HalfState NodeState) (late ticks : ℕ) (lines : List Line) (e : Event) → ArePlain (steps_of s e) → count ≤ 65535 → AreShort setting → IsPromptOver late s (steps_of s e) → ticks + ticks_at e < wait → Along setting wait count s late ticks lines
-    → Along setting wait count (after_event plain_node s e) (late_event late s e) (ticks + ticks_at e) (lines ++ lines_of plain_node s e)
-plain-along setting wait count s late ticks lines e plain few short prompt less a =
+plain-along : (setting : Setting) (count : ℕ) (s : HalfState NodeState) (late : ℕ) (lines : List Line) (e : Event) → ArePlain (steps_of s e) → count ≤ 65535 → AreShort setting → IsPromptOver late s (steps_of s e) → Along setting count s late lines
+    → Along setting count (after_event plain_node s e) (late_event late s e) (lines ++ lines_of plain_node s e)
+plain-along setting count s late lines e plain few short prompt a =
     let over = lines_over plain_node s (steps_of s e) in
     let bytes = bytes_over plain_node s (steps_of s e) in
     let who = giver (station_at e) in
-    let same = event-ticks s e in
-    let all = along-steps setting wait count (steps_of s e) plain few short s late ticks lines prompt (omega (arith, less, same)) a in
-    subst (λ (n : ℕ). Along setting wait count (after_event plain_node s e) (late_event late s e) (ticks + n) (lines ++ lines_of plain_node s e)) same (record {
+    let all = along-steps setting count (steps_of s e) plain few short s late lines prompt a in
+    record {
       kept = with-bytes setting count s e lines all.kept;
-      flow = subst (λ (told : List Line). Flow setting wait (after_event plain_node s e) (late_event late s e) (ticks + ticks_over (steps_of s e)) told) (append_assoc lines over (sent_lines who bytes))
-          (flow-lines setting wait (after_event plain_node s e) (late_event late s e) (ticks + ticks_over (steps_of s e)) (lines ++ over) who bytes all.flow);
-    })
+      flow = subst (λ (told : List Line). Flow setting (after_event plain_node s e) (late_event late s e) told) (append_assoc lines over (sent_lines who bytes))
+          (flow-lines setting (after_event plain_node s e) (late_event late s e) (lines ++ over) who bytes all.flow);
+    }
 
-event-along : (setting : Setting) (wait count : ℕ) (s : HalfState NodeState) (late ticks : ℕ) (lines : List Line) (e : Event) → IsHalfPossible setting.numbers e → count ≤ 65535 → counted count e ≤ 65535 → AreShort setting → IsPromptOver late s (steps_of s e) → ticks + ticks_at e < wait
-    → Along setting wait count s late ticks lines → Along setting wait (counted count e) (after_event plain_node s e) (late_event late s e) (ticks + ticks_at e) (lines ++ lines_of plain_node s e)
-event-along setting wait count s late ticks lines (event.Issue who src dst payload) may few more short prompt less a =
-    subst (λ (told : List Line). Along setting wait (count + 1) (after_event plain_node s (event.Issue who src dst payload)) (late_event late s (event.Issue who src dst payload)) (ticks + 0) told) (sym (append-nil lines))
-    (along-issue setting wait count s late ticks lines src dst payload may.2 may.1 (omega (arith, more)) a)
-event-along setting wait count s late ticks lines (event.Take who n) may few more short prompt less a = plain-along setting wait count s late ticks lines (event.Take who n) (plain-take s.stations who n (number_of who)) few short prompt less a
-event-along setting wait count s late ticks lines (event.Deliver lane n) may few more short prompt less a =
-    plain-along setting wait count s late ticks lines (event.Deliver lane n) (plain-with (place_of s.stations (station_between lane.from lane.to)) (link_deeds (event.Deliver lane n))) few short prompt less a
-event-along setting wait count s late ticks lines (event.Lose lane n) may few more short prompt less a =
-    plain-along setting wait count s late ticks lines (event.Lose lane n) (plain-with (place_of s.stations (station_between lane.from lane.to)) (link_deeds (event.Lose lane n))) few short prompt less a
-event-along setting wait count s late ticks lines (event.Alter lane mask) may few more short prompt less a =
-    plain-along setting wait count s late ticks lines (event.Alter lane mask) (plain-with (place_of s.stations (station_between lane.from lane.to)) (link_deeds (event.Alter lane mask))) few short prompt less a
-event-along setting wait count s late ticks lines (event.Foreign lane bytes) may few more short prompt less a =
-    plain-along setting wait count s late ticks lines (event.Foreign lane bytes) (plain-with (place_of s.stations (station_between lane.from lane.to)) (link_deeds (event.Foreign lane bytes))) few short prompt less a
-event-along setting wait count s late ticks lines (event.Tick who n) may few more short prompt less a = plain-along setting wait count s late ticks lines (event.Tick who n) (plain-master Tick tt n) few short prompt less a
+event-along : (setting : Setting) (count : ℕ) (s : HalfState NodeState) (late : ℕ) (lines : List Line) (e : Event) → IsHalfPossible setting.numbers e → count ≤ 65535 → counted count e ≤ 65535 → AreShort setting → IsPromptOver late s (steps_of s e)
+    → Along setting count s late lines → Along setting (counted count e) (after_event plain_node s e) (late_event late s e) (lines ++ lines_of plain_node s e)
+event-along setting count s late lines (event.Issue who src dst payload) may few more short prompt a =
+    subst (λ (told : List Line). Along setting (count + 1) (after_event plain_node s (event.Issue who src dst payload)) (late_event late s (event.Issue who src dst payload)) told) (sym (append-nil lines))
+    (along-issue setting count s late lines src dst payload may.2 may.1 (omega (arith, more)) a)
+event-along setting count s late lines (event.Take who n) may few more short prompt a = plain-along setting count s late lines (event.Take who n) (plain-take s.stations who n (number_of who)) few short prompt a
+event-along setting count s late lines (event.Deliver lane n) may few more short prompt a =
+    plain-along setting count s late lines (event.Deliver lane n) (plain-with (place_of s.stations (station_between lane.from lane.to)) (link_deeds (event.Deliver lane n))) few short prompt a
+event-along setting count s late lines (event.Lose lane n) may few more short prompt a =
+    plain-along setting count s late lines (event.Lose lane n) (plain-with (place_of s.stations (station_between lane.from lane.to)) (link_deeds (event.Lose lane n))) few short prompt a
+event-along setting count s late lines (event.Alter lane mask) may few more short prompt a =
+    plain-along setting count s late lines (event.Alter lane mask) (plain-with (place_of s.stations (station_between lane.from lane.to)) (link_deeds (event.Alter lane mask))) few short prompt a
+event-along setting count s late lines (event.Foreign lane bytes) may few more short prompt a =
+    plain-along setting count s late lines (event.Foreign lane bytes) (plain-with (place_of s.stations (station_between lane.from lane.to)) (link_deeds (event.Foreign lane bytes))) few short prompt a
+event-along setting count s late lines (event.Tick who n) may few more short prompt a = plain-along setting count s late lines (event.Tick who n) (plain-master Tick tt n) few short prompt a
 
 -- what is so after all events
-record Ends (setting : Setting) (wait : ℕ) (s : HalfState NodeState) (lines : List Line) : Type 0 where
+record Ends (setting : Setting) (s : HalfState NodeState) (lines : List Line) : Type 0 where
   count : ℕ
   few : count ≤ 65535
   late : ℕ
-  ticks : ℕ
-  along : Along setting wait count s late ticks lines
+  along : Along setting count s late lines
 
-events-along : (setting : Setting) (wait count : ℕ) (events : List Event) (s : HalfState NodeState) (late ticks : ℕ) (lines : List Line) → All (IsHalfPossible setting.numbers) events → count + count_by is_issue events ≤ 65535 → AreShort setting → IsPromptAfter late s events
-    → ticks + sum_by ticks_at events < wait → Along setting wait count s late ticks lines → Ends setting wait (state_after plain_node s events) (lines ++ lines_after plain_node s events)
-events-along setting wait count [] s late ticks lines possible few short prompt less a =
-    record { count = count; few = omega (arith, few); late = late; ticks = ticks; along = subst (λ (told : List Line). Along setting wait count s late ticks told) (sym (append-nil lines)) a }
-events-along setting wait count (e ∷ events) s late ticks lines possible few short prompt less a =
+events-along : (setting : Setting) (count : ℕ) (events : List Event) (s : HalfState NodeState) (late : ℕ) (lines : List Line) → All (IsHalfPossible setting.numbers) events → count + count_by is_issue events ≤ 65535 → AreShort setting → IsPromptAfter late s events
+    → Along setting count s late lines → Ends setting (state_after plain_node s events) (lines ++ lines_after plain_node s events)
+events-along setting count [] s late lines possible few short prompt a =
+    record { count = count; few = omega (arith, few); late = late; along = subst (λ (told : List Line). Along setting count s late told) (sym (append-nil lines)) a }
+events-along setting count (e ∷ events) s late lines possible few short prompt a =
     let more = counted-more count e events in
-    let sum = sum_by-cons ticks_at e events in
-    let one = event-along setting wait count s late ticks lines e (All-head (IsHalfPossible setting.numbers) e events possible) (omega (arith, few)) (omega (arith, few, more)) short prompt.0 (omega (arith, less, sum)) a in
-    subst (λ (told : List Line). Ends setting wait (state_after plain_node (after_event plain_node s e) events) told) (append_assoc lines (lines_of plain_node s e) (lines_after plain_node (after_event plain_node s e) events))
-    (events-along setting wait (counted count e) events (after_event plain_node s e) (late_event late s e) (ticks + ticks_at e) (lines ++ lines_of plain_node s e) (All-tail (IsHalfPossible setting.numbers) e events possible) (omega (arith, few, more)) short prompt.1 (omega (arith, less, sum)) one)
+    let one = event-along setting count s late lines e (All-head (IsHalfPossible setting.numbers) e events possible) (omega (arith, few)) (omega (arith, few, more)) short prompt.0 a in
+    subst (λ (told : List Line). Ends setting (state_after plain_node (after_event plain_node s e) events) told) (append_assoc lines (lines_of plain_node s e) (lines_after plain_node (after_event plain_node s e) events))
+    (events-along setting (counted count e) events (after_event plain_node s e) (late_event late s e) (lines ++ lines_of plain_node s e) (All-tail (IsHalfPossible setting.numbers) e events possible) (omega (arith, few, more)) short prompt.1 one)
 
 -- ---- where nothing is under way and no reply is left, each command is answered
 
 -- nothing is on its way to a station or from one
-quiet-now : {setting : Setting} {lines : List Line} {ticks : ℕ} (s : HalfState NodeState) (late : ℕ) (now : Now) → Stage late s.master s.stations now → is_quiet s ≡ true → Ledger setting s.master.host.initiator s.master.stations s.stations lines now ticks
-    → Ledger setting s.master.host.initiator s.master.stations s.stations lines Idles ticks
+quiet-now : {setting : Setting} {lines : List Line} (s : HalfState NodeState) (late : ℕ) (now : Now) → Stage late s.master s.stations now → is_quiet s ≡ true → Ledger setting s.master.host.initiator s.master.stations s.stations lines now s.master.next
+    → Ledger setting s.master.host.initiator s.master.stations s.stations lines Idles s.master.next
 quiet-now s late Idles stage quiet l = l
 quiet-now s late (Awaits place awaited) stage quiet l = absurd (awaits-busy late s place awaited stage quiet)
 
@@ -169,27 +134,27 @@ keeps-none : (stations : List LineStationState) → All KeepsNone stations → (
 keeps-none stations all p side at = subst KeepsNone (get_or_from_slice_get stations p side side at) (all p side (slice_get_within stations p side at))
 
 -- so each station's replies were all accepted, and the commands for it that were handed out are answered
-record Settled (first : StationState) (number : ℕ) (i : InitiatorState) (lines : List Line) (ticks : ℕ) : Type 0 where
+record Settled (first : StationState) (number : ℕ) (i : InitiatorState) (lines : List Line) (least : ℕ → ℕ) : Type 0 where
   replied : told_in number lines ≡ replies_to first (executed_in (S number) lines)
   count : length (told_in number lines) ≡ length (executed_in (S number) lines ++ [])
-  under_way : AreUnderWay (is_to number) i (executed_in (S number) lines ++ []) (length (told_in number lines)) ticks
+  under_way : AreUnderWay (is_to number) i (executed_in (S number) lines ++ []) (length (told_in number lines)) least
 
-settled : {first : StationState} {number : ℕ} {i : InitiatorState} {kept : Option Key} {s : SlaveState NodeState} {ticks : ℕ} (lines : List Line) → s.host.replies ≡ [] → Dealings first number i (executed_in (S number) lines) (told_in number lines) [] [] kept s ticks → Settled first number i lines ticks
+settled : {first : StationState} {number : ℕ} {i : InitiatorState} {kept : Option Key} {s : SlaveState NodeState} {least : ℕ → ℕ} (lines : List Line) → s.host.replies ≡ [] → Dealings first number i (executed_in (S number) lines) (told_in number lines) [] [] kept s least → Settled first number i lines least
 settled {first = first} {number = number} lines none d =
     let executed = executed_in (S number) lines in
     let told = told_in number lines in
     let replied : told ≡ replies_to first executed = sym (append-nil told) ∙ ap (λ (rs : List (List ℕ)). told ++ rs) (sym none) ∙ sym d.replies in
     record {
       replied = replied;
-      count = ap length replied ∙ exchanges-length first executed ∙ ap length (sym (append-nil executed));
+      count = none-left none d;
       under_way = d.under_way;
     }
 
 -- the master has none to hand out
-none-waits : (setting : Setting) (s : HalfState NodeState) (lines : List Line) (ticks : ℕ) (o : Option (List ℕ)) → next_command s.master.host.initiator ≡ o → Known setting s.master s.stations lines → ((body : List ℕ) → next_body s.master.host ≡ Some body → is_listed s.master.stations (slice_index body 0) ≡ true → ⊥)
-    → Ledger setting s.master.host.initiator s.master.stations s.stations lines Idles ticks → next_command s.master.host.initiator ≡ None
-none-waits setting s lines ticks None is k n l = is
-none-waits setting s lines ticks (Some body) is k n l =
+none-waits : (setting : Setting) (s : HalfState NodeState) (lines : List Line) (o : Option (List ℕ)) → next_command s.master.host.initiator ≡ o → Known setting s.master s.stations lines → ((body : List ℕ) → next_body s.master.host ≡ Some body → is_listed s.master.stations (slice_index body 0) ≡ true → ⊥)
+    → Ledger setting s.master.host.initiator s.master.stations s.stations lines Idles s.master.next → next_command s.master.host.initiator ≡ None
+none-waits setting s lines None is k n l = is
+none-waits setting s lines (Some body) is k n l =
     let m = s.master in
     let at = next-has m.host.initiator body is in
     let listed : is_listed m.stations (slice_index body 0) ≡ true = listed-number m.stations (slice_index body 0) ∙ ap (λ (ns : List ℕ). is_declared ns (slice_index body 0)) k.list_is ∙ l.declared at.0 body at.1 in
@@ -197,24 +162,25 @@ none-waits setting s lines ticks (Some body) is k n l =
 
 -- so all are answered
 record AllAnswered (setting : Setting) (s : HalfState NodeState) (lines : List Line) : Type 0 where
-  ticks : ℕ
+  least : ℕ → ℕ → ℕ
   declared : AreDeclared setting.numbers (bodies_of s.master)
-  settles : (p : ℕ) (side : LineStationState) → slice_get s.stations p ≡ Some side → Settled (setting.first p) side.number s.master.host.initiator lines ticks
+  settles : (p : ℕ) (side : LineStationState) → slice_get s.stations p ≡ Some side → Settled (setting.first p) side.number s.master.host.initiator lines (least p)
   each : (k : ℕ) (c : Issued) → slice_get (issued_of s.master) k ≡ Some c → IsDone c.standing
 
-all-answered : (setting : Setting) (wait : ℕ) (s : HalfState NodeState) (late ticks : ℕ) (lines : List Line) → Known setting s.master s.stations lines → is_quiet s ≡ true → All KeepsNone s.stations → Flow setting wait s late ticks lines → AllAnswered setting s lines
-all-answered setting wait s late ticks lines k quiet fetched f =
+all-answered : (setting : Setting) (s : HalfState NodeState) (late : ℕ) (lines : List Line) → Known setting s.master s.stations lines → is_quiet s ≡ true → All KeepsNone s.stations → Flow setting s late lines → AllAnswered setting s lines
+all-answered setting s late lines k quiet fetched f =
     let c = f.course in
     let i = s.master.host.initiator in
     let l = quiet-now s late c.now c.stage quiet c.ledger in
-    let none = none-waits setting s lines ticks (next_command i) refl k (λ body. nothing-ready late s c.now body c.stage quiet) l in
-    let settles : (p : ℕ) (side : LineStationState) → slice_get s.stations p ≡ Some side → Settled (setting.first p) side.number i lines ticks = λ p side at. settled lines (keeps-none s.stations fetched p side at).none_waits (l.sides p side at) in
+    let none = none-waits setting s lines (next_command i) refl k (λ body. nothing-ready late s c.now body c.stage quiet) l in
+    let least : ℕ → ℕ → ℕ = λ p j. least_of (length setting.numbers) s.master.next false p j in
+    let settles : (p : ℕ) (side : LineStationState) → slice_get s.stations p ≡ Some side → Settled (setting.first p) side.number i lines (least p) = λ p side at. settled lines (keeps-none s.stations fetched p side at).none_waits (l.sides p side at) in
     let each : (n : ℕ) (c : Issued) → slice_get i.issued n ≡ Some c → IsDoneOrWaits c.standing = λ n c at.
     let found = found setting s.master s.stations lines (slice_index c.body 0) k (l.declared n c.body (body-of i.issued n c at)) in
     let number = found.side.number in
     let this = settles found.place found.side found.is_at in
-    under-way-rested (is_to number) i (executed_in (S number) lines ++ []) (length (told_in number lines)) ticks this.count this.under_way n c at (eq-eqb (slice_index c.body 0) number (sym found.number)) in
-    record { ticks = ticks; declared = l.declared; settles = settles; each = all-done i l.some l.some_of none each }
+    under-way-rested (is_to number) i (executed_in (S number) lines ++ []) (length (told_in number lines)) _ this.count this.under_way n c at (eq-eqb (slice_index c.body 0) number (sym found.number)) in
+    record { least = least; declared = l.declared; settles = settles; each = all-done i l.some l.some_of none each }
 
 -- ---- what the record tells of one station
 
@@ -232,7 +198,7 @@ done-at setting count s lines p side at h a =
     let same : this.executed ≡ executed_in (S n) lines = sym this.told.executes ∙ executed-same n (S n) lines in
     let within = way-within h.commands (marks side.to_it) side.slave.kept this.executed this.way in
     let once : AreOnceOf this.executed (filter (is_to n) (bodies_of s.master)) = passing-in-turn (is_to n) this.executed h.commands (bodies_of s.master) (waits_of i.issued) within h.master.issues.initiates.in_order (λ k body is. eq-eqb (slice_index body 0) n (this.to_it k body is)) in
-    let full = under-way-full (is_to n) i (executed_in (S n) lines ++ []) (length (told_in n lines)) a.ticks settles.under_way a.each in
+    let full = under-way-full (is_to n) i (executed_in (S n) lines ++ []) (length (told_in n lines)) (a.least p) settles.under_way a.each in
     record {
       executed = (subst (λ (xs : List (List ℕ)). AreOnceOf xs (filter (is_to n) (bodies_of s.master))) same once, ap length (sym (append-nil (executed_in (S n) lines))) ∙ full);
       replied = settles.replied;
@@ -299,15 +265,14 @@ is-complete script playable undisturbed =
     let s = last_state script in
     let lines = lines_after plain_node (start script) script.events in
     let setting = setting_of script playable in
-    let wait = (plan_of_m script).reply_ticks in
     let plans = station_plans script.ends in
     let short = are-short script playable in
-    let begins : Along setting wait 0 (start script) 0 0 [] = record { kept = λ none. holds-start script playable; flow = flow-start script playable undisturbed.rooms } in
-    let e = events-along setting wait 0 script.events (start script) 0 0 [] playable.events (omega (arith, playable.commands)) short undisturbed.prompt (omega (arith, undisturbed.few_ticks)) begins in
+    let begins : Along setting 0 (start script) 0 [] = record { kept = λ none. holds-start script playable; flow = flow-start script playable undisturbed.rooms undisturbed.turns } in
+    let e = events-along setting 0 script.events (start script) 0 [] playable.events (omega (arith, playable.commands)) short undisturbed.prompt begins in
     let f = e.along.flow in
     let h = e.along.kept f.honest in
     let k = known setting e.count s lines e.few short h in
-    let a = all-answered setting wait s e.late e.ticks lines k undisturbed.quiet undisturbed.fetched f in
+    let a = all-answered setting s e.late lines k undisturbed.quiet undisturbed.fetched f in
     let bodies : bodies_of s.master ≡ commands_of_m script = (issued-run script).bodies in
     let told = outcomes-run script playable in
     let once = each-once script playable bodies told f.honest in
@@ -316,3 +281,18 @@ is-complete script playable undisturbed =
       stations = λ n d inside. at-plan script playable e.count s lines n _ bodies h a (slice_get-get_or plans n d inside);
       answered = by-number script s lines (sym (length-map (issued_of s.master) (λ (c : Issued). c.body)) ∙ ap length bodies) (λ n c at. one-answered script playable e.count s lines n c told once k h a at);
     }
+
+-- ---- one command out
+
+one-turn-of : (ends : List EndPlan) → AreHalfEnds ends → (other : EndPlan) → (slice_index_or ends 0 other).window ≡ 1 → (slice_index_or ends 0 other).window * length (station_plans ends) < (slice_index_or ends 0 other).reply_ticks
+one-turn-of [] are other one = absurd are
+one-turn-of (master ∷ stations) are other one =
+    let few = are.2.at_most in
+    let count = length-map stations (λ (plan : EndPlan). plan.node) in
+    let long = (are.0.settings ReplyTicks).0 in
+    let times : master.window * length stations ≡ 1 * length stations = ap (λ (n : ℕ). n * length stations) one in
+    let once : 1 * length stations ≡ length stations = omega arith in
+    omega (arith, few, count, long, times, once)
+
+pub one-turn : (script : Script) → IsHalfPlayable script → (plan_of_m script).window ≡ 1 → HasTurns script
+one-turn script playable one = one-turn-of script.ends playable.ends (first_plan M 0) one

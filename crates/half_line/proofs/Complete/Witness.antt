@@ -161,7 +161,7 @@ polled_write-undisturbed = record {
   rooms = all (λ (plan : EndPlan). (plan_of_m polled_write).window ≤ plan.room) (station_plans polled_write.ends) (omega arith, (omega arith, tt));
   prompt = prompt-after 0 (start polled_write) polled_write.events polled_write-checked;
   quiet = polled_write-quiet;
-  few_ticks = omega arith;
+  turns = omega arith;
   fetched = polled_write-fetched;
 }
 
@@ -233,7 +233,7 @@ two_stations-undisturbed = record {
   rooms = all (λ (plan : EndPlan). (plan_of_m two_stations).window ≤ plan.room) (station_plans two_stations.ends) (omega arith, (omega arith, tt));
   prompt = prompt-after 0 (start two_stations) two_stations.events two_stations-checked;
   quiet = two_stations-quiet;
-  few_ticks = omega arith;
+  turns = omega arith;
   fetched = two_stations-fetched;
 }
 
