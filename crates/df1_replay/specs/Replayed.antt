@@ -1,5 +1,5 @@
 -- What a run of `replay` shows that ended well: its script, the report, each command once and none overtaken, all of them where
--- nothing disturbs the line or it recovers, and what is on the wire.
+-- nothing disturbs the line or it recovers, how soon each has its outcome, and what is on the wire.
 use Rattle.std.specs.Prelude.{◌≡◌, ℕ, List, Option, Ok}
 use Rattle.std.specs.Io.KnownBytes.{IsAtEnd}
 use Rattle.df1_base.specs.Outside.{Took, Put}
@@ -11,6 +11,7 @@ use Rattle.line_world.specs.Once.{EachCommandOnce}
 use Rattle.line_world.specs.Recovery.{Recovers}
 use Rattle.line_world.specs.Runs.{record_of}
 use Rattle.line_world.specs.Wire.{AreDf1Wires}
+use Rattle.outcome_bounds.specs.Bounds.{OutcomesCome}
 use Rattle.overtaking_laws.specs.Overtaking.{NothingIsOvertaken}
 
 -- The input was read to its end and is a script. The report of its run is written, and nothing else. Where no end was
@@ -19,8 +20,9 @@ use Rattle.overtaking_laws.specs.Overtaking.{NothingIsOvertaken}
 -- with a lower number is executed any more. Where nothing disturbs the line and nothing is under way in the end,
 -- where each end, or each station, has room for what the other end, or the master, may have out, and no reply is left at a
 -- station, no end was deceived, and all commands were executed and answered. They were too on a full-duplex line that altered
--- bytes of bodies alone, in few transmissions of each message, and deceived no end. Whatever was heard, what each end sent is
--- DF1, and carries its own commands and replies.
+-- bytes of bodies alone, in few transmissions of each message, and deceived no end. Whatever was heard, and deceived or not: where
+-- enough ticks came at an end since its last command at which it had nothing to give, the outcome of each of its commands is told;
+-- and what each end sent is DF1, and carries its own commands and replies.
 pub record Replayed (left left' held held' : Option (List ℕ)) : Type 0 where
   pub input : List ℕ
   pub script : Script
@@ -32,4 +34,5 @@ pub record Replayed (left left' held held' : Option (List ℕ)) : Type 0 where
   pub settled : (record_of script).deceived ≡ 0 → NothingIsOvertaken script (record_of script)
   pub complete : IsUndisturbed script → IsComplete script (record_of script)
   pub recovered : Recovers script (record_of script)
+  pub outcomes : OutcomesCome script (record_of script)
   pub wires : AreDf1Wires script (record_of script)

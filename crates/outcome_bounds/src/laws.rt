@@ -1,0 +1,29 @@
+//! The laws of how long a command may stand without an outcome. Their functions do nothing.
+ghost use Rattle.std.specs.Prelude.{◌≡◌};
+ghost use Rattle.script_parts.specs.declared.script.Script.{Script};
+ghost use Rattle.script_parts.specs.HalfPlayable.{CanBePlayed};
+ghost use Rattle.line_world.specs.Runs.{record_of};
+ghost use Rattle.outcome_bounds.specs.Bounds.{OutcomesCome};
+ghost use Rattle.outcome_bounds.specs.Reached.{IsOneTickShort, IsTwoTicksShort, no_poll_answered, two_waits};
+
+/// A law: of each run, whatever is lost, altered or foreign on the line, and deceived or not: where at least so many ticks came at an
+/// end since it issued its last command, at each of which it had nothing to give, as all its commands and the replies of its station
+/// may take, the report tells the outcome of each of its commands. For a command of a full-duplex end these are the waits for a
+/// response to its message, or `reply_ticks` if that is more; for a reply the waits for a response. For a command of a master they
+/// are the waits for an ACK, and for each of `reply_ticks` a poll's wait and one more (manual topics: full-duplex protocol,
+/// half-duplex protocol).
+pub fn outcomes_come()
+    ensures { (script : Script) → CanBePlayed script → OutcomesCome script (record_of script) }
+{}
+
+/// A law: the bound of a full-duplex end can't be lower: in a run with two commands and one reply the second command has no outcome
+/// one drained tick before so many have come (manual topic: full-duplex protocol).
+pub fn the_bound_is_reached()
+    ensures { IsOneTickShort two_waits }
+{}
+
+/// A law: the bound of a master is near: in a run with one command it has no outcome two drained ticks before so many have come
+/// (manual topic: half-duplex protocol).
+pub fn the_bound_of_a_master_is_near()
+    ensures { IsTwoTicksShort no_poll_answered }
+{}
