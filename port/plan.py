@@ -32,8 +32,8 @@ def issuing(plan, payloads, tns):
 
 
 def most_ticks(plan, commands, executed):
-    """After how many ticks, each with all bytes given, every command has an outcome: for each command and each reply the waits for a response that it may
-    cost, and for each command the wait for its reply."""
+    """After how many ticks, each with all bytes given, every command has an outcome: for each command the waits for a response that it may cost, or the wait
+    for its reply if that is longer, and for each reply the waits for a response. So it is proved (docs/CLAIM.md, theorem 8)."""
     ack, naks, enqs = value(plan, "ack_ticks"), value(plan, "max_naks"), value(plan, "max_enqs")
     for_responses = ack * (enqs + 1) + (ack - 1) * naks
-    return commands * (for_responses + value(plan, "reply_ticks")) + executed * for_responses
+    return commands * max(for_responses, value(plan, "reply_ticks")) + executed * for_responses

@@ -101,7 +101,7 @@ class Words(unittest.TestCase):
         text = plans.issuing({"tns": 5, "check": "crc", "embed": True, "file": [{"number": 7, "type": "89", "count": 2}]}, [b"\x06\x00"], 9)
         self.assertEqual(text, 'tns = 9\ncheck = "crc"\nembed = true\nfile = [{number = 7, type = "89", count = 2}]\nissue = ["0600"]\n')
         # 67 ticks of responses and 100 of the reply, by the first settings.
-        self.assertEqual((plans.most_ticks({}, 1, 0), plans.most_ticks({}, 2, 1)), (167, 401))
+        self.assertEqual((plans.most_ticks({}, 1, 0), plans.most_ticks({}, 2, 1)), (100, 267))
 
 
 class Relay:

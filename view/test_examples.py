@@ -24,6 +24,19 @@ def to_each(stations, *names, dead=None):
     return [f"m>{station} {name}{lost[name] if station == dead else ''}" for name in names for station in stations]
 
 
+def turns():
+    """The arrows of eleven commands for one of three stations, and of twelve rounds of polls."""
+    arrows = [*to_each("123", "poll 1"), "1>m EOT"]
+    for tns in range(1, 12):
+        arrows += [*to_each("123", f"echo, TNS {tns:04X}"), "1>m ACK"]
+    for round in range(1, 13):
+        for station in "231":
+            replies = station == "1" and round < 12
+            arrows += [*to_each("123", f"poll {station}"), f"1>m reply, done, TNS {round:04X}" if replies else f"{station}>m EOT"]
+            arrows += to_each("123", "ACK to 1") if replies else []
+    return arrows
+
+
 WRITE = named("write N7:0 = 1234")
 ACKS = ["b>a ACK", named("reply, done", 1, "b>a"), "a>b ACK"]
 ECHO = "echo 55, TNS 0001"
@@ -93,6 +106,7 @@ ARROWS = {
     "foreign-ack": [f"{WRITE}; byte 3: 01 → 00", "foreign>a ACK", "b>a NAK"],
     "foreign-frame": ["foreign>b write N7:0 = 1234", *ACKS],
     "foreign-reset": [f"m>3 {ECHO}", "3>m ACK", "foreign>3 NAK, a reset", "m>3 poll 3", "3>m EOT"],
+    "held-after-unanswered": [f"{named('echo')}; 12 of 12 bytes lost", "foreign>a NAK", named("echo")],
     "late-before-its-retry": [
         WRITE, named("write N7:0 = 1234", 2), "b>a ACK", named("reply, done", 1, "b>a"), "a>b ACK", named("reply, done", 2, "b>a"), "a>b ACK",
     ],
@@ -108,6 +122,10 @@ ARROWS = {
     "one-hit-too-many": [f"{WRITE}; byte 3: 01 → 00", "b>a NAK"],
     "one-write": [WRITE],
     "ordinary-exchange": [WRITE, *ACKS],
+    "outcome-at-the-last-tick": [
+        f"{named('echo')}; under way", "foreign>a ACK", named("echo", 1, "b>a"), "a>b ACK; under way", f"{named('reply, done')}; under way",
+        "a>b ENQ; under way", "foreign>a NAK", f"{named('reply, done')}; under way", f"{named('echo', 2)}; under way", "foreign>a ACK",
+    ],
     "polled-write": [
         "m>3 write N7:0 = 1234, TNS 0001", "m>5 write N7:0 = 1234, TNS 0001", "3>m ACK",
         "m>3 poll 3", "m>5 poll 3", "3>m reply, done, TNS 0001; 11 of 11 bytes lost",
@@ -152,6 +170,10 @@ ARROWS = {
         "m>3 poll 5; 4 of 4 bytes lost", "m>5 poll 5", "5>m ACK; 2 of 2 bytes lost", "5>m reply, 77, TNS 0001",
         "m>3 ACK to 5; 2 of 2 bytes lost", "m>5 ACK to 5", "m>3 poll 3", "m>5 poll 3; 4 of 4 bytes lost", f"3>m {ECHOED}",
     ],
+    "replies-go-first": [
+        named("echo", 1, "b>a"), "a>b ACK", named("reply, done"), "b>a ACK", named("echo", 2, "b>a"), "a>b ACK", named("reply, done", 2), "b>a ACK",
+        f"{named('echo')}; under way",
+    ],
     "reset": [
         f"m>3 {ECHO}", "3>m ACK", "m>3 poll 3", f"3>m {ECHOED}; 12 of 12 bytes lost", "foreign>3 NAK, a reset", "m>3 poll 3", "3>m EOT",
     ],
@@ -172,6 +194,7 @@ ARROWS = {
     ],
     "tns-wraps": [*exchange("echo 55", "55", 0xFFFF), *exchange("echo 55", "55", 0)],
     "trace": [f"{WRITE}; byte 15: 34 → 74", "b>a NAK", WRITE, *ACKS, *exchange("read N7:0", "N7:0 = 1234", 2)],
+    "turn-too-late": turns(),
     "two-sources": [
         WRITE, "b>a ACK", named("echo 55", 3), "b>a ACK", named("reply, done", 1, "b>a"), "a>b ACK",
         named("write N7:1 = 5678", 2), "b>a ACK", named("reply, 55", 3, "b>a"), "a>b ACK", named("reply, done", 2, "b>a"), "a>b ACK",
