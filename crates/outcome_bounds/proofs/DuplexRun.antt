@@ -300,10 +300,10 @@ stand-events f far_f are far_are (e ∷ events) s drained far_drained lines poss
 
 -- ---- a run
 
-abbrev figures_of : EndPlan → Figures
+abbrev pub figures_of : EndPlan → Figures
 figures_of plan = record { limits = limits_of plan; reply_ticks = plan.reply_ticks; message = message_ticks plan; command = command_ticks plan }
 
-are-figures : (who : Who) (plan : EndPlan) → IsPlanOf who plan → AreFigures (figures_of plan)
+pub are-figures : (who : Who) (plan : EndPlan) → IsPlanOf who plan → AreFigures (figures_of plan)
 are-figures who plan p =
     let some_ack = (p.settings AckTicks).0 in
     let some_reply = (p.settings ReplyTicks).0 in

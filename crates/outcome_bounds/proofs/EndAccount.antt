@@ -50,12 +50,12 @@ pub record Shrinks (s t : SenderState) : Type 0 where
 shrinks-same : (s : SenderState) → HasLeft s.activity → Shrinks s s
 shrinks-same s left = record { limits = refl; few = omega arith; left = left }
 
-sent-shrinks : (limits : Limits) (a : Activity) → 1 ≤ limits.ack_ticks → HasLeft a → Shrinks (record { limits = limits; activity = a }) (sent_last (record { limits = limits; activity = a }))
+pub sent-shrinks : (limits : Limits) (a : Activity) → 1 ≤ limits.ack_ticks → HasLeft a → Shrinks (record { limits = limits; activity = a }) (sent_last (record { limits = limits; activity = a }))
 sent-shrinks limits Idle some left = record { limits = refl; few = omega arith; left = left }
 sent-shrinks limits (Sending body naks enqs) some left = record { limits = refl; few = omega arith; left = some }
 sent-shrinks limits (Waiting body naks enqs ticks) some left = record { limits = refl; few = omega arith; left = left }
 
-ack-shrinks : (limits : Limits) (a : Activity) → HasLeft a → Shrinks (record { limits = limits; activity = a }) (on_ack (record { limits = limits; activity = a }))
+pub ack-shrinks : (limits : Limits) (a : Activity) → HasLeft a → Shrinks (record { limits = limits; activity = a }) (on_ack (record { limits = limits; activity = a }))
 ack-shrinks limits Idle left = record { limits = refl; few = omega arith; left = left }
 ack-shrinks limits (Sending body naks enqs) left = record { limits = refl; few = omega arith; left = left }
 ack-shrinks limits (Waiting body naks enqs ticks) left = record { limits = refl; few = omega arith; left = tt }
@@ -64,7 +64,7 @@ ack-shrinks limits (Waiting body naks enqs ticks) left = record { limits = refl;
 one-less : (k most count : ℕ) → count < most → k * (most - count) ≡ k * (most - (count + 1)) + k
 one-less k most count fewer = ap (λ (n : ℕ). k * n) (let e : most - count ≡ suc (most - (count + 1)) = omega (arith, fewer) in e) ∙ mul-suc k (most - (count + 1))
 
-nak-shrinks : (limits : Limits) (a : Activity) → 1 ≤ limits.ack_ticks → HasLeft a → Shrinks (record { limits = limits; activity = a }) (on_nak (record { limits = limits; activity = a }))
+pub nak-shrinks : (limits : Limits) (a : Activity) → 1 ≤ limits.ack_ticks → HasLeft a → Shrinks (record { limits = limits; activity = a }) (on_nak (record { limits = limits; activity = a }))
 nak-shrinks limits Idle some left = record { limits = refl; few = omega arith; left = left }
 nak-shrinks limits (Sending body naks enqs) some left = record { limits = refl; few = omega arith; left = left }
 nak-shrinks limits (Waiting body naks enqs ticks) some left = at (nat_lt naks limits.max_naks) refl
@@ -88,7 +88,7 @@ pub record Ticks (s t : SenderState) : Type 0 where
   pub few : sender_ticks t + one_if_waiting s.activity ≤ sender_ticks s
   pub left : HasLeft t.activity
 
-tick-shrinks : (limits : Limits) (a : Activity) → 1 ≤ limits.ack_ticks → HasLeft a → Ticks (record { limits = limits; activity = a }) (on_tick (record { limits = limits; activity = a }))
+pub tick-shrinks : (limits : Limits) (a : Activity) → 1 ≤ limits.ack_ticks → HasLeft a → Ticks (record { limits = limits; activity = a }) (on_tick (record { limits = limits; activity = a }))
 tick-shrinks limits Idle some left = record { limits = refl; few = omega arith; left = left }
 tick-shrinks limits (Sending body naks enqs) some left = record { limits = refl; few = omega arith; left = left }
 tick-shrinks limits (Waiting body naks enqs ticks) some left = at (nat_lt 1 ticks) (nat_lt enqs limits.max_enqs) refl refl
@@ -375,7 +375,7 @@ executes act.PeerEnq body = 0
 executes act.Nothing body = 0
 
 -- the sender at an act
-act-shrinks : (what : Act) (s : SenderState) → 1 ≤ s.limits.ack_ticks → HasLeft s.activity → Shrinks s (sender_after what s)
+pub act-shrinks : (what : Act) (s : SenderState) → 1 ≤ s.limits.ack_ticks → HasLeft s.activity → Shrinks s (sender_after what s)
 act-shrinks act.Accept s some left = shrinks-same s left
 act-shrinks act.Repeat s some left = shrinks-same s left
 act-shrinks act.Refuse s some left = shrinks-same s left
@@ -386,7 +386,7 @@ act-shrinks act.PeerNak s some left = nak-shrinks s.limits s.activity some left
 act-shrinks act.PeerEnq s some left = shrinks-same s left
 act-shrinks act.Nothing s some left = shrinks-same s left
 
-act-accepts : (what : Act) (host : NodeState) (body : List ℕ) → Accepts host (host_after node_host what host body) (executes what body)
+pub act-accepts : (what : Act) (host : NodeState) (body : List ℕ) → Accepts host (host_after node_host what host body) (executes what body)
 act-accepts act.Accept host body = accepts-body host body
 act-accepts act.Repeat host body = accepts-none host
 act-accepts act.Refuse host body = accepts-none host

@@ -53,7 +53,7 @@ front-bodies : (n : ℕ) (front back : List Request) → (more : List (List ℕ)
 front-bodies n [] back = (command_bodies n back, refl)
 front-bodies n (request ∷ front) back = let more = front-bodies (n + 1) front back in (more.0, ap (λ bodies. command_body n request ∷ bodies) more.1)
 
-front-of : (n : ℕ) (requests : List Event → List Request) (events front back : List Event) → events ≡ front ++ back → requests (front ++ back) ≡ requests front ++ requests back
+pub front-of : (n : ℕ) (requests : List Event → List Request) (events front back : List Event) → events ≡ front ++ back → requests (front ++ back) ≡ requests front ++ requests back
     → (more : List (List ℕ)) × (command_bodies n (requests events) ≡ command_bodies n (requests front) ++ more)
 front-of n requests events front back is both =
     let more = front-bodies n (requests front) (requests back) in
@@ -95,7 +95,7 @@ event-earlier s e none =
     let deeds = duplex.deeds_of e in
     sym (seen-count who s) ∙ deeds-earlier deeds (duplex.seen_from who s) (sym (seen-count who (after_deeds (duplex.seen_from who s) deeds)) ∙ none)
 
-events-earlier : (s : LineState) (front back : List Event) → (duplex.state_after s (front ++ back)).deceived ≡ 0 → (duplex.state_after s front).deceived ≡ 0
+pub events-earlier : (s : LineState) (front back : List Event) → (duplex.state_after s (front ++ back)).deceived ≡ 0 → (duplex.state_after s front).deceived ≡ 0
 events-earlier s [] [] none = none
 events-earlier s [] (e ∷ back) none = event-earlier s e (events-earlier (duplex.after_event s e) [] back none)
 events-earlier s (e ∷ front) back none = events-earlier (duplex.after_event s e) front back none
@@ -107,7 +107,7 @@ duplex-honest script front back mode is none =
     let last = ap (λ events. (duplex.state_after (duplex.start script) events).deceived) is in
     ap (λ (r : Record). r.deceived) (duplex-record (with_events script front) mode) ∙ events-earlier (duplex.start script) front back (sym last ∙ sym whole ∙ none)
 
-duplex-front : (script : Script) (front back : List Event) → IsPlayable script → script.events ≡ front ++ back → IsPlayable (with_events script front)
+pub duplex-front : (script : Script) (front back : List Event) → IsPlayable script → script.events ≡ front ++ back → IsPlayable (with_events script front)
 duplex-front script front back h is = record {
   mode = h.mode;
   ends = h.ends;
@@ -149,7 +149,7 @@ steps-earlier : (steps : List UnitStep) (s : HalfState NodeState) → (after_ste
 steps-earlier [] s none = none
 steps-earlier (step ∷ steps) s none = step-earlier s step (steps-earlier steps (after_step plain_node s step) none)
 
-half-earlier : (s : HalfState NodeState) (front back : List Event) → (polled.state_after plain_node s (front ++ back)).deceived ≡ 0 → (polled.state_after plain_node s front).deceived ≡ 0
+pub half-earlier : (s : HalfState NodeState) (front back : List Event) → (polled.state_after plain_node s (front ++ back)).deceived ≡ 0 → (polled.state_after plain_node s front).deceived ≡ 0
 half-earlier s [] [] none = none
 half-earlier s [] (e ∷ back) none = steps-earlier (polled.steps_of s e) s (half-earlier (polled.after_event plain_node s e) [] back none)
 half-earlier s (e ∷ front) back none = half-earlier (polled.after_event plain_node s e) front back none
@@ -161,7 +161,7 @@ half-honest script front back mode is none =
     let last = ap (λ events. (polled.state_after plain_node (polled.start script) events).deceived) is in
     ap (λ (r : Record). r.deceived) (polled-record (with_events script front) mode) ∙ half-earlier (polled.start script) front back (sym last ∙ sym whole ∙ none)
 
-half-front : (script : Script) (front back : List Event) → IsHalfPlayable script → script.events ≡ front ++ back → IsHalfPlayable (with_events script front)
+pub half-front : (script : Script) (front back : List Event) → IsHalfPlayable script → script.events ≡ front ++ back → IsHalfPlayable (with_events script front)
 half-front script front back h is =
     let numbers = numbers_of script.ends in
     record {

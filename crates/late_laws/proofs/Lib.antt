@@ -1,0 +1,32 @@
+-- What holds of an end of a full-duplex line through its signals holds after each event of a script.
+pub mod EndWalk
+-- In a full-duplex run in which no end is deceived the commands of each node are known at each event, and so what its signals leave of an end holds.
+pub mod KnownRun
+-- In a half-duplex run in which no end is deceived the master never holds a command whose outcome is known.
+pub mod NoneSettled
+-- In a full-duplex run in which no end is deceived an end whose replies may take as long as a message's waits, and whose ticks are all drained, holds no command that is unanswered.
+pub mod NoneUnanswered
+-- In a full-duplex run in which no end is deceived no end ever holds a command that is undelivered.
+pub mod NoneUndelivered
+-- A node's commands that stand so: which step brings such a one about, and that none of their bodies is handed out again.
+pub mod KnownNode
+-- A full-duplex script cut where a command is over: no later command has its body, and it stays over.
+pub mod OverAtCut
+-- A half-duplex script cut where a command is over on its way to a station: no later command has its body, and it stays over.
+pub mod OverAtPolledCut
+-- A full-duplex end whose command is over: what each signal leaves of that.
+pub mod OverEnd
+-- A half-duplex master whose command is over: what each signal leaves of that.
+pub mod OverMaster
+-- A node that won't hand out a command any more, and bytes on their way that end no transmission of it.
+pub mod OverNode
+-- A half-duplex master holds no command whose outcome is known: each signal leaves that.
+pub mod SettledMaster
+-- A full-duplex end holds no command that is undelivered: each signal leaves that.
+pub mod UndeliveredEnd
+-- A half-duplex run from a state on where a command is over on its way to a station: it stays over, and no line tells it as executed there.
+pub mod OverPolledRun
+-- A full-duplex run from a state on where a command is over: it stays over, and no line tells it as executed at the other end.
+pub mod OverRun
+-- A full-duplex end whose replies may take as long as a message's waits holds no command that is unanswered, where each of its ticks is drained: each signal leaves that.
+pub mod UnansweredEnd

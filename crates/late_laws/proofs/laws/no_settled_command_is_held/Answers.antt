@@ -1,0 +1,5 @@
+use Rattle.late_laws.proofs.NoneSettled.{no-settled-held}
+use Rattle.late_laws.proofs.laws.no_settled_command_is_held.Goals as goal
+
+pub returns : goal.returns
+returns c = no-settled-held

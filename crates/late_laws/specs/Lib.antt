@@ -1,0 +1,2 @@
+pub mod NotHeld
+pub mod Over

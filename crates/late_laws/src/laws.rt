@@ -1,0 +1,42 @@
+//! The laws of when a command is over, each on a function of its own. None of them does anything.
+ghost use Rattle.std.specs.Prelude.{◌≡◌};
+ghost use Rattle.duplex_line.specs.Run.{last_state};
+ghost use Rattle.half_line.specs.Run as polled;
+ghost use Rattle.late_laws.specs.NotHeld.{NoSettledIsHeld, NoUnansweredIsHeld, NoUndeliveredIsHeld};
+ghost use Rattle.late_laws.specs.Over.{IsOverForGood, IsOverThereForGood};
+ghost use Rattle.script_parts.specs.declared.script.Script.{Script};
+ghost use Rattle.script_parts.specs.HalfPlayable.{IsHalfPlayable};
+ghost use Rattle.script_parts.specs.Playable.{IsPlayable};
+
+/// A law: of a full-duplex run in which no end is deceived, cut after whichever event: a command that was handed out, that its end's
+/// sender doesn't hold, and of which no transmission ends on the way to the other end, is not executed there any more (manual topic:
+/// full-duplex protocol).
+pub fn no_late_execution()
+    ensures { (script : Script) → IsPlayable script → (last_state script).deceived ≡ 0 → IsOverForGood script }
+{}
+
+/// A law: of a half-duplex run in which no end is deceived, cut after whichever event: a command that was handed out, that the master
+/// doesn't hold, and of which no transmission ends on the way to a station, is not executed by that station any more (manual topic:
+/// half-duplex protocol).
+pub fn no_late_execution_by_a_station()
+    ensures { (script : Script) → IsHalfPlayable script → (polled.last_state script).deceived ≡ 0 → IsOverThereForGood script }
+{}
+
+/// A law: in a full-duplex run in which no end is deceived no end's sender holds a command that is undelivered, after whichever event
+/// (manual topic: full-duplex protocol).
+pub fn no_undelivered_command_is_held()
+    ensures { (script : Script) → IsPlayable script → (last_state script).deceived ≡ 0 → NoUndeliveredIsHeld script }
+{}
+
+/// A law: in a full-duplex run in which no end is deceived, at an end whose `reply_ticks` are at least the ticks of one message (67 at
+/// first), and whose ticks so far were all drained: its sender holds no command that is unanswered, after whichever event (manual topic:
+/// full-duplex protocol).
+pub fn no_unanswered_command_is_held()
+    ensures { (script : Script) → IsPlayable script → (last_state script).deceived ≡ 0 → NoUnansweredIsHeld script }
+{}
+
+/// A law: in a half-duplex run in which no end is deceived the master holds no command whose outcome is known, undelivered, unanswered
+/// or answered, after whichever event (manual topic: half-duplex protocol).
+pub fn no_settled_command_is_held()
+    ensures { (script : Script) → IsHalfPlayable script → (polled.last_state script).deceived ≡ 0 → NoSettledIsHeld script }
+{}
