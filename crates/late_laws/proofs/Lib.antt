@@ -30,3 +30,5 @@ pub mod OverPolledRun
 pub mod OverRun
 -- A full-duplex end whose replies may take as long as a message's waits holds no command that is unanswered, where each of its ticks is drained: each signal leaves that.
 pub mod UnansweredEnd
+-- The runs at whose end a command is over.
+pub mod Witness

@@ -1,2 +1,3 @@
 pub mod NotHeld
 pub mod Over
+pub mod Reached

@@ -4,6 +4,7 @@ ghost use Rattle.duplex_line.specs.Run.{last_state};
 ghost use Rattle.half_line.specs.Run as polled;
 ghost use Rattle.late_laws.specs.NotHeld.{NoSettledIsHeld, NoUnansweredIsHeld, NoUndeliveredIsHeld};
 ghost use Rattle.late_laws.specs.Over.{IsOverForGood, IsOverThereForGood};
+ghost use Rattle.late_laws.specs.Reached.{all_lost, all_lost_to_a_station, GivesUp, GivesUpAtMaster};
 ghost use Rattle.script_parts.specs.declared.script.Script.{Script};
 ghost use Rattle.script_parts.specs.HalfPlayable.{IsHalfPlayable};
 ghost use Rattle.script_parts.specs.Playable.{IsPlayable};
@@ -39,4 +40,11 @@ pub fn no_unanswered_command_is_held()
 /// or answered, after whichever event (manual topic: half-duplex protocol).
 pub fn no_settled_command_is_held()
     ensures { (script : Script) → IsHalfPlayable script → (polled.last_state script).deceived ≡ 0 → NoSettledIsHeld script }
+{}
+
+/// A law: at the end of these two scripts a command is over, one of a full-duplex end and one of a master, so that what the other laws
+/// ask for is met (manual topics: full-duplex protocol, half-duplex protocol).
+pub fn a_command_is_over()
+    ensures full_duplex { GivesUp all_lost }
+    ensures half_duplex { GivesUpAtMaster all_lost_to_a_station }
 {}
