@@ -177,6 +177,9 @@ ARROWS = {
     "reset": [
         f"m>3 {ECHO}", "3>m ACK", "m>3 poll 3", f"3>m {ECHOED}; 12 of 12 bytes lost", "foreign>3 NAK, a reset", "m>3 poll 3", "3>m EOT",
     ],
+    "restarted-end": [
+        "foreign>b echo", "b>a ACK", "b>a reply, done, TNS 0001", "a>b ACK", named("echo 55"), "b>a ACK",
+    ],
     "silent-station": [f"m>9 {ECHO}; 16 of 16 bytes lost"] * 4 + ["m>9 poll 9; 4 of 4 bytes lost"],
     "slow-line": [WRITE, *ACKS],
     "slow-poll": [f"m>3 {ECHO}", "3>m ACK", "m>3 poll 3", f"3>m {ECHOED}", "m>3 poll 3", "3>m EOT"],
