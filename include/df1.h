@@ -178,7 +178,10 @@ typedef struct df1_slave {
 typedef struct df1_node {
     uint8_t address;      /* SRC of its own commands, DST of what is sent to it */
     uint16_t tns;         /* the transaction number of its first command; each further command has the next */
-    uint32_t reply_ticks; /* ticks without a reply until a command is unanswered: 1 to 1,000,000 */
+    uint32_t reply_ticks; /* ticks without a reply until a command is unanswered: 1 to 1,000,000. At a full-duplex end and at a
+                             slave each df1_end_tick counts; at a master only one at which it polls, so none while it gives
+                             or waits, nor while a message is to be given. While no station answers its polls, that is one
+                             tick in poll_ticks + 1 */
     uint32_t room;        /* how many replies may wait to be given: 2 to 64 */
     bool has_compat;      /* whether there is a file for the basic reads and writes */
     uint16_t compat;      /* its number: a Bit or Integer file */
@@ -293,7 +296,9 @@ typedef struct df1_out {
     uint8_t byte; /* 0 where there is none */
 } df1_out;
 
-/* The end hears a byte of the line. DF1_NO_HANDLE. */
+/* The end hears a byte of the line. At a slave DLE NAK from the master is a reset: commands of the slave that wait to be handed
+ * out are DF1_UNDELIVERED from then on, and replies that wait are dropped, and no news tells of either; `news` is of the message
+ * that the slave held. So after DF1_ACT_PEER_NAK at a slave ask df1_end_outcome. DF1_NO_HANDLE. */
 uint32_t df1_end_byte(df1_end *end, uint8_t byte, df1_step *step);
 
 /* The body of the frame that ended at the latest byte, at most 250 bytes, DST first, into the `room` bytes at `into`: of a
@@ -308,7 +313,8 @@ uint32_t df1_end_body(df1_end *end, uint8_t *into, size_t room, size_t *length);
 uint32_t df1_end_tick(df1_end *end, df1_turn *turn, uint32_t *gone, size_t room);
 
 /* The end gives the next byte for the line, if there is one. After each byte and each tick take until the end is quiet. A master
- * gives none where it passes over a message to a station that it doesn't have, and may have more to give then. DF1_NO_HANDLE. */
+ * gives none where it passes over a message to a station that it doesn't have, and may have more to give then: a command to no
+ * station of its list is DF1_UNDELIVERED from that take on, and no news tells of it. DF1_NO_HANDLE. */
 uint32_t df1_end_take(df1_end *end, df1_out *out);
 
 /* Whether the end has nothing to give, so that df1_end_take gives none. DF1_NO_HANDLE. */
@@ -326,7 +332,9 @@ enum df1_outcome {
 };
 
 /* Issues a command to the node `dst`. The payload, 1 to 245 bytes, is CMD and what follows TNS. `*number` is then the command's
- * number, from 1. DF1_NO_HANDLE, DF1_NO_PAYLOAD, DF1_LONG_PAYLOAD, DF1_NOT_COMMAND, DF1_SPENT, DF1_NO_MEMORY. */
+ * number, from 1. At a master `dst` is to be one of its stations: for another node the call is done, and the take at which the
+ * command's turn comes gives it up (df1_end_take). DF1_NO_HANDLE, DF1_NO_PAYLOAD, DF1_LONG_PAYLOAD, DF1_NOT_COMMAND, DF1_SPENT,
+ * DF1_NO_MEMORY. */
 uint32_t df1_end_issue(df1_end *end, uint8_t dst, const uint8_t *payload, size_t length, uint32_t *number);
 
 /* The same in the name of a source, which is SRC of the command and DST of its reply: a gateway issues for several nodes. All

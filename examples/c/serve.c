@@ -1,5 +1,5 @@
 /* Serves a full-duplex end with one Integer file, N7, on a serial device or a pseudo-terminal: serve DEVICE, or serve DEVICE crc on
- * a line with CRCs. It ends when the device does. */
+ * a line with CRCs. It ends with 0 when the device does, and with 1 where the device can't be read or written. */
 #define _POSIX_C_SOURCE 200809L
 #include <errno.h>
 #include <fcntl.h>
@@ -46,21 +46,44 @@ static bool make_raw(int device)
     return tcsetattr(device, TCSANOW, &line) == 0;
 }
 
+static int status = 0;
+
+/* The device can't be read or written any more: where it isn't its end, that is told, and the program's status is 1. */
+static bool lost(const char *what)
+{
+    if (errno != EIO) {
+        perror(what);
+        status = 1;
+    }
+    return false;
+}
+
+/* Writes these bytes, and answers whether that went well. */
+static bool put(int device, const uint8_t *bytes, size_t count)
+{
+    while (count > 0) {
+        ssize_t wrote = write(device, bytes, count);
+
+        if (wrote >= 0) {
+            bytes += wrote;
+            count -= (size_t)wrote;
+        } else if (errno != EINTR) {
+            return lost("write");
+        }
+    }
+    return true;
+}
+
 /* Writes all that the end has to give, and answers whether that went well. */
 static bool give(df1_end *end, int device)
 {
+    uint8_t bytes[512];
+    size_t count = 0;
     df1_out out;
 
-    while (df1_end_take(end, &out) == DF1_DONE && out.there) {
-        ssize_t wrote;
-
-        do
-            wrote = write(device, &out.byte, 1);
-        while (wrote < 0 && errno == EINTR);
-        if (wrote != 1)
-            return false;
-    }
-    return true;
+    while (count < sizeof bytes && df1_end_take(end, &out) == DF1_DONE && out.there)
+        bytes[count++] = out.byte;
+    return put(device, bytes, count) && (count < sizeof bytes || give(end, device));
 }
 
 /* Hears what the device has, and answers whether it goes on. */
@@ -70,8 +93,8 @@ static bool hear(df1_end *end, int device)
     df1_step step;
     ssize_t at, count = read(device, bytes, sizeof bytes);
 
-    if (count < 0 && errno == EINTR)
-        return true;
+    if (count < 0)
+        return errno == EINTR || lost("read");
     for (at = 0; at < count; at++) {
         if (df1_end_byte(end, bytes[at], &step) != DF1_DONE || !give(end, device))
             return false;
@@ -136,5 +159,5 @@ int main(int argc, char **argv)
     serve(&end, device);
     df1_end_free(&end);
     close(device);
-    return 0;
+    return status;
 }

@@ -1,9 +1,34 @@
 """The library of df1 in Python, by ctypes: a Library is libdf1.so and df1.h of a folder, an End and a Decoder are handles of it.
-df1.h says what each call does. A code other than DF1_DONE is raised as Refused."""
+df1.h says what each call does. A code other than DF1_DONE is raised as Refused, and a number that doesn't fit its C type as
+OverflowError. Bytes may be `bytes`, or whatever a memoryview takes."""
 import ctypes
+import operator
 import re
+import weakref
 from ctypes import POINTER, byref, c_bool, c_char_p, c_size_t, c_void_p
 from ctypes import c_uint8 as u8, c_uint16 as u16, c_uint32 as u32
+
+
+LARGEST = {kind: 2 ** (8 * ctypes.sizeof(kind)) - 1 for kind in (u8, u16, u32, c_size_t)}
+
+
+def fitting(kind, value, name):
+    """The value, which ctypes would cut to the width of `kind` where that is a kind of number."""
+    if kind in LARGEST and not 0 <= operator.index(value) <= LARGEST[kind]:
+        raise OverflowError(f"{name}: {value} is not in 0 to {LARGEST[kind]}")
+    return value
+
+
+def octets(data):
+    """Bytes as ctypes take them."""
+    return data if isinstance(data, bytes) else memoryview(data).tobytes()
+
+
+class Plain(ctypes.Structure):
+    """A struct of the header. A number that doesn't fit its member is refused."""
+
+    def __setattr__(self, name, value):
+        super().__setattr__(name, fitting(dict(self._fields_).get(name), value, name))
 
 
 class Handle(ctypes.Structure):
@@ -11,49 +36,49 @@ class Handle(ctypes.Structure):
     _fields_ = [("at", c_void_p), ("holds", c_bool)]
 
 
-class Hearing(ctypes.Structure):
+class Hearing(Plain):
     _fields_ = [("heard", u32), ("byte", u8)]
 
 
-class Duplex(ctypes.Structure):
+class Duplex(Plain):
     _fields_ = [("crc", c_bool), ("embed", c_bool), ("ack_ticks", u32), ("max_naks", u32), ("max_enqs", u32), ("reserved", u32 * 4)]
 
 
-class Master(ctypes.Structure):
+class Master(Plain):
     _fields_ = [("crc", c_bool), ("ack_ticks", u32), ("max_resends", u32), ("poll_ticks", u32), ("routes", u32),
                 ("reserved", u32 * 3)]
 
 
-class Slave(ctypes.Structure):
+class Slave(Plain):
     _fields_ = [("crc", c_bool), ("max_sends", u32), ("reserved", u32 * 4)]
 
 
-class Node(ctypes.Structure):
+class Node(Plain):
     _fields_ = [("address", u8), ("tns", u16), ("reply_ticks", u32), ("room", u32), ("has_compat", c_bool), ("compat", u16),
                 ("window", u32), ("per_source", u32), ("reserved", u32 * 4)]
 
 
-class File(ctypes.Structure):
+class File(Plain):
     _fields_ = [("number", u16), ("type", u8), ("elements", u16)]
 
 
-class Word(ctypes.Structure):
+class Word(Plain):
     _fields_ = [("file", u16), ("index", u32), ("value", u16)]
 
 
-class Step(ctypes.Structure):
+class Step(Plain):
     _fields_ = [("act", u32), ("did", u32), ("did_command", u32), ("news", u32), ("news_command", u32), ("whole", c_bool)]
 
 
-class Turn(ctypes.Structure):
+class Turn(Plain):
     _fields_ = [("turn", u32), ("news", u32), ("news_command", u32), ("gone_count", u32)]
 
 
-class Transfer(ctypes.Structure):
+class Transfer(Plain):
     _fields_ = [("state", u32), ("number", u32), ("sts", u8), ("ext", u8)]
 
 
-class Out(ctypes.Structure):
+class Out(Plain):
     _fields_ = [("there", c_bool), ("byte", u8)]
 
 
@@ -100,6 +125,15 @@ class Refused(Exception):
         self.code = code
 
 
+def checked(name, types, call):
+    """The call, with its numbers looked at."""
+    def with_words(*words):
+        if len(words) != len(types):
+            raise TypeError(f"{name} takes {len(types)} arguments, and not {len(words)}")
+        return call(*(fitting(kind, word, name) for kind, word in zip(types, words)))
+    return with_words
+
+
 class Library:
     """libdf1.so and df1.h of a folder. Its members are the calls, and the numbers that the header names, as DF1_DONE."""
 
@@ -112,7 +146,7 @@ class Library:
             call = getattr(shared, name)
             call.argtypes = types
             call.restype = {"df1_bcc": u8, "df1_crc": u16}.get(name, u32)
-            setattr(self, name, call)
+            setattr(self, name, checked(name, types, call))
 
     def text(self, code):
         into, count = ctypes.create_string_buffer(80), c_size_t()
@@ -132,13 +166,27 @@ class Library:
         return into.raw[: count.value]
 
 
-class Decoder:
-    def __init__(self, library, crc):
-        self.library, self.handle = library, Handle()
-        library.do("df1_decoder_make", crc, self.handle)
+class Held:
+    """What a handle of the library holds. Its memory is let go by `free`, at the end of a `with` block, or when nothing refers to
+    it any more, whichever comes first. A call after that is refused by DF1_NO_HANDLE."""
 
-    def free(self):
-        self.library.do("df1_decoder_free", self.handle)
+    def __init__(self, library, kind, make, *words):
+        self.library, self.handle = library, Handle()
+        library.do(make, *words, self.handle)
+        self.free = weakref.finalize(self, library.do, f"df1_{kind}_free", self.handle)
+
+    def __enter__(self):
+        return self
+
+    def __exit__(self, *raised):
+        self.free()
+
+
+class Decoder(Held):
+    """A decoder of a full-duplex line, with a CRC or else with BCC."""
+
+    def __init__(self, library, crc):
+        super().__init__(library, "decoder", "df1_decoder_make", crc)
 
     def byte(self, byte):
         hearing = Hearing()
@@ -149,18 +197,14 @@ class Decoder:
         return self.library.bytes("df1_decoder_body", self.handle)
 
 
-class End:
+class End(Held):
     """An end by its link: a Duplex, a Master with `stations`, or a Slave. Files and words are Files and Words."""
 
     def __init__(self, library, link, node, files=(), words=(), block=b"", stations=b""):
-        self.library, self.handle = library, Handle()
+        block, stations = octets(block), octets(stations)
         listed = (stations, len(stations)) if isinstance(link, Master) else ()
-        call = f"df1_{type(link).__name__.lower()}_make"
-        library.do(call, link, *listed, node, (File * len(files))(*files), len(files), (Word * len(words))(*words), len(words),
-                   block, len(block), self.handle)
-
-    def free(self):
-        self.library.do("df1_end_free", self.handle)
+        super().__init__(library, "end", f"df1_{type(link).__name__.lower()}_make", link, *listed, node,
+                         (File * len(files))(*files), len(files), (Word * len(words))(*words), len(words), block, len(block))
 
     def byte(self, byte):
         step = Step()
@@ -198,6 +242,7 @@ class End:
 
     def issue(self, dst, payload, src=None):
         """Issues a command, in the name of a source or else in that of the end's node, and answers its number."""
+        payload = octets(payload)
         number, words = u32(), (dst, payload, len(payload))
         if src is None:
             self.library.do("df1_end_issue", self.handle, *words, number)
@@ -221,7 +266,7 @@ class End:
 
     def push(self, dst, file, data):
         """Issues the orders of a transfer that writes words, two bytes each, to a file, and answers the number of the first."""
-        first = u32()
+        data, first = octets(data), u32()
         self.library.do("df1_end_push", self.handle, dst, file, data, len(data), first)
         return first.value
 
