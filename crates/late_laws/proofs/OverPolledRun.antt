@@ -24,6 +24,7 @@ use Rattle.half_line.proofs.Once.MasterSteps.{joined-numbers}
 use Rattle.half_line.proofs.Once.Places.{set-same, set-other, set-map, one-place, not-equal}
 use Rattle.half_line.proofs.Once.StationSteps.{Hands, accepts, passes, at-byte, lent-after}
 use Rattle.half_line.proofs.Once.WholeRun.{ArePlain, plain-with, plain-master, plain-take}
+use Rattle.half_line.proofs.Steps.EventsToCome.{link-number}
 use Rattle.half_master.specs.Master.{turn_at_tick, gone_at_tick}
 use Rattle.half_slave.specs.Slave.{step_at_byte}
 use Rattle.lane_cells.specs.Cells.{LaneCell}
@@ -107,22 +108,15 @@ arrival-master body way s None h = h
 arrival-master body ToStation s (Some cell) h = h
 arrival-master body ToMaster s (Some cell) h = master-byte body s.master cell.byte h
 
-arrival-side : (way : Way) (s : LinkState NodeState) (o : Option LaneCell) → ((after_arrival plain_node way s o).side.number ≡ s.side.number) × ((after_arrival plain_node way s o).side.to_it ≡ s.side.to_it)
-arrival-side way s None = (refl, refl)
-arrival-side ToStation s (Some cell) = (refl, refl)
-arrival-side ToMaster s (Some cell) = (refl, refl)
+-- what arrives leaves what is on its way to the station
+pub arrival-lane : (way : Way) (s : LinkState NodeState) (o : Option LaneCell) → (after_arrival plain_node way s o).side.to_it ≡ s.side.to_it
+arrival-lane way s None = refl
+arrival-lane ToStation s (Some cell) = refl
+arrival-lane ToMaster s (Some cell) = refl
 
 deed-master : (body : List ℕ) (s : LinkState NodeState) (deed : LinkDeed) → MasterNot body s.master → MasterNot body (after_link_deed plain_node s deed).master
 deed-master body s StationGives h = h
 deed-master body s (OnLane way deed) h = arrival-master body way (moved way s deed) (arriving (lane_of way s.side) deed) h
-
-moved-number : (way : Way) (s : LinkState NodeState) (deed : LaneDeed) → (moved way s deed).side.number ≡ s.side.number
-moved-number ToStation s deed = refl
-moved-number ToMaster s deed = refl
-
-deed-number : (s : LinkState NodeState) (deed : LinkDeed) → (after_link_deed plain_node s deed).side.number ≡ s.side.number
-deed-number s StationGives = refl
-deed-number s (OnLane way deed) = (arrival-side way (moved way s deed) (arriving (lane_of way s.side) deed)).0 ∙ moved-number way s deed
 
 moved-none : (body : List ℕ) (way : Way) (s : LinkState NodeState) (deed : LaneDeed) → NoneEnds body s.side.to_it → NoneEnds body (moved way s deed).side.to_it
 moved-none body ToStation s deed none = left-there body s.side.to_it deed none
@@ -130,7 +124,7 @@ moved-none body ToMaster s deed none = none
 
 deed-none : (body : List ℕ) (s : LinkState NodeState) (deed : LinkDeed) → NoneEnds body s.side.to_it → NoneEnds body (after_link_deed plain_node s deed).side.to_it
 deed-none body s StationGives none = none
-deed-none body s (OnLane way deed) none = subst (NoneEnds body) (sym (arrival-side way (moved way s deed) (arriving (lane_of way s.side) deed)).1) (moved-none body way s deed none)
+deed-none body s (OnLane way deed) none = subst (NoneEnds body) (sym (arrival-lane way (moved way s deed) (arriving (lane_of way s.side) deed))) (moved-none body way s deed none)
 
 way-comes : (body : List ℕ) (way : Way) (s : LinkState NodeState) (deed : LaneDeed) → NoneEnds body s.side.to_it → way ≡ ToStation → OtherComes body (arriving (lane_of way s.side) deed)
 way-comes body ToStation s deed none is = comes-there body s.side.to_it deed none
@@ -230,9 +224,9 @@ at-place w s place deed side lines at honest true same h =
       master = deed-master w.body link deed h.master;
       side = now.side;
       is_at = ap (slice_get (slice_set s.stations place now.side)) here ∙ set-same s.stations place side now.side at;
-      number_is = deed-number link deed ∙ number;
+      number_is = link-number plain_node link deed ∙ number;
       none = deed-none w.body link deed none;
-      numbers_are = set-map (λ (x : LineStationState). x.number) s.stations place side now.side at (deed-number link deed) ∙ h.numbers_are;
+      numbers_are = set-map (λ (x : LineStationState). x.number) s.stations place side now.side at (link-number plain_node link deed) ∙ h.numbers_are;
       untold = untold-both (S w.number) w.body lines (link_lines plain_node link deed) h.untold (subst (λ (n : ℕ). Untold (S n) w.body (link_lines plain_node link deed)) number (deed-here w.body link deed honest none));
     }
 at-place w s place deed side lines at honest false same h =
@@ -247,7 +241,7 @@ at-place w s place deed side lines at honest false same h =
       is_at = set-other s.stations place w.place now.side differ ∙ h.is_at;
       number_is = h.number_is;
       none = h.none;
-      numbers_are = set-map (λ (x : LineStationState). x.number) s.stations place side now.side at (deed-number link deed) ∙ h.numbers_are;
+      numbers_are = set-map (λ (x : LineStationState). x.number) s.stations place side now.side at (link-number plain_node link deed) ∙ h.numbers_are;
       untold = untold-both (S w.number) w.body lines (link_lines plain_node link deed) h.untold (deed-there w.number w.body link deed apart);
     }
 

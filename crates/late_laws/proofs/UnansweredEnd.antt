@@ -157,7 +157,17 @@ ends-held-not limits reply_ticks s host body is p idle so = by so.command.standi
     by Undelivered at = absurd (let clash : true ≡ false = sym so.stands ∙ ap ends_now at in cc)
     by Unanswered at = holds-tick s.limits s.activity body (p.holds_not body (record { place = so.place; command = so.command; is_at = so.is_at; stands = ap is_unanswered at; has_body = so.has_body }))
 
--- where the message is given up the sender is idle; else the host is told nothing
+-- where the host is told nothing
+waited-patience : (limits : Limits) (reply_ticks : ℕ) (s : SenderState) (host : NodeState) → IsPatient limits reply_ticks → IsFree s → Patience limits reply_ticks s host → Patience limits reply_ticks (on_tick s) (after_tick host)
+waited-patience limits reply_ticks s host is idle p = record {
+  limits_are = p.limits_are;
+  ticks_are = p.ticks_are;
+  left = (tick-shrinks s.limits s.activity (some-ack limits reply_ticks s is p.limits_are) p.left).left;
+  holds_not = λ body so. ends-held-not limits reply_ticks s host body is p idle (tick-so is_unanswered ends_now was-ending host.initiator.issued body so);
+  in_time = λ body n so. ticked-in-time s body n (some-ack limits reply_ticks s is p.limits_are) p.left idle (p.in_time body (n + 1) (tick-so (is_out_for n) (is_out_for (n + 1)) (was-out n) host.initiator.issued body so));
+}
+
+-- where the message is given up the sender is idle
 ticked-patience : (limits : Limits) (reply_ticks : ℕ) (s : SenderState) (host : NodeState) (turns : SendTurn) → tick_turn s ≡ turns → IsPatient limits reply_ticks → IsFree s → Patience limits reply_ticks s host
     → Patience limits reply_ticks (on_tick s) (after_tick (host_told node_host (fate_of_tick turns) host))
 ticked-patience limits reply_ticks s host turn.Failed at is idle p = record {
@@ -167,20 +177,8 @@ ticked-patience limits reply_ticks s host turn.Failed at is idle p = record {
   holds_not = λ body so. inl (tick-idle s.limits s.activity at);
   in_time = λ body n so. inl (inl (tick-idle s.limits s.activity at));
 }
-ticked-patience limits reply_ticks s host turn.Still at is idle p = record {
-  limits_are = p.limits_are;
-  ticks_are = p.ticks_are;
-  left = (tick-shrinks s.limits s.activity (some-ack limits reply_ticks s is p.limits_are) p.left).left;
-  holds_not = λ body so. ends-held-not limits reply_ticks s host body is p idle (tick-so is_unanswered ends_now was-ending host.initiator.issued body so);
-  in_time = λ body n so. ticked-in-time s body n (some-ack limits reply_ticks s is p.limits_are) p.left idle (p.in_time body (n + 1) (tick-so (is_out_for n) (is_out_for (n + 1)) (was-out n) host.initiator.issued body so));
-}
-ticked-patience limits reply_ticks s host turn.Ask at is idle p = record {
-  limits_are = p.limits_are;
-  ticks_are = p.ticks_are;
-  left = (tick-shrinks s.limits s.activity (some-ack limits reply_ticks s is p.limits_are) p.left).left;
-  holds_not = λ body so. ends-held-not limits reply_ticks s host body is p idle (tick-so is_unanswered ends_now was-ending host.initiator.issued body so);
-  in_time = λ body n so. ticked-in-time s body n (some-ack limits reply_ticks s is p.limits_are) p.left idle (p.in_time body (n + 1) (tick-so (is_out_for n) (is_out_for (n + 1)) (was-out n) host.initiator.issued body so));
-}
+ticked-patience limits reply_ticks s host turn.Still at is idle p = waited-patience limits reply_ticks s host is idle p
+ticked-patience limits reply_ticks s host turn.Ask at is idle p = waited-patience limits reply_ticks s host is idle p
 
 pub unanswered-tick : (limits : Limits) (reply_ticks : ℕ) → IsPatient limits reply_ticks → (e : EndState NodeState) → out_at_take node_host e ≡ None → UnansweredEnd limits reply_ticks e → UnansweredEnd limits reply_ticks (end_after_tick node_host e)
 unanswered-tick limits reply_ticks is e drained u = record {

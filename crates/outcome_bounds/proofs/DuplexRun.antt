@@ -1,34 +1,35 @@
 -- A full-duplex run: what each end has to wait for, over the lines of the report; and in the end, where enough drained ticks came, nothing.
-use Rattle.std.proofs.Common.{◌≡◌, ◌∙◌, inr, ℕ, zero, suc, ◌+◌, ◌-◌, ◌*◌, true, false, cond, List, [], ◌∷◌, ◌++◌, length, map, Option, Some, None, refl, sym, ap, subst, arith, add-zero, append-nil, append_assoc}
+use Rattle.std.proofs.Common.{◌≡◌, ◌∙◌, inr, ℕ, zero, suc, ◌+◌, ◌-◌, ◌*◌, true, cond, List, [], ◌∷◌, ◌++◌, length, map, Option, Some, None, refl, sym, ap, subst, arith, add-zero, append-nil, append_assoc}
 use Rattle.std.specs.Prelude.{All, IsTrue, replicate, slice_index_or, unwrap_or}
-use Rattle.std.specs.Option.{option_map_or}
 use Rattle.std.proofs.Math.Nat.{mul-suc, suc-mul, le-max_left, le-max_right}
 use Rattle.std.proofs.lemmas.List.{length-append, length-map, map-append}
 use Rattle.std.proofs.lemmas.List.Elements.{All-head, All-tail, filter_map-append}
-use Rattle.df1_base.specs.declared.host.Fate.{Fate}
 use Rattle.df1_base.specs.declared.link.Act.{Act}
 use Rattle.df1_base.specs.declared.link.Act.TheVariants as act
 use Rattle.df1_base.specs.HostAnswers.{did_at, host_told}
 use Rattle.df1_check.specs.declared.Check.{Check}
 use Rattle.df1_node.specs.Initiator.{Issued}
-use Rattle.df1_node.specs.Node.{NodeState, after_next, after_tick as node_ticked}
+use Rattle.df1_node.specs.Node.{NodeState, after_tick as node_ticked}
 use Rattle.duplex_sender.specs.Sender.{tick_turn}
-use Rattle.duplex_end.specs.End.{act_of_byte, fate_at, host_after, host_at_byte, fate_of_tick, turn_at_tick, host_at_tick, gone_at_tick}
+use Rattle.duplex_end.specs.End.{act_of_byte, fate_at, host_at_byte, fate_of_tick, host_at_tick}
 use Rattle.duplex_line.specs.Acts.{LineEndState, LineState, swapped, Deed, after_issue, Issue, Take, Deliver, Lose, Alter, Foreign, Tick, near_after, arriving, after_cell, after_arrival, step_of, body_heard, after_deed, after_deeds, near_lines, cell_lines, arrival_lines, lines_at, lines_over, given_over}
 use Rattle.duplex_line.specs.Issues.{bodies_of, commands_of_a, commands_of_b}
 use Rattle.duplex_line.specs.Run.{first_side, plan_of_a, plan_of_b, start, seen_from, after_event, deed_lines, lines_of, state_after, lines_after, last_state, record_of}
 use Rattle.duplex_line.proofs.Once.Invariant.{AreTwo, two-swapped, a-and-b, joins-end}
 use Rattle.duplex_line.proofs.Once.SentMessages.{handed_at, take-host}
-use Rattle.duplex_line.proofs.Once.ToldCommands.{recounts-run}
-use Rattle.each_once.proofs.IssuedCommands.{SameCommands, same-itself, same-both, same-accept, same-told, same-tick, same-next}
+use Rattle.duplex_line.proofs.Once.ToldCommands.{recounts-run, same-act, same-fate, same-handed}
+use Rattle.duplex_line.proofs.Wire.SilentLines.{arrival-other, near-executes}
+use Rattle.duplex_line.proofs.Once.WholeRun.{IsPlain, ArePlain, plain-again, plain-foreign}
+use Rattle.each_once.proofs.IssuedCommands.{same-both, same-tick}
+use Rattle.each_once.proofs.SentAndExecuted.{ExecuteNothing, sent-execute, step-own, command_at_act}
 use Rattle.each_once.specs.Commands.{AreOutcomesTold}
 use Rattle.each_once.specs.NodeHost.{node_host}
 use Rattle.each_once.specs.Tells.{executed_at, executed_in, is_who}
 use Rattle.lane_cells.specs.Cells.{LaneCell}
 use Rattle.outset.specs.Outset.{limits_of}
+use Rattle.pccc_envelope.specs.Envelope.{is_reply}
 use Rattle.replay_report.specs.declared.record.Line.{Line}
 use Rattle.replay_report.specs.Report.{sent_lines}
-use Rattle.report_lines.specs.NodeLines.{act_lines, news_lines, turn_lines, gone_lines}
 use Rattle.script_parts.specs.declared.script.EndPlan.{EndPlan}
 use Rattle.script_parts.specs.declared.script.Event.{Event}
 use Rattle.script_parts.specs.declared.script.Event.TheVariants as event
@@ -40,52 +41,27 @@ use Rattle.script_statement.specs.declared.who.Who.TheVariants.{A, B, M, S}
 use Rattle.end_settings.specs.declared.key.Key.TheVariants.{AckTicks, PerSource, ReplyTicks, Window}
 use Rattle.outcome_bounds.specs.Bounds.{message_ticks, command_ticks, AreToldIn, AtBothEnds}
 use Rattle.outcome_bounds.specs.Drained.{drained_at, drained_over, drained_with, drained_after, drained_ticks}
-use Rattle.outcome_bounds.proofs.NodeAccount.{known-at, add-times}
-use Rattle.outcome_bounds.proofs.ExecutedLines.{None_in, none-both, news-none, turn-none, gone-none, sent-none, other-act, accepted-count}
+use Rattle.outcome_bounds.proofs.NodeAccount.{known-at, add-times, reply-count}
 use Rattle.outcome_bounds.proofs.EndAccount.{Figures, AreFigures, Due, Account, account-take, account-issue, account-tick, account-act, executes, all-over}
-
--- ---- lines
-
-near-none : (who by : Who) (side : LineEndState) (deed : Deed) → None_in who (near_lines by side deed)
-near-none who by side (Issue src dst payload) = refl
-near-none who by side Take = refl
-near-none who by side Deliver = refl
-near-none who by side Lose = refl
-near-none who by side (Alter mask) = refl
-near-none who by side (Foreign byte) = refl
-near-none who by side Tick =
-    let told = turn_at_tick node_host side.end in
-    let gone = gone_at_tick node_host side.end in
-    none-both who (turn_lines by told) (gone_lines by gone) (turn-none who by told) (gone-none who by gone)
-
-other-arrival : (who by : Who) → is_who who by ≡ false → (side : LineEndState) (cell : Option LaneCell) → None_in who (arrival_lines by side cell)
-other-arrival who by apart side None = refl
-other-arrival who by apart side (Some cell) =
-    let step = step_of side cell in
-    let body = body_heard side cell in
-    none-both who (act_lines by step.act step.did body) (news_lines by step.news) (other-act who by apart step.act step.did body) (news-none who by step.news)
 
 -- ---- the commands that an end executes at a cell
 
-act-count : (who : Who) → is_who who who ≡ true → (what : Act) (host : NodeState) (body : List ℕ) → length (executed_in who (act_lines who what (did_at node_host what host body) body)) ≡ executes what body
-act-count who itself act.Accept host body = accepted-count who itself host body body
-act-count who itself act.Repeat host body = refl
-act-count who itself act.Refuse host body = refl
-act-count who itself act.Damaged host body = refl
-act-count who itself act.Forgot host body = refl
-act-count who itself act.PeerAck host body = refl
-act-count who itself act.PeerNak host body = refl
-act-count who itself act.PeerEnq host body = refl
-act-count who itself act.Nothing host body = refl
+act-count : (what : Act) (body : List ℕ) → length (command_at_act what body) ≡ executes what body
+act-count act.Accept body = reply-count (is_reply body) body
+act-count act.Repeat body = refl
+act-count act.Refuse body = refl
+act-count act.Damaged body = refl
+act-count act.Forgot body = refl
+act-count act.PeerAck body = refl
+act-count act.PeerNak body = refl
+act-count act.PeerEnq body = refl
+act-count act.Nothing body = refl
 
 cell-count : (who : Who) → is_who who who ≡ true → (side : LineEndState) (cell : LaneCell) → length (executed_in who (cell_lines who side cell)) ≡ executes (act_of_byte node_host side.end cell.byte) (body_heard side cell)
 cell-count who itself side cell =
-    let step = step_of side cell in
+    let what = act_of_byte node_host side.end cell.byte in
     let body = body_heard side cell in
-    ap length (filter_map-append (executed_at who) (act_lines who step.act step.did body) (news_lines who step.news)
-    ∙ ap (λ (xs : List (List ℕ)). executed_in who (act_lines who step.act step.did body) ++ xs) (news-none who who step.news)
-    ∙ append-nil (executed_in who (act_lines who step.act step.did body)))
-    ∙ act-count who itself (act_of_byte node_host side.end cell.byte) side.end.host body
+    ap length (step-own who itself (step_of side cell) side.end.host body [] [] (λ is. ap (λ (a : Act). did_at node_host a side.end.host body) is) refl) ∙ act-count what body
 
 -- ---- one end
 
@@ -97,7 +73,7 @@ whole f issued executed = issued * f.command + executed * f.message
 record Stands (who : Who) (f : Figures) (side : LineEndState) (drained : ℕ) (lines : List Line) : Type 0 where
   account : Account f side.end (whole f (length (bodies_of side)) (length (executed_in who lines))) drained
 
-stands-silent : (who : Who) (f : Figures) (side : LineEndState) (drained : ℕ) (lines more : List Line) → None_in who more → Stands who f side drained lines → Stands who f side drained (lines ++ more)
+stands-silent : (who : Who) (f : Figures) (side : LineEndState) (drained : ℕ) (lines more : List Line) → ExecuteNothing who more → Stands who f side drained lines → Stands who f side drained (lines ++ more)
 stands-silent who f side drained lines more none s = record {
   account = subst (λ (xs : List (List ℕ)). Account f side.end (whole f (length (bodies_of side)) (length xs)) drained)
       (sym (filter_map-append (executed_at who) lines more ∙ ap (λ (xs : List (List ℕ)). executed_in who lines ++ xs) none ∙ append-nil (executed_in who lines))) s.account;
@@ -108,25 +84,6 @@ stands-same : (who : Who) (f : Figures) (side now : LineEndState) (drained : ℕ
 stands-same who f side now drained lines total same is a = record {
   account = subst (λ (n : ℕ). Account f now.end n drained) (is ∙ ap (λ (bodies : List (List ℕ)). whole f (length bodies) (length (executed_in who lines))) (sym same)) a;
 }
-
-same-act : (what : Act) (host : NodeState) (body : List ℕ) → SameCommands host.initiator (host_after node_host what host body).initiator
-same-act act.Accept host body = same-accept host body
-same-act act.Repeat host body = same-itself host.initiator
-same-act act.Refuse host body = same-itself host.initiator
-same-act act.Damaged host body = same-itself host.initiator
-same-act act.Forgot host body = same-itself host.initiator
-same-act act.PeerAck host body = same-itself host.initiator
-same-act act.PeerNak host body = same-itself host.initiator
-same-act act.PeerEnq host body = same-itself host.initiator
-same-act act.Nothing host body = same-itself host.initiator
-
-same-fate : (what : Option Fate) (host : NodeState) → SameCommands host.initiator (host_told node_host what host).initiator
-same-fate None host = same-itself host.initiator
-same-fate (Some what) host = same-told what host
-
-same-handed : (o : Option (List ℕ)) (host : NodeState) → SameCommands host.initiator (option_map_or (λ (body : List ℕ). after_next host) o host).initiator
-same-handed None host = same-itself host.initiator
-same-handed (Some body) host = same-next host
 
 stands-cell : (who : Who) → is_who who who ≡ true → (f : Figures) → AreFigures f → (side : LineEndState) (cell : LaneCell) (drained : ℕ) (lines : List Line) → Stands who f side drained lines → Stands who f (after_cell side cell) drained (lines ++ cell_lines who side cell)
 stands-cell who itself f are side cell drained lines s =
@@ -148,16 +105,6 @@ stands-cell who itself f are side cell drained lines s =
 stands-arrival : (who : Who) → is_who who who ≡ true → (f : Figures) → AreFigures f → (side : LineEndState) (cell : Option LaneCell) (drained : ℕ) (lines : List Line) → Stands who f side drained lines → Stands who f (after_arrival side cell) drained (lines ++ arrival_lines who side cell)
 stands-arrival who itself f are side None drained lines s = stands-silent who f side drained lines [] refl s
 stands-arrival who itself f are side (Some cell) drained lines s = stands-cell who itself f are side cell drained lines s
-
--- a step that issues no command
-abbrev IsPlain : Deed → Type 0
-IsPlain (Issue src dst payload) = ⊥
-IsPlain Take = Unit {0}
-IsPlain Deliver = Unit {0}
-IsPlain Lose = Unit {0}
-IsPlain (Alter mask) = Unit {0}
-IsPlain (Foreign byte) = Unit {0}
-IsPlain Tick = Unit {0}
 
 stands-after : (who : Who) (f : Figures) → AreFigures f → (side : LineEndState) (deed : Deed) (drained : ℕ) (lines : List Line) → IsPlain deed → Stands who f side drained lines → Stands who f (near_after side deed) (drained + drained_at side deed) lines
 stands-after who f are side (Issue src dst payload) drained lines plain s = absurd plain
@@ -203,13 +150,9 @@ both-beside near far two f far_f far_are s deed now far_drained lines stands far
     let second = arrival_lines far s.b (arriving s.a deed) in
     subst (λ (all : List Line). BothStand near far f far_f (after_deed s deed) now far_drained all) (append_assoc lines first second)
     (record {
-      stands = stands-silent near f (near_after s.a deed) now (lines ++ first) second (other-arrival near far two.other s.b (arriving s.a deed)) (stands-silent near f (near_after s.a deed) now lines first (near-none near near s.a deed) stands);
-      far_stands = stands-arrival far two.far_itself far_f far_are s.b (arriving s.a deed) far_drained (lines ++ first) (stands-silent far far_f s.b far_drained lines first (near-none far near s.a deed) far_stands);
+      stands = stands-silent near f (near_after s.a deed) now (lines ++ first) second (arrival-other near far two.other s.b (arriving s.a deed)) (stands-silent near f (near_after s.a deed) now lines first (near-executes near near s.a deed) stands);
+      far_stands = stands-arrival far two.far_itself far_f far_are s.b (arriving s.a deed) far_drained (lines ++ first) (stands-silent far far_f s.b far_drained lines first (near-executes far near s.a deed) far_stands);
     })
-
-abbrev ArePlain : List Deed → Type 0
-ArePlain [] = Unit {0}
-ArePlain (deed ∷ deeds) = IsPlain deed × ArePlain deeds
 
 both-deeds : (near far : Who) → AreTwo near far → (f far_f : Figures) → AreFigures f → AreFigures far_f → (s : LineState) (deeds : List Deed) (drained far_drained : ℕ) (lines : List Line) → ArePlain deeds → BothStand near far f far_f s drained far_drained lines
     → BothStand near far f far_f (after_deeds s deeds) (drained + drained_over s.a deeds) far_drained (lines ++ lines_over near far s deeds)
@@ -229,8 +172,8 @@ both-sent near far f far_f s drained far_drained lines over bytes b =
     let sent = sent_lines near bytes in
     subst (λ (all : List Line). BothStand near far f far_f s drained far_drained all) (append_assoc lines over sent)
     (record {
-      stands = stands-silent near f s.a drained (lines ++ over) sent (sent-none near near bytes) b.stands;
-      far_stands = stands-silent far far_f s.b far_drained (lines ++ over) sent (sent-none far near bytes) b.far_stands;
+      stands = stands-silent near f s.a drained (lines ++ over) sent (sent-execute near near bytes) b.stands;
+      far_stands = stands-silent far far_f s.b far_drained (lines ++ over) sent (sent-execute far near bytes) b.far_stands;
     })
 
 both-event : (near far : Who) → AreTwo near far → (f far_f : Figures) → AreFigures f → AreFigures far_f → (s : LineState) (deeds : List Deed) (drained far_drained : ℕ) (lines : List Line) (bytes : List ℕ) → ArePlain deeds → BothStand near far f far_f s drained far_drained lines
@@ -272,23 +215,15 @@ seen-issue B end f far_f are far_are s src dst payload drained far_drained lines
 seen-issue M end f far_f are far_are s src dst payload drained far_drained lines b = absurd cc
 seen-issue (S station) end f far_f are far_are s src dst payload drained far_drained lines b = absurd cc
 
-plain-repeated : (deed : Deed) → IsPlain deed → (n : ℕ) → ArePlain (replicate n deed)
-plain-repeated deed plain zero = tt
-plain-repeated deed plain (suc n) = (plain, plain-repeated deed plain n)
-
-plain-foreign : (bytes : List ℕ) → ArePlain (map Foreign bytes)
-plain-foreign [] = tt
-plain-foreign (byte ∷ bytes) = (tt, plain-foreign bytes)
-
 stand-event : (f far_f : Figures) → AreFigures f → AreFigures far_f → (e : Event) (s : LineState) (drained far_drained : ℕ) (lines : List Line) → IsPossible e → BothStand A B f far_f s drained far_drained lines
     → BothStand A B f far_f (after_event s e) (drained_with A drained s e) (drained_with B far_drained s e) (lines ++ lines_of s e)
 stand-event f far_f are far_are (event.Issue who src dst payload) s drained far_drained lines possible b = seen-issue who possible.0 f far_f are far_are s src dst payload drained far_drained lines b
-stand-event f far_f are far_are (event.Take who n) s drained far_drained lines possible b = seen-plain who possible.0 f far_f are far_are s (replicate n Take) drained far_drained lines (plain-repeated Take tt n) b
-stand-event f far_f are far_are (event.Deliver lane n) s drained far_drained lines possible b = seen-plain lane.from (joins-end lane.from lane.to possible.0) f far_f are far_are s (replicate n Deliver) drained far_drained lines (plain-repeated Deliver tt n) b
-stand-event f far_f are far_are (event.Lose lane n) s drained far_drained lines possible b = seen-plain lane.from (joins-end lane.from lane.to possible.0) f far_f are far_are s (replicate n Lose) drained far_drained lines (plain-repeated Lose tt n) b
+stand-event f far_f are far_are (event.Take who n) s drained far_drained lines possible b = seen-plain who possible.0 f far_f are far_are s (replicate n Take) drained far_drained lines (plain-again Take tt n) b
+stand-event f far_f are far_are (event.Deliver lane n) s drained far_drained lines possible b = seen-plain lane.from (joins-end lane.from lane.to possible.0) f far_f are far_are s (replicate n Deliver) drained far_drained lines (plain-again Deliver tt n) b
+stand-event f far_f are far_are (event.Lose lane n) s drained far_drained lines possible b = seen-plain lane.from (joins-end lane.from lane.to possible.0) f far_f are far_are s (replicate n Lose) drained far_drained lines (plain-again Lose tt n) b
 stand-event f far_f are far_are (event.Alter lane mask) s drained far_drained lines possible b = seen-plain lane.from (joins-end lane.from lane.to possible.0) f far_f are far_are s (Alter mask ∷ []) drained far_drained lines (tt, tt) b
 stand-event f far_f are far_are (event.Foreign lane bytes) s drained far_drained lines possible b = seen-plain lane.from (joins-end lane.from lane.to possible.0) f far_f are far_are s (map Foreign bytes) drained far_drained lines (plain-foreign bytes) b
-stand-event f far_f are far_are (event.Tick who n) s drained far_drained lines possible b = seen-plain who possible.0 f far_f are far_are s (replicate n Tick) drained far_drained lines (plain-repeated Tick tt n) b
+stand-event f far_f are far_are (event.Tick who n) s drained far_drained lines possible b = seen-plain who possible.0 f far_f are far_are s (replicate n Tick) drained far_drained lines (plain-again Tick tt n) b
 
 stand-events : (f far_f : Figures) → AreFigures f → AreFigures far_f → (events : List Event) (s : LineState) (drained far_drained : ℕ) (lines : List Line) → All IsPossible events → BothStand A B f far_f s drained far_drained lines
     → BothStand A B f far_f (state_after s events) (drained_after A drained s events) (drained_after B far_drained s events) (lines ++ lines_after s events)

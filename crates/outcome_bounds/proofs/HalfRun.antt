@@ -4,14 +4,14 @@ use Rattle.std.specs.Prelude.{All, replicate, slice_get, slice_index_or, unwrap_
 use Rattle.std.proofs.Math.Nat.{mul-suc, suc-mul}
 use Rattle.std.proofs.lemmas.List.{length-append, length-map, map-append}
 use Rattle.std.proofs.lemmas.List.Elements.{All-head, All-tail, filter_map-append}
-use Rattle.df1_base.specs.declared.host.Did.{Did}
-use Rattle.df1_base.specs.declared.link.Step.{Step}
 use Rattle.df1_check.specs.declared.Check.{Check}
 use Rattle.df1_node.specs.Initiator.{Issued}
+use Rattle.pccc_envelope.specs.Envelope.{is_reply}
 use Rattle.df1_node.specs.Node.{NodeState}
 use Rattle.each_once.specs.Commands.{AreOutcomesTold}
 use Rattle.each_once.specs.NodeHost.{node_host}
 use Rattle.each_once.specs.Tells.{executed_at, executed_in}
+use Rattle.each_once.proofs.SentAndExecuted.{ExecuteNothing, tick-execute, sent-execute, step-other, step-own, command_at_act}
 use Rattle.each_once.proofs.IssuedCommands.{SameCommands, same-itself, same-both, same-accept, same-told, same-tick, same-next}
 use Rattle.end_settings.specs.declared.key.Key.TheVariants.{AckTicks, PerSource, PollTicks, ReplyTicks, Window}
 use Rattle.half_frame.specs.declared.heard.MasterHeard.{MasterHeard}
@@ -26,14 +26,16 @@ use Rattle.half_line.specs.Steps.{UnitStep, AtMaster, AtStation, link_of, after_
 use Rattle.half_line.proofs.Once.MasterCommands.{issued-run}
 use Rattle.half_line.proofs.Once.MasterOutcomes.{outcomes-run}
 use Rattle.half_line.proofs.Once.WholeRun.{IsPlain, ArePlain, plain-with, plain-master, plain-take}
-use Rattle.half_master.specs.Master.{MasterState, with_byte, heard_at, body_of, act_of, act_heard, did_at, effect_of_byte, step_at_byte, master_after_byte, master_after_tick, master_after_take, turn_at_tick, gone_at_tick}
+use Rattle.half_master.specs.Master.{MasterState, with_byte, heard_at, body_of, act_of, act_heard, effect_of_byte, step_at_byte, master_after_byte, master_after_tick, master_after_take, turn_at_tick, gone_at_tick}
 use Rattle.half_master.specs.declared.table.Effect.{Effect}
 use Rattle.half_master.specs.declared.table.Effect.TheVariants as effect
+use Rattle.half_line.proofs.Wire.MasterEnd.{did-as-node}
+use Rattle.half_master.proofs.Seen.{at-byte, lent-after}
 use Rattle.half_master.proofs.HostSteps.{Keeps, byte-keeps, tick-keeps, take-keeps}
 use Rattle.lane_cells.specs.Cells.{LaneCell}
 use Rattle.replay_report.specs.declared.record.Line.{Line}
 use Rattle.replay_report.specs.Report.{sent_lines}
-use Rattle.report_lines.specs.NodeLines.{act_lines, news_lines, step_lines, turn_lines, gone_lines}
+use Rattle.report_lines.specs.NodeLines.{step_lines}
 use Rattle.script_parts.specs.declared.script.EndPlan.{EndPlan}
 use Rattle.script_parts.specs.declared.script.Event.{Event}
 use Rattle.script_parts.specs.declared.script.Event.TheVariants as event
@@ -44,47 +46,41 @@ use Rattle.script_parts.specs.Playable.{IsPlanOf}
 use Rattle.script_statement.specs.declared.who.Who.TheVariants.{M, S}
 use Rattle.outcome_bounds.specs.Bounds.{polled_message_ticks, polled_command_ticks, AreToldIn, AtMaster as IsToldAtMaster}
 use Rattle.outcome_bounds.specs.Drained.{drained_at_master, drained_at_step, drained_over_steps, master_drained_with, master_drained_after, drained_ticks_of_master}
-use Rattle.outcome_bounds.proofs.NodeAccount.{add-times, known-at}
+use Rattle.outcome_bounds.proofs.NodeAccount.{add-times, known-at, reply-count}
 use Rattle.outcome_bounds.proofs.MasterAccount.{Figures, AreFigures, Account, Due, account-issue, account-take, account-byte, account-tick, executes, all-over}
-use Rattle.outcome_bounds.proofs.ExecutedLines.{None_in, none-both, news-none, turn-none, gone-none, sent-none, other-act, accepted-count}
 
--- ---- lines
-
-station-none : (step : Step) (station : ℕ) (body : List ℕ) → None_in M (step_lines (S station) step body)
-station-none step station body = none-both M (act_lines (S station) step.act step.did body) (news_lines (S station) step.news) (other-act M (S station) refl step.act step.did body) (news-none M (S station) step.news)
+-- ---- the commands that the master executes at a byte
 
 -- what is heard alone is no command
-heard-count : (what : Option MasterHeard) (did : Option Did) (body : List ℕ) → length (executed_in M (act_lines M (act_heard what) did body)) ≡ 0
-heard-count None did body = refl
-heard-count (Some heard.Good) did body = refl
-heard-count (Some heard.Damaged) did body = refl
-heard-count (Some heard.Ack) did body = refl
-heard-count (Some heard.Nak) did body = refl
-heard-count (Some heard.Eot) did body = refl
-heard-count (Some (heard.Stray b)) did body = refl
-heard-count (Some (heard.StrayPair c)) did body = refl
+heard-count : (what : Option MasterHeard) (body : List ℕ) → length (command_at_act (act_heard what) body) ≡ 0
+heard-count None body = refl
+heard-count (Some heard.Good) body = refl
+heard-count (Some heard.Damaged) body = refl
+heard-count (Some heard.Ack) body = refl
+heard-count (Some heard.Nak) body = refl
+heard-count (Some heard.Eot) body = refl
+heard-count (Some (heard.Stray b)) body = refl
+heard-count (Some (heard.StrayPair c)) body = refl
 
-effect-count : (what : Effect) (heard : Option MasterHeard) (host : NodeState) (body told : List ℕ) → length (executed_in M (act_lines M (act_of what heard) (did_at node_host what host body) told)) ≡ executes what body
-effect-count (effect.Accepted place) heard host body told = accepted-count M refl host body told
-effect-count effect.Nothing heard host body told = heard-count heard None told
-effect-count (effect.Waits left) heard host body told = heard-count heard None told
-effect-count effect.Delivered heard host body told = heard-count heard None told
-effect-count (effect.Again resent) heard host body told = heard-count heard None told
-effect-count effect.GivenUp heard host body told = heard-count heard None told
-effect-count effect.PollOver heard host body told = heard-count heard None told
-effect-count effect.Repeated heard host body told = refl
-effect-count effect.Refused heard host body told = refl
-effect-count effect.Damaged heard host body told = refl
-effect-count effect.Polls heard host body told = heard-count heard None told
+effect-count : (what : Effect) (heard : Option MasterHeard) (body : List ℕ) → length (command_at_act (act_of what heard) body) ≡ executes what body
+effect-count (effect.Accepted place) heard body = reply-count (is_reply body) body
+effect-count effect.Nothing heard body = heard-count heard body
+effect-count (effect.Waits left) heard body = heard-count heard body
+effect-count effect.Delivered heard body = heard-count heard body
+effect-count (effect.Again resent) heard body = heard-count heard body
+effect-count effect.GivenUp heard body = heard-count heard body
+effect-count effect.PollOver heard body = heard-count heard body
+effect-count effect.Repeated heard body = refl
+effect-count effect.Refused heard body = refl
+effect-count effect.Damaged heard body = refl
+effect-count effect.Polls heard body = heard-count heard body
 
 byte-count : (m : MasterState NodeState) (b : ℕ) → length (executed_in M (step_lines M (step_at_byte node_host m b) (body_of (master_after_byte node_host m b)))) ≡ executes (effect_of_byte node_host m b) (body_of (with_byte m b))
 byte-count m b =
     let step = step_at_byte node_host m b in
-    let told = body_of (master_after_byte node_host m b) in
-    ap length (filter_map-append (executed_at M) (act_lines M step.act step.did told) (news_lines M step.news)
-    ∙ ap (λ (xs : List (List ℕ)). executed_in M (act_lines M step.act step.did told) ++ xs) (news-none M M step.news)
-    ∙ append-nil (executed_in M (act_lines M step.act step.did told)))
-    ∙ effect-count (effect_of_byte node_host m b) (heard_at m b) m.host (body_of (with_byte m b)) told
+    let body = body_of (with_byte m b) in
+    ap length (ap (λ (told : List ℕ). executed_in M (step_lines M step told)) (lent-after node_host m b) ∙ step-own M refl step m.host body [] [] (did-as-node m b (at-byte node_host m b)) refl)
+    ∙ effect-count (effect_of_byte node_host m b) (heard_at m b) body
 
 -- ---- the master
 
@@ -96,7 +92,7 @@ whole f issued executed = issued * f.command + executed * f.message
 record Stands (f : Figures) (m : MasterState NodeState) (drained : ℕ) (lines : List Line) : Type 0 where
   account : Account f m (whole f (length (bodies_of m)) (length (executed_in M lines))) drained
 
-stands-silent : (f : Figures) (m : MasterState NodeState) (drained : ℕ) (lines more : List Line) → None_in M more → Stands f m drained lines → Stands f m drained (lines ++ more)
+stands-silent : (f : Figures) (m : MasterState NodeState) (drained : ℕ) (lines more : List Line) → ExecuteNothing M more → Stands f m drained lines → Stands f m drained (lines ++ more)
 stands-silent f m drained lines more none s = record {
   account = subst (λ (xs : List (List ℕ)). Account f m (whole f (length (bodies_of m)) (length xs)) drained)
       (sym (filter_map-append (executed_at M) lines more ∙ ap (λ (xs : List (List ℕ)). executed_in M lines ++ xs) none ∙ append-nil (executed_in M lines))) s.account;
@@ -134,7 +130,7 @@ stands-arrival : (f : Figures) → AreFigures f → (way : Way) (s t : LinkState
 stands-arrival f are way s t None drained lines same st = rw (append-nil lines) (subst (λ (m : MasterState NodeState). Stands f m drained lines) (sym same) st)
 stands-arrival f are ToStation s t (Some cell) drained lines same st =
     subst (λ (m : MasterState NodeState). Stands f m drained (lines ++ arrival_lines plain_node ToStation s (Some cell))) (sym same)
-    (stands-silent f s.master drained lines (arrival_lines plain_node ToStation s (Some cell)) (station-none (step_of plain_node ToStation s cell) s.side.number (body_heard plain_node ToStation s cell)) st)
+    (stands-silent f s.master drained lines (arrival_lines plain_node ToStation s (Some cell)) (step-other M (S s.side.number) refl (step_of plain_node ToStation s cell) (body_heard plain_node ToStation s cell)) st)
 stands-arrival f are ToMaster s t (Some cell) drained lines same st =
     subst (λ (m : MasterState NodeState). Stands f (master_after_byte node_host m cell.byte) drained (lines ++ arrival_lines plain_node ToMaster s (Some cell))) (sym same) (stands-byte f are s.master cell.byte drained lines st)
 
@@ -146,16 +142,13 @@ stands-with : (f : Figures) → AreFigures f → (s : HalfState NodeState) (plac
 stands-with f are s place deed None drained lines st = rw (append-nil lines) st
 stands-with f are s place deed (Some side) drained lines st = stands-link f are (link_of s side) deed drained lines st
 
-tick-none : (m : MasterState NodeState) → None_in M (master_lines plain_node m Tick)
-tick-none m = none-both M (turn_lines M (turn_at_tick node_host m)) (gone_lines M (gone_at_tick node_host m)) (turn-none M M (turn_at_tick node_host m)) (gone-none M M (gone_at_tick node_host m))
-
 stands-step : (f : Figures) → AreFigures f → (step : UnitStep) → IsPlain step → (s : HalfState NodeState) (drained : ℕ) (lines : List Line) → Stands f s.master drained lines
     → Stands f (after_step plain_node s step).master (drained + drained_at_step s step) (lines ++ lines_at plain_node s step)
 stands-step f are (AtMaster (Issue src dst payload)) plain s drained lines st = absurd plain
 stands-step f are (AtMaster Give) plain s drained lines st =
     rw (append-nil lines, add-zero drained) (stands-same f s.master (master_after_take node_host s.master) drained _ lines (take-keeps node_host _ plain-calls s.master) refl (account-take f are s.master _ drained st.account))
 stands-step f are (AtMaster Tick) plain s drained lines st =
-    stands-silent f (master_after_tick node_host s.master) (drained + drained_at_master s.master Tick) lines (master_lines plain_node s.master Tick) (tick-none s.master)
+    stands-silent f (master_after_tick node_host s.master) (drained + drained_at_master s.master Tick) lines (master_lines plain_node s.master Tick) (tick-execute M M (turn_at_tick node_host s.master) (gone_at_tick node_host s.master))
     (stands-same f s.master (master_after_tick node_host s.master) (drained + drained_at_master s.master Tick) _ lines (tick-keeps node_host _ plain-calls s.master) refl (account-tick f are s.master _ drained st.account))
 stands-step f are (AtStation place deed) plain s drained lines st = rw (add-zero drained) (stands-with f are s place deed (slice_get s.stations place) drained lines st)
 
@@ -176,7 +169,7 @@ plain-event f are s e drained lines plain st =
     let sent = sent_lines (giver (station_at e)) (bytes_over plain_node s (steps_of s e)) in
     let count = drained + drained_over_steps s (steps_of s e) in
     subst (λ (all : List Line). Stands f (after_event plain_node s e).master count all) (append_assoc lines over sent)
-    (stands-silent f (after_event plain_node s e).master count (lines ++ over) sent (sent-none M (giver (station_at e)) (bytes_over plain_node s (steps_of s e))) (stands-steps f are (steps_of s e) plain s drained lines st))
+    (stands-silent f (after_event plain_node s e).master count (lines ++ over) sent (sent-execute M (giver (station_at e)) (bytes_over plain_node s (steps_of s e))) (stands-steps f are (steps_of s e) plain s drained lines st))
 
 stands-issue : (f : Figures) (m : MasterState NodeState) (src : Option ℕ) (dst : ℕ) (payload : List ℕ) (drained : ℕ) (lines : List Line) → Stands f m drained lines → Stands f (master_after plain_node m (Issue src dst payload)) 0 lines
 stands-issue f m src dst payload drained lines st =

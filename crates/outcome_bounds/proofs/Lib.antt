@@ -1,5 +1,3 @@
--- The commands that lines of a report tell as executed.
-pub mod ExecutedLines
 -- What a node has still to wait for, and what each of its steps changes of that.
 pub mod NodeAccount
 -- An end of a full-duplex line: how many drained ticks its messages and commands may take yet.

@@ -1,6 +1,6 @@
 -- What a node has still to wait for: the ticks of its commands that are out, and how many commands wait; and what each step changes of it.
 use Rattle.std.proofs.Common.{◌≡◌, ◌∙◌, ℕ, zero, suc, ◌+◌, ◌-◌, ◌*◌, ◌<◌, ◌≤◌, Bool, true, false, cond, ◌&&◌, eqb, nat_lt, List, [], ◌∷◌, ◌++◌, length, Option, Some, None, is_some, slice_get, position, refl, sym, ap, subst, arith, add-zero}
-use Rattle.std.specs.Prelude.{count_by}
+use Rattle.std.specs.Prelude.{count_by, if◌then◌else◌}
 use Rattle.std.specs.Option.{option_map, option_map_or, option_and_then, option_or}
 use Rattle.std.proofs.Math.Nat.{mul-suc, mul-add, mul_comm}
 use Rattle.std.proofs.lemmas.Bool.Decides.{nat_tests}
@@ -257,6 +257,11 @@ accepts-replies false replies answer = length-append replies (answer ∷ [])
 
 pub accepts-body : (host : NodeState) (body : List ℕ) → Accepts host (after_accept host body) (cond (is_reply body) 0 1)
 accepts-body host body = record { keeps = accept-keeps host body; settings = accept-settings host body; replies = accepts-replies (is_reply body) host.replies (reply_to host.station body) }
+
+-- so many commands are in it
+pub reply-count : (reply : Bool) (body : List ℕ) → length (if reply then [] else body ∷ []) ≡ cond reply 0 1
+reply-count true body = refl
+reply-count false body = refl
 
 pub told-replies : (what : Option Fate) (host : NodeState) → (host_told node_host what host).replies ≡ host.replies
 told-replies None host = refl

@@ -123,7 +123,7 @@ outcomes-act who itself act.PeerNak host body lines told = outcomes-silent who h
 outcomes-act who itself act.PeerEnq host body lines told = outcomes-silent who host.initiator.issued lines [] (λ n. refl) told
 outcomes-act who itself act.Nothing host body lines told = outcomes-silent who host.initiator.issued lines [] (λ n. refl) told
 
-same-act : (what : Act) (host : NodeState) (body : List ℕ) → SameCommands host.initiator (host_after node_host what host body).initiator
+pub same-act : (what : Act) (host : NodeState) (body : List ℕ) → SameCommands host.initiator (host_after node_host what host body).initiator
 same-act act.Accept host body = same-accept host body
 same-act act.Repeat host body = same-itself host.initiator
 same-act act.Refuse host body = same-itself host.initiator
@@ -140,7 +140,7 @@ outcomes-fate : (who : Who) → is_who who who ≡ true → (what : Option Fate)
 outcomes-fate who itself None host lines told = outcomes-silent who host.initiator.issued lines [] (λ n. refl) told
 outcomes-fate who itself (Some what) host lines told = outcomes-told who itself what host lines told
 
-same-fate : (what : Option Fate) (host : NodeState) → SameCommands host.initiator (host_told node_host what host).initiator
+pub same-fate : (what : Option Fate) (host : NodeState) → SameCommands host.initiator (host_told node_host what host).initiator
 same-fate None host = same-itself host.initiator
 same-fate (Some what) host = same-told what host
 
@@ -173,7 +173,7 @@ requests_of node (Alter mask) = []
 requests_of node (Foreign byte) = []
 requests_of node Tick = []
 
-same-handed : (o : Option (List ℕ)) (host : NodeState) → SameCommands host.initiator (option_map_or (λ (body : List ℕ). after_next host) o host).initiator
+pub same-handed : (o : Option (List ℕ)) (host : NodeState) → SameCommands host.initiator (option_map_or (λ (body : List ℕ). after_next host) o host).initiator
 same-handed None host = same-itself host.initiator
 same-handed (Some body) host = same-next host
 

@@ -32,7 +32,7 @@ moved-number : {H : Type 0} (way : Way) (s : LinkState H) (deed : LaneDeed) → 
 moved-number ToStation s deed = refl
 moved-number ToMaster s deed = refl
 
-link-number : {H : Type 0} (h : Behind H) (s : LinkState H) (deed : LinkDeed) → (after_link_deed h s deed).side.number ≡ s.side.number
+pub link-number : {H : Type 0} (h : Behind H) (s : LinkState H) (deed : LinkDeed) → (after_link_deed h s deed).side.number ≡ s.side.number
 link-number h s StationGives = refl
 link-number h s (OnLane way deed) = arrival-number h way (moved way s deed) _ ∙ moved-number way s deed
 

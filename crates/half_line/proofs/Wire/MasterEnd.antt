@@ -212,7 +212,7 @@ byte-hears first e b messages heard (passes p) h = record {
   commands = sym (append-nil (filter is_command heard)) ∙ ap (λ (l : List (List ℕ)). filter is_command heard ++ l) (sym (none-now (step_at_byte node_host e b).act (body_of (with_byte e b)) p.act));
 }
 
-did-as-node : (e : MasterState NodeState) (b : ℕ) → AtByte node_host e b → DidAsNode (step_at_byte node_host e b).act (step_at_byte node_host e b).did e.host (body_of (with_byte e b))
+pub did-as-node : (e : MasterState NodeState) (b : ℕ) → AtByte node_host e b → DidAsNode (step_at_byte node_host e b).act (step_at_byte node_host e b).did e.host (body_of (with_byte e b))
 did-as-node e b (accepts a) is = a.did
 did-as-node e b (passes p) is = absurd (p.act is)
 
