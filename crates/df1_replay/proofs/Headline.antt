@@ -11,6 +11,7 @@ use Rattle.line_world.specs.Complete.{IsUndisturbed, IsComplete}
 use Rattle.line_world.specs.Once.{EachCommandOnce}
 use Rattle.line_world.specs.Runs.{record_of}
 use Rattle.line_world.proofs.EitherMode.{all-complete, all-recover, all-wires, each-command-once}
+use Rattle.late_laws.proofs.NothingLate.{nothing-comes-late}
 use Rattle.outcome_bounds.proofs.EitherMode.{outcomes-come}
 use Rattle.overtaking_laws.proofs.Cut.{nothing-is-overtaken}
 use Rattle.df1_replay.specs.declared.fault.ReplayFault.{ReplayFault}
@@ -40,6 +41,7 @@ replayed-well left left' held held' a =
       put = subst (λ (text : List ℕ). Put held held' text) (sym read.2) a.put;
       once = record-once read.0 (CanBePlayed-script_of a.input read.0 read.1);
       settled = nothing-is-overtaken read.0 (CanBePlayed-script_of a.input read.0 read.1);
+      late = nothing-comes-late read.0 (CanBePlayed-script_of a.input read.0 read.1);
       outcomes = outcomes-come read.0 (CanBePlayed-script_of a.input read.0 read.1);
       complete = record-complete read.0 (CanBePlayed-script_of a.input read.0 read.1);
       recovered = all-recover read.0 (CanBePlayed-script_of a.input read.0 read.1);

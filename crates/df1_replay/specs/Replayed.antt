@@ -1,4 +1,4 @@
--- What a run of `replay` shows that ended well: its script, the report, each command once and none overtaken, all of them where
+-- What a run of `replay` shows that ended well: its script, the report, each command once, none overtaken and none late, all of them where
 -- nothing disturbs the line or it recovers, how soon each has its outcome, and what is on the wire.
 use Rattle.std.specs.Prelude.{◌≡◌, ℕ, List, Option, Ok}
 use Rattle.std.specs.Io.KnownBytes.{IsAtEnd}
@@ -6,6 +6,7 @@ use Rattle.df1_base.specs.Outside.{Took, Put}
 use Rattle.script_parts.specs.declared.script.Script.{Script}
 use Rattle.line_script.specs.ScriptText.{script_of}
 use Rattle.replay_report.specs.Report.{report}
+use Rattle.late_laws.specs.GivenUp.{NothingComesLate}
 use Rattle.line_world.specs.Complete.{IsUndisturbed, IsComplete}
 use Rattle.line_world.specs.Once.{EachCommandOnce}
 use Rattle.line_world.specs.Recovery.{Recovers}
@@ -17,7 +18,8 @@ use Rattle.overtaking_laws.specs.Overtaking.{NothingIsOvertaken}
 -- The input was read to its end and is a script. The report of its run is written, and nothing else. Where no end was
 -- deceived, each station executed commands that were issued to it, each once, those of each source in their order, and each
 -- accepted reply is what it answered to that very command; once a command is executed, or a reply to it is told, none of its source
--- with a lower number is executed any more. Where nothing disturbs the line and nothing is under way in the end,
+-- with a lower number is executed any more; nor is one that was given up, once nothing is on its way, by the lines and the events
+-- so far. Where nothing disturbs the line and nothing is under way in the end,
 -- where each end, or each station, has room for what the other end, or the master, may have out, and no reply is left at a
 -- station, no end was deceived, and all commands were executed and answered. They were too on a full-duplex line that altered
 -- bytes of bodies alone, in few transmissions of each message, and deceived no end. Whatever was heard, and deceived or not: where
@@ -32,6 +34,7 @@ pub record Replayed (left left' held held' : Option (List ℕ)) : Type 0 where
   pub put : Put held held' (report (record_of script))
   pub once : (record_of script).deceived ≡ 0 → EachCommandOnce script (record_of script)
   pub settled : (record_of script).deceived ≡ 0 → NothingIsOvertaken script (record_of script)
+  pub late : (record_of script).deceived ≡ 0 → NothingComesLate script (record_of script)
   pub complete : IsUndisturbed script → IsComplete script (record_of script)
   pub recovered : Recovers script (record_of script)
   pub outcomes : OutcomesCome script (record_of script)

@@ -10,6 +10,16 @@ pub mod NoneUnanswered
 pub mod NoneUndelivered
 -- A node's commands that stand so: which step brings such a one about, and that none of their bodies is handed out again.
 pub mod KnownNode
+-- A full-duplex run: no more bytes are on their way from an end than it sent, and none where as many left its lane and it sent none since.
+pub mod ClearedLane
+-- A half-duplex run: no more bytes are on their way to a station than the master sent, and none where as many left that lane and it sent none since.
+pub mod ClearedStation
+-- A full-duplex script cut where the report tells a command as ended and nothing is on its way: no later line tells it as executed.
+pub mod LateAtCut
+-- A half-duplex script cut where the report tells a command as ended and nothing is on its way to a station: no later line tells it as executed there.
+pub mod LateAtPolledCut
+-- A run of either mode in which no end is deceived: nothing that ended comes late.
+pub mod NothingLate
 -- A full-duplex script cut where a command is over: no later command has its body, and it stays over.
 pub mod OverAtCut
 -- A half-duplex script cut where a command is over on its way to a station: no later command has its body, and it stays over.

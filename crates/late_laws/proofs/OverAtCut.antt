@@ -38,14 +38,14 @@ use Rattle.late_laws.proofs.OverRun.{IssuesOther, AllIssueOther, StaysOver, all-
 -- ---- the commands of an end at a cut
 
 -- all commands of an end
-abbrev commands_at : Who → Script → List (List ℕ)
+abbrev pub commands_at : Who → Script → List (List ℕ)
 commands_at A script = commands_of_a script
 commands_at B script = commands_of_b script
 commands_at M script = []
 commands_at (S station) script = []
 
 -- the state after these events, from an end
-abbrev state_at : Who → Script → List Event → LineState
+abbrev pub state_at : Who → Script → List Event → LineState
 state_at near script events = seen_from near (state_after (start script) events)
 
 abbrev bodies_at : Who → Script → List Event → List (List ℕ)
@@ -64,7 +64,7 @@ commands-front M end script front back is = absurd cc
 commands-front (S station) end script front back is = absurd cc
 
 -- those so far are the first of all
-bodies-front : (near : Who) → IsTrue (is_end near) → (script : Script) → IsPlayable script → (front back : List Event) → script.events ≡ front ++ back → (more : List (List ℕ)) × (commands_at near script ≡ bodies_at near script front ++ more)
+pub bodies-front : (near : Who) → IsTrue (is_end near) → (script : Script) → IsPlayable script → (front back : List Event) → script.events ≡ front ++ back → (more : List (List ℕ)) × (commands_at near script ≡ bodies_at near script front ++ more)
 bodies-front near end script playable front back is =
     let first = commands-front near end script front back is in
     let same = bodies-all near end (with_events script front) (duplex-front script front back playable is) in
@@ -215,7 +215,7 @@ pub all-back : {X : Type 0} (P : X → Type 0) (front back : List X) → All P (
 all-back P [] back all = all
 all-back P (x ∷ front) back all = all-back P front back (All-tail P x (front ++ back) all)
 
-late-at : (near : Who) → IsTrue (is_end near) → (script : Script) → IsPlayable script → (last_state script).deceived ≡ 0 → (front back : List Event) → script.events ≡ front ++ back
+pub late-at : (near : Who) → IsTrue (is_end near) → (script : Script) → IsPlayable script → (last_state script).deceived ≡ 0 → (front back : List Event) → script.events ≡ front ++ back
     → (n : ℕ) (body : List ℕ) → IsOverAt (state_at near script front).a n body → Contains (executed_in (other near) (lines_after (state_after (start script) front) back)) body → ⊥
 late-at near end script playable none front back is n body over contains =
     let at = holds-at near end script playable none front back is in

@@ -38,7 +38,7 @@ use Rattle.late_laws.proofs.OverRun.{all-none}
 
 -- ---- the commands of the master at a cut
 
-abbrev state_at : Script → List Event → HalfState NodeState
+abbrev pub state_at : Script → List Event → HalfState NodeState
 state_at script events = state_after plain_node (start script) events
 
 abbrev bodies_at : Script → List Event → List (List ℕ)
@@ -48,7 +48,7 @@ bodies-all : (script : Script) → bodies_at script script.events ≡ commands_o
 bodies-all script = (issued-run script).bodies
 
 -- those so far are the first of all
-bodies-front : (script : Script) (front back : List Event) → script.events ≡ front ++ back → (more : List (List ℕ)) × (commands_of_m script ≡ bodies_at script front ++ more)
+pub bodies-front : (script : Script) (front back : List Event) → script.events ≡ front ++ back → (more : List (List ℕ)) × (commands_of_m script ≡ bodies_at script front ++ more)
 bodies-front script front back is =
     let first = front-of (plan_of_m script).tns (requests_in (plan_of_m script).node) script.events front back is (filter_map-append _ front back) in
     (first.0, first.1 ∙ ap (λ (bodies : List (List ℕ)). bodies ++ first.0) (sym (bodies-all (with_events script front))))

@@ -1,3 +1,4 @@
+pub mod GivenUp
 pub mod NotHeld
 pub mod Over
 pub mod Reached

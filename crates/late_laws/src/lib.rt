@@ -4,6 +4,7 @@
 mod laws;
 
 pub use laws::{
-    no_late_execution, no_late_execution_by_a_station, no_settled_command_is_held,
-    no_unanswered_command_is_held, no_undelivered_command_is_held,
+    a_command_is_over, no_late_execution, no_late_execution_by_a_station,
+    no_settled_command_is_held, no_unanswered_command_is_held, no_undelivered_command_is_held,
+    nothing_comes_late,
 };

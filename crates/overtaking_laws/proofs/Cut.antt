@@ -38,7 +38,7 @@ use Rattle.overtaking_laws.proofs.Order.{none-overtakes}
 
 -- ---- a front of a list
 
-all-front : {X : Type 0} (P : X → Type 0) (front back : List X) → All P (front ++ back) → All P front
+pub all-front : {X : Type 0} (P : X → Type 0) (front back : List X) → All P (front ++ back) → All P front
 all-front P front back all = subst (All P) (take-append_seam front back) (All-take P (length front) (front ++ back) all)
 
 count-front : {X : Type 0} (p : X → Bool) (front back : List X) (most : ℕ) → count_by p (front ++ back) ≤ most → count_by p front ≤ most

@@ -1,0 +1,25 @@
+use Rattle.late_laws.proofs.NothingLate.{nothing-comes-late}
+use Rattle.late_laws.specs.GivenUp.{NothingComesLate}
+use Rattle.line_replay.proofs.OfRun.{of-run}
+use Rattle.line_replay.proofs.whole.replay.Goals as goal
+use Rattle.outcome_bounds.proofs.EitherMode.{outcomes-come}
+use Rattle.outcome_bounds.specs.Bounds.{OutcomesCome}
+use Rattle.overtaking_laws.proofs.Cut.{nothing-is-overtaken}
+use Rattle.overtaking_laws.specs.Overtaking.{NothingIsOvertaken}
+use Rattle.replay_report.specs.declared.record.Record.{Record}
+use Rattle.std.specs.Prelude.{◌≡◌}
+
+pub returns-clause-settled : goal.returns-clause-settled
+returns-clause-settled c =
+    let script = c.args.script.now in
+    of-run script (λ (r : Record). r.deceived ≡ 0 → NothingIsOvertaken script r) c.replay.result c.replay.ensures.record (nothing-is-overtaken script c.requires)
+
+pub returns-clause-late : goal.returns-clause-late
+returns-clause-late c =
+    let script = c.args.script.now in
+    of-run script (λ (r : Record). r.deceived ≡ 0 → NothingComesLate script r) c.replay.result c.replay.ensures.record (nothing-comes-late script c.requires)
+
+pub returns-clause-outcomes : goal.returns-clause-outcomes
+returns-clause-outcomes c =
+    let script = c.args.script.now in
+    of-run script (OutcomesCome script) c.replay.result c.replay.ensures.record (outcomes-come script c.requires)

@@ -1,0 +1,39 @@
+//! Replaying a script that is there as a whole: the record of its run, with all that is proved of it.
+
+ghost use Rattle.std.specs.Prelude.{◌≡◌, IfOk};
+ghost use Rattle.script_parts.specs.HalfPlayable.{CanBePlayed};
+ghost use Rattle.late_laws.specs.GivenUp.{NothingComesLate};
+ghost use Rattle.line_world.specs.Complete.{IsUndisturbed, IsComplete};
+ghost use Rattle.line_world.specs.Once.{EachCommandOnce};
+ghost use Rattle.line_world.specs.Recovery.{Recovers};
+ghost use Rattle.line_world.specs.Runs.{record_of};
+ghost use Rattle.line_world.specs.Wire.{AreDf1Wires};
+ghost use Rattle.outcome_bounds.specs.Bounds.{OutcomesCome};
+ghost use Rattle.overtaking_laws.specs.Overtaking.{NothingIsOvertaken};
+
+use df1_base::NoMemory;
+use replay_report::Record;
+use script_parts::Script;
+use std::alloc::Global;
+
+/// Replays a script that can be read, and answers the record of its run. Where no end was deceived, each command of the script
+/// was executed once at most, by the station that it was issued to, and those of each source in their order, the words are those
+/// that the executed ones make, each accepted reply was the one to that very command, none is executed after a later one of its
+/// source that was executed or answered, and none after it was told as given up, once nothing was on its way. Where nothing
+/// disturbed the line, no end was deceived, and all commands were executed and answered; and so they were where a full-duplex line
+/// recovers from what the script does to the bytes. After enough ticks at which an end had nothing to give each of its commands has
+/// its outcome. Whatever was heard, what each end sent is DF1, and carries its own commands and replies. `NoMemory` comes where
+/// memory is wanting.
+pub fn replay(alloc: Global, script: &Script) -> Result<Record, NoMemory>
+    requires { CanBePlayed script.now }
+    ensures record { IfOk result (λ r. r ≡ record_of script.now) }
+    ensures once { IfOk result (λ r. r.deceived ≡ 0 → EachCommandOnce script.now r) }
+    ensures settled { IfOk result (λ r. r.deceived ≡ 0 → NothingIsOvertaken script.now r) }
+    ensures late { IfOk result (λ r. r.deceived ≡ 0 → NothingComesLate script.now r) }
+    ensures complete { IfOk result (λ r. IsUndisturbed script.now → IsComplete script.now r) }
+    ensures recovered { IfOk result (λ r. Recovers script.now r) }
+    ensures outcomes { IfOk result (λ r. OutcomesCome script.now r) }
+    ensures wires { IfOk result (λ r. AreDf1Wires script.now r) }
+{
+    line_world::replay(alloc, script)
+}
