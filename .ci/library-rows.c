@@ -85,6 +85,7 @@ static int checks(void)
     uint8_t bytes[16];
     size_t at;
 
+    ROW(df1_version() == DF1_VERSION);
     for (at = 0; at < COUNT(rows); at++) {
         size_t length = bytes_of(rows[at].bytes, bytes);
         uint8_t *block = block_of(bytes, length);
@@ -94,6 +95,36 @@ static int checks(void)
         free(block);
     }
     return 0;
+}
+
+/* The values at first, and null pointers that go with a length of 0. */
+static int firsts_and_nulls(void)
+{
+    static const df1_duplex link = DF1_DUPLEX_INIT;
+    static const df1_master polling = DF1_MASTER_INIT;
+    static const df1_slave polled = DF1_SLAVE_INIT;
+    static const df1_node node = DF1_NODE_INIT(1);
+    static const uint8_t body[] = {1, 0, 6, 0, 1, 0};
+    df1_end end = DF1_NOTHING;
+    df1_turn turn;
+    uint32_t number;
+    size_t length;
+
+    ROW(link.ack_ticks == 10 && link.max_naks == 3 && link.max_enqs == 3 && !link.crc && !link.embed);
+    ROW(polling.ack_ticks == 10 && polling.max_resends == 3 && polling.poll_ticks == 10 && polling.routes == 0 && polled.max_sends == 3);
+    ROW(node.address == 1 && node.tns == 1 && node.reply_ticks == 100 && node.room == 2 && !node.has_compat && node.window == 1 && node.per_source == 16);
+    ROW(df1_master_make(&polling, NULL, 0, &node, NULL, 0, NULL, 0, NULL, 0, &end) == DF1_DONE && df1_end_free(&end) == DF1_DONE);
+    ROW(df1_slave_make(&polled, &node, NULL, 0, NULL, 0, NULL, 0, &end) == DF1_DONE && df1_end_free(&end) == DF1_DONE);
+    ROW(df1_bcc(NULL, 0) == 0 && df1_crc(NULL, 0) == 0);
+    ROW(df1_spell(false, NULL, 0, NULL, 0, &length) == DF1_NO_ROOM && length == 5);
+    ROW(df1_spell(false, body, sizeof body, NULL, 0, &length) == DF1_NO_ROOM && length == 11);
+    ROW(df1_code_text(0, NULL, 0, &length) == DF1_NO_ROOM);
+    ROW(df1_duplex_make(&link, &node, NULL, 0, NULL, 0, NULL, 0, &end) == DF1_DONE);
+    ROW(df1_end_body(&end, NULL, 0, &length) == DF1_DONE && length == 0);
+    ROW(df1_end_tick(&end, &turn, NULL, 0) == DF1_NO_ROOM);
+    ROW(df1_end_issue(&end, 1, NULL, 0, &number) == DF1_NO_PAYLOAD && df1_end_issue_from(&end, 1, 1, NULL, 0, &number) == DF1_NO_PAYLOAD);
+    ROW(df1_end_push(&end, 1, 7, NULL, 0, &number) == DF1_BAD_WORDS);
+    return df1_end_free(&end) == DF1_DONE ? 0 : __LINE__;
 }
 
 /* Spells a body into just the room that its frame needs, and into one byte less. */
@@ -160,7 +191,7 @@ static int texts(void)
     uint32_t code;
     size_t last;
 
-    for (code = 0; code <= DF1_BAD_ROUTES + 1; code++) {
+    for (code = 0; code <= DF1_NO_STATION + 1; code++) {
         size_t length = 0, again = 0;
 
         ROW(df1_code_text(code, text, 0, &length) == DF1_NO_ROOM && length >= 2 && length <= 80);
@@ -168,7 +199,7 @@ static int texts(void)
         ROW(df1_code_text(code, text, length - 1, &again) == DF1_NO_ROOM && again == length && are_all(text, 'x', sizeof text));
         ROW(df1_code_text(code, text, length, &again) == DF1_DONE && again == length);
         ROW(strlen(text) + 1 == length && text[length] == 'x');
-        ROW((strcmp(text, "no code of df1") == 0) == (code > DF1_BAD_ROUTES));
+        ROW((strcmp(text, "no code of df1") == 0) == (code > DF1_NO_STATION));
     }
     ROW(df1_code_text(0xFFFFFFFF, text, 80, &last) == DF1_DONE && strcmp(text, "no code of df1") == 0);
     return 0;
@@ -809,7 +840,7 @@ static int of_each_kind(int (*rows)(enum kind))
 
 int main(void)
 {
-    static int (*const all[])(void) = {checks,         spelling,       texts,  hearing, longest_bodies,
+    static int (*const all[])(void) = {checks,         firsts_and_nulls, spelling,       texts,  hearing, longest_bodies,
                                        edges_of_links, edges_of_later_members, calls_without_memory, handles, transfers,
                                        routes, talks};
     static int (*const each[])(enum kind) = {refused, edges_of_nodes, words, issuing, makes_without_memory};

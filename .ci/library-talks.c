@@ -403,6 +403,52 @@ static int polled(void)
     return 0;
 }
 
+/* All that an end gives: so many bytes, of which this one, counted from 1, is the last of a message, or none where it is 0. */
+static bool gives(df1_end *end, size_t count, size_t last)
+{
+    df1_out out;
+    size_t at;
+
+    for (at = 1; at <= count; at++)
+        if (df1_end_take(end, &out) != DF1_DONE || !out.there || out.last != (at == last))
+            return false;
+    return df1_end_take(end, &out) == DF1_DONE && !out.there && !out.last;
+}
+
+/* A slave hears a message: at its last byte the station is told that it names. */
+static bool names_station(df1_end *end, const char *message, uint8_t station)
+{
+    df1_step step;
+    uint8_t bytes[300];
+    size_t at, count = bytes_of(message, bytes);
+
+    for (at = 0; at < count; at++)
+        if (df1_end_byte(end, bytes[at], &step) != DF1_DONE || step.station != (at + 1 == count ? station : 0))
+            return false;
+    return true;
+}
+
+/* A frame and a message have a last byte, a response and an EOT have none; slave 5 hears a message to station 3. */
+static int ends_of_messages(void)
+{
+    static const df1_duplex link = {false, false, 10, 3, 3, {0}};
+    static const struct row echo = {0, STILL, "10 02 00 01 06 00 01 00 00 55 10 03 A3", EXECUTED, ""};
+    static const struct row poll = {0, STILL, POLL3, NOTHING, ""};
+    df1_end ends[3] = {DF1_NOTHING, DF1_NOTHING, DF1_NOTHING};
+    uint32_t number;
+    int at;
+
+    ROW(duplex(link, 0, &ends[0]) == DF1_DONE && slave(3, 3, &ends[1]) == DF1_DONE && slave(3, 5, &ends[2]) == DF1_DONE);
+    ROW(df1_end_issue(&ends[0], 1, write_1234, sizeof write_1234, &number) == DF1_DONE && gives(&ends[0], 19, 19));
+    ROW(hear(&ends[0], &echo) == 0 && gives(&ends[0], 2, 0));
+    ROW(names_station(&ends[1], STN3_WRITE, 3) && gives(&ends[1], 2, 0));
+    ROW(hear(&ends[1], &poll) == 0 && gives(&ends[1], 11, 11));
+    ROW(names_station(&ends[2], STN3_WRITE, 3) && gives(&ends[2], 0, 0));
+    for (at = 0; at < 3; at++)
+        ROW(df1_end_free(&ends[at]) == DF1_DONE);
+    return 0;
+}
+
 /* What slave 3, which may send a message twice, makes of each thing that it hears. */
 static int acts_of_slave(void)
 {
@@ -472,17 +518,18 @@ static int acts_of_master(void)
     ROW(df1_end_issue(&end, 3, echo_55, sizeof echo_55, &number) == DF1_DONE);
     ROW(play("a master", &end, rows, COUNT(rows)) == 0);
     ROW(has_outcome(&end, 1, DF1_UNDELIVERED) && has_outcome(&end, 2, DF1_UNDELIVERED));
-    /* A command for no station of the list gives no byte, and is undelivered by the take that comes to it. */
-    ROW(df1_end_issue(&end, 9, echo_55, sizeof echo_55, &number) == DF1_DONE && number == 3);
-    ROW(df1_end_quiet(&end, &quiet) == DF1_DONE && !quiet && df1_end_take(&end, &out) == DF1_DONE && !out.there);
-    ROW(df1_end_quiet(&end, &quiet) == DF1_DONE && quiet && has_outcome(&end, 3, DF1_UNDELIVERED));
+    /* A command or a transfer for no station of the list is refused, whatever else is wrong with it. */
+    ROW(df1_end_issue(&end, 9, echo_55, sizeof echo_55, &number) == DF1_NO_STATION && df1_end_issue(&end, 9, echo_55, 0, &number) == DF1_NO_STATION);
+    ROW(df1_end_issue_from(&end, 5, 9, echo_55, sizeof echo_55, &number) == DF1_NO_STATION && df1_end_pull(&end, 9, 1000, 0, &number) == DF1_NO_STATION);
+    ROW(df1_end_push(&end, 9, 7, echo_55, 2, &number) == DF1_NO_STATION && number == 2);
+    ROW(df1_end_quiet(&end, &quiet) == DF1_DONE && quiet && df1_end_take(&end, &out) == DF1_DONE && !out.there);
     return df1_end_free(&end) == DF1_DONE ? 0 : __LINE__;
 }
 
 int talks(void)
 {
-    static int (*const all[])(void) = {lost_frame,  acts_of_duplex, embedding,     crc_line,      unanswered,
-                                       two_sources, polled,         acts_of_slave, acts_of_master};
+    static int (*const all[])(void) = {lost_frame,  acts_of_duplex, embedding,        crc_line,      unanswered,
+                                       two_sources, polled,         ends_of_messages, acts_of_slave, acts_of_master};
     int failed = 0;
     size_t at;
 

@@ -14,8 +14,10 @@
  * where there is none.
  * Time is the caller's: one call of df1_end_tick is one tick, as long as you like.
  * Outside: no call blocks, prints, reads a clock or ends the program.
- * Pointers: none may be null, one of no bytes neither. A caller who breaks this, or tells a length beyond what he owns, has no
- * promise at all.
+ * Pointers: one that goes with a length of 0 may be null, as an empty vector's is; no other may. A caller who breaks this, or
+ * tells a length beyond what he owns, has no promise at all. The calls themselves take no null pointer: the macros at the end of
+ * this header put another one in its place, so who calls them without the header (from another language, or by a pointer to a
+ * function) does that himself.
  */
 #ifndef DF1_H
 #define DF1_H
@@ -29,6 +31,13 @@
 #ifdef __cplusplus
 extern "C" {
 #endif
+
+/* The version of this header: 0x010203 is 1.2.3. A program that was built with it runs with each library of the same first number
+ * whose version isn't lower, and, as long as that number is 0, of the same second number too. */
+#define DF1_VERSION 0x000100
+
+/* The version of the library, told the same way. */
+uint32_t df1_version(void);
 
 /* Answers of the calls, with their texts. */
 enum df1_code {
@@ -68,7 +77,8 @@ enum df1_code {
     DF1_NOT_RESERVED = 33,     /* a reserved member isn't 0 */
     DF1_BAD_FILE = 34,         /* a transfer's file is over 999 */
     DF1_BAD_WORDS = 35,        /* a transfer's words are none, over 3,000, or not whole */
-    DF1_BAD_ROUTES = 36        /* routes is neither 0 nor 1 */
+    DF1_BAD_ROUTES = 36,       /* routes is neither 0 nor 1 */
+    DF1_NO_STATION = 37        /* the master has no such station */
 };
 
 /* ---- Checks and frames ---- */
@@ -144,7 +154,8 @@ uint32_t df1_decoder_body(df1_decoder *decoder, uint8_t *into, size_t room, size
  *
  * Reserved members are 0: a member that comes in a later version takes the place of one, and 0 then stands for its value at
  * first. So what is built with this header works on with a later library, and what is built with a later header and sets a
- * member that this library doesn't know is refused by DF1_NOT_RESERVED. An initializer leaves them 0. */
+ * member that this library doesn't know is refused by DF1_NOT_RESERVED. An initializer leaves them 0. DF1_DUPLEX_INIT and its like
+ * have the values that a script of df1 begins with; set those that differ after it. */
 
 /* A full-duplex link. */
 typedef struct df1_duplex {
@@ -155,6 +166,8 @@ typedef struct df1_duplex {
     uint32_t max_enqs;  /* how many ENQs one message may cost before it is given up: 0 to 255 */
     uint32_t reserved[4];
 } df1_duplex;
+
+#define DF1_DUPLEX_INIT {false, false, 10, 3, 3, {0, 0, 0, 0}}
 
 /* The link of a half-duplex master. */
 typedef struct df1_master {
@@ -167,12 +180,16 @@ typedef struct df1_master {
     uint32_t reserved[3];
 } df1_master;
 
+#define DF1_MASTER_INIT {false, 10, 3, 10, 0, {0, 0, 0}}
+
 /* The link of a half-duplex slave. Its station number is the address of its node, neither 16 nor 255. */
 typedef struct df1_slave {
     bool crc;           /* CRC, and not BCC, ends its messages */
     uint32_t max_sends; /* how often a message is given before it is given up: 1 to 255 */
     uint32_t reserved[4];
 } df1_slave;
+
+#define DF1_SLAVE_INIT {false, 3, {0, 0, 0, 0}}
 
 /* What stands behind an end: it executes the commands that come, and issues some. */
 typedef struct df1_node {
@@ -189,6 +206,8 @@ typedef struct df1_node {
     uint32_t per_source;  /* how many of one source's, by SRC: 1 to 16; 0 is 16 */
     uint32_t reserved[4];
 } df1_node;
+
+#define DF1_NODE_INIT(address) {address, 1, 100, 2, false, 0, 1, 16, {0, 0, 0, 0}}
 
 /* The types of data files, by their type bytes. */
 enum df1_file_type {
@@ -274,6 +293,7 @@ typedef struct df1_step {
     uint32_t news;         /* enum df1_news */
     uint32_t news_command; /* 0 where `news` names none */
     bool whole;            /* a good frame was heard, whatever the act */
+    uint8_t station;       /* at a slave the station that a good message names, which may be another one; else 0 */
 } df1_step;
 
 /* What a tick did besides commands that it left unanswered. */
@@ -294,6 +314,7 @@ typedef struct df1_turn {
 typedef struct df1_out {
     bool there;   /* whether there is one */
     uint8_t byte; /* 0 where there is none */
+    bool last;    /* it is the last byte of a frame or message; no response, ENQ, poll or EOT has one */
 } df1_out;
 
 /* The end hears a byte of the line. At a slave DLE NAK from the master is a reset: commands of the slave that wait to be handed
@@ -313,8 +334,8 @@ uint32_t df1_end_body(df1_end *end, uint8_t *into, size_t room, size_t *length);
 uint32_t df1_end_tick(df1_end *end, df1_turn *turn, uint32_t *gone, size_t room);
 
 /* The end gives the next byte for the line, if there is one. After each byte and each tick take until the end is quiet. A master
- * gives none where it passes over a message to a station that it doesn't have, and may have more to give then: a command to no
- * station of its list is DF1_UNDELIVERED from that take on, and no news tells of it. DF1_NO_HANDLE. */
+ * gives none where it passes over a reply to a node that is no station of its list, and may have more to give then; no news tells of
+ * it. DF1_NO_HANDLE. */
 uint32_t df1_end_take(df1_end *end, df1_out *out);
 
 /* Whether the end has nothing to give, so that df1_end_take gives none. DF1_NO_HANDLE. */
@@ -332,9 +353,8 @@ enum df1_outcome {
 };
 
 /* Issues a command to the node `dst`. The payload, 1 to 245 bytes, is CMD and what follows TNS. `*number` is then the command's
- * number, from 1. At a master `dst` is to be one of its stations: for another node the call is done, and the take at which the
- * command's turn comes gives it up (df1_end_take). DF1_NO_HANDLE, DF1_NO_PAYLOAD, DF1_LONG_PAYLOAD, DF1_NOT_COMMAND, DF1_SPENT,
- * DF1_NO_MEMORY. */
+ * number, from 1. DF1_NO_HANDLE; DF1_NO_STATION where a master has no station `dst`; DF1_NO_PAYLOAD, DF1_LONG_PAYLOAD, DF1_NOT_COMMAND,
+ * DF1_SPENT, DF1_NO_MEMORY. */
 uint32_t df1_end_issue(df1_end *end, uint8_t dst, const uint8_t *payload, size_t length, uint32_t *number);
 
 /* The same in the name of a source, which is SRC of the command and DST of its reply: a gateway issues for several nodes. All
@@ -356,7 +376,7 @@ uint32_t df1_end_reply(df1_end *end, uint32_t number, uint8_t *into, size_t room
  * and so on, whose outcomes and replies the calls above tell too. A word is two bytes, the low one first. */
 
 /* Issues the orders of a transfer that reads `words` words of file `file` of the node `dst`, in the end's own name: all of them or
- * none. DF1_NO_HANDLE, DF1_BAD_FILE, DF1_BAD_WORDS, DF1_SPENT where fewer numbers are left than orders, DF1_NO_MEMORY; none is
+ * none. DF1_NO_HANDLE, DF1_NO_STATION, DF1_BAD_FILE, DF1_BAD_WORDS, DF1_SPENT where fewer numbers are left than orders, DF1_NO_MEMORY; none is
  * issued then. */
 uint32_t df1_end_pull(df1_end *end, uint8_t dst, uint16_t file, uint32_t words, uint32_t *first);
 
@@ -402,6 +422,49 @@ uint32_t df1_end_files(df1_end *end, uint32_t *count);
 
 /* The data file at this place, from 0, in the order in which they were given. DF1_NO_HANDLE, DF1_NO_FILE. */
 uint32_t df1_end_file(df1_end *end, uint32_t place, df1_file *file);
+
+/* ---- Null pointers ---- */
+
+/* The pointer, or where it is null one to nothing. */
+#define DF1_NOT_NULL(name, type)                      \
+    static inline type *name(type *at)                \
+    {                                                 \
+        static uint64_t nothing;                      \
+                                                      \
+        return at != NULL ? at : (type *)&nothing;    \
+    }
+DF1_NOT_NULL(df1_read_bytes, const uint8_t)
+DF1_NOT_NULL(df1_read_files, const df1_file)
+DF1_NOT_NULL(df1_read_words, const df1_word)
+DF1_NOT_NULL(df1_write_bytes, uint8_t)
+DF1_NOT_NULL(df1_write_text, char)
+DF1_NOT_NULL(df1_write_numbers, uint32_t)
+#undef DF1_NOT_NULL
+
+#define df1_bcc(bytes, length) df1_bcc(df1_read_bytes(bytes), length)
+#define df1_crc(bytes, length) df1_crc(df1_read_bytes(bytes), length)
+#define df1_spell(crc, body, body_length, into, room, length) \
+    df1_spell(crc, df1_read_bytes(body), body_length, df1_write_bytes(into), room, length)
+#define df1_code_text(code, into, room, length) df1_code_text(code, df1_write_text(into), room, length)
+#define df1_decoder_body(decoder, into, room, length) df1_decoder_body(decoder, df1_write_bytes(into), room, length)
+#define df1_duplex_make(link, node, files, file_count, words, word_count, block, block_length, end) \
+    df1_duplex_make(link, node, df1_read_files(files), file_count, df1_read_words(words), word_count, \
+                    df1_read_bytes(block), block_length, end)
+#define df1_master_make(link, stations, station_count, node, files, file_count, words, word_count, block, block_length, end) \
+    df1_master_make(link, df1_read_bytes(stations), station_count, node, df1_read_files(files), file_count, \
+                    df1_read_words(words), word_count, df1_read_bytes(block), block_length, end)
+#define df1_slave_make(link, node, files, file_count, words, word_count, block, block_length, end) \
+    df1_slave_make(link, node, df1_read_files(files), file_count, df1_read_words(words), word_count, \
+                   df1_read_bytes(block), block_length, end)
+#define df1_end_body(end, into, room, length) df1_end_body(end, df1_write_bytes(into), room, length)
+#define df1_end_tick(end, turn, gone, room) df1_end_tick(end, turn, df1_write_numbers(gone), room)
+#define df1_end_issue(end, dst, payload, length, number) df1_end_issue(end, dst, df1_read_bytes(payload), length, number)
+#define df1_end_issue_from(end, src, dst, payload, length, number) \
+    df1_end_issue_from(end, src, dst, df1_read_bytes(payload), length, number)
+#define df1_end_reply(end, number, into, room, length) df1_end_reply(end, number, df1_write_bytes(into), room, length)
+#define df1_end_push(end, dst, file, bytes, length, first) df1_end_push(end, dst, file, df1_read_bytes(bytes), length, first)
+#define df1_end_pulled(end, first, words, into, room, length, came) \
+    df1_end_pulled(end, first, words, df1_write_bytes(into), room, length, came)
 
 #ifdef __cplusplus
 }

@@ -15,8 +15,8 @@
 /* The line, and the end: what examples/served.toml says of its file 7, and for the rest what a plan that doesn't tell it has. */
 #define SPEED B19200
 #define TICK_MILLISECONDS 100
-static const df1_duplex full_duplex = {false, false, 10, 3, 3, {0}}; /* BCC, nothing embedded; ack_ticks, max_naks, max_enqs */
-static const df1_node node = {1, 1, 100, 2, false, 0, 0, 0, {0}};    /* address, tns, reply_ticks, room; no compat */
+static const df1_duplex full_duplex = DF1_DUPLEX_INIT;
+static const df1_node node = DF1_NODE_INIT(1);
 static const df1_file files[] = {{7, DF1_INTEGER, 16}};
 static const df1_word words[] = {{7, 0, 0x1234}};
 

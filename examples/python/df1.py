@@ -67,7 +67,7 @@ class Word(Plain):
 
 
 class Step(Plain):
-    _fields_ = [("act", u32), ("did", u32), ("did_command", u32), ("news", u32), ("news_command", u32), ("whole", c_bool)]
+    _fields_ = [("act", u32), ("did", u32), ("did_command", u32), ("news", u32), ("news_command", u32), ("whole", c_bool), ("station", u8)]
 
 
 class Turn(Plain):
@@ -79,12 +79,13 @@ class Transfer(Plain):
 
 
 class Out(Plain):
-    _fields_ = [("there", c_bool), ("byte", u8)]
+    _fields_ = [("there", c_bool), ("byte", u8), ("last", c_bool)]
 
 
 handle, length = POINTER(Handle), POINTER(c_size_t)
 behind = [POINTER(Node), POINTER(File), c_size_t, POINTER(Word), c_size_t, c_char_p, c_size_t, handle]
 parameters = {
+    "df1_version": [],
     "df1_bcc": [c_char_p, c_size_t],
     "df1_crc": [c_char_p, c_size_t],
     "df1_spell": [c_bool, c_char_p, c_size_t, c_char_p, c_size_t, length],
@@ -220,10 +221,15 @@ class End(Held):
         self.library.do("df1_end_tick", self.handle, turn, gone, 16)
         return turn, gone[: turn.gone_count]
 
-    def take(self):
-        """The next byte, or None where there is none."""
+    def out(self):
+        """What a take gives: whether there is a byte, the byte, and whether it is the last of a message."""
         out = Out()
         self.library.do("df1_end_take", self.handle, out)
+        return out
+
+    def take(self):
+        """The next byte, or None where there is none."""
+        out = self.out()
         return out.byte if out.there else None
 
     def quiet(self):

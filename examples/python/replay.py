@@ -178,11 +178,10 @@ class Line:
             print(name, told[step.act])
         self.tell_news(name, step)
 
-    def is_for(self, party, step, body):
-        """Whether what a slave did with a message suits the station to which its body goes; any message suits the other ends."""
-        api = self.library
-        own = step.act in (api.DF1_ACT_ACCEPT, api.DF1_ACT_REPEAT, api.DF1_ACT_REFUSE)
-        return not party.name.isdigit() or own == (body[0] == int(party.name))
+    @staticmethod
+    def is_for(party, step, body):
+        """Whether a message that a slave heard names the station to which its body goes; any message suits the other ends."""
+        return not party.name.isdigit() or step.station == body[0]
 
     def tick(self, party, times):
         for _ in range(times):

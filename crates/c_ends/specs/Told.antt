@@ -1,5 +1,5 @@
 -- The numbers by which C is told what an end made of a call.
-use Rattle.std.specs.Prelude.{ℕ, Bool, true, false, ◌&&◌, ◌==◌, if◌then◌else◌}
+use Rattle.std.specs.Prelude.{ℕ, Bool, true, false, is_some, ◌&&◌, ◌==◌, if◌then◌else◌}
 use Rattle.std.specs.declared.option.Option.{Option}
 use Rattle.std.specs.declared.option.Option.TheVariants.{Some, None}
 use Rattle.df1_base.specs.declared.link.Act.{Act}
@@ -40,7 +40,7 @@ news_told (news.Undelivered n) = (1, n)
 news_told news.Dropped = (2, 0)
 
 abbrev pub step_told : Step → StepTold
-step_told s = record { act = act_told s.act; did = (did_told s.did).0; did_command = (did_told s.did).1; news = (news_told s.news).0; news_command = (news_told s.news).1; whole = s.whole }
+step_told s = record { act = act_told s.act; did = (did_told s.did).0; did_command = (did_told s.did).1; news = (news_told s.news).0; news_command = (news_told s.news).1; whole = s.whole; station = s.station }
 
 -- an accepted message that is carried to a station is told as routed, and not as astray
 abbrev pub routed_told : Bool → StepTold → StepTold
@@ -52,6 +52,7 @@ turn_told turn.Still gone = record { turn = 0; news = 0; news_command = 0; gone_
 turn_told turn.Ask gone = record { turn = 1; news = 0; news_command = 0; gone_count = gone }
 turn_told (turn.Failed n) gone = record { turn = 2; news = (news_told n).0; news_command = (news_told n).1; gone_count = gone }
 
+-- whether it is the last of a message: one of which a transmission is numbered
 abbrev pub out_told : Option Out → OutTold
-out_told None = record { there = false; byte = 0 }
-out_told (Some out) = record { there = true; byte = out.byte }
+out_told None = record { there = false; byte = 0; last = false }
+out_told (Some out) = record { there = true; byte = out.byte; last = is_some out.last_of }

@@ -80,10 +80,12 @@ pub enum Code {
     BadWords = 35,
     /// `routes` is neither 0 nor 1.
     BadRoutes = 36,
+    /// A master has no station of this number.
+    NoStation = 37,
 }
 
 /// All codes, by their numbers.
-const CODES: [Code; 37] = [
+const CODES: [Code; 38] = [
     Code::Done,
     Code::NoHandle,
     Code::NoMemory,
@@ -121,6 +123,7 @@ const CODES: [Code; 37] = [
     Code::BadFile,
     Code::BadWords,
     Code::BadRoutes,
+    Code::NoStation,
 ];
 
 impl Code {
@@ -181,6 +184,7 @@ impl Code {
             Code::BadFile => "a transfer's file is over 999",
             Code::BadWords => "a transfer's words are none, over 3,000, or not whole",
             Code::BadRoutes => "routes is neither 0 nor 1",
+            Code::NoStation => "the master has no such station",
         }
     }
 }

@@ -17,6 +17,8 @@ pub struct StepTold {
     /// The command that `news` names, or 0.
     pub news_command: u32,
     pub whole: bool,
+    /// The station that a whole half-duplex message names, heard by a slave, or 0.
+    pub station: u8,
 }
 
 /// What a tick did to an end.
@@ -37,6 +39,8 @@ pub struct TurnTold {
 pub struct OutTold {
     pub there: bool,
     pub byte: u8,
+    /// The byte is the last of a message.
+    pub last: bool,
 }
 
 /// The number of an act.
@@ -92,6 +96,7 @@ pub fn step_of(step: Step) -> StepTold
         news,
         news_command,
         whole: step.whole,
+        station: step.station,
     }
 }
 
@@ -149,10 +154,12 @@ pub fn out_of(out: Option<Out>) -> OutTold
         Some(out) => OutTold {
             there: true,
             byte: out.byte,
+            last: out.last_of.is_some(),
         },
         None => OutTold {
             there: false,
             byte: 0,
+            last: false,
         },
     }
 }

@@ -1,8 +1,8 @@
 -- What C is told of the commands of a node.
-use Rattle.std.specs.Prelude.{◌≡◌, ◌⊎◌, ℕ, ◌+◌, List, length}
+use Rattle.std.specs.Prelude.{◌≡◌, ◌⊎◌, ℕ, ◌+◌, List, length, if◌then◌else◌}
 use Rattle.std.specs.declared.option.Option.{Option}
 use Rattle.std.specs.declared.option.Option.TheVariants.{Some, None}
-use Rattle.std.specs.Option.{option_map}
+use Rattle.std.specs.Option.{option_map, option_or}
 use Rattle.df1_node.specs.declared.outcome.Outcome.{Outcome}
 use Rattle.df1_node.specs.declared.outcome.Outcome.TheVariants as outcome
 use Rattle.df1_node.specs.Initiator.{issue_fault, outcome_of, reply_of}
@@ -10,6 +10,8 @@ use Rattle.df1_node.specs.Node.{NodeState}
 use Rattle.c_ends.specs.declared.code.Code.{Code}
 use Rattle.c_ends.specs.declared.code.Code.TheVariants as code
 use Rattle.c_ends.specs.declared.held.Held.{Held}
+use Rattle.c_ends.specs.declared.held.Held.TheVariants as held
+use Rattle.half_master.specs.Stations.{is_listed}
 use Rattle.c_ends.specs.Code.{code_number}
 use Rattle.c_transfers.specs.Transfers.{fault_code}
 use Rattle.df1_c.specs.Copied.{room_code}
@@ -22,9 +24,16 @@ abbrev pub node_refusal : Option NodeState → List ℕ → Option Code
 node_refusal None payload = Some code.NoHandle
 node_refusal (Some node) payload = option_map fault_code (issue_fault node.initiator payload)
 
-abbrev pub refusal : Option Held → List ℕ → Option Code
-refusal None payload = Some code.NoHandle
-refusal (Some held) payload = node_refusal (node_in held) payload
+-- a master gives messages to its stations alone
+abbrev pub station_refusal : Held → (dst : ℕ) → Option Code
+station_refusal (held.Decoder decoder) dst = None
+station_refusal (held.Duplex end) dst = None
+station_refusal (held.Master end) dst = if is_listed end.stations dst then None else Some code.NoStation
+station_refusal (held.Slave end) dst = None
+
+abbrev pub refusal : Option Held → (dst : ℕ) → List ℕ → Option Code
+refusal None dst payload = Some code.NoHandle
+refusal (Some held) dst payload = option_or (station_refusal held dst) (node_refusal (node_in held) payload)
 
 -- the number of the next command
 abbrev pub next_number : NodeState → ℕ

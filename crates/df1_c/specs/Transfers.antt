@@ -2,26 +2,34 @@
 use Rattle.std.specs.Prelude.{ℕ, List, length, nat_lt, if◌then◌else◌}
 use Rattle.std.specs.declared.option.Option.{Option}
 use Rattle.std.specs.declared.option.Option.TheVariants.{Some, None}
-use Rattle.std.specs.Option.{unwrap_or}
+use Rattle.std.specs.Option.{option_or, unwrap_or}
 use Rattle.df1_node.specs.Node.{NodeState}
 use Rattle.bulk_orders.specs.Outcomes.{pull_result_from, push_result_from, words_pulled_from}
 use Rattle.c_ends.specs.declared.code.Code.{Code}
 use Rattle.c_ends.specs.declared.code.Code.TheVariants as code
 use Rattle.c_transfers.specs.declared.TransferTold.{TransferTold}
 use Rattle.c_transfers.specs.Transfers.{pull_fault, push_fault, transfer_told, words_fault}
+use Rattle.c_ends.specs.declared.held.Held.{Held}
+use Rattle.df1_c.specs.Behind.{node_in}
+use Rattle.df1_c.specs.Commands.{station_refusal}
 use Rattle.df1_c.specs.Copied.{room_code}
 
 -- ---- issuing one
 
+-- what stands against something at a node, where there is one
+abbrev pub at_node : (NodeState → Option Code) → Option NodeState → Option Code
+at_node fault None = Some code.NoHandle
+at_node fault (Some node) = fault node
+
 -- what stands against a transfer that reads so many words of a file, but for want of memory
-abbrev pub pull_refusal : Option NodeState → (file words : ℕ) → Option Code
-pull_refusal None file words = Some code.NoHandle
-pull_refusal (Some node) file words = pull_fault node file words
+abbrev pub pull_refusal : Option Held → (dst file words : ℕ) → Option Code
+pull_refusal None dst file words = Some code.NoHandle
+pull_refusal (Some held) dst file words = option_or (station_refusal held dst) (at_node (λ node. pull_fault node file words) (node_in held))
 
 -- and against one that writes so many bytes to it
-abbrev pub push_refusal : Option NodeState → (file bytes : ℕ) → Option Code
-push_refusal None file bytes = Some code.NoHandle
-push_refusal (Some node) file bytes = push_fault node file bytes
+abbrev pub push_refusal : Option Held → (dst file bytes : ℕ) → Option Code
+push_refusal None dst file bytes = Some code.NoHandle
+push_refusal (Some held) dst file bytes = option_or (station_refusal held dst) (at_node (λ node. push_fault node file bytes) (node_in held))
 
 -- ---- what it came to
 

@@ -10,7 +10,7 @@ ghost use Rattle.df1_c.specs.Arrived.{IsEndFor};
 ghost use Rattle.df1_c.specs.Copied.{copied};
 ghost use Rattle.df1_c.specs.Held.{holding};
 ghost use Rattle.df1_c.specs.Behind.{code_at, told_at, with_change};
-ghost use Rattle.df1_c.specs.Commands.{IsIssue, next_number, node_refusal, outcome_code, outcome_number, outcome_told, refusal, reply_code, reply_told};
+ghost use Rattle.df1_c.specs.Commands.{IsIssue, next_number, node_refusal, outcome_code, outcome_number, outcome_told, refusal, reply_code, reply_told, station_refusal};
 
 use crate::behind::node_of;
 use crate::copying::copy;
@@ -30,7 +30,7 @@ pub extern "C" fn df1_end_issue(
     payload: &[u8],
     number: &mut u32,
 ) -> u32
-    ensures issued { IsIssue (refusal (holding end.old) payload.now) (option_map (with_change (λ node. after_node_issue node node.initiator.node dst payload.now)) (holding end.old)) (told_at (holding end.old) (λ node. Some (next_number node)) number.old) result (holding end.old) (holding end.new) number.old number.new }
+    ensures issued { IsIssue (refusal (holding end.old) dst payload.now) (option_map (with_change (λ node. after_node_issue node node.initiator.node dst payload.now)) (holding end.old)) (told_at (holding end.old) (λ node. Some (next_number node)) number.old) result (holding end.old) (holding end.new) number.old number.new }
     ensures stands { (check : CheckKind) (bytes : List ℕ) → IsEndFor check bytes (holding end.old) → IsEndFor check bytes (holding end.new) }
 {
     let Some(mut held) = end.take(alloc) else {
@@ -52,7 +52,7 @@ pub extern "C" fn df1_end_issue_from(
     payload: &[u8],
     number: &mut u32,
 ) -> u32
-    ensures issued { IsIssue (refusal (holding end.old) payload.now) (option_map (with_change (λ node. after_node_issue node src dst payload.now)) (holding end.old)) (told_at (holding end.old) (λ node. Some (next_number node)) number.old) result (holding end.old) (holding end.new) number.old number.new }
+    ensures issued { IsIssue (refusal (holding end.old) dst payload.now) (option_map (with_change (λ node. after_node_issue node src dst payload.now)) (holding end.old)) (told_at (holding end.old) (λ node. Some (next_number node)) number.old) result (holding end.old) (holding end.new) number.old number.new }
     ensures stands { (check : CheckKind) (bytes : List ℕ) → IsEndFor check bytes (holding end.old) → IsEndFor check bytes (holding end.new) }
 {
     let Some(mut held) = end.take(alloc) else {
@@ -65,13 +65,26 @@ pub extern "C" fn df1_end_issue_from(
 
 /// Issues a command of an end in the name of a source, or else in that of the end's own node.
 fn issue(held: &mut Held, src: Option<u8>, dst: u8, payload: &[u8], number: &mut u32) -> u32
-    ensures { IsIssue (refusal (Some held.old) payload.now) (with_change (λ node. after_node_issue node (unwrap_or src node.initiator.node) dst payload.now) held.old) (told_at (Some held.old) (λ node. Some (next_number node)) number.old) result held.old held.new number.old number.new }
+    ensures { IsIssue (refusal (Some held.old) dst payload.now) (with_change (λ node. after_node_issue node (unwrap_or src node.initiator.node) dst payload.now) held.old) (told_at (Some held.old) (λ node. Some (next_number node)) number.old) result held.old held.new number.old number.new }
 {
+    if let Some(fault) = station_refusal(held, dst) {
+        return fault.number();
+    }
     match held {
         Held::Decoder(_) => Code::NoHandle.number(),
         Held::Duplex(end) => issue_at(end.host_mut(), src, dst, payload, number),
         Held::Master(end) => issue_at(end.host_mut().inner_mut(), src, dst, payload, number),
         Held::Slave(end) => issue_at(end.host_mut(), src, dst, payload, number),
+    }
+}
+
+/// What stands against a message to a node: a master gives messages to its stations alone.
+pub(crate) fn station_refusal(held: &Held, dst: u8) -> Option<Code>
+    ensures { result ≡ station_refusal held.now dst }
+{
+    match held {
+        Held::Master(end) if !end.has_station(dst) => Some(Code::NoStation),
+        Held::Decoder(_) | Held::Duplex(_) | Held::Master(_) | Held::Slave(_) => None,
     }
 }
 

@@ -13,4 +13,5 @@ mod seat;
 mod spelling;
 mod texts;
 mod transfers;
+mod version;
 mod words;

@@ -1,18 +1,19 @@
 //! The transfers of an end behind a handle: whole files by orders that are issued together, and what each came to so far.
 
 ghost use Rattle.std.specs.Prelude.{◌≡◌, ℕ, List, length, Some};
-ghost use Rattle.std.specs.Option.{option_and_then, option_map};
+ghost use Rattle.std.specs.Option.{option_map};
 ghost use Rattle.df1_check.specs.declared.Check.{Check as CheckKind};
 ghost use Rattle.c_ends.specs.Code.{code_number};
-ghost use Rattle.c_transfers.specs.Transfers.{after_pull, after_push};
+ghost use Rattle.c_transfers.specs.Transfers.{after_pull, after_push, pull_fault, push_fault};
 ghost use Rattle.df1_c.specs.Arrived.{IsEndFor};
-ghost use Rattle.df1_c.specs.Behind.{code_at, node_in, told_at, with_change};
+ghost use Rattle.df1_c.specs.Behind.{code_at, told_at, with_change};
 ghost use Rattle.df1_c.specs.Commands.{IsIssue, next_number};
 ghost use Rattle.df1_c.specs.Copied.{copied};
 ghost use Rattle.df1_c.specs.Held.{holding};
 ghost use Rattle.df1_c.specs.Transfers.{pull_refusal, pulled_code, pulled_told, push_refusal, pushed_code, pushed_told, words_told};
 
 use crate::behind::node_of;
+use crate::commands::station_refusal;
 use crate::copying::copy;
 use crate::seat::Seat;
 use arrayvec::ArrayVec;
@@ -32,7 +33,7 @@ pub extern "C" fn df1_end_pull(
     words: u32,
     first: &mut u32,
 ) -> u32
-    ensures issued { IsIssue (pull_refusal (option_and_then node_in (holding end.old)) file words) (option_map (with_change (after_pull dst file words)) (holding end.old)) (told_at (holding end.old) (λ node. Some (next_number node)) first.old) result (holding end.old) (holding end.new) first.old first.new }
+    ensures issued { IsIssue (pull_refusal (holding end.old) dst file words) (option_map (with_change (after_pull dst file words)) (holding end.old)) (told_at (holding end.old) (λ node. Some (next_number node)) first.old) result (holding end.old) (holding end.new) first.old first.new }
     ensures stands { (check : CheckKind) (bytes : List ℕ) → IsEndFor check bytes (holding end.old) → IsEndFor check bytes (holding end.new) }
 {
     let Some(mut held) = end.take(alloc) else {
@@ -44,8 +45,11 @@ pub extern "C" fn df1_end_pull(
 }
 
 fn pull(held: &mut Held, dst: u8, file: u16, words: u32, first: &mut u32) -> u32
-    ensures { IsIssue (pull_refusal (node_in held.old) file words) (with_change (after_pull dst file words) held.old) (told_at (Some held.old) (λ node. Some (next_number node)) first.old) result held.old held.new first.old first.new }
+    ensures { IsIssue (pull_refusal (Some held.old) dst file words) (with_change (after_pull dst file words) held.old) (told_at (Some held.old) (λ node. Some (next_number node)) first.old) result held.old held.new first.old first.new }
 {
+    if let Some(fault) = station_refusal(held, dst) {
+        return fault.number();
+    }
     match held {
         Held::Decoder(_) => Code::NoHandle.number(),
         Held::Duplex(end) => pull_at(end.host_mut(), dst, file, words, first),
@@ -55,7 +59,7 @@ fn pull(held: &mut Held, dst: u8, file: u16, words: u32, first: &mut u32) -> u32
 }
 
 fn pull_at(node: &mut Node, dst: u8, file: u16, words: u32, first: &mut u32) -> u32
-    ensures { IsIssue (pull_refusal (Some node.old) file words) (after_pull dst file words node.old) (next_number node.old) result node.old node.new first.old first.new }
+    ensures { IsIssue (pull_fault node.old file words) (after_pull dst file words node.old) (next_number node.old) result node.old node.new first.old first.new }
 {
     match issue_pull(node, dst, file, words) {
         Ok(number) => {
@@ -78,7 +82,7 @@ pub extern "C" fn df1_end_push(
     bytes: &[u8],
     first: &mut u32,
 ) -> u32
-    ensures issued { IsIssue (push_refusal (option_and_then node_in (holding end.old)) file (length bytes.now)) (option_map (with_change (after_push dst file bytes.now)) (holding end.old)) (told_at (holding end.old) (λ node. Some (next_number node)) first.old) result (holding end.old) (holding end.new) first.old first.new }
+    ensures issued { IsIssue (push_refusal (holding end.old) dst file (length bytes.now)) (option_map (with_change (after_push dst file bytes.now)) (holding end.old)) (told_at (holding end.old) (λ node. Some (next_number node)) first.old) result (holding end.old) (holding end.new) first.old first.new }
     ensures stands { (check : CheckKind) (heard : List ℕ) → IsEndFor check heard (holding end.old) → IsEndFor check heard (holding end.new) }
 {
     let Some(mut held) = end.take(alloc) else {
@@ -90,8 +94,11 @@ pub extern "C" fn df1_end_push(
 }
 
 fn push(held: &mut Held, dst: u8, file: u16, bytes: &[u8], first: &mut u32) -> u32
-    ensures { IsIssue (push_refusal (node_in held.old) file (length bytes.now)) (with_change (after_push dst file bytes.now) held.old) (told_at (Some held.old) (λ node. Some (next_number node)) first.old) result held.old held.new first.old first.new }
+    ensures { IsIssue (push_refusal (Some held.old) dst file (length bytes.now)) (with_change (after_push dst file bytes.now) held.old) (told_at (Some held.old) (λ node. Some (next_number node)) first.old) result held.old held.new first.old first.new }
 {
+    if let Some(fault) = station_refusal(held, dst) {
+        return fault.number();
+    }
     match held {
         Held::Decoder(_) => Code::NoHandle.number(),
         Held::Duplex(end) => push_at(end.host_mut(), dst, file, bytes, first),
@@ -101,7 +108,7 @@ fn push(held: &mut Held, dst: u8, file: u16, bytes: &[u8], first: &mut u32) -> u
 }
 
 fn push_at(node: &mut Node, dst: u8, file: u16, bytes: &[u8], first: &mut u32) -> u32
-    ensures { IsIssue (push_refusal (Some node.old) file (length bytes.now)) (after_push dst file bytes.now node.old) (next_number node.old) result node.old node.new first.old first.new }
+    ensures { IsIssue (push_fault node.old file (length bytes.now)) (after_push dst file bytes.now node.old) (next_number node.old) result node.old node.new first.old first.new }
 {
     match issue_push(node, dst, file, bytes) {
         Ok(number) => {

@@ -11,16 +11,15 @@ use Rattle.half_frame.specs.declared.heard.MasterHeard.TheVariants as heard
 use Rattle.half_mouth.specs.Giving.{is_done}
 use Rattle.pccc_envelope.specs.declared.key.Key.{Key}
 use Rattle.pccc_envelope.specs.Envelope.{key_of}
-use Rattle.pccc_envelope.specs.Accepted.{Offer, Verdict, Repeated, Accepted, Refused, is_kept, judged, kept_after, last_key, with_offer}
+use Rattle.pccc_envelope.specs.Accepted.{Offer, Repeated, Accepted, Refused, is_kept, judged, kept_after, last_key, with_offer}
 use Rattle.pccc_envelope.proofs.LastAccepted.{fold-kept_after}
-use Rattle.half_master.specs.declared.MasterSetup.{MasterSetup}
 use Rattle.half_master.specs.declared.stations.Station.{Station}
 use Rattle.half_master.specs.declared.table.Phase.{Phase}
 use Rattle.half_master.specs.declared.table.Phase.TheVariants as phase
 use Rattle.half_master.specs.declared.table.Effect.{Effect}
 use Rattle.half_master.specs.declared.table.Effect.TheVariants as effect
 use Rattle.half_master.specs.Stations.{listed}
-use Rattle.half_master.specs.Master.{MasterState, new_master, with_byte, heard_at, body_of, unacknowledged, effect_of_verdict, answered, effect_on_message, effect_on_poll, effect_in, effect_of_byte, is_good, did_at, step_at_byte}
+use Rattle.half_master.specs.Master.{MasterState, with_byte, heard_at, body_of, unacknowledged, effect_of_verdict, answered, effect_on_message, effect_on_poll, effect_in, is_good, did_at, step_at_byte}
 use Rattle.half_master.specs.Emission.{Letter, Byte, Tick, Take, master_after, master_after_all}
 use Rattle.half_master.specs.Keys.{kept_at, is_polled, is_from, offers_at, offers, body_taken, handed_at, handed_over}
 use Rattle.half_master.proofs.KeyLemmas.{signal-keys, signals-keys}

@@ -1,6 +1,6 @@
 -- The course of a master's message goes with its phase, and its fates are told exactly where the course says.
-use Rattle.std.proofs.Common.{◌≡◌, ◌<◌, ◌≤◌, ℕ, suc, ◌+◌, ◌-◌, Bool, true, false, List, [], ◌∷◌, ◌++◌, length, Option, Some, None, is_some, refl, ap, sym, subst, ◌∙◌, arith}
-use Rattle.std.specs.Prelude.{◌↔◌, option_to_list, nat_lt, slice_get, slice_index, ◌&&◌, ◌==◌, if◌then◌else◌}
+use Rattle.std.proofs.Common.{◌≡◌, ◌<◌, ◌≤◌, ℕ, suc, ◌+◌, ◌-◌, Bool, true, false, List, [], ◌∷◌, ◌++◌, Option, Some, None, is_some, refl, ap, sym, subst, ◌∙◌, arith}
+use Rattle.std.specs.Prelude.{◌↔◌, option_to_list, nat_lt, slice_get, slice_index, ◌==◌, if◌then◌else◌}
 use Rattle.std.specs.Option.{option_map}
 use Rattle.std.proofs.lemmas.Bool.{cond_both, both_ways}
 use Rattle.std.proofs.lemmas.Bool.Decides.{nat_tests}
@@ -24,11 +24,11 @@ use Rattle.half_master.specs.declared.table.Phase.TheVariants as phase
 use Rattle.half_master.specs.declared.table.Effect.{Effect}
 use Rattle.half_master.specs.declared.table.Effect.TheVariants as effect
 use Rattle.half_master.specs.Stations.{is_listed}
-use Rattle.half_master.specs.Master.{MasterState, new_master, with_host, with_byte, heard_at, body_of, unacknowledged, effect_of_verdict, answered, effect_on_message, effect_on_poll, effect_in, effect_of_tick, effect_of_byte, effect_at_tick, with_left, polled, performed, fate_of, host_accepted, host_ticked, transmitted, message_next, begun_of, given_next}
+use Rattle.half_master.specs.Master.{MasterState, with_host, with_byte, heard_at, body_of, unacknowledged, effect_of_verdict, answered, effect_on_message, effect_on_poll, effect_in, effect_of_tick, effect_of_byte, effect_at_tick, with_left, polled, performed, fate_of, host_accepted, host_ticked, transmitted, message_next, begun_of, given_next}
 use Rattle.half_master.specs.Emission.{Letter, Byte, Tick, Take, master_after}
 use Rattle.half_master.specs.Fates.{HandedOut, ForNoStation, events_of, handed_out, events_at}
-use Rattle.half_master.specs.Course.{Course, no_course, fates_in, fate_of_next, fate_at, course_heard, course_given, course_seen, course_told, course_at, is_waiting, IsLastTick, IsSpent, IsDelivered, IsForNoStation, IsGivenUp}
-use Rattle.half_master.specs.Past.{Past, HasTicks, Came, begins, goes_on, changes}
+use Rattle.half_master.specs.Course.{Course, fates_in, fate_of_next, fate_at, course_heard, course_given, course_told, course_at, is_waiting, IsLastTick, IsSpent, IsDelivered, IsForNoStation, IsGivenUp}
+use Rattle.half_master.specs.Past.{Past, Came, begins, goes_on, changes}
 use Rattle.half_master.proofs.FateLemmas.{begins-when}
 use Rattle.half_master.proofs.Runs.{signal-setup}
 

@@ -1,10 +1,8 @@
 -- What a master gave is right items of its transmissions, each of which has its number and its body.
-use Rattle.std.proofs.Common.{◌≡◌, ◌≢◌, ◌-◌, ◌<◌, ◌^◌, ℕ, Bool, true, false, List, [], ◌∷◌, ◌++◌, length, Option, Some, None, is_some, refl, sym, ap, subst, ◌∙◌, append-nil, append_assoc, arith, inl, inr}
+use Rattle.std.proofs.Common.{◌≡◌, ◌-◌, ◌<◌, ◌^◌, ℕ, Bool, true, false, List, [], ◌∷◌, ◌++◌, length, Option, Some, None, is_some, refl, sym, ap, subst, ◌∙◌, append-nil, append_assoc, arith, inl, inr}
 use Rattle.std.specs.Prelude.{◌⊎◌, option_to_list, slice_get, slice_index, if◌then◌else◌}
 use Rattle.std.specs.List.{fold, flat_map}
 use Rattle.std.proofs.lemmas.Grind.{fold-append}
-use Rattle.std.proofs.lemmas.Bool.{cond_both}
-use Rattle.std.proofs.lemmas.List.{map-append}
 use Rattle.std.proofs.lemmas.List.Concat.{flat_map-append}
 use Rattle.df1_base.specs.Host.{IsBody}
 use Rattle.df1_base.specs.declared.host.Host.{Ghosts}
@@ -14,12 +12,12 @@ use Rattle.df1_base.specs.HostAnswers.{host_told}
 use Rattle.df1_check.specs.declared.Check.{Check}
 use Rattle.df1_check.specs.Checks.{bcc, check_value}
 use Rattle.df1_frame.specs.Spelling.{check_of, covered}
-use Rattle.df1_frame.specs.Wire.{IsLast, AreSendingsOf}
+use Rattle.df1_frame.specs.Wire.{AreSendingsOf}
 use Rattle.df1_frame.proofs.SpellingLemmas.{length-check}
 use Rattle.df1_frame.proofs.Sendings.{are-sendings}
 use Rattle.half_frame.specs.declared.heard.MasterHeard.TheVariants as heard
 use Rattle.half_frame.specs.SlaveGrammar.{Item, Stray, Pair, Poll, Message, NoText, Broken, CutOff, item_bytes, slave_hears}
-use Rattle.half_frame.specs.MasterGives.{IsRight, bodies_at, rights, IsGivenByMaster}
+use Rattle.half_frame.specs.MasterGives.{rights, IsGivenByMaster}
 use Rattle.half_frame.specs.Spelling.{bytes_of, unmarked, pair_bytes, poll_bytes, message_sent, station_head}
 use Rattle.half_frame.proofs.SlaveLemmas.{machine, works}
 use Rattle.half_frame.proofs.SentLemmas.{bytes_of-text}
@@ -29,18 +27,16 @@ use Rattle.half_mouth.specs.Transmissions.{bytes_given, numbers_ended, counted_t
 use Rattle.half_mouth.proofs.Wires.{Wires, done-left, IsOver, wires-none, wires-message, wires-again, wires-other, wires-held, wires-take, wires-right, wires-number, wires-ended, IsOfNumber}
 use Rattle.half_master.specs.declared.MasterSetup.{MasterSetup}
 use Rattle.half_master.specs.declared.stations.Station.{Station}
-use Rattle.half_master.specs.declared.table.Phase.{Phase}
 use Rattle.half_master.specs.declared.table.Phase.TheVariants as phase
 use Rattle.half_master.specs.declared.table.Effect.{Effect}
 use Rattle.half_master.specs.declared.table.Effect.TheVariants as effect
 use Rattle.half_master.specs.Stations.{is_listed}
-use Rattle.half_master.specs.Master.{MasterState, new_master, with_host, with_byte, heard_at, body_of, effect_of_byte, effect_at_tick, effect_in, effect_of_tick, fate_of, host_accepted, host_ticked, polled, acknowledged, transmitted, performed, message_next, begun_of, begun, given_next, out_at_take}
-use Rattle.half_master.specs.Fitting.{IsMessage, Suits}
+use Rattle.half_master.specs.Master.{MasterState, new_master, with_host, with_byte, heard_at, body_of, effect_in, effect_of_tick, fate_of, host_accepted, host_ticked, polled, acknowledged, transmitted, performed, message_next, begun_of, begun, given_next, out_at_take}
+use Rattle.half_master.specs.Fitting.{Suits}
 use Rattle.half_master.specs.Emission.{Letter, Byte, Tick, Take, master_after, given_at, master_after_all, emission}
-use Rattle.half_master.specs.Fates.{Event, HandedOut, GivenAgain, Told, ForNoStation, events_of, handed_out as handed_event, events_at, events}
+use Rattle.half_master.specs.Fates.{Event, HandedOut, ForNoStation, events_of, handed_out as handed_event, events_at, events}
 use Rattle.half_master.specs.Reached.{Reached}
 use Rattle.half_master.specs.Reached as reached
-use Rattle.half_master.specs.Course.{Course, no_course, course_at}
 use Rattle.half_master.specs.Past.{Past, no_past, with_signal, HasTicks, Came, begins, goes_on, changes, handed_at, handed_out, with_event, transmissions}
 use Rattle.half_master.specs.Stations.{AreStations}
 use Rattle.half_master.proofs.CourseLemmas.{by-test}
@@ -50,7 +46,6 @@ use Rattle.half_master.proofs.GoodMessages.{good-6}
 use Rattle.half_master.proofs.EarLemmas.{ear-byte}
 use Rattle.half_master.proofs.LastMessage.{awaits, OnlyThen, heard-then, tick-then, left-awaits}
 use Rattle.half_master.proofs.Reaching.{KeepsBodies, Carried, reached-carries, lent-fits, next-is}
-use Rattle.half_master.proofs.Runs.{signal-setup}
 
 -- ---- right items
 

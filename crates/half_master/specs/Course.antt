@@ -1,11 +1,10 @@
 -- How the message that a master has out stands, as the signals show it, and at which signals its fate is told.
-use Rattle.std.specs.Prelude.{◌≡◌, ℕ, suc, ◌+◌, ◌-◌, ◌<◌, Bool, true, false, List, [], ◌∷◌, Option, Some, None, nat_lt, slice_index, if◌then◌else◌}
+use Rattle.std.specs.Prelude.{◌≡◌, ℕ, suc, ◌+◌, ◌-◌, Bool, true, false, List, [], ◌∷◌, Option, Some, None, nat_lt, slice_index, if◌then◌else◌}
 use Rattle.std.specs.List.{flat_map}
 use Rattle.std.specs.Option.{option_map}
 use Rattle.df1_base.specs.declared.host.Host.{Ghosts}
 use Rattle.df1_base.specs.declared.host.Fate.{Fate}
 use Rattle.df1_base.specs.declared.host.Fate.TheVariants as fate
-use Rattle.df1_base.specs.declared.link.Out.{Out}
 use Rattle.half_frame.specs.declared.heard.MasterHeard.{MasterHeard}
 use Rattle.half_frame.specs.declared.heard.MasterHeard.TheVariants as heard
 use Rattle.half_mouth.specs.Transmissions.{ends_here}

@@ -31,7 +31,7 @@ ghost use Rattle.half_frame.specs.MasterGrammar.{master_hears};
 ghost use Rattle.half_frame.specs.MasterStanding.{held as held_of, held_at, lent};
 ghost use Rattle.half_mouth.specs.Giving.{bytes_left};
 ghost use Rattle.df1_base.specs.Host.{IsBody};
-ghost use Rattle.half_master.specs.Stations.{AreStations};
+ghost use Rattle.half_master.specs.Stations.{AreStations, is_listed};
 ghost use Rattle.half_master.specs.Master.{new_master, with_host, body_of, effect_heard, effect_at_tick, performed, master_after_byte, step_at_byte, master_after_tick, turn_at_tick, gone_at_tick, transmitted, acknowledged, polled, begun, begun_with, message_next, given_next, master_after_take, out_at_take, is_quiet};
 ghost use Rattle.half_master.specs.Fitting.{IsMessage, Suits, most_left};
 ghost use Rattle.half_master.specs.Arrived.{StandsFor, HearsWhole};
@@ -201,6 +201,13 @@ impl<H: Host + Drop> Master<H> {
         ensures fits { length result.now ≤ 250 }
     {
         self.ear.body()
+    }
+
+    /// Whether it has a station of this number. A message to any other node is given up where its turn comes.
+    pub fn has_station(&self, number: u8) -> bool
+        ensures { result ≡ is_listed self.now.stations number }
+    {
+        is_listed(&self.stations, number)
     }
 
     /// The body of the transmission that was begun last, empty where none was. A poll is no transmission.
