@@ -95,6 +95,9 @@ ARROWS = {
         *to_each("543", "ACK to 3", BB_REPLY, dead="4"), "5>m ACK",
     ],
     "deception-on-purpose": ["foreign>b write N7:0 = 1234"],
+    "echo-first": [
+        "foreign>b echo", "b>a ACK", "b>a reply, done, TNS 0001", "a>b ACK", named("echo 55"), "b>a ACK", *exchange("write N7:0 = 1234", "done", 2),
+    ],
     "embedding": [WRITE, f"b>a {ECHO}", "a>b ACK, embedded"],
     "enqs-run-out": [
         WRITE, "b>a ACK; 2 of 2 bytes lost", "a>b ENQ", "b>a ACK; 2 of 2 bytes lost", "b>a reply, done, TNS 0001", "a>b ACK"
@@ -177,6 +180,7 @@ ARROWS = {
     "reset": [
         f"m>3 {ECHO}", "3>m ACK", "m>3 poll 3", f"3>m {ECHOED}; 12 of 12 bytes lost", "foreign>3 NAK, a reset", "m>3 poll 3", "3>m EOT",
     ],
+    "restarted-controller": [f"{WRITE}; 19 of 19 bytes lost", "a>b ENQ", "b>a NAK", WRITE, *ACKS],
     "restarted-end": [
         "foreign>b echo", "b>a ACK", "b>a reply, done, TNS 0001", "a>b ACK", named("echo 55"), "b>a ACK",
     ],

@@ -1,9 +1,9 @@
-"""Prints the two checks of the manual's example message, and its frame with each: python3 checks.py FOLDER, the library's."""
+"""Prints the two checks of the manual's example message, and its frame with each: python3 checks.py [FOLDER], the library's."""
 import sys
 
 from df1 import Library
 
-library = Library(sys.argv[1])
+library = Library(*sys.argv[1:2])
 message = bytes.fromhex("08090600020403")
 crc = library.df1_crc(message + b"\x03", len(message) + 1)
 print(f"BCC {library.df1_bcc(message, len(message)):02X}, CRC {crc % 256:02X} {crc // 256:02X}")

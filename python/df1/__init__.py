@@ -1,25 +1,30 @@
-"""The library of df1 in Python, by ctypes: a Library is libdf1.so and df1.h of a folder, an End and a Decoder are handles of it.
-df1.h says what each call does. A code other than DF1_DONE is raised as Refused, and a number that doesn't fit its C type as
-OverflowError. Bytes may be `bytes`, or whatever a memoryview takes."""
+"""The library of df1 in Python, by ctypes: a Library is libdf1.so with its df1.h, an End and a Decoder are handles of it. df1.h says
+what each call does. A code other than DF1_DONE is raised as Refused, and a number that doesn't fit its C type as OverflowError.
+Bytes may be `bytes`, or whatever a memoryview takes."""
 import ctypes
 import operator
+import os
+import pathlib
 import re
+import sys
 import weakref
 from ctypes import POINTER, byref, c_bool, c_char_p, c_size_t, c_void_p
 from ctypes import c_uint8 as u8, c_uint16 as u16, c_uint32 as u32
+from typing import Any, List, Optional, Sequence, Tuple, Union
 
+Octets = Union[bytes, bytearray, memoryview]
 
 LARGEST = {kind: 2 ** (8 * ctypes.sizeof(kind)) - 1 for kind in (u8, u16, u32, c_size_t)}
 
 
-def fitting(kind, value, name):
+def fitting(kind: Any, value: Any, name: str) -> Any:
     """The value, which ctypes would cut to the width of `kind` where that is a kind of number."""
     if kind in LARGEST and not 0 <= operator.index(value) <= LARGEST[kind]:
         raise OverflowError(f"{name}: {value} is not in 0 to {LARGEST[kind]}")
     return value
 
 
-def octets(data):
+def octets(data: Octets) -> bytes:
     """Bytes as ctypes take them."""
     return data if isinstance(data, bytes) else memoryview(data).tobytes()
 
@@ -121,7 +126,7 @@ parameters = {
 class Refused(Exception):
     """A call answered `code`, another one than DF1_DONE."""
 
-    def __init__(self, call, code, text):
+    def __init__(self, call: str, code: int, text: str):
         super().__init__(f"{call}: {text}")
         self.code = code
 
@@ -135,32 +140,52 @@ def checked(name, types, call):
     return with_words
 
 
-class Library:
-    """libdf1.so and df1.h of a folder. Its members are the calls, and the numbers that the header names, as DF1_DONE."""
+def places(folder: Optional[str]) -> List[Tuple[pathlib.Path, pathlib.Path]]:
+    """Where libdf1.so and df1.h may be: in a folder, else where the environment's DF1_LIBRARY says, else under a prefix."""
+    named = folder or os.environ.get("DF1_LIBRARY")
+    prefixes = [named] if named else dict.fromkeys([sys.prefix, os.path.expanduser("~/.local"), "/usr/local", "/usr"])
+    installed = [(pathlib.Path(prefix, "lib"), pathlib.Path(prefix, "include")) for prefix in prefixes]
+    return [(pathlib.Path(named), pathlib.Path(named)), *installed] if named else installed
 
-    def __init__(self, folder):
-        shared = ctypes.CDLL(f"{folder}/libdf1.so")
-        with open(f"{folder}/df1.h", encoding="ascii") as header:
-            for name, number in re.findall(r"\b(DF1_\w+) = (\w+)", header.read()):
-                setattr(self, name, int(number, 0))
+
+class Library:
+    """libdf1.so and df1.h, of a folder or a prefix, or else where they are found: in that of the environment's DF1_LIBRARY, else under
+    Python's own prefix, ~/.local, /usr/local or /usr, where `df1-lib install PREFIX` puts them. Its members are the calls, and the numbers that the
+    header names, as DF1_DONE. A library that is older than its header is refused, and where there is none FileNotFoundError is raised."""
+
+    def __init__(self, folder: Optional[str] = None):
+        found = [(lib / "libdf1.so", include / "df1.h") for lib, include in places(folder)]
+        at = next(((lib, header) for lib, header in found if lib.exists() and header.exists()), None)
+        if at is None:
+            raise FileNotFoundError("no libdf1.so with its df1.h: " + ", ".join(str(lib) for lib, _ in found))
+        shared = ctypes.CDLL(str(at[0]))
+        header = at[1].read_text(encoding="ascii")
+        for name, number in re.findall(r"\b(DF1_\w+) = (\w+)", header) + re.findall(r"#define (DF1_VERSION) (\w+)", header):
+            setattr(self, name, int(number, 0))
         for name, types in parameters.items():
             call = getattr(shared, name)
             call.argtypes = types
             call.restype = {"df1_bcc": u8, "df1_crc": u16}.get(name, u32)
             setattr(self, name, checked(name, types, call))
+        if self.df1_version() < self.DF1_VERSION:
+            raise OSError(f"{at[0]} is older than {at[1]}")
 
-    def text(self, code):
+    def __getattr__(self, name: str) -> Any:
+        """For those who check types: what isn't set above isn't there."""
+        raise AttributeError(name)
+
+    def text(self, code: int) -> str:
         into, count = ctypes.create_string_buffer(80), c_size_t()
         self.df1_code_text(code, into, 80, byref(count))
         return into.value.decode()
 
-    def do(self, call, *words):
+    def do(self, call: str, *words: Any) -> None:
         """A call that has to answer DF1_DONE."""
         code = getattr(self, call)(*words)
         if code != self.DF1_DONE:
             raise Refused(call, code, self.text(code))
 
-    def bytes(self, call, *words, room=506):
+    def bytes(self, call: str, *words: Any, room: int = 506) -> "bytes":
         """The bytes that a call writes into a room."""
         into, count = ctypes.create_string_buffer(room), c_size_t()
         self.do(call, *words, into, room, byref(count))
@@ -171,73 +196,74 @@ class Held:
     """What a handle of the library holds. Its memory is let go by `free`, at the end of a `with` block, or when nothing refers to
     it any more, whichever comes first. A call after that is refused by DF1_NO_HANDLE."""
 
-    def __init__(self, library, kind, make, *words):
+    def __init__(self, library: Library, kind: str, make: str, *words: Any):
         self.library, self.handle = library, Handle()
         library.do(make, *words, self.handle)
         self.free = weakref.finalize(self, library.do, f"df1_{kind}_free", self.handle)
 
-    def __enter__(self):
+    def __enter__(self) -> Any:
         return self
 
-    def __exit__(self, *raised):
+    def __exit__(self, *raised: Any) -> None:
         self.free()
 
 
 class Decoder(Held):
     """A decoder of a full-duplex line, with a CRC or else with BCC."""
 
-    def __init__(self, library, crc):
+    def __init__(self, library: Library, crc: bool):
         super().__init__(library, "decoder", "df1_decoder_make", crc)
 
-    def byte(self, byte):
+    def byte(self, byte: int) -> Hearing:
         hearing = Hearing()
         self.library.do("df1_decoder_byte", self.handle, byte, hearing)
         return hearing
 
-    def body(self):
+    def body(self) -> bytes:
         return self.library.bytes("df1_decoder_body", self.handle)
 
 
 class End(Held):
     """An end by its link: a Duplex, a Master with `stations`, or a Slave. Files and words are Files and Words."""
 
-    def __init__(self, library, link, node, files=(), words=(), block=b"", stations=b""):
+    def __init__(self, library: Library, link: Union[Duplex, Master, Slave], node: Node, files: Sequence[File] = (),
+                 words: Sequence[Word] = (), block: Octets = b"", stations: Octets = b""):
         block, stations = octets(block), octets(stations)
         listed = (stations, len(stations)) if isinstance(link, Master) else ()
         super().__init__(library, "end", f"df1_{type(link).__name__.lower()}_make", link, *listed, node,
                          (File * len(files))(*files), len(files), (Word * len(words))(*words), len(words), block, len(block))
 
-    def byte(self, byte):
+    def byte(self, byte: int) -> Step:
         step = Step()
         self.library.do("df1_end_byte", self.handle, byte, step)
         return step
 
-    def body(self):
+    def body(self) -> bytes:
         return self.library.bytes("df1_end_body", self.handle)
 
-    def tick(self):
+    def tick(self) -> Tuple[Turn, List[int]]:
         """What the tick did, and the numbers of the commands that it left unanswered."""
         turn, gone = Turn(), (u32 * 16)()
         self.library.do("df1_end_tick", self.handle, turn, gone, 16)
         return turn, gone[: turn.gone_count]
 
-    def out(self):
+    def out(self) -> Out:
         """What a take gives: whether there is a byte, the byte, and whether it is the last of a message."""
         out = Out()
         self.library.do("df1_end_take", self.handle, out)
         return out
 
-    def take(self):
+    def take(self) -> Optional[int]:
         """The next byte, or None where there is none."""
         out = self.out()
         return out.byte if out.there else None
 
-    def quiet(self):
+    def quiet(self) -> bool:
         quiet = c_bool()
         self.library.do("df1_end_quiet", self.handle, quiet)
         return quiet.value
 
-    def given(self):
+    def given(self) -> bytes:
         """All bytes that the end has to give."""
         given = bytearray()
         while not self.quiet():
@@ -246,7 +272,7 @@ class End(Held):
                 given.append(byte)
         return bytes(given)
 
-    def issue(self, dst, payload, src=None):
+    def issue(self, dst: int, payload: Octets, src: Optional[int] = None) -> int:
         """Issues a command, in the name of a source or else in that of the end's node, and answers its number."""
         payload = octets(payload)
         number, words = u32(), (dst, payload, len(payload))
@@ -256,47 +282,47 @@ class End(Held):
             self.library.do("df1_end_issue_from", self.handle, src, *words, number)
         return number.value
 
-    def outcome(self, number):
+    def outcome(self, number: int) -> int:
         outcome = u32()
         self.library.do("df1_end_outcome", self.handle, number, outcome)
         return outcome.value
 
-    def reply(self, number):
+    def reply(self, number: int) -> bytes:
         return self.library.bytes("df1_end_reply", self.handle, number)
 
-    def pull(self, dst, file, words):
+    def pull(self, dst: int, file: int, words: int) -> int:
         """Issues the orders of a transfer that reads words of a file, and answers the number of the first."""
         first = u32()
         self.library.do("df1_end_pull", self.handle, dst, file, words, first)
         return first.value
 
-    def push(self, dst, file, data):
+    def push(self, dst: int, file: int, data: Octets) -> int:
         """Issues the orders of a transfer that writes words, two bytes each, to a file, and answers the number of the first."""
         data, first = octets(data), u32()
         self.library.do("df1_end_push", self.handle, dst, file, data, len(data), first)
         return first.value
 
-    def pulled(self, first, words):
+    def pulled(self, first: int, words: int) -> Tuple[Transfer, bytes]:
         """What a transfer that reads came to so far, and its bytes where it is whole."""
         into, count, came = ctypes.create_string_buffer(6000), c_size_t(), Transfer()
         self.library.do("df1_end_pulled", self.handle, first, words, into, 6000, count, came)
         return came, into.raw[: count.value]
 
-    def pushed(self, first, words):
+    def pushed(self, first: int, words: int) -> Transfer:
         """What a transfer that writes came to so far."""
         came = Transfer()
         self.library.do("df1_end_pushed", self.handle, first, words, came)
         return came
 
-    def word(self, file, index):
+    def word(self, file: int, index: int) -> int:
         value = u16()
         self.library.do("df1_end_word", self.handle, file, index, value)
         return value.value
 
-    def set_word(self, file, index, value):
+    def set_word(self, file: int, index: int, value: int) -> None:
         self.library.do("df1_end_set_word", self.handle, file, index, value)
 
-    def files(self):
+    def files(self) -> List[File]:
         """The data files, in their order."""
         count, files = u32(), []
         self.library.do("df1_end_files", self.handle, count)
