@@ -1,0 +1,218 @@
+/* Calls of the library by whatever bytes say: three ends, one of each kind, and a decoder, with buffers of just the size that is told.
+ * By libFuzzer: clang -fsanitize=fuzzer,address -Iinclude .ci/library-fuzz.c libdf1.a. By bytes of a generator, as under valgrind, which
+ * sees each access of the library too: cc -DGENERATED -Iinclude .ci/library-fuzz.c libdf1.a; then RUNS is how many rounds it makes. */
+#include <stdio.h>
+#include <stdlib.h>
+#include <string.h>
+
+#include "df1.h"
+
+#define MUST(holds)                                                  \
+    do {                                                             \
+        if (!(holds)) {                                              \
+            fprintf(stderr, "line %d: not so: %s\n", __LINE__, #holds); \
+            abort();                                                 \
+        }                                                            \
+    } while (0)
+
+struct said {
+    const uint8_t *at;
+    size_t left;
+};
+
+static uint8_t byte_of(struct said *said)
+{
+    if (said->left == 0)
+        return 0;
+    said->left--;
+    return *said->at++;
+}
+
+static uint32_t number_of(struct said *said)
+{
+    uint32_t high = byte_of(said);
+
+    return high < 128 ? high : high << 8 | byte_of(said);
+}
+
+/* So many bytes, in a block of their own: null where there are none. */
+static uint8_t *block_of(struct said *said, size_t length)
+{
+    uint8_t *block = length > 0 ? malloc(length) : NULL;
+    size_t at;
+
+    for (at = 0; at < length; at++)
+        block[at] = byte_of(said);
+    return block;
+}
+
+/* What a call that fills a buffer may answer. */
+static void look(uint32_t code, const size_t *length, size_t room, size_t most)
+{
+    MUST(code <= DF1_NO_STATION);
+    MUST(code != DF1_DONE || (*length <= room && *length <= most));
+    MUST(code != DF1_NO_ROOM || (*length > room && *length <= most));
+}
+
+/* An end of a kind, whose parts are perhaps out of range. */
+static void make(struct said *said, unsigned kind, df1_end *end)
+{
+    df1_duplex duplex = DF1_DUPLEX_INIT;
+    df1_master master = DF1_MASTER_INIT;
+    df1_slave slave = DF1_SLAVE_INIT;
+    df1_node node = DF1_NODE_INIT((uint8_t)(1 + kind));
+    df1_file files[2] = {{7, DF1_INTEGER, 16}, {8, DF1_FLOAT, 4}};
+    df1_word words[1] = {{7, 0, 0x1234}};
+    uint8_t stations[2] = {2, 3};
+    size_t block_length = number_of(said) % 300;
+    uint8_t *block = block_of(said, block_length);
+    uint32_t code;
+
+    duplex.embed = byte_of(said) % 2;
+    duplex.max_naks = number_of(said) % 300;
+    master.routes = byte_of(said) % 3;
+    master.poll_ticks = slave.max_sends = 1 + byte_of(said) % 4;
+    node.window = number_of(said) % 20;
+    node.reply_ticks = 1 + byte_of(said);
+    node.room = 2 + byte_of(said) % 70;
+    files[1].number = (uint16_t)(6 + byte_of(said) % 4);
+    words[0].index = number_of(said) % 20;
+    if (kind % 3 == 0)
+        code = df1_duplex_make(&duplex, &node, files, 2, words, 1, block, block_length, end);
+    else if (kind % 3 == 1)
+        code = df1_master_make(&master, stations, byte_of(said) % 3, &node, files, 2, words, 1, block, block_length, end);
+    else
+        code = df1_slave_make(&slave, &node, files, 2, words, 1, block, block_length, end);
+    MUST(code <= DF1_NO_STATION);
+    free(block);
+}
+
+/* Bytes of an end go to another one, as far as it gives any. */
+static void carry(df1_end *from, df1_end *to, unsigned count)
+{
+    df1_step step;
+    df1_out out;
+
+    for (; count > 0 && df1_end_take(from, &out) == DF1_DONE && out.there; count--)
+        MUST(df1_end_byte(to, out.byte, &step) <= DF1_NO_HANDLE);
+}
+
+static void command(struct said *said, df1_end *end, unsigned what)
+{
+    size_t length = number_of(said) % 260, told = 0;
+    uint8_t *bytes = block_of(said, length);
+    uint32_t number = number_of(said), into = 0;
+    df1_transfer came;
+
+    if (what == 0)
+        MUST(df1_end_issue(end, (uint8_t)number, bytes, length, &into) <= DF1_NO_STATION);
+    else if (what == 1)
+        MUST(df1_end_issue_from(end, byte_of(said), (uint8_t)number, bytes, length, &into) <= DF1_NO_STATION);
+    else if (what == 2)
+        MUST(df1_end_pull(end, (uint8_t)number, (uint16_t)(number_of(said) % 1100), number_of(said) % 3100, &into) <= DF1_NO_STATION);
+    else if (what == 3)
+        MUST(df1_end_push(end, (uint8_t)number, (uint16_t)(number_of(said) % 1100), bytes, length, &into) <= DF1_NO_STATION);
+    else if (what == 4)
+        MUST(df1_end_outcome(end, number, &into) <= DF1_NO_STATION);
+    else if (what == 5)
+        look(df1_end_reply(end, number, bytes, length, &told), &told, length, 250);
+    else if (what == 6)
+        look(df1_end_pulled(end, number, 1 + length / 2, bytes, length, &told, &came), &told, length, 6000);
+    else
+        MUST(df1_end_pushed(end, number, length, &came) <= DF1_NO_STATION);
+    free(bytes);
+}
+
+static void look_at(struct said *said, df1_end *end, unsigned what)
+{
+    uint32_t gone[16], count = 0;
+    uint16_t value = 0;
+    df1_turn turn;
+    df1_file file;
+    size_t told = 0, room = number_of(said) % 260;
+    uint8_t *into = block_of(said, room);
+    bool quiet;
+
+    if (what == 0)
+        MUST(df1_end_tick(end, &turn, gone, 16) != DF1_DONE || turn.gone_count <= 16);
+    else if (what == 1)
+        look(df1_end_body(end, into, room, &told), &told, room, 250);
+    else if (what == 2)
+        MUST(df1_end_quiet(end, &quiet) <= DF1_NO_HANDLE);
+    else if (what == 3)
+        MUST(df1_end_set_word(end, (uint16_t)number_of(said), number_of(said), value) <= DF1_NO_STATION);
+    else if (what == 4)
+        MUST(df1_end_word(end, (uint16_t)number_of(said), number_of(said), &value) <= DF1_NO_STATION);
+    else if (what == 5)
+        MUST(df1_end_files(end, &count) != DF1_DONE || count <= 256);
+    else if (what == 6)
+        MUST(df1_end_file(end, number_of(said), &file) <= DF1_NO_STATION);
+    else
+        look(df1_spell(byte_of(said) % 2, into, room, NULL, 0, &told), &told, 0, 506);
+    free(into);
+}
+
+static void hear(struct said *said, df1_decoder *decoder, df1_end *end)
+{
+    df1_hearing hearing;
+    df1_step step;
+    unsigned count = byte_of(said) % 64;
+    size_t told = 0;
+    uint8_t body[250];
+
+    for (; count > 0; count--) {
+        uint8_t byte = byte_of(said);
+
+        MUST(df1_decoder_byte(decoder, byte, &hearing) != DF1_DONE || hearing.heard <= DF1_HEARD_STRAY_PAIR);
+        MUST(df1_end_byte(end, byte, &step) != DF1_DONE || step.did <= DF1_ROUTED);
+    }
+    look(df1_decoder_body(decoder, body, sizeof body, &told), &told, sizeof body, 250);
+}
+
+int LLVMFuzzerTestOneInput(const uint8_t *data, size_t size)
+{
+    struct said said = {data, size};
+    df1_end ends[3] = {DF1_NOTHING, DF1_NOTHING, DF1_NOTHING};
+    df1_decoder decoder = DF1_NOTHING;
+    unsigned at;
+
+    for (at = 0; at < 3; at++)
+        make(&said, at, &ends[at]);
+    MUST(df1_decoder_make(byte_of(&said) % 2, &decoder) == DF1_DONE);
+    while (said.left > 0) {
+        unsigned what = byte_of(&said), which = what / 32 % 3;
+
+        if (what % 32 < 8)
+            command(&said, &ends[which], what % 8);
+        else if (what % 32 < 16)
+            look_at(&said, &ends[which], what % 8);
+        else if (what % 32 < 26)
+            carry(&ends[which], &ends[(which + what % 2 + 1) % 3], byte_of(&said));
+        else if (what % 32 < 31)
+            hear(&said, &decoder, &ends[which]);
+        else if (df1_end_free(&ends[which]) != DF1_DONE || what < 224)
+            make(&said, which + byte_of(&said), &ends[which]);
+    }
+    for (at = 0; at < 3; at++)
+        MUST(df1_end_free(&ends[at]) <= DF1_NO_HANDLE);
+    MUST(df1_decoder_free(&decoder) == DF1_DONE);
+    return 0;
+}
+
+#ifdef GENERATED
+int main(int argc, char **argv)
+{
+    static uint8_t data[4096];
+    unsigned long runs = argc > 1 ? strtoul(argv[1], NULL, 10) : 100, run;
+    size_t at;
+
+    srand(1770);
+    for (run = 0; run < runs; run++) {
+        for (at = 0; at < sizeof data; at++)
+            data[at] = (uint8_t)(rand() >> 7);
+        LLVMFuzzerTestOneInput(data, (size_t)rand() % sizeof data);
+    }
+    printf("%lu rounds: ok\n", runs);
+    return 0;
+}
+#endif
