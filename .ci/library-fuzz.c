@@ -1,6 +1,7 @@
 /* Calls of the library by whatever bytes say: three ends, one of each kind, and a decoder, with buffers of just the size that is told.
  * By libFuzzer: clang -fsanitize=fuzzer,address -Iinclude .ci/library-fuzz.c libdf1.a. By bytes of a generator, as under valgrind, which
- * sees each access of the library too: cc -DGENERATED -Iinclude .ci/library-fuzz.c libdf1.a; then RUNS is how many rounds it makes. */
+ * sees each access of the library too: cc -DGENERATED -pthread -Iinclude .ci/library-fuzz.c libdf1.a; its word is how many rounds each of
+ * two threads makes, on handles of its own. */
 #include <stdio.h>
 #include <stdlib.h>
 #include <string.h>
@@ -200,18 +201,47 @@ int LLVMFuzzerTestOneInput(const uint8_t *data, size_t size)
 }
 
 #ifdef GENERATED
-int main(int argc, char **argv)
+#include <pthread.h>
+
+/* The rounds of one thread, with bytes of a generator of its own. */
+struct rounds {
+    unsigned long count;
+    uint32_t seed;
+};
+
+static uint32_t next(uint32_t *seed)
 {
-    static uint8_t data[4096];
-    unsigned long runs = argc > 1 ? strtoul(argv[1], NULL, 10) : 100, run;
+    *seed = *seed * 1664525 + 1013904223;
+    return *seed >> 16;
+}
+
+static void *play(void *given)
+{
+    struct rounds *rounds = given;
+    uint8_t *data = malloc(4096);
+    unsigned long round;
     size_t at;
 
-    srand(1770);
-    for (run = 0; run < runs; run++) {
-        for (at = 0; at < sizeof data; at++)
-            data[at] = (uint8_t)(rand() >> 7);
-        LLVMFuzzerTestOneInput(data, (size_t)rand() % sizeof data);
+    for (round = 0; round < rounds->count; round++) {
+        for (at = 0; at < 4096; at++)
+            data[at] = (uint8_t)next(&rounds->seed);
+        LLVMFuzzerTestOneInput(data, next(&rounds->seed) % 4096);
     }
+    free(data);
+    return NULL;
+}
+
+int main(int argc, char **argv)
+{
+    unsigned long runs = argc > 1 ? strtoul(argv[1], NULL, 10) : 100;
+    struct rounds rounds[2] = {{runs, 1770}, {runs, 1771}};
+    pthread_t threads[2];
+    int at;
+
+    for (at = 0; at < 2; at++)
+        MUST(pthread_create(&threads[at], NULL, play, &rounds[at]) == 0);
+    for (at = 0; at < 2; at++)
+        MUST(pthread_join(threads[at], NULL) == 0);
     printf("%lu rounds: ok\n", runs);
     return 0;
 }
