@@ -1,21 +1,20 @@
 /* A gateway in front of a controller: gateway DEVICE, or gateway DEVICE crc on a line with CRCs. Twice a second it reads N7:0 to N7:15
  * of node 1, and writes each word that has changed to standard output as a line, N7:3=42. Such a line on standard input sets the word,
- * and standard error tells what became of that; nothing is sent a second time by itself, so nothing is set twice. It begins with an echo
- * (06/00), which changes nothing, and goes back to that whenever no answer came: a first command may be taken for a repeat of an earlier
- * one. A device that goes away is opened again, each second until it is there. It ends with 0 when standard input ends and all that was
- * to be set has an outcome, and with 1 where the device can't be opened at first or the library has no memory. */
+ * and standard error tells what became of that; it issues no command a second time. It begins with an echo (06/00), which changes
+ * nothing, and goes back to that whenever no answer came: a first command may be taken for a repeat of an earlier one. Until an echo is
+ * answered, and a read after it, lines of standard input wait. A device that goes away is opened again, each second until it is
+ * there. It ends with 0 when standard input ends and all that was to be set has an outcome, and with 1 where the device can't be opened
+ * at first or the library has no memory. */
 #define _POSIX_C_SOURCE 200809L
 #include <errno.h>
-#include <fcntl.h>
 #include <poll.h>
 #include <stdio.h>
 #include <stdlib.h>
 #include <string.h>
-#include <termios.h>
-#include <time.h>
 #include <unistd.h>
 
 #include "df1.h"
+#include "serial.h"
 
 #define SPEED B19200
 #define TICK_MILLISECONDS 50
@@ -44,6 +43,7 @@ struct gateway {
     uint32_t issued, settled;     /* the numbers of the last command, and of the last one whose outcome was told */
     struct asked asked[ASKED];    /* by their numbers */
     bool answers;                 /* the latest outcome was a reply */
+    bool fresh;                   /* and a read was answered since one was none */
     bool known[WORDS];            /* which words were read */
     uint16_t values[WORDS];       /* what they were */
     char line[64];                /* of standard input, as far as it came */
@@ -52,41 +52,11 @@ struct gateway {
     long long next_tick, next_read, next_open;
 };
 
-static long long now(void)
-{
-    struct timespec time;
-
-    clock_gettime(CLOCK_MONOTONIC, &time);
-    return time.tv_sec * 1000LL + time.tv_nsec / 1000000;
-}
-
 /* ---- The device ---- */
-
-/* Makes a device raw: bytes go through it as they are. */
-static bool make_raw(int device)
-{
-    struct termios line;
-
-    if (tcgetattr(device, &line) != 0)
-        return false;
-    line.c_iflag = 0;
-    line.c_oflag = 0;
-    line.c_lflag = 0;
-    line.c_cflag = CS8 | CREAD | CLOCAL;
-    line.c_cc[VMIN] = 0;
-    line.c_cc[VTIME] = 0;
-    cfsetispeed(&line, SPEED);
-    cfsetospeed(&line, SPEED);
-    return tcsetattr(device, TCSANOW, &line) == 0;
-}
 
 static bool open_device(struct gateway *g)
 {
-    g->device = open(g->name, O_RDWR | O_NOCTTY | O_NONBLOCK);
-    if (g->device >= 0 && !make_raw(g->device)) {
-        close(g->device);
-        g->device = -1;
-    }
+    g->device = open_raw(g->name, O_NONBLOCK, SPEED);
     return g->device >= 0;
 }
 
@@ -248,6 +218,7 @@ static void replied(struct gateway *g, struct asked asked, uint32_t number)
 
     if (df1_end_reply(&g->end, number, reply, sizeof reply, &length) != DF1_DONE)
         return;
+    g->fresh = g->fresh || asked.kind == ASKS_READ;
     if (asked.kind == ASKS_WRITE && reply[3] == 0)
         fprintf(stderr, "N7:%u=%d: set\n", asked.word, asked.value);
     else if (reply[3] != 0)
@@ -268,6 +239,7 @@ static void settle(struct gateway *g)
             return;
         g->settled++;
         g->answers = outcome == DF1_REPLIED;
+        g->fresh = g->fresh && g->answers;
         if (outcome == DF1_REPLIED)
             replied(g, asked, g->settled);
         else if (asked.kind == ASKS_WRITE)
@@ -305,7 +277,7 @@ static void on_time(struct gateway *g)
 
 static void wait(struct gateway *g)
 {
-    bool has_room = !g->ended && g->issued - g->settled < ASKED / 2 && g->issued < MOST;
+    bool has_room = !g->ended && g->fresh && g->issued - g->settled < ASKED / 2 && g->issued < MOST;
     struct pollfd on[2] = {{has_room ? STDIN_FILENO : -1, POLLIN, 0}, {g->device, POLLIN, 0}};
     long long left = g->next_tick - now();
 

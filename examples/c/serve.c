@@ -2,15 +2,13 @@
  * a line with CRCs. It ends with 0 when the device does, and with 1 where the device can't be read or written. */
 #define _POSIX_C_SOURCE 200809L
 #include <errno.h>
-#include <fcntl.h>
 #include <poll.h>
 #include <stdio.h>
 #include <string.h>
-#include <termios.h>
-#include <time.h>
 #include <unistd.h>
 
 #include "df1.h"
+#include "serial.h"
 
 /* The line, and the end: what examples/served.toml says of its file 7, and for the rest what a plan that doesn't tell it has. */
 #define SPEED B19200
@@ -19,32 +17,6 @@ static const df1_duplex full_duplex = DF1_DUPLEX_INIT;
 static const df1_node node = DF1_NODE_INIT(1);
 static const df1_file files[] = {{7, DF1_INTEGER, 16}};
 static const df1_word words[] = {{7, 0, 0x1234}};
-
-static long long now(void)
-{
-    struct timespec time;
-
-    clock_gettime(CLOCK_MONOTONIC, &time);
-    return time.tv_sec * 1000LL + time.tv_nsec / 1000000;
-}
-
-/* Makes a device raw: bytes go through it as they are. */
-static bool make_raw(int device)
-{
-    struct termios line;
-
-    if (tcgetattr(device, &line) != 0)
-        return false;
-    line.c_iflag = 0;
-    line.c_oflag = 0;
-    line.c_lflag = 0;
-    line.c_cflag = CS8 | CREAD | CLOCAL;
-    line.c_cc[VMIN] = 1;
-    line.c_cc[VTIME] = 0;
-    cfsetispeed(&line, SPEED);
-    cfsetospeed(&line, SPEED);
-    return tcsetattr(device, TCSANOW, &line) == 0;
-}
 
 static int status = 0;
 
@@ -147,8 +119,8 @@ int main(int argc, char **argv)
         return 2;
     }
     link.crc = argc == 3;
-    device = open(argv[1], O_RDWR | O_NOCTTY);
-    if (device < 0 || !make_raw(device)) {
+    device = open_raw(argv[1], 0, SPEED);
+    if (device < 0) {
         perror(argv[1]);
         return 1;
     }
