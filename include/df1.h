@@ -341,6 +341,36 @@ uint32_t df1_end_take(df1_end *end, df1_out *out);
 /* Whether the end has nothing to give, so that df1_end_take gives none. DF1_NO_HANDLE. */
 uint32_t df1_end_quiet(df1_end *end, bool *quiet);
 
+/* ---- Runs of bytes ----
+ *
+ * What these two do is what df1_end_byte and df1_end_take do for one byte after another. A loop over what was read:
+ *
+ *     for (size_t at = 0; at < count; at += used) {
+ *         df1_end_bytes(&end, bytes + at, count - at, &used, &step);
+ *         ... act on step ...
+ *         do {
+ *             df1_end_take_bytes(&end, out, sizeof out, &given);
+ *             ... write given.length bytes of out ...
+ *         } while (!given.quiet);
+ *     }
+ */
+
+/* The end hears the first of `length` bytes: up to one at which there is something to do, since `act`, `news` or `whole` tells
+ * something or the end has something to give then, or all of them where there is no such one. `*used` is how many it heard, and
+ * `*step` what the last of them did: all zeros for none. DF1_NO_HANDLE. */
+uint32_t df1_end_bytes(df1_end *end, const uint8_t *bytes, size_t length, size_t *used, df1_step *step);
+
+/* A run of bytes that goes out. */
+typedef struct df1_given {
+    size_t length; /* how many bytes it has */
+    bool last;     /* the last of them is the last byte of a frame or message */
+    bool quiet;    /* the end has nothing more to give */
+} df1_given;
+
+/* The end gives its next bytes into the `room` bytes at `into`: as many as there is room for, and 512 at most, up to the first that
+ * ends a frame or message. DF1_NO_HANDLE. */
+uint32_t df1_end_take_bytes(df1_end *end, uint8_t *into, size_t room, df1_given *given);
+
 /* ---- Commands that the end issues ---- */
 
 /* What became of a command. */
@@ -417,6 +447,13 @@ uint32_t df1_end_word(df1_end *end, uint16_t file, uint32_t index, uint16_t *val
 /* Sets a word, as a program in the controller would. DF1_NO_HANDLE, DF1_NO_WORD. */
 uint32_t df1_end_set_word(df1_end *end, uint16_t file, uint32_t index, uint16_t value);
 
+/* The values of `count` words, from word `first` of the file on. DF1_NO_HANDLE; DF1_NO_WORD where the file doesn't have them all. */
+uint32_t df1_end_words(df1_end *end, uint16_t file, uint32_t first, uint16_t *values, size_t count);
+
+/* Sets `count` words, from word `first` of the file on, as a program in the controller would: all of them or none.
+ * DF1_NO_HANDLE; DF1_NO_WORD where the file doesn't have them all. */
+uint32_t df1_end_set_words(df1_end *end, uint16_t file, uint32_t first, const uint16_t *values, size_t count);
+
 /* How many data files the end has. DF1_NO_HANDLE. */
 uint32_t df1_end_files(df1_end *end, uint32_t *count);
 
@@ -439,6 +476,8 @@ DF1_NOT_NULL(df1_read_words, const df1_word)
 DF1_NOT_NULL(df1_write_bytes, uint8_t)
 DF1_NOT_NULL(df1_write_text, char)
 DF1_NOT_NULL(df1_write_numbers, uint32_t)
+DF1_NOT_NULL(df1_read_values, const uint16_t)
+DF1_NOT_NULL(df1_write_values, uint16_t)
 #undef DF1_NOT_NULL
 
 #define df1_bcc(bytes, length) df1_bcc(df1_read_bytes(bytes), length)
@@ -457,6 +496,8 @@ DF1_NOT_NULL(df1_write_numbers, uint32_t)
     df1_slave_make(link, node, df1_read_files(files), file_count, df1_read_words(words), word_count, \
                    df1_read_bytes(block), block_length, end)
 #define df1_end_body(end, into, room, length) df1_end_body(end, df1_write_bytes(into), room, length)
+#define df1_end_bytes(end, bytes, length, used, step) df1_end_bytes(end, df1_read_bytes(bytes), length, used, step)
+#define df1_end_take_bytes(end, into, room, given) df1_end_take_bytes(end, df1_write_bytes(into), room, given)
 #define df1_end_tick(end, turn, gone, room) df1_end_tick(end, turn, df1_write_numbers(gone), room)
 #define df1_end_issue(end, dst, payload, length, number) df1_end_issue(end, dst, df1_read_bytes(payload), length, number)
 #define df1_end_issue_from(end, src, dst, payload, length, number) \
@@ -465,6 +506,9 @@ DF1_NOT_NULL(df1_write_numbers, uint32_t)
 #define df1_end_push(end, dst, file, bytes, length, first) df1_end_push(end, dst, file, df1_read_bytes(bytes), length, first)
 #define df1_end_pulled(end, first, words, into, room, length, came) \
     df1_end_pulled(end, first, words, df1_write_bytes(into), room, length, came)
+#define df1_end_words(end, file, first, values, count) df1_end_words(end, file, first, df1_write_values(values), count)
+#define df1_end_set_words(end, file, first, values, count) \
+    df1_end_set_words(end, file, first, df1_read_values(values), count)
 
 #ifdef __cplusplus
 }

@@ -20,11 +20,11 @@ use Rattle.df1_node.specs.contracts.node.NodeHost.TheImpl.{ghosts as node_host}
 use Rattle.df1_c.specs.declared.decoders.Hearing.{Hearing}
 use Rattle.c_ends.specs.declared.told.StepTold.{StepTold}
 use Rattle.df1_c.specs.Arrived.{IsDecoderFor, IsHearing, IsEndFor, HearsWhole, IsBodyOf, Copies}
-use Rattle.df1_c.specs.Behind.{routed_host}
-use Rattle.df1_c.specs.Copied.{copied}
+use Rattle.c_calls.specs.Behind.{routed_host}
+use Rattle.c_calls.specs.Copied.{copied}
 use Rattle.df1_c.specs.Decoders.{after_fed, heard_in, hearing_told, lent_in, lent_code}
-use Rattle.df1_c.specs.Ends.{after_byte, step_of, body_of, body_code, after_tick, after_take}
-use Rattle.df1_c.specs.Held.{told_of}
+use Rattle.c_calls.specs.Ends.{after_byte, step_of, body_of, body_code, after_tick, after_take}
+use Rattle.c_calls.specs.Answers.{told_of}
 
 -- ---- a decoder
 
@@ -69,7 +69,7 @@ lent-copied (Some (held.Slave end)) into new before count answer coded given cou
 -- ---- an end
 
 -- stands for a byte more
-heard : (held : Held) (byte : ℕ) (check : Check) (bytes : List ℕ) → IsEndFor check bytes (Some held) → IsEndFor check (bytes ++ byte ∷ []) (Some (after_byte held byte))
+pub heard : (held : Held) (byte : ℕ) (check : Check) (bytes : List ℕ) → IsEndFor check bytes (Some held) → IsEndFor check (bytes ++ byte ∷ []) (Some (after_byte held byte))
 heard (held.Decoder decoder) byte check bytes stands = absurd stands
 heard (held.Duplex end) byte check bytes stands = duplex.stands-byte node_host end byte check bytes stands
 heard (held.Master end) byte check bytes stands = master.stands-byte routed_host end byte check bytes stands
@@ -147,7 +147,7 @@ tick-stands small old new before after was now is check bytes stands =
     (subst (λ (h : Held). IsEndFor check bytes (Some h)) (sym is) (maybe-ticked small before check bytes held))
 
 -- after a take
-taken : (held : Held) (check : Check) (bytes : List ℕ) → IsEndFor check bytes (Some held) → IsEndFor check bytes (Some (after_take held))
+pub taken : (held : Held) (check : Check) (bytes : List ℕ) → IsEndFor check bytes (Some held) → IsEndFor check bytes (Some (after_take held))
 taken (held.Decoder decoder) check bytes stands = absurd stands
 taken (held.Duplex end) check bytes stands = duplex.stands-take node_host end check bytes stands
 taken (held.Master end) check bytes stands = master.stands-take routed_host end check bytes stands

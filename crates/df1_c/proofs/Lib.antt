@@ -3,3 +3,4 @@ pub mod Faults
 mod Heap
 pub mod Making
 mod Pointed
+mod RunsArrived

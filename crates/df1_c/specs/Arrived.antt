@@ -17,7 +17,7 @@ use Rattle.c_ends.specs.declared.held.Held.{Held}
 use Rattle.c_ends.specs.declared.held.Held.TheVariants as held
 use Rattle.c_ends.specs.Code.{code_number}
 use Rattle.df1_c.specs.declared.decoders.Hearing.{Hearing}
-use Rattle.df1_c.specs.Copied.{copied, room_code}
+use Rattle.c_calls.specs.Copied.{copied, room_code}
 use Rattle.df1_c.specs.Decoders.{hearing_told}
 
 -- ---- a decoder

@@ -12,7 +12,7 @@ use Rattle.c_ends.specs.declared.held.Held.{Held}
 use Rattle.c_ends.specs.declared.held.Held.TheVariants as held
 use Rattle.c_ends.specs.Links.{check_of}
 use Rattle.df1_c.specs.declared.decoders.Hearing.{Hearing}
-use Rattle.df1_c.specs.Copied.{room_code}
+use Rattle.c_calls.specs.Copied.{room_code}
 
 -- a decoder that has heard nothing
 abbrev pub new_decoder : Bool → Held

@@ -2,7 +2,6 @@
 use Rattle.std.specs.Prelude.{◌≡◌, ◌⊎◌, ℕ, if◌then◌else◌}
 use Rattle.std.specs.declared.option.Option.{Option}
 use Rattle.std.specs.declared.option.Option.TheVariants.{Some, None}
-use Rattle.std.specs.Option.{option_and_then, unwrap_or}
 use Rattle.std.specs.Mem.{manually_drop_value}
 use Rattle.c_ends.specs.declared.code.Code.{Code}
 use Rattle.c_ends.specs.declared.code.Code.TheVariants as code
@@ -21,19 +20,10 @@ value_in (Some kept) = Some (manually_drop_value kept)
 abbrev pub holding : Seat → Option Held
 holding seat = value_in seat.pointer.held
 
--- the code of a call on an end
-abbrev pub end_code : Option Held → Code
-end_code None = code.NoHandle
-end_code (Some held) = if is_end held then code.Done else code.NoHandle
-
 -- an end is let go, and nothing else
 abbrev pub freed : Option Held → Option Held
 freed None = None
 freed (Some held) = if is_end held then None else Some held
-
--- what a call tells of what is held; where it tells nothing, what was there
-abbrev pub told_of : {T : Type 0} → Option Held → (Held → Option T) → T → T
-told_of held tell old = unwrap_or (option_and_then tell held) old
 
 -- a handle that is to be filled is empty
 abbrev pub taken_fault : Option Held → Option Code

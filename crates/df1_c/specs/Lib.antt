@@ -1,12 +1,6 @@
 pub mod Arrived
-pub mod Behind
-pub mod Commands
-pub mod Copied
 pub mod Decoders
-pub mod Ends
 pub mod Held
 pub mod Owned
 pub mod Rows
 pub mod Spelled
-pub mod Transfers
-pub mod Words

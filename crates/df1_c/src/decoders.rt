@@ -6,12 +6,13 @@ ghost use Rattle.df1_check.specs.declared.Check.{Check as CheckKind};
 ghost use Rattle.c_ends.specs.Code.{code_number};
 ghost use Rattle.c_ends.specs.Links.{check_of};
 ghost use Rattle.df1_c.specs.Arrived.{Copies, IsBodyOf, IsDecoderFor, IsHearing};
-ghost use Rattle.df1_c.specs.Copied.{copied};
-ghost use Rattle.df1_c.specs.Held.{IsMake, holding, taken_fault, told_of};
+ghost use Rattle.c_calls.specs.Copied.{copied};
+ghost use Rattle.c_calls.specs.Answers.{told_of};
+ghost use Rattle.df1_c.specs.Held.{IsMake, holding, taken_fault};
 ghost use Rattle.df1_c.specs.Decoders.{after_fed, decoder_code, decoder_freed, heard_in, hearing_told, is_decoder, lent_code, lent_in, new_decoder};
 
-use crate::copying::copy;
 use crate::seat::Seat;
+use c_calls::copy;
 use c_ends::{Code, Held, check_of};
 use df1_frame::{Decoder, Heard};
 use std::alloc::Global;

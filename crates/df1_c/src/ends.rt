@@ -1,30 +1,20 @@
 //! An end behind a handle: bytes that it hears, ticks, bytes that it gives, and letting it go.
 
-ghost use Rattle.std.specs.Prelude.{◌≡◌, ◌↔◌, ◌∷◌, ◌++◌, [], ℕ, List, IsTrue, length, nat_lt, if◌then◌else◌, Some, None};
-ghost use Rattle.std.specs.Option.{option_map, unwrap_or};
+ghost use Rattle.std.specs.Prelude.{◌≡◌, ◌↔◌, ◌∷◌, ◌++◌, [], ℕ, List, IsTrue, length, nat_lt, if◌then◌else◌};
+ghost use Rattle.std.specs.Option.{option_map};
 ghost use Rattle.df1_check.specs.declared.Check.{Check as CheckKind};
-ghost use Rattle.half_master.specs.Master.{master_after_byte, step_at_byte};
 ghost use Rattle.c_ends.specs.Code.{code_number};
+ghost use Rattle.c_calls.specs.Answers.{end_code, told_of};
+ghost use Rattle.c_calls.specs.Copied.{copied};
+ghost use Rattle.c_calls.specs.Ends.{after_byte, after_take, after_tick, body_code, body_of, gone_of, out_of, quiet_of, step_of, tick_code, turn_of, with_room};
 ghost use Rattle.df1_c.specs.Arrived.{Copies, HearsWhole, IsBodyOf, IsEndFor};
-ghost use Rattle.df1_c.specs.Behind.{routed_host};
-ghost use Rattle.df1_c.specs.Copied.{copied};
-ghost use Rattle.df1_c.specs.Held.{end_code, freed, holding, told_of};
-ghost use Rattle.c_ends.specs.Told.{out_told, routed_told, step_told, turn_told};
-ghost use Rattle.df1_c.specs.Ends.{after_byte, after_take, after_tick, body_code, body_of, gone_of, is_carrying, out_of as out_in, quiet_of, step_of as step_in, tick_code, turn_of as turn_in, with_room};
+ghost use Rattle.df1_c.specs.Held.{freed, holding};
 
-use crate::copying::copy;
 use crate::seat::Seat;
-use arrayvec::ArrayVec;
-use c_ends::{Code, Held, OutTold, StepTold, TurnTold, out_of, routed, step_of, turn_of};
-use df1_base::{Host, Out, Turn};
-use df1_node::Node;
-use half_master::Master;
-use station_router::Router;
+use c_calls::{copy_body, give, hear, tell_quiet, tick};
+use c_ends::{Code, OutTold, StepTold, TurnTold};
 use std::alloc::Global;
 use std::mem::ManuallyDrop;
-
-/// Room for all commands that one tick may leave unanswered.
-const MAX_GONE: usize = 16;
 
 /// Lets an end go, with its memory.
 #[tactic(auto, unfolding(crate::specs::Held::value_in))]
@@ -50,7 +40,7 @@ pub extern "C" fn df1_end_free(alloc: Global, end: &mut Seat) -> u32
 pub extern "C" fn df1_end_byte(alloc: Global, end: &mut Seat, byte: u8, step: &mut StepTold) -> u32
     ensures code { result ≡ code_number (end_code (holding end.old)) }
     ensures after { holding end.new ≡ option_map (λ held. after_byte held byte) (holding end.old) }
-    ensures told { step.new ≡ told_of (holding end.old) (λ held. step_in held byte) step.old }
+    ensures told { step.new ≡ told_of (holding end.old) (λ held. step_of held byte) step.old }
     ensures stands { (check : CheckKind) (bytes : List ℕ) → IsEndFor check bytes (holding end.old) → IsEndFor check (bytes ++ byte ∷ []) (holding end.new) }
     ensures whole { (check : CheckKind) (bytes : List ℕ) → IsEndFor check bytes (holding end.old) → IsTrue step.new.whole ↔ HearsWhole check (bytes ++ byte ∷ []) (holding end.old) }
 {
@@ -60,42 +50,6 @@ pub extern "C" fn df1_end_byte(alloc: Global, end: &mut Seat, byte: u8, step: &m
     let code = hear(&mut held, byte, step);
     *end = Seat::of(held);
     code.number()
-}
-
-fn hear(held: &mut Held, byte: u8, step: &mut StepTold) -> Code
-    ensures code { result ≡ end_code (Some held.old) }
-    ensures after { held.new ≡ after_byte held.old byte }
-    ensures told { step.new ≡ unwrap_or (step_in held.old byte) step.old }
-{
-    let Some(told) = made_of(held, byte) else {
-        return Code::NoHandle;
-    };
-    *step = told;
-    Code::Done
-}
-
-/// What an end made of a byte.
-fn made_of(held: &mut Held, byte: u8) -> Option<StepTold>
-    ensures code { result ≡ None → end_code (Some held.old) ≡ Code.NoHandle }
-    ensures after { held.new ≡ after_byte held.old byte }
-    ensures told { result ≡ step_in held.old byte }
-{
-    match held {
-        Held::Decoder(_) => None,
-        Held::Duplex(end) => Some(step_of(end.on_byte(byte))),
-        Held::Master(end) => Some(routed_step(end, byte)),
-        Held::Slave(end) => Some(step_of(end.on_byte(byte))),
-    }
-}
-
-/// What a master made of a byte, and whether it carries the message that it heard.
-fn routed_step(end: &mut Master<Router<Node>>, byte: u8) -> StepTold
-    ensures after { end.new ≡ master_after_byte routed_host end.old byte }
-    ensures told { result ≡ routed_told (is_carrying (master_after_byte routed_host end.old byte)) (step_told (step_at_byte routed_host end.old byte)) }
-{
-    let told = step_of(end.on_byte(byte));
-    let carried = end.host().carries(end.body());
-    routed(carried, told)
 }
 
 /// Copies the body of the frame that ended at the latest byte.
@@ -121,28 +75,6 @@ pub extern "C" fn df1_end_body(
     code.number()
 }
 
-fn copy_body(held: &Held, into: &mut [u8], count: &mut usize) -> Code
-    ensures code { result ≡ body_code (Some held.now) (length into.old) }
-    ensures bytes { into.new ≡ unwrap_or (option_map (copied into.old) (body_of held.now)) into.old }
-    ensures count { count.new ≡ unwrap_or (option_map length (body_of held.now)) count.old }
-{
-    match body(held) {
-        Some(body) => copy(body, into, count),
-        None => Code::NoHandle,
-    }
-}
-
-fn body(held: &Held) -> Option<&[u8]>
-    ensures { option_map (λ body. body.now) result ≡ body_of held.now }
-{
-    match held {
-        Held::Decoder(_) => None,
-        Held::Duplex(end) => Some(end.body()),
-        Held::Master(end) => Some(end.body()),
-        Held::Slave(end) => Some(end.body()),
-    }
-}
-
 /// A unit of time has passed.
 #[tactic(auto, unfolding(crate::specs::Held::value_in))]
 #[unsafe(no_mangle)]
@@ -154,7 +86,7 @@ pub extern "C" fn df1_end_tick(
 ) -> u32
     ensures code { result ≡ code_number (tick_code (holding end.old) (length gone.old)) }
     ensures after { holding end.new ≡ (if nat_lt (length gone.old) 16 then holding end.old else option_map after_tick (holding end.old)) }
-    ensures told { turn.new ≡ told_of (holding end.old) (λ held. with_room (length gone.old) (turn_in held)) turn.old }
+    ensures told { turn.new ≡ told_of (holding end.old) (λ held. with_room (length gone.old) (turn_of held)) turn.old }
     ensures gone { gone.new ≡ told_of (holding end.old) (λ held. with_room (length gone.old) (option_map (copied gone.old) (gone_of held))) gone.old }
     ensures stands { (check : CheckKind) (bytes : List ℕ) → IsEndFor check bytes (holding end.old) → IsEndFor check bytes (holding end.new) }
 {
@@ -166,50 +98,13 @@ pub extern "C" fn df1_end_tick(
     code.number()
 }
 
-fn tick(held: &mut Held, turn: &mut TurnTold, gone: &mut [u32]) -> Code
-    ensures code { result ≡ tick_code (Some held.old) (length gone.old) }
-    ensures after { held.new ≡ (if nat_lt (length gone.old) 16 then held.old else after_tick held.old) }
-    ensures told { turn.new ≡ unwrap_or (with_room (length gone.old) (turn_in held.old)) turn.old }
-    ensures gone { gone.new ≡ unwrap_or (with_room (length gone.old) (option_map (copied gone.old) (gone_of held.old))) gone.old }
-{
-    if !held.is_end() {
-        return Code::NoHandle;
-    }
-    if gone.len() < MAX_GONE {
-        return Code::NoRoom;
-    }
-    let mut left = ArrayVec::new();
-    if let Some(made) = turned(held, &mut left) {
-        *turn = turn_of(made, left.len() as u32);
-        gone[..left.len()].copy_from_slice(&left);
-    }
-    Code::Done
-}
-
-/// What an end made of a tick, and the commands that it left unanswered.
-fn turned(held: &mut Held, gone: &mut ArrayVec<u32, 16>) -> Option<Turn>
-    ensures after { held.new ≡ after_tick held.old }
-    ensures told { option_map (λ turn. turn_told turn (length gone.new.items)) result ≡ turn_in held.old }
-    ensures gone { option_map (λ turn. gone.new.items) result ≡ gone_of held.old }
-{
-    match held {
-        Held::Decoder(_) => None,
-        Held::Duplex(end) => Some(end.on_tick(gone)),
-        Held::Master(end) => Some(end.on_tick(gone)),
-        Held::Slave(end) => {
-            end.host_mut().tick(gone);
-            Some(Turn::Still)
-        }
-    }
-}
-
 /// Gives the next byte, if there is one.
 #[tactic(auto, unfolding(crate::specs::Held::value_in))]
 #[unsafe(no_mangle)]
 pub extern "C" fn df1_end_take(alloc: Global, end: &mut Seat, out: &mut OutTold) -> u32
     ensures code { result ≡ code_number (end_code (holding end.old)) }
     ensures after { holding end.new ≡ option_map after_take (holding end.old) }
-    ensures told { out.new ≡ told_of (holding end.old) out_in out.old }
+    ensures told { out.new ≡ told_of (holding end.old) out_of out.old }
     ensures stands { (check : CheckKind) (bytes : List ℕ) → IsEndFor check bytes (holding end.old) → IsEndFor check bytes (holding end.new) }
 {
     let Some(mut held) = end.take(alloc) else {
@@ -218,32 +113,6 @@ pub extern "C" fn df1_end_take(alloc: Global, end: &mut Seat, out: &mut OutTold)
     let code = give(&mut held, out);
     *end = Seat::of(held);
     code.number()
-}
-
-fn give(held: &mut Held, out: &mut OutTold) -> Code
-    ensures code { result ≡ end_code (Some held.old) }
-    ensures after { held.new ≡ after_take held.old }
-    ensures told { out.new ≡ unwrap_or (out_in held.old) out.old }
-{
-    let Some(given) = given_of(held) else {
-        return Code::NoHandle;
-    };
-    *out = out_of(given);
-    Code::Done
-}
-
-/// What an end gave.
-fn given_of(held: &mut Held) -> Option<Option<Out>>
-    ensures code { result ≡ None → end_code (Some held.old) ≡ Code.NoHandle }
-    ensures after { held.new ≡ after_take held.old }
-    ensures told { option_map out_told result ≡ out_in held.old }
-{
-    match held {
-        Held::Decoder(_) => None,
-        Held::Duplex(end) => Some(end.take()),
-        Held::Master(end) => Some(end.take()),
-        Held::Slave(end) => Some(end.take()),
-    }
 }
 
 /// Whether the end has nothing to give.
@@ -260,17 +129,4 @@ pub extern "C" fn df1_end_quiet(alloc: Global, end: &mut Seat, quiet: &mut bool)
     let code = tell_quiet(&held, quiet);
     *end = Seat::of(held);
     code.number()
-}
-
-fn tell_quiet(held: &Held, quiet: &mut bool) -> Code
-    ensures code { result ≡ end_code (Some held.now) }
-    ensures told { quiet.new ≡ unwrap_or (quiet_of held.now) quiet.old }
-{
-    *quiet = match held {
-        Held::Decoder(_) => return Code::NoHandle,
-        Held::Duplex(end) => end.quiet(),
-        Held::Master(end) => end.quiet(),
-        Held::Slave(end) => end.quiet(),
-    };
-    Code::Done
 }

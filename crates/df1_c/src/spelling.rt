@@ -4,11 +4,11 @@ ghost use Rattle.std.specs.Prelude.{◌≡◌, ◌≤◌, ◌<◌, length};
 ghost use Rattle.c_ends.specs.declared.code.Code.TheVariants as code;
 ghost use Rattle.c_ends.specs.Code.{code_number};
 ghost use Rattle.c_ends.specs.Links.{check_of};
-ghost use Rattle.df1_c.specs.Copied.{copied, room_code};
+ghost use Rattle.c_calls.specs.Copied.{copied, room_code};
 ghost use Rattle.df1_c.specs.Spelled.{frame_of};
 
-use crate::copying::copy;
 use arrayvec::ArrayVec;
+use c_calls::copy;
 use c_ends::{Code, check_of};
 use df1_base::MAX_BODY;
 use df1_check::Check;

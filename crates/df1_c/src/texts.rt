@@ -2,11 +2,11 @@
 
 ghost use Rattle.std.specs.Prelude.{◌≡◌, ◌≤◌, length};
 ghost use Rattle.c_ends.specs.Code.{code_number};
-ghost use Rattle.df1_c.specs.Copied.{copied, room_code};
+ghost use Rattle.c_calls.specs.Copied.{copied, room_code};
 ghost use Rattle.df1_c.specs.Spelled.{number_text};
 
-use crate::copying::copy;
 use arrayvec::ArrayVec;
+use c_calls::copy;
 use c_ends::Code;
 
 /// The text of a number that is no code's.

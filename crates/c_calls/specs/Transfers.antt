@@ -10,9 +10,9 @@ use Rattle.c_ends.specs.declared.code.Code.TheVariants as code
 use Rattle.c_transfers.specs.declared.TransferTold.{TransferTold}
 use Rattle.c_transfers.specs.Transfers.{pull_fault, push_fault, transfer_told, words_fault}
 use Rattle.c_ends.specs.declared.held.Held.{Held}
-use Rattle.df1_c.specs.Behind.{node_in}
-use Rattle.df1_c.specs.Commands.{station_refusal}
-use Rattle.df1_c.specs.Copied.{room_code}
+use Rattle.c_calls.specs.Behind.{node_in}
+use Rattle.c_calls.specs.Commands.{station_refusal}
+use Rattle.c_calls.specs.Copied.{room_code}
 
 -- ---- issuing one
 

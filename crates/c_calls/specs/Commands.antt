@@ -14,8 +14,8 @@ use Rattle.c_ends.specs.declared.held.Held.TheVariants as held
 use Rattle.half_master.specs.Stations.{is_listed}
 use Rattle.c_ends.specs.Code.{code_number}
 use Rattle.c_transfers.specs.Transfers.{fault_code}
-use Rattle.df1_c.specs.Copied.{room_code}
-use Rattle.df1_c.specs.Behind.{node_in}
+use Rattle.c_calls.specs.Copied.{room_code}
+use Rattle.c_calls.specs.Behind.{node_in}
 
 -- ---- issuing one
 

@@ -2,7 +2,7 @@
 
 ghost use Rattle.std.specs.Prelude.{◌≡◌};
 ghost use Rattle.std.specs.Option.{option_copied};
-ghost use Rattle.df1_c.specs.Behind.{node_in};
+ghost use Rattle.c_calls.specs.Behind.{node_in};
 
 use c_ends::Held;
 use df1_node::Node;

@@ -17,8 +17,8 @@ use Rattle.c_ends.specs.Held.{is_end}
 use Rattle.c_ends.specs.declared.told.StepTold.{StepTold}
 use Rattle.c_ends.specs.declared.told.TurnTold.{TurnTold}
 use Rattle.c_ends.specs.declared.told.OutTold.{OutTold}
-use Rattle.df1_c.specs.Behind.{routed_host}
-use Rattle.df1_c.specs.Copied.{room_code}
+use Rattle.c_calls.specs.Behind.{routed_host}
+use Rattle.c_calls.specs.Copied.{room_code}
 use Rattle.c_ends.specs.Told.{routed_told, step_told, turn_told, out_told}
 
 -- ---- a byte that is heard

@@ -1,10 +1,11 @@
 -- What C is told of the data files of a node, and how it sets their words.
-use Rattle.std.specs.Prelude.{ℕ, Bool, length, is_some, slice_get, if◌then◌else◌}
+use Rattle.std.specs.Prelude.{ℕ, ◌+◌, Bool, List, [], ◌∷◌, length, is_some, slice_get, if◌then◌else◌}
 use Rattle.std.specs.declared.option.Option.{Option}
+use Rattle.std.specs.declared.option.Option.TheVariants.{Some, None}
 use Rattle.std.specs.Option.{option_map}
 use Rattle.data_files.specs.declared.file_spec.FileSpec.{FileSpec}
 use Rattle.data_files.specs.Place.{type_byte}
-use Rattle.data_files.specs.Tables.{has_word, word_at}
+use Rattle.data_files.specs.Tables.{has_word, has_words, word_at, words_at}
 use Rattle.df1_node.specs.Node.{NodeState, with_node_word}
 use Rattle.c_ends.specs.declared.code.Code.{Code}
 use Rattle.c_ends.specs.declared.code.Code.TheVariants as code
@@ -23,6 +24,25 @@ word_told node file index = word_at node.station.tables file index
 -- another word, where there is one
 abbrev pub word_set : ℕ → ℕ → ℕ → NodeState → NodeState
 word_set file index value node = if is_word node file index then with_node_word node file index value else node
+
+-- there are so many words from an index on
+abbrev pub is_range : NodeState → (file first count : ℕ) → Bool
+is_range node file first count = has_words node.station.tables.specs file first count
+
+abbrev pub range_code : NodeState → (file first count : ℕ) → Code
+range_code node file first count = if is_range node file first count then code.Done else code.NoWord
+
+abbrev pub range_told : NodeState → (file first count : ℕ) → Option (List ℕ)
+range_told node file first count = if is_range node file first count then Some (words_at node.station.tables file first count) else None
+
+-- other words from an index on, each as where one is set alone
+abbrev pub node_words_set : (file first : ℕ) → List ℕ → NodeState → NodeState
+node_words_set file first [] node = node
+node_words_set file first (value ∷ values) node = node_words_set file (first + 1) values (word_set file first value node)
+
+-- where there are so many, else none
+abbrev pub words_set : (file first : ℕ) → List ℕ → NodeState → NodeState
+words_set file first values node = if is_range node file first (length values) then node_words_set file first values node else node
 
 -- how many files there are
 abbrev pub file_count : NodeState → ℕ

@@ -1,0 +1,98 @@
+-- Runs of bytes: those that an end hears up to the first after which there is something to do, and those that it gives up to the
+-- first that ends a message. Each byte is one as of the calls for a byte.
+use Rattle.std.specs.Prelude.{ℕ, zero, suc, ◌+◌, Bool, true, false, not, ◌||◌, List, [], ◌∷◌, ◌++◌, ◌==◌, if◌then◌else◌}
+use Rattle.std.specs.declared.option.Option.{Option}
+use Rattle.std.specs.declared.option.Option.TheVariants.{Some, None}
+use Rattle.std.specs.Option.{unwrap_or}
+use Rattle.c_ends.specs.Held.{is_end}
+use Rattle.c_ends.specs.declared.held.Held.{Held}
+use Rattle.c_ends.specs.declared.told.StepTold.{StepTold}
+use Rattle.c_ends.specs.declared.told.OutTold.{OutTold}
+use Rattle.c_calls.specs.Ends.{after_byte, after_take, out_of, quiet_of, step_of}
+
+-- ---- bytes that are heard
+
+-- a step of which nothing is told
+abbrev pub still : StepTold
+still = record { act = 0; did = 0; did_command = 0; news = 0; news_command = 0; whole = false; station = 0 }
+
+-- something is told of a step
+abbrev pub is_told : StepTold → Bool
+is_told step = not (step.act == 0) || (not (step.news == 0) || step.whole)
+
+-- what a byte did
+abbrev pub step_at : Held → ℕ → StepTold
+step_at held byte = unwrap_or (step_of held byte) still
+
+-- nothing is to be given
+abbrev pub is_quiet : Held → Bool
+is_quiet held = unwrap_or (quiet_of held) true
+
+-- after a byte there is something to do: something is told of it, or the end has something to give
+abbrev pub is_due : Held → ℕ → Bool
+is_due held byte = is_told (step_at held byte) || not (is_quiet (after_byte held byte))
+
+-- how many bytes were heard, what the last of them did, and what is held then
+pub record Heard : Type 0 where
+  pub used : ℕ
+  pub step : StepTold
+  pub after : Held
+
+-- the bytes up to the first after which there is something to do, or all, behind so many others, the last of which did this
+abbrev pub heard_behind : ℕ → StepTold → Held → List ℕ → Heard
+heard_behind used step held [] = record { used = used; step = step; after = held }
+heard_behind used step held (byte ∷ bytes) =
+    if is_due held byte then record { used = used + 1; step = step_at held byte; after = after_byte held byte }
+    else heard_behind (used + 1) (step_at held byte) (after_byte held byte) bytes
+
+-- those of a run
+abbrev pub heard_of : Held → List ℕ → Heard
+heard_of held bytes = heard_behind 0 still held bytes
+
+-- what an end tells of a run; a decoder tells nothing
+abbrev pub heard_told : Held → List ℕ → Option Heard
+heard_told held bytes = if is_end held then Some (heard_of held bytes) else None
+
+-- what is held after a run
+abbrev pub after_heard : Held → List ℕ → Held
+after_heard held bytes = if is_end held then (heard_of held bytes).after else held
+
+-- ---- bytes that are given
+
+-- the most of one run
+abbrev pub most_given : ℕ
+most_given = 512
+
+-- the bytes, whether the last of them ends a message, and what is held then
+pub record Given : Type 0 where
+  pub bytes : List ℕ
+  pub last : Bool
+  pub after : Held
+
+-- a take that gives nothing
+abbrev pub nothing : OutTold
+nothing = record { there = false; byte = 0; last = false }
+
+-- what is given next
+abbrev pub out_at : Held → OutTold
+out_at held = unwrap_or (out_of held) nothing
+
+-- at most so many bytes behind others: up to the first that ends a message, or to a take that gives none
+abbrev pub given_behind : List ℕ → ℕ → Held → Given
+given_behind bytes zero held = record { bytes = bytes; last = false; after = held }
+given_behind bytes (suc room) held =
+    if not (out_at held).there then record { bytes = bytes; last = false; after = after_take held }
+    else if (out_at held).last then record { bytes = bytes ++ (out_at held).byte ∷ []; last = true; after = after_take held }
+    else given_behind (bytes ++ (out_at held).byte ∷ []) room (after_take held)
+
+-- those of a run
+abbrev pub given_of : ℕ → Held → Given
+given_of room held = given_behind [] room held
+
+-- what an end tells of a run; a decoder tells nothing
+abbrev pub given_told : ℕ → Held → Option Given
+given_told room held = if is_end held then Some (given_of room held) else None
+
+-- what is held after a run
+abbrev pub after_given : ℕ → Held → Held
+after_given room held = if is_end held then (given_of room held).after else held

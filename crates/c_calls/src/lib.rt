@@ -1,0 +1,17 @@
+//! What each call of the library for C does to what a handle holds: the answers, what is told, and what is held then.
+#![tactic(auto)]
+
+mod behind;
+mod commands;
+mod copying;
+mod ends;
+mod runs;
+mod transfers;
+mod words;
+
+pub use commands::{copy_reply, issue, tell_outcome};
+pub use copying::copy;
+pub use ends::{copy_body, give, hear, tell_quiet, tick};
+pub use runs::{GivenTold, give_run, hear_run};
+pub use transfers::{copy_pulled, pull, push, tell_pushed};
+pub use words::{set_word, set_words, tell_file, tell_files, tell_word, tell_words};

@@ -1,0 +1,130 @@
+//! Runs of bytes, as by the calls for one byte: those that an end hears up to the first after which there is something to do, and
+//! those that it gives up to the first that ends a message.
+
+ghost use Rattle.std.specs.Prelude.{◌≡◌, ◌≤◌, length, min, Some};
+ghost use Rattle.std.specs.Option.{option_map, unwrap_or};
+ghost use Rattle.c_calls.specs.Answers.{end_code};
+ghost use Rattle.c_calls.specs.Copied.{copied};
+ghost use Rattle.c_calls.specs.Runs.{after_given, after_heard, given_of, given_told, heard_of, heard_told, is_quiet, is_told, most_given};
+
+use crate::copying::copy;
+use crate::ends::{given_of, made_of, quiet_of};
+use arrayvec::ArrayVec;
+use c_ends::{Code, Held, StepTold};
+
+/// The most bytes of one run that is given: those of any frame, and some more.
+const MOST_GIVEN: usize = 512;
+
+/// A step of which nothing is told.
+const STILL: StepTold = StepTold {
+    act: 0,
+    did: 0,
+    did_command: 0,
+    news: 0,
+    news_command: 0,
+    whole: false,
+    station: 0,
+};
+
+/// What a run that was given has besides its bytes.
+#[repr(C)]
+#[derive(Clone, Copy)]
+pub struct GivenTold {
+    /// How many bytes it has.
+    pub length: usize,
+    /// The last of them ends a message.
+    pub last: bool,
+    /// Nothing more is to be given.
+    pub quiet: bool,
+}
+
+/// Hears the first of these bytes, up to one after which there is something to do: of which something is told, or after which
+/// there is something to give; or all, where there is no such one. `used` is how many they are, `step` what the last of them did.
+pub fn hear_run(held: &mut Held, bytes: &[u8], used: &mut usize, step: &mut StepTold) -> Code
+    ensures code { result ≡ end_code (Some held.old) }
+    ensures after { held.new ≡ after_heard held.old bytes.now }
+    ensures used { used.new ≡ unwrap_or (option_map (λ heard. heard.used) (heard_told held.old bytes.now)) used.old }
+    ensures step { step.new ≡ unwrap_or (option_map (λ heard. heard.step) (heard_told held.old bytes.now)) step.old }
+{
+    if !held.is_end() {
+        return Code::NoHandle;
+    }
+    let (count, last) = heard_run(held, bytes);
+    *used = count;
+    *step = last;
+    Code::Done
+}
+
+/// How many bytes are heard, and what the last of them did.
+fn heard_run(held: &mut Held, bytes: &[u8]) -> (usize, StepTold)
+    ensures after { held.new ≡ (heard_of held.old bytes.now).after }
+    ensures used { result.0 ≡ (heard_of held.old bytes.now).used }
+    ensures step { result.1 ≡ (heard_of held.old bytes.now).step }
+{
+    let mut step = STILL;
+    for (at, byte) in bytes.iter().enumerate() {
+        step = made_of(held, *byte).unwrap_or(STILL);
+        if is_told(step) || !is_quiet(held) {
+            return (at + 1, step);
+        }
+    }
+    (bytes.len(), step)
+}
+
+/// Whether something is told of a step.
+fn is_told(step: StepTold) -> bool
+    ensures { result ≡ is_told step }
+{
+    step.act != 0 || step.news != 0 || step.whole
+}
+
+/// Whether nothing is to be given.
+fn is_quiet(held: &Held) -> bool
+    ensures { result ≡ is_quiet held.now }
+{
+    quiet_of(held).unwrap_or(true)
+}
+
+/// Gives the next bytes into the front of a buffer: as many as it has room for, and 512 at most, up to the first that ends a
+/// message. `given` is how many they are, whether the last of them ends a message, and whether nothing more is to be given.
+pub fn give_run(held: &mut Held, into: &mut [u8], given: &mut GivenTold) -> Code
+    ensures code { result ≡ end_code (Some held.old) }
+    ensures after { held.new ≡ after_given (min (length into.old) most_given) held.old }
+    ensures bytes { into.new ≡ unwrap_or (option_map (λ run. copied into.old run.bytes) (given_told (min (length into.old) most_given) held.old)) into.old }
+    ensures told { given.new ≡ unwrap_or (option_map (λ run. record { length = length run.bytes; last = run.last; quiet = is_quiet run.after }) (given_told (min (length into.old) most_given) held.old)) given.old }
+{
+    if !held.is_end() {
+        return Code::NoHandle;
+    }
+    let mut bytes = ArrayVec::new();
+    let last = given_run(held, into.len().min(MOST_GIVEN), &mut bytes);
+    let mut length = 0;
+    let _fits = copy(&bytes, into, &mut length);
+    *given = GivenTold {
+        length,
+        last,
+        quiet: is_quiet(held),
+    };
+    Code::Done
+}
+
+/// The bytes of a run, at most `room` of them, and whether the last of them ends a message.
+fn given_run(held: &mut Held, room: usize, bytes: &mut ArrayVec<u8, 512>) -> bool
+    requires empty { bytes.old.items ≡ [] }
+    requires room { room ≤ 512 }
+    ensures after { held.new ≡ (given_of room held.old).after }
+    ensures bytes { bytes.new.items ≡ (given_of room held.old).bytes }
+    ensures last { result ≡ (given_of room held.old).last }
+    ensures few { length bytes.new.items ≤ room }
+{
+    for _each in 0..room {
+        let Some(Some(out)) = given_of(held) else {
+            return false;
+        };
+        bytes.push(out.byte);
+        if out.last_of.is_some() {
+            return true;
+        }
+    }
+    false
+}

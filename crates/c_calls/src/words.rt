@@ -1,0 +1,141 @@
+//! What the calls on an end's data files do: its files, their words, and runs of words.
+
+ghost use Rattle.std.specs.Prelude.{◌≡◌, ◌+◌, ◌≤◌, IsTrue, length, Some};
+ghost use Rattle.c_calls.specs.Answers.{end_code};
+ghost use Rattle.c_calls.specs.Behind.{code_at, told_at, with_change};
+ghost use Rattle.c_calls.specs.Words.{file_at, file_code, file_count, file_parts, is_range, node_words_set, range_code, range_told, word_code, word_set, word_told, words_set};
+
+use crate::behind::node_of;
+use c_ends::{Code, FileParts, Held};
+use data_files::{FileSpec, type_byte};
+use df1_node::Node;
+
+/// The value of a word.
+pub fn tell_word(held: &Held, file: u16, index: u32, value: &mut u16) -> Code
+    ensures code { result ≡ code_at (Some held.now) (λ node. word_code node file index) }
+    ensures told { value.new ≡ told_at (Some held.now) (λ node. word_told node file index) value.old }
+{
+    let Some(node) = node_of(held) else {
+        return Code::NoHandle;
+    };
+    let Some(word) = node.tables().word(file, index) else {
+        return Code::NoWord;
+    };
+    *value = word;
+    Code::Done
+}
+
+/// Sets a word, as a program in the controller would.
+pub fn set_word(held: &mut Held, file: u16, index: u32, value: u16) -> Code
+    ensures code { result ≡ code_at (Some held.old) (λ node. word_code node file index) }
+    ensures after { held.new ≡ with_change (word_set file index value) held.old }
+{
+    let is_set = match held {
+        Held::Decoder(_) => return Code::NoHandle,
+        Held::Duplex(end) => end.host_mut().set_word(file, index, value),
+        Held::Master(end) => end.host_mut().inner_mut().set_word(file, index, value),
+        Held::Slave(end) => end.host_mut().set_word(file, index, value),
+    };
+    if is_set { Code::Done } else { Code::NoWord }
+}
+
+/// How many data files the end has.
+pub fn tell_files(held: &Held, count: &mut u32) -> Code
+    ensures code { result ≡ end_code (Some held.now) }
+    ensures told { count.new ≡ told_at (Some held.now) (λ node. Some (file_count node)) count.old }
+{
+    let Some(node) = node_of(held) else {
+        return Code::NoHandle;
+    };
+    *count = node.tables().files() as u32;
+    Code::Done
+}
+
+/// The data file at a place, from 0, in the order in which they were given.
+pub fn tell_file(held: &Held, place: u32, file: &mut FileParts) -> Code
+    ensures code { result ≡ code_at (Some held.now) (λ node. file_code node place) }
+    ensures told { file.new ≡ told_at (Some held.now) (λ node. file_at node place) file.old }
+{
+    let Some(node) = node_of(held) else {
+        return Code::NoHandle;
+    };
+    let Some(spec) = node.tables().spec_at(place as usize) else {
+        return Code::NoFile;
+    };
+    *file = file_of(spec);
+    Code::Done
+}
+
+/// A data file as C sees it.
+fn file_of(spec: FileSpec) -> FileParts
+    ensures { result ≡ file_parts spec }
+{
+    FileParts {
+        number: spec.number,
+        kind: type_byte(spec.kind),
+        elements: spec.count,
+    }
+}
+
+/// The values of a run of words, from the index `first` of a file on: one for each place of `values`.
+pub fn tell_words(held: &Held, file: u16, first: u32, values: &mut [u16]) -> Code
+    ensures code { result ≡ code_at (Some held.now) (λ node. range_code node file first (length values.old)) }
+    ensures told { values.new ≡ told_at (Some held.now) (λ node. range_told node file first (length values.old)) values.old }
+{
+    let Some(node) = node_of(held) else {
+        return Code::NoHandle;
+    };
+    if !has_words(node, file, first, values.len()) {
+        return Code::NoWord;
+    }
+    let Some(words) = node.tables().range(file, first, values.len() as u32) else {
+        return Code::NoWord;
+    };
+    values.copy_from_slice(words);
+    Code::Done
+}
+
+/// Whether a file has so many words from an index on.
+fn has_words(node: &Node, file: u16, first: u32, count: usize) -> bool
+    ensures all { result ≡ is_range node.now file first count }
+    ensures few { IsTrue result → first + count ≤ 4294967295 }
+{
+    let Some(spec) = node.tables().spec(file) else {
+        return false;
+    };
+    u64::from(first) + count as u64 <= u64::from(spec.words())
+}
+
+/// Sets a run of words, from the index `first` of a file on, as a program in the controller would: all of them or none.
+pub fn set_words(held: &mut Held, file: u16, first: u32, values: &[u16]) -> Code
+    ensures code { result ≡ code_at (Some held.old) (λ node. range_code node file first (length values.now)) }
+    ensures after { held.new ≡ with_change (words_set file first values.now) held.old }
+{
+    match held {
+        Held::Decoder(_) => Code::NoHandle,
+        Held::Duplex(end) => set_words_at(end.host_mut(), file, first, values),
+        Held::Master(end) => set_words_at(end.host_mut().inner_mut(), file, first, values),
+        Held::Slave(end) => set_words_at(end.host_mut(), file, first, values),
+    }
+}
+
+fn set_words_at(node: &mut Node, file: u16, first: u32, values: &[u16]) -> Code
+    ensures code { result ≡ range_code node.old file first (length values.now) }
+    ensures after { node.new ≡ words_set file first values.now node.old }
+{
+    if !has_words(node, file, first, values.len()) {
+        return Code::NoWord;
+    }
+    set_each(node, file, first, values);
+    Code::Done
+}
+
+/// Sets words one after another.
+fn set_each(node: &mut Node, file: u16, first: u32, values: &[u16])
+    requires { first + length values.now ≤ 4294967295 }
+    ensures { node.new ≡ node_words_set file first values.now node.old }
+{
+    for (place, value) in values.iter().enumerate() {
+        node.set_word(file, first + place as u32, *value);
+    }
+}
