@@ -130,8 +130,11 @@ static void look_at(struct said *said, df1_end *end, unsigned what)
     uint16_t value = 0;
     df1_turn turn;
     df1_file file;
+    df1_given given;
+    df1_step step;
     size_t told = 0, room = number_of(said) % 260;
     uint8_t *into = block_of(said, room);
+    uint16_t *values;
     bool quiet;
 
     if (what == 0)
@@ -148,7 +151,21 @@ static void look_at(struct said *said, df1_end *end, unsigned what)
         MUST(df1_end_files(end, &count) != DF1_DONE || count <= 256);
     else if (what == 6)
         MUST(df1_end_file(end, number_of(said), &file) <= DF1_NO_STATION);
-    else
+    else if (what == 7)
+        MUST(df1_end_bytes(end, into, room, &told, &step) != DF1_DONE || told <= room);
+    else if (what == 8)
+        MUST(df1_end_take_bytes(end, into, room, &given) != DF1_DONE || given.length <= room);
+    else if (what == 9 || what == 10) {
+        values = malloc(2 * room);
+        if (values != NULL) {
+            memset(values, 0x5A, 2 * room);
+            if (what == 9)
+                MUST(df1_end_words(end, (uint16_t)number_of(said), number_of(said), values, room) <= DF1_NO_STATION);
+            else
+                MUST(df1_end_set_words(end, (uint16_t)number_of(said), number_of(said), values, room) <= DF1_NO_STATION);
+        }
+        free(values);
+    } else
         look(df1_spell(byte_of(said) % 2, into, room, NULL, 0, &told), &told, 0, 506);
     free(into);
 }
@@ -186,7 +203,7 @@ int LLVMFuzzerTestOneInput(const uint8_t *data, size_t size)
         if (what % 32 < 8)
             command(&said, &ends[which], what % 8);
         else if (what % 32 < 16)
-            look_at(&said, &ends[which], what % 8);
+            look_at(&said, &ends[which], byte_of(&said) % 12);
         else if (what % 32 < 26)
             carry(&ends[which], &ends[(which + what % 2 + 1) % 3], byte_of(&said));
         else if (what % 32 < 31)

@@ -292,7 +292,9 @@ struct written {
     uint32_t gone[16];
     df1_out out;
     bool quiet;
+    df1_given given;
     uint32_t number;
+    uint16_t values[2];
     uint16_t value;
     df1_file file;
     df1_transfer transfer;
@@ -313,6 +315,8 @@ static int no_end(df1_end *end)
     ROW(df1_end_tick(end, &now.turn, now.gone, 15) == DF1_NO_HANDLE);
     ROW(df1_end_take(end, &now.out) == DF1_NO_HANDLE);
     ROW(df1_end_quiet(end, &now.quiet) == DF1_NO_HANDLE);
+    ROW(df1_end_bytes(end, payload, 3, &now.length, &now.step) == DF1_NO_HANDLE);
+    ROW(df1_end_take_bytes(end, now.bytes, 8, &now.given) == DF1_NO_HANDLE);
     ROW(df1_end_issue(end, 1, payload, 3, &now.number) == DF1_NO_HANDLE);
     ROW(df1_end_issue(end, 1, payload, 0, &now.number) == DF1_NO_HANDLE);
     ROW(df1_end_outcome(end, 1, &now.number) == DF1_NO_HANDLE);
@@ -326,6 +330,8 @@ static int no_end(df1_end *end)
     ROW(df1_end_pushed(end, 1, 0, &now.transfer) == DF1_NO_HANDLE);
     ROW(df1_end_word(end, 7, 0, &now.value) == DF1_NO_HANDLE);
     ROW(df1_end_set_word(end, 7, 0, 1) == DF1_NO_HANDLE);
+    ROW(df1_end_words(end, 7, 0, now.values, 2) == DF1_NO_HANDLE && df1_end_words(end, 9, 0, now.values, 0) == DF1_NO_HANDLE);
+    ROW(df1_end_set_words(end, 7, 0, now.values, 2) == DF1_NO_HANDLE && df1_end_set_words(end, 9, 0, NULL, 0) == DF1_NO_HANDLE);
     ROW(df1_end_files(end, &now.number) == DF1_NO_HANDLE);
     ROW(df1_end_file(end, 0, &now.file) == DF1_NO_HANDLE);
     ROW(df1_end_free(end) == DF1_NO_HANDLE);
@@ -722,6 +728,34 @@ static int words(enum kind kind)
     return 0;
 }
 
+/* Runs of words: all of them are told or set, or none. */
+static int word_runs(enum kind kind)
+{
+    static const uint16_t first[16] = {1, 2, 3, 4, 5, 6, 7, 8, 9, 10, 11, 12, 13, 14, 15, 16}, other[] = {0x8001, 0xFFFF};
+    static struct parts parts;
+    df1_end end = DF1_NOTHING;
+    uint16_t told[17];
+    size_t at;
+
+    set_parts(&parts);
+    ROW(make(kind, &parts, &end) == DF1_DONE);
+    ROW(df1_end_set_words(&end, 7, 0, first, 16) == DF1_DONE && df1_end_words(&end, 7, 0, told, 16) == DF1_DONE);
+    ROW(memcmp(told, first, sizeof first) == 0);
+    ROW(df1_end_set_words(&end, 7, 14, other, 2) == DF1_DONE && df1_end_words(&end, 7, 13, told, 3) == DF1_DONE);
+    ROW(told[0] == 14 && told[1] == 0x8001 && told[2] == 0xFFFF && told[3] == 4);
+    ROW(df1_end_set_words(&end, 7, 15, first, 2) == DF1_NO_WORD && df1_end_set_words(&end, 7, 0xFFFFFFFF, first, 2) == DF1_NO_WORD);
+    ROW(df1_end_set_words(&end, 9, 0, first, 1) == DF1_NO_WORD && df1_end_set_words(&end, 9, 0, NULL, 0) == DF1_NO_WORD);
+    ROW(df1_end_set_words(&end, 7, 16, NULL, 0) == DF1_DONE && df1_end_set_words(&end, 7, 17, NULL, 0) == DF1_NO_WORD);
+    ROW(df1_end_words(&end, 7, 0, told, 17) == DF1_NO_WORD && df1_end_words(&end, 7, 1, told, 16) == DF1_NO_WORD);
+    ROW(df1_end_words(&end, 9, 0, told, 1) == DF1_NO_WORD && df1_end_words(&end, 7, 16, NULL, 0) == DF1_DONE);
+    ROW(told[0] == 14 && told[1] == 0x8001 && told[2] == 0xFFFF && told[3] == 4);
+    ROW(df1_end_words(&end, 7, 0, told, 16) == DF1_DONE);
+    for (at = 0; at < 16; at++)
+        ROW(told[at] == (at < 14 ? first[at] : other[at - 14]));
+    ROW(df1_end_free(&end) == DF1_DONE);
+    return 0;
+}
+
 /* ---- Commands ---- */
 
 static int issuing(enum kind kind)
@@ -843,7 +877,7 @@ int main(void)
     static int (*const all[])(void) = {checks,         firsts_and_nulls, spelling,       texts,  hearing, longest_bodies,
                                        edges_of_links, edges_of_later_members, calls_without_memory, handles, transfers,
                                        routes, talks};
-    static int (*const each[])(enum kind) = {refused, edges_of_nodes, words, issuing, makes_without_memory};
+    static int (*const each[])(enum kind) = {refused, edges_of_nodes, words, word_runs, issuing, makes_without_memory};
     int failed = 0;
     size_t at;
 

@@ -47,17 +47,31 @@ static int pass(df1_end *end, const struct row *row)
     return 0;
 }
 
+/* Whether bytes are heard and given by the calls for runs, or one by one. */
+static bool by_runs;
+
+/* Hears the first of these bytes, and says how many. */
+static uint32_t hear_some(df1_end *end, const uint8_t *bytes, size_t count, size_t *used, df1_step *step)
+{
+    *used = 1;
+    return by_runs ? df1_end_bytes(end, bytes, count, used, step) : df1_end_byte(end, *bytes, step);
+}
+
 /* The bytes that are heard at a row. */
 static int hear(df1_end *end, const struct row *row)
 {
     df1_step step;
     uint8_t bytes[300];
-    size_t at, count = bytes_of(row->hears, bytes);
+    bool was_quiet;
+    size_t at, used, count = bytes_of(row->hears, bytes);
 
-    for (at = 0; at < count; at++) {
-        bool is_last = at + 1 == count;
+    ROW(df1_end_quiet(end, &was_quiet) == DF1_DONE);
+    for (at = 0; at < count; at += used) {
+        bool is_last;
 
-        ROW(df1_end_byte(end, bytes[at], &step) == DF1_DONE);
+        ROW(hear_some(end, bytes + at, count - at, &used, &step) == DF1_DONE && used >= 1 && at + used <= count);
+        is_last = at + used == count;
+        ROW(!by_runs || is_last || !was_quiet);
         ROW(is_last || (step.act == DF1_ACT_NOTHING && step.news == DF1_NO_NEWS && !step.whole));
         ROW(!is_last || (step.act == row->act && step.did == row->did && step.news == row->news && step.whole == row->whole));
         ROW(step.did_command == (step.did == DF1_ANSWERED ? row->command : 0));
@@ -66,18 +80,47 @@ static int hear(df1_end *end, const struct row *row)
     return 0;
 }
 
-/* The bytes that are given at a row. */
-static int give(df1_end *end, const struct row *row)
+/* The bytes that are given at a row, one by one. */
+static int give_bytes(df1_end *end, const uint8_t *bytes, size_t count)
 {
     df1_out out;
-    uint8_t bytes[300];
-    bool quiet;
-    size_t at, count = bytes_of(row->gives, bytes);
+    size_t at;
 
-    ROW(df1_end_quiet(end, &quiet) == DF1_DONE && quiet == (count == 0));
     for (at = 0; at < count; at++)
         ROW(df1_end_take(end, &out) == DF1_DONE && out.there && out.byte == bytes[at]);
     ROW(df1_end_take(end, &out) == DF1_DONE && !out.there && out.byte == 0);
+    return 0;
+}
+
+/* The same by runs of at most 7 bytes. */
+static int give_runs(df1_end *end, const uint8_t *bytes, size_t count)
+{
+    uint8_t into[8];
+    df1_given given;
+    size_t at;
+
+    for (at = 0; at < count; at += given.length) {
+        memset(into, 0xA5, sizeof into);
+        ROW(df1_end_take_bytes(end, into, 7, &given) == DF1_DONE && given.length >= 1 && given.length <= 7);
+        ROW(at + given.length <= count && memcmp(into, bytes + at, given.length) == 0 && into[given.length] == 0xA5);
+        ROW(given.quiet == (at + given.length == count) && (given.quiet || given.last || given.length == 7));
+    }
+    ROW(df1_end_take_bytes(end, into, 7, &given) == DF1_DONE && given.length == 0 && !given.last && given.quiet);
+    return 0;
+}
+
+/* The bytes that are given at a row. */
+static int give(df1_end *end, const struct row *row)
+{
+    uint8_t bytes[300];
+    bool quiet;
+    size_t count = bytes_of(row->gives, bytes);
+    int failed;
+
+    ROW(df1_end_quiet(end, &quiet) == DF1_DONE && quiet == (count == 0));
+    failed = by_runs ? give_runs(end, bytes, count) : give_bytes(end, bytes, count);
+    if (failed != 0)
+        return failed;
     ROW(df1_end_quiet(end, &quiet) == DF1_DONE && quiet);
     return 0;
 }
@@ -533,8 +576,9 @@ int talks(void)
     int failed = 0;
     size_t at;
 
-    for (at = 0; at < COUNT(all) && failed == 0; at++) {
-        failed = all[at]();
+    for (at = 0; at < 2 * COUNT(all) && failed == 0; at++) {
+        by_runs = at >= COUNT(all);
+        failed = all[at % COUNT(all)]();
         if (failed != 0)
             printf("talk %u fails at library-talks.c:%d\n", (unsigned)at, failed);
     }

@@ -90,29 +90,23 @@ static void put(struct gateway *g, const uint8_t *bytes, size_t count)
 static void give(struct gateway *g)
 {
     uint8_t bytes[512];
-    size_t count = 0;
-    df1_out out;
+    df1_given given = {0, false, false};
 
-    while (df1_end_take(&g->end, &out) == DF1_DONE && out.there) {
-        bytes[count++] = out.byte;
-        if (count == sizeof bytes) {
-            put(g, bytes, count);
-            count = 0;
-        }
-    }
-    put(g, bytes, count);
+    while (!given.quiet && df1_end_take_bytes(&g->end, bytes, sizeof bytes, &given) == DF1_DONE)
+        put(g, bytes, given.length);
 }
 
 static void hear(struct gateway *g)
 {
     uint8_t bytes[256];
     df1_step step;
-    ssize_t at, count = read(g->device, bytes, sizeof bytes);
+    size_t at, used;
+    ssize_t count = read(g->device, bytes, sizeof bytes);
 
     if (count == 0 || (count < 0 && errno != EAGAIN && errno != EINTR))
         close_device(g);
-    for (at = 0; at < count; at++) {
-        df1_end_byte(&g->end, bytes[at], &step);
+    for (at = 0; count > 0 && at < (size_t)count; at += used) {
+        df1_end_bytes(&g->end, bytes + at, (size_t)count - at, &used, &step);
         give(g);
     }
 }

@@ -50,12 +50,12 @@ static bool put(int device, const uint8_t *bytes, size_t count)
 static bool give(df1_end *end, int device)
 {
     uint8_t bytes[512];
-    size_t count = 0;
-    df1_out out;
+    df1_given given = {0, false, false};
 
-    while (count < sizeof bytes && df1_end_take(end, &out) == DF1_DONE && out.there)
-        bytes[count++] = out.byte;
-    return put(device, bytes, count) && (count < sizeof bytes || give(end, device));
+    while (!given.quiet)
+        if (df1_end_take_bytes(end, bytes, sizeof bytes, &given) != DF1_DONE || !put(device, bytes, given.length))
+            return false;
+    return true;
 }
 
 /* Hears what the device has, and answers whether it goes on. */
@@ -63,12 +63,13 @@ static bool hear(df1_end *end, int device)
 {
     uint8_t bytes[256];
     df1_step step;
-    ssize_t at, count = read(device, bytes, sizeof bytes);
+    size_t at, used;
+    ssize_t count = read(device, bytes, sizeof bytes);
 
     if (count < 0)
         return errno == EINTR || lost("read");
-    for (at = 0; at < count; at++) {
-        if (df1_end_byte(end, bytes[at], &step) != DF1_DONE || !give(end, device))
+    for (at = 0; at < (size_t)count; at += used) {
+        if (df1_end_bytes(end, bytes + at, (size_t)count - at, &used, &step) != DF1_DONE || !give(end, device))
             return false;
         if (step.did == DF1_EXECUTED)
             fprintf(stderr, "a command was executed\n");

@@ -87,6 +87,10 @@ class Out(Plain):
     _fields_ = [("there", c_bool), ("byte", u8), ("last", c_bool)]
 
 
+class Given(Plain):
+    _fields_ = [("length", c_size_t), ("last", c_bool), ("quiet", c_bool)]
+
+
 handle, length = POINTER(Handle), POINTER(c_size_t)
 behind = [POINTER(Node), POINTER(File), c_size_t, POINTER(Word), c_size_t, c_char_p, c_size_t, handle]
 parameters = {
@@ -108,6 +112,8 @@ parameters = {
     "df1_end_tick": [handle, POINTER(Turn), POINTER(u32), c_size_t],
     "df1_end_take": [handle, POINTER(Out)],
     "df1_end_quiet": [handle, POINTER(c_bool)],
+    "df1_end_bytes": [handle, c_char_p, c_size_t, length, POINTER(Step)],
+    "df1_end_take_bytes": [handle, c_char_p, c_size_t, POINTER(Given)],
     "df1_end_issue": [handle, u8, c_char_p, c_size_t, POINTER(u32)],
     "df1_end_issue_from": [handle, u8, u8, c_char_p, c_size_t, POINTER(u32)],
     "df1_end_outcome": [handle, u32, POINTER(u32)],
@@ -118,6 +124,8 @@ parameters = {
     "df1_end_pushed": [handle, u32, u32, POINTER(Transfer)],
     "df1_end_word": [handle, u16, u32, POINTER(u16)],
     "df1_end_set_word": [handle, u16, u32, u16],
+    "df1_end_words": [handle, u16, u32, POINTER(u16), c_size_t],
+    "df1_end_set_words": [handle, u16, u32, POINTER(u16), c_size_t],
     "df1_end_files": [handle, POINTER(u32)],
     "df1_end_file": [handle, u32, POINTER(File)],
 }
@@ -263,14 +271,25 @@ class End(Held):
         self.library.do("df1_end_quiet", self.handle, quiet)
         return quiet.value
 
+    def hear(self, data: Octets) -> Tuple[int, Step]:
+        """Hears the first of these bytes, up to one after which there is something to do, or all: how many, and what the last did."""
+        data, used, step = octets(data), c_size_t(), Step()
+        self.library.do("df1_end_bytes", self.handle, data, len(data), used, step)
+        return used.value, step
+
+    def take_bytes(self, room: int = 512) -> Tuple[bytes, Given]:
+        """The next bytes, at most `room` and 512, up to the first that ends a message; and whether it did, and whether there are more."""
+        into, given = ctypes.create_string_buffer(max(room, 1)), Given()
+        self.library.do("df1_end_take_bytes", self.handle, into, room, given)
+        return into.raw[: given.length], given
+
     def given(self) -> bytes:
         """All bytes that the end has to give."""
-        given = bytearray()
-        while not self.quiet():
-            byte = self.take()
-            if byte is not None:
-                given.append(byte)
-        return bytes(given)
+        all_given, quiet = b"", self.quiet()
+        while not quiet:
+            run, given = self.take_bytes()
+            all_given, quiet = all_given + run, given.quiet
+        return all_given
 
     def issue(self, dst: int, payload: Octets, src: Optional[int] = None) -> int:
         """Issues a command, in the name of a source or else in that of the end's node, and answers its number."""
@@ -321,6 +340,17 @@ class End(Held):
 
     def set_word(self, file: int, index: int, value: int) -> None:
         self.library.do("df1_end_set_word", self.handle, file, index, value)
+
+    def words(self, file: int, first: int, count: int) -> List[int]:
+        """The values of a run of words."""
+        values = (u16 * count)()
+        self.library.do("df1_end_words", self.handle, file, first, values, count)
+        return list(values)
+
+    def set_words(self, file: int, first: int, values: Sequence[int]) -> None:
+        """Sets a run of words, all of them or none."""
+        kept = (u16 * len(values))(*(fitting(u16, value, "values") for value in values))
+        self.library.do("df1_end_set_words", self.handle, file, first, kept, len(values))
 
     def files(self) -> List[File]:
         """The data files, in their order."""
