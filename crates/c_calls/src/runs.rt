@@ -1,16 +1,17 @@
 //! Runs of bytes, as by the calls for one byte: those that an end hears up to the first after which there is something to do, and
 //! those that it gives up to the first that ends a message.
 
-ghost use Rattle.std.specs.Prelude.{◌≡◌, ◌≤◌, length, min, Some};
+ghost use Rattle.std.specs.Prelude.{◌≡◌, ◌≤◌, [], length, min, Some};
 ghost use Rattle.std.specs.Option.{option_map, unwrap_or};
 ghost use Rattle.c_calls.specs.Answers.{end_code};
 ghost use Rattle.c_calls.specs.Copied.{copied};
-ghost use Rattle.c_calls.specs.Runs.{after_given, after_heard, given_of, given_told, heard_of, heard_told, is_quiet, is_told, most_given};
+ghost use Rattle.c_calls.specs.Ends.{after_take};
+ghost use Rattle.c_calls.specs.Runs.{after_given, after_heard, given_of, given_told, heard_of, heard_told, is_quiet, is_told, most_given, out_at};
 
 use crate::copying::copy;
 use crate::ends::{given_of, made_of, quiet_of};
 use arrayvec::ArrayVec;
-use c_ends::{Code, Held, StepTold};
+use c_ends::{Code, Held, OutTold, StepTold, out_of};
 
 /// The most bytes of one run that is given: those of any frame, and some more.
 const MOST_GIVEN: usize = 512;
@@ -117,14 +118,23 @@ fn given_run(held: &mut Held, room: usize, bytes: &mut ArrayVec<u8, 512>) -> boo
     ensures last { result ≡ (given_of room held.old).last }
     ensures few { length bytes.new.items ≤ room }
 {
-    for _each in 0..room {
-        let Some(Some(out)) = given_of(held) else {
+    for _ in 0..room {
+        let out = out_at(held);
+        if !out.there {
             return false;
-        };
+        }
         bytes.push(out.byte);
-        if out.last_of.is_some() {
+        if out.last {
             return true;
         }
     }
     false
+}
+
+/// What is given next.
+fn out_at(held: &mut Held) -> OutTold
+    ensures after { held.new ≡ after_take held.old }
+    ensures told { result ≡ out_at held.old }
+{
+    out_of(given_of(held).flatten())
 }

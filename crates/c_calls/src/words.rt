@@ -103,7 +103,10 @@ fn has_words(node: &Node, file: u16, first: u32, count: usize) -> bool
     let Some(spec) = node.tables().spec(file) else {
         return false;
     };
-    u64::from(first) + count as u64 <= u64::from(spec.words())
+    match spec.words().checked_sub(first) {
+        Some(left) => count <= left as usize,
+        None => false,
+    }
 }
 
 /// Sets a run of words, from the index `first` of a file on, as a program in the controller would: all of them or none.
