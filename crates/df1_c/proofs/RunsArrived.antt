@@ -24,13 +24,17 @@ runs-at : (due : Bool) (used : ℕ) (step : StepTold) (after : Held) (rest : Hea
 runs-at true used step after rest check before byte bytes stands on = (1, refl, stands)
 runs-at false used step after rest check before byte bytes stands on =
     let more = on.0 in
-    let e : rest.used ≡ (used + 1) + more = on.1.0 in
-    (suc more, arith e, subst (λ (all : List ℕ). IsEndFor check all (Some rest.after)) (append_assoc before (byte ∷ []) (take more bytes)) on.1.1)
+    let e : rest.used ≡ used + 1 + more = on.1 in
+    let all : rest.used ≡ used + suc more = omega arith in
+    (suc more, all, subst (λ (heard : List ℕ). IsEndFor check heard (Some rest.after)) (append_assoc before (byte ∷ []) (take more bytes)) on.2)
+
+none : (used : ℕ) → used ≡ used + 0
+none used = omega arith
 
 runs-on : (bytes : List ℕ) (used : ℕ) (step : StepTold) (held : Held) (check : Check) (before : List ℕ)
     → IsEndFor check before (Some held) → RunsOn check before bytes used (heard_behind used step held bytes)
 runs-on [] used step held check before stands =
-    (0, arith, subst (λ (all : List ℕ). IsEndFor check all (Some held)) (sym (append-nil before)) stands)
+    (0, none used, subst (λ (all : List ℕ). IsEndFor check all (Some held)) (sym (append-nil before)) stands)
 runs-on (byte ∷ bytes) used step held check before stands =
     let next = heard held byte check before stands in
     runs-at (is_due held byte) used (step_at held byte) (after_byte held byte) (heard_behind (used + 1) (step_at held byte) (after_byte held byte) bytes)
@@ -40,7 +44,9 @@ whole-run : (held : Held) (bytes : List ℕ) (check : Check) (before : List ℕ)
     → IsEndFor check (before ++ take (heard_of held bytes).used bytes) (Some (heard_of held bytes).after)
 whole-run held bytes check before stands =
     let on = runs-on bytes 0 still held check before stands in
-    subst (λ (n : ℕ). IsEndFor check (before ++ take n bytes) (Some (heard_of held bytes).after)) (sym on.1.0) on.1.1
+    let e : (heard_of held bytes).used ≡ 0 + on.0 = on.1 in
+    let first : (heard_of held bytes).used ≡ on.0 = omega arith in
+    subst (λ (n : ℕ). IsEndFor check (before ++ take n bytes) (Some (heard_of held bytes).after)) (sym first) on.2
 
 -- after a run an end stands for the bytes of it that were used, too
 pub run-stands : (old new : Option Held) (bytes : List ℕ) (had used : ℕ) → new ≡ option_map (λ held. after_heard held bytes) old
