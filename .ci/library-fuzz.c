@@ -155,11 +155,13 @@ static void look_at(struct said *said, df1_end *end, unsigned what)
         MUST(df1_end_bytes(end, into, room, &told, &step) != DF1_DONE || told <= room);
     else if (what == 8)
         MUST(df1_end_take_bytes(end, into, room, &given) != DF1_DONE || given.length <= room);
-    else if (what == 9 || what == 10) {
+    else if (what >= 9 && what <= 11) {
         values = malloc(2 * room);
         if (values != NULL) {
             memset(values, 0x5A, 2 * room);
-            if (what == 9)
+            if (what == 11)
+                MUST(df1_end_changed(end, (uint16_t)number_of(said), number_of(said), values, room, &told) != DF1_DONE || told <= room);
+            else if (what == 9)
                 MUST(df1_end_words(end, (uint16_t)number_of(said), number_of(said), values, room) <= DF1_NO_STATION);
             else
                 MUST(df1_end_set_words(end, (uint16_t)number_of(said), number_of(said), values, room) <= DF1_NO_STATION);
@@ -203,7 +205,7 @@ int LLVMFuzzerTestOneInput(const uint8_t *data, size_t size)
         if (what % 32 < 8)
             command(&said, &ends[which], what % 8);
         else if (what % 32 < 16)
-            look_at(&said, &ends[which], byte_of(&said) % 12);
+            look_at(&said, &ends[which], byte_of(&said) % 13);
         else if (what % 32 < 26)
             carry(&ends[which], &ends[(which + what % 2 + 1) % 3], byte_of(&said));
         else if (what % 32 < 31)

@@ -331,6 +331,7 @@ static int no_end(df1_end *end)
     ROW(df1_end_word(end, 7, 0, &now.value) == DF1_NO_HANDLE);
     ROW(df1_end_set_word(end, 7, 0, 1) == DF1_NO_HANDLE);
     ROW(df1_end_words(end, 7, 0, now.values, 2) == DF1_NO_HANDLE && df1_end_words(end, 9, 0, now.values, 0) == DF1_NO_HANDLE);
+    ROW(df1_end_changed(end, 7, 0, now.values, 2, &now.length) == DF1_NO_HANDLE);
     ROW(df1_end_set_words(end, 7, 0, now.values, 2) == DF1_NO_HANDLE && df1_end_set_words(end, 9, 0, NULL, 0) == DF1_NO_HANDLE);
     ROW(df1_end_files(end, &now.number) == DF1_NO_HANDLE);
     ROW(df1_end_file(end, 0, &now.file) == DF1_NO_HANDLE);
@@ -752,6 +753,14 @@ static int word_runs(enum kind kind)
     ROW(df1_end_words(&end, 7, 0, told, 16) == DF1_DONE);
     for (at = 0; at < 16; at++)
         ROW(told[at] == (at < 14 ? first[at] : other[at - 14]));
+    /* Of what was seen the words 3 and 15 have changed since. */
+    told[3] = told[15] = 0;
+    ROW(df1_end_changed(&end, 7, 0, told, 16, &at) == DF1_DONE && at == 3 && told[3] == 4 && told[15] == 0);
+    ROW(df1_end_changed(&end, 7, 0, told, 16, &at) == DF1_DONE && at == 15 && told[15] == 0xFFFF);
+    ROW(df1_end_changed(&end, 7, 0, told, 16, &at) == DF1_DONE && at == 16 && memcmp(told, first, 14 * sizeof *told) == 0);
+    ROW(df1_end_changed(&end, 7, 14, told, 2, &at) == DF1_DONE && at == 0 && told[0] == 0x8001 && told[1] == 2);
+    ROW(df1_end_changed(&end, 7, 0, told, 17, &at) == DF1_NO_WORD && df1_end_changed(&end, 9, 0, told, 1, &at) == DF1_NO_WORD && at == 0);
+    ROW(df1_end_changed(&end, 7, 16, NULL, 0, &at) == DF1_DONE && at == 0 && told[1] == 2);
     ROW(df1_end_free(&end) == DF1_DONE);
     return 0;
 }

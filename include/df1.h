@@ -454,6 +454,12 @@ uint32_t df1_end_words(df1_end *end, uint16_t file, uint32_t first, uint16_t *va
  * DF1_NO_HANDLE; DF1_NO_WORD where the file doesn't have them all. */
 uint32_t df1_end_set_words(df1_end *end, uint16_t file, uint32_t first, const uint16_t *values, size_t count);
 
+/* Looks for a word, from word `first` of the file on, whose value isn't what `seen` has for it: `*place` is the place of the first
+ * such word in `seen`, where its value is put, or `count` where there is none. So calls until `*place` is `count` tell each word that
+ * changed since the last ones, by a command of the line or by the caller. DF1_NO_HANDLE; DF1_NO_WORD where the file doesn't have
+ * them all. */
+uint32_t df1_end_changed(df1_end *end, uint16_t file, uint32_t first, uint16_t *seen, size_t count, size_t *place);
+
 /* How many data files the end has. DF1_NO_HANDLE. */
 uint32_t df1_end_files(df1_end *end, uint32_t *count);
 
@@ -507,6 +513,8 @@ DF1_NOT_NULL(df1_write_values, uint16_t)
 #define df1_end_pulled(end, first, words, into, room, length, came) \
     df1_end_pulled(end, first, words, df1_write_bytes(into), room, length, came)
 #define df1_end_words(end, file, first, values, count) df1_end_words(end, file, first, df1_write_values(values), count)
+#define df1_end_changed(end, file, first, seen, count, place) \
+    df1_end_changed(end, file, first, df1_write_values(seen), count, place)
 #define df1_end_set_words(end, file, first, values, count) \
     df1_end_set_words(end, file, first, df1_read_values(values), count)
 

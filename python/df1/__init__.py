@@ -126,6 +126,7 @@ parameters = {
     "df1_end_set_word": [handle, u16, u32, u16],
     "df1_end_words": [handle, u16, u32, POINTER(u16), c_size_t],
     "df1_end_set_words": [handle, u16, u32, POINTER(u16), c_size_t],
+    "df1_end_changed": [handle, u16, u32, POINTER(u16), c_size_t, length],
     "df1_end_files": [handle, POINTER(u32)],
     "df1_end_file": [handle, u32, POINTER(File)],
 }
@@ -351,6 +352,15 @@ class End(Held):
         """Sets a run of words, all of them or none."""
         kept = (u16 * len(values))(*(fitting(u16, value, "values") for value in values))
         self.library.do("df1_end_set_words", self.handle, file, first, kept, len(values))
+
+    def changes(self, file: int, first: int, seen: List[int]) -> List[int]:
+        """The places in `seen` whose words, from word `first` of the file on, aren't what it had for them; it has their values then."""
+        kept, place, places = (u16 * len(seen))(*(fitting(u16, value, "seen") for value in seen)), c_size_t(), []
+        while not places or places[-1] < len(seen):
+            self.library.do("df1_end_changed", self.handle, file, first, kept, len(seen), place)
+            places.append(place.value)
+        seen[:] = kept
+        return places[:-1]
 
     def files(self) -> List[File]:
         """The data files, in their order."""

@@ -1,5 +1,5 @@
 -- What C is told of the data files of a node, and how it sets their words.
-use Rattle.std.specs.Prelude.{ℕ, ◌+◌, Bool, List, [], ◌∷◌, length, is_some, slice_get, if◌then◌else◌}
+use Rattle.std.specs.Prelude.{ℕ, suc, ◌+◌, Bool, List, [], ◌∷◌, length, is_some, nat_lt, ◌==◌, slice_get, slice_index, slice_set, if◌then◌else◌}
 use Rattle.std.specs.declared.option.Option.{Option}
 use Rattle.std.specs.declared.option.Option.TheVariants.{Some, None}
 use Rattle.std.specs.Option.{option_map}
@@ -34,6 +34,24 @@ range_code node file first count = if is_range node file first count then code.D
 
 abbrev pub range_told : NodeState → (file first count : ℕ) → Option (List ℕ)
 range_told node file first count = if is_range node file first count then Some (words_at node.station.tables file first count) else None
+
+-- the first place at which a word isn't what was seen there, and how many words there are where none is
+abbrev pub first_change : List ℕ → List ℕ → ℕ
+first_change [] seen = 0
+first_change (word ∷ words) [] = 0
+first_change (word ∷ words) (value ∷ seen) = if word == value then suc (first_change words seen) else 0
+
+-- what was seen, with the word of that place
+abbrev pub seen_with : List ℕ → List ℕ → List ℕ
+seen_with words seen =
+    if nat_lt (first_change words seen) (length words) then slice_set seen (first_change words seen) (slice_index words (first_change words seen)) else seen
+
+-- of the words from an index on, beside what was seen of them
+abbrev pub change_told : NodeState → (file first : ℕ) → List ℕ → Option ℕ
+change_told node file first seen = option_map (λ words. first_change words seen) (range_told node file first (length seen))
+
+abbrev pub seen_told : NodeState → (file first : ℕ) → List ℕ → Option (List ℕ)
+seen_told node file first seen = option_map (λ words. seen_with words seen) (range_told node file first (length seen))
 
 -- other words from an index on, each as where one is set alone
 abbrev pub node_words_set : (file first : ℕ) → List ℕ → NodeState → NodeState

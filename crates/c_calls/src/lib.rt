@@ -14,4 +14,4 @@ pub use copying::copy;
 pub use ends::{copy_body, give, hear, tell_quiet, tick};
 pub use runs::{GivenTold, give_run, hear_run};
 pub use transfers::{copy_pulled, pull, push, tell_pushed};
-pub use words::{set_word, set_words, tell_file, tell_files, tell_word, tell_words};
+pub use words::{set_word, set_words, tell_change, tell_file, tell_files, tell_word, tell_words};

@@ -3,7 +3,7 @@
 ghost use Rattle.std.specs.Prelude.{◌≡◌, ◌+◌, ◌≤◌, IsTrue, length, Some};
 ghost use Rattle.c_calls.specs.Answers.{end_code};
 ghost use Rattle.c_calls.specs.Behind.{code_at, told_at, with_change};
-ghost use Rattle.c_calls.specs.Words.{file_at, file_code, file_count, file_parts, is_range, node_words_set, range_code, range_told, word_code, word_set, word_told, words_set};
+ghost use Rattle.c_calls.specs.Words.{change_told, file_at, file_code, file_count, file_parts, first_change, is_range, node_words_set, range_code, range_told, seen_told, seen_with, word_code, word_set, word_told, words_set};
 
 use crate::behind::node_of;
 use c_ends::{Code, FileParts, Held};
@@ -93,6 +93,52 @@ pub fn tell_words(held: &Held, file: u16, first: u32, values: &mut [u16]) -> Cod
     };
     values.copy_from_slice(words);
     Code::Done
+}
+
+/// Finds the first word, from the index `first` of a file on, that isn't what was seen of it: `place` is its place among those of
+/// `seen`, where its value is put, or how many they are where none differs.
+pub fn tell_change(held: &Held, file: u16, first: u32, seen: &mut [u16], place: &mut usize) -> Code
+    ensures code { result ≡ code_at (Some held.now) (λ node. range_code node file first (length seen.old)) }
+    ensures place { place.new ≡ told_at (Some held.now) (λ node. change_told node file first seen.old) place.old }
+    ensures seen { seen.new ≡ told_at (Some held.now) (λ node. seen_told node file first seen.old) seen.old }
+{
+    let Some(node) = node_of(held) else {
+        return Code::NoHandle;
+    };
+    if !has_words(node, file, first, seen.len()) {
+        return Code::NoWord;
+    }
+    let Some(words) = node.tables().range(file, first, seen.len() as u32) else {
+        return Code::NoWord;
+    };
+    *place = see_change(words, seen);
+    Code::Done
+}
+
+/// Puts the first word that isn't what was seen there to its place, and tells that.
+fn see_change(words: &[u16], seen: &mut [u16]) -> usize
+    requires { length words.now ≡ length seen.old }
+    ensures place { result ≡ first_change words.now seen.old }
+    ensures seen { seen.new ≡ seen_with words.now seen.old }
+{
+    let place = first_change(words, seen);
+    if place < words.len() {
+        seen[place] = words[place];
+    }
+    place
+}
+
+/// The first place at which a word isn't what was seen there, and how many words there are where none is.
+fn first_change(words: &[u16], seen: &[u16]) -> usize
+    requires { length words.now ≡ length seen.now }
+    ensures { result ≡ first_change words.now seen.now }
+{
+    for (place, word) in words.iter().enumerate() {
+        if *word != seen[place] {
+            return place;
+        }
+    }
+    words.len()
 }
 
 /// Whether a file has so many words from an index on.

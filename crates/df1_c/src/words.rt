@@ -6,12 +6,12 @@ ghost use Rattle.df1_check.specs.declared.Check.{Check as CheckKind};
 ghost use Rattle.c_ends.specs.Code.{code_number};
 ghost use Rattle.c_calls.specs.Answers.{end_code};
 ghost use Rattle.c_calls.specs.Behind.{code_at, told_at, with_change};
-ghost use Rattle.c_calls.specs.Words.{file_at, file_code, file_count, range_code, range_told, word_code, word_set, word_told, words_set};
+ghost use Rattle.c_calls.specs.Words.{change_told, file_at, file_code, file_count, range_code, range_told, seen_told, word_code, word_set, word_told, words_set};
 ghost use Rattle.df1_c.specs.Arrived.{IsEndFor};
 ghost use Rattle.df1_c.specs.Held.{holding};
 
 use crate::seat::Seat;
-use c_calls::{set_word, set_words, tell_file, tell_files, tell_word, tell_words};
+use c_calls::{set_word, set_words, tell_change, tell_file, tell_files, tell_word, tell_words};
 use c_ends::{Code, FileParts};
 use std::alloc::Global;
 
@@ -77,6 +77,30 @@ pub extern "C" fn df1_end_words(
         return Code::NoHandle.number();
     };
     let code = tell_words(&held, file, first, values);
+    *end = Seat::of(held);
+    code.number()
+}
+
+/// Finds the first of a run of words that isn't what was seen of it, and puts it there.
+#[tactic(auto, unfolding(crate::specs::Held::value_in))]
+#[unsafe(no_mangle)]
+pub extern "C" fn df1_end_changed(
+    alloc: Global,
+    end: &mut Seat,
+    file: u16,
+    first: u32,
+    seen: &mut [u16],
+    place: &mut usize,
+) -> u32
+    ensures code { result ≡ code_number (code_at (holding end.old) (λ node. range_code node file first (length seen.old))) }
+    ensures same { holding end.new ≡ holding end.old }
+    ensures place { place.new ≡ told_at (holding end.old) (λ node. change_told node file first seen.old) place.old }
+    ensures seen { seen.new ≡ told_at (holding end.old) (λ node. seen_told node file first seen.old) seen.old }
+{
+    let Some(held) = end.take(alloc) else {
+        return Code::NoHandle.number();
+    };
+    let code = tell_change(&held, file, first, seen, place);
     *end = Seat::of(held);
     code.number()
 }
