@@ -30,6 +30,9 @@ struct row {
 #define DROPPED(act) act, DF1_NOT_ACCEPTED, DF1_NEWS_DROPPED, 0, false
 #define UNDELIVERED(act, command) act, DF1_NOT_ACCEPTED, DF1_NEWS_UNDELIVERED, command, false
 
+/* What each end of the talk that is played has counted. */
+static df1_counts counted[4];
+
 /* The ticks of a row. */
 static int pass(df1_end *end, const struct row *row)
 {
@@ -41,6 +44,7 @@ static int pass(df1_end *end, const struct row *row)
         bool is_last = at == row->ticks, is_news = is_last && row->hears[0] == 0;
 
         ROW(df1_end_tick(end, &turn, gone, 16) == DF1_DONE && turn.gone_count == 0);
+        df1_count_turn(&counted[row->who], &turn);
         ROW(turn.turn == (is_last ? row->turn : (uint32_t)DF1_TURN_STILL));
         ROW(turn.news == (is_news ? row->news : (uint32_t)DF1_NO_NEWS) && turn.news_command == (is_news ? row->command : 0));
     }
@@ -70,6 +74,7 @@ static int hear(df1_end *end, const struct row *row)
         bool is_last;
 
         ROW(hear_some(end, bytes + at, count - at, &used, &step) == DF1_DONE && used >= 1 && at + used <= count);
+        df1_count_step(&counted[row->who], &step);
         is_last = at + used == count;
         ROW(!by_runs || is_last || !was_quiet);
         ROW(is_last || (step.act == DF1_ACT_NOTHING && step.news == DF1_NO_NEWS && !step.whole));
@@ -81,19 +86,21 @@ static int hear(df1_end *end, const struct row *row)
 }
 
 /* The bytes that are given at a row, one by one. */
-static int give_bytes(df1_end *end, const uint8_t *bytes, size_t count)
+static int give_bytes(df1_end *end, const uint8_t *bytes, size_t count, df1_counts *counts)
 {
     df1_out out;
     size_t at;
 
-    for (at = 0; at < count; at++)
+    for (at = 0; at < count; at++) {
         ROW(df1_end_take(end, &out) == DF1_DONE && out.there && out.byte == bytes[at]);
+        df1_count_sent(counts, out.last);
+    }
     ROW(df1_end_take(end, &out) == DF1_DONE && !out.there && out.byte == 0);
     return 0;
 }
 
 /* The same by runs of at most 7 bytes. */
-static int give_runs(df1_end *end, const uint8_t *bytes, size_t count)
+static int give_runs(df1_end *end, const uint8_t *bytes, size_t count, df1_counts *counts)
 {
     uint8_t into[8];
     df1_given given;
@@ -103,6 +110,7 @@ static int give_runs(df1_end *end, const uint8_t *bytes, size_t count)
         memset(into, 0xA5, sizeof into);
         ROW(df1_end_take_bytes(end, into, 7, &given) == DF1_DONE && given.length >= 1 && given.length <= 7);
         ROW(at + given.length <= count && memcmp(into, bytes + at, given.length) == 0 && into[given.length] == 0xA5);
+        df1_count_sent(counts, given.last);
         ROW(given.quiet == (at + given.length == count) && (given.quiet || given.last || given.length == 7));
     }
     ROW(df1_end_take_bytes(end, into, 7, &given) == DF1_DONE && given.length == 0 && !given.last && given.quiet);
@@ -118,7 +126,7 @@ static int give(df1_end *end, const struct row *row)
     int failed;
 
     ROW(df1_end_quiet(end, &quiet) == DF1_DONE && quiet == (count == 0));
-    failed = by_runs ? give_runs(end, bytes, count) : give_bytes(end, bytes, count);
+    failed = by_runs ? give_runs(end, bytes, count, &counted[row->who]) : give_bytes(end, bytes, count, &counted[row->who]);
     if (failed != 0)
         return failed;
     ROW(df1_end_quiet(end, &quiet) == DF1_DONE && quiet);
@@ -245,15 +253,18 @@ static int lost_frame(void)
         {0, STILL, "10 05", ENQ, "10 06"},
         {1, STILL, "10 06", ACK, ""},
     };
+    static const df1_counts wanted[] = {{1, 1, 0, 0, 0, 0, 1, 1, 1, 2, 1, 0, 0}, {1, 1, 0, 0, 0, 0, 1, 0, 1, 1, 1, 0, 0}};
     df1_end ends[2] = {DF1_NOTHING, DF1_NOTHING};
     uint32_t number;
 
+    memset(counted, 0, sizeof counted);
     ROW(duplex(link, 0, &ends[0]) == DF1_DONE && duplex(link, 1, &ends[1]) == DF1_DONE);
     ROW(df1_end_issue(&ends[0], 1, write_1234, sizeof write_1234, &number) == DF1_DONE && has_outcome(&ends[0], 1, DF1_WAITING));
     ROW(play("a lost frame", ends, rows, 1) == 0 && has_outcome(&ends[0], 1, DF1_OUT));
     ROW(play("a lost frame", ends, rows + 1, COUNT(rows) - 1) == 0);
     ROW(has_outcome(&ends[0], 1, DF1_REPLIED) && has_reply(&ends[0], 1, "00 01 4F 00 01 00"));
     ROW(has_word(&ends[1], 0x1234) && has_word(&ends[0], 0));
+    ROW(memcmp(counted, wanted, sizeof wanted) == 0);
     return df1_end_free(&ends[0]) == DF1_DONE && df1_end_free(&ends[1]) == DF1_DONE ? 0 : __LINE__;
 }
 

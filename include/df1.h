@@ -466,6 +466,54 @@ uint32_t df1_end_files(df1_end *end, uint32_t *count);
 /* The data file at this place, from 0, in the order in which they were given. DF1_NO_HANDLE, DF1_NO_FILE. */
 uint32_t df1_end_file(df1_end *end, uint32_t place, df1_file *file);
 
+/* ---- How a line does ----
+ *
+ * Counts over what the calls above told, kept by the caller: all zeros at first. */
+typedef struct df1_counts {
+    uint64_t good;       /* good frames or messages that were heard, by a slave also those for other stations */
+    uint64_t accepted;   /* of them those that were accepted */
+    uint64_t repeated;   /* those that came again: the other end missed an ACK */
+    uint64_t refused;    /* those for which there was no room */
+    uint64_t damaged;    /* frames or messages that were damaged */
+    uint64_t cut_off;    /* frames that were given up for a new one */
+    uint64_t acks;       /* DLE ACK that was heard */
+    uint64_t naks;       /* DLE NAK */
+    uint64_t enquiries;  /* DLE ENQ */
+    uint64_t sent;       /* frames or messages that went out, each as often as it did */
+    uint64_t asked;      /* DLE ENQ by which the end asked for a response */
+    uint64_t given_up;   /* messages of the end that were given up */
+    uint64_t unanswered; /* commands of the end to which no reply came in time */
+} df1_counts;
+
+/* Counts what a byte did, or the last one of a run. */
+static inline void df1_count_step(df1_counts *counts, const df1_step *step)
+{
+    counts->good += step->whole;
+    counts->accepted += step->act == DF1_ACT_ACCEPT;
+    counts->repeated += step->act == DF1_ACT_REPEAT;
+    counts->refused += step->act == DF1_ACT_REFUSE;
+    counts->damaged += step->act == DF1_ACT_DAMAGED;
+    counts->cut_off += step->act == DF1_ACT_FORGOT;
+    counts->acks += step->act == DF1_ACT_PEER_ACK;
+    counts->naks += step->act == DF1_ACT_PEER_NAK;
+    counts->enquiries += step->act == DF1_ACT_PEER_ENQ;
+    counts->given_up += step->news != DF1_NO_NEWS;
+}
+
+/* Counts what a tick did. */
+static inline void df1_count_turn(df1_counts *counts, const df1_turn *turn)
+{
+    counts->asked += turn->turn == DF1_TURN_ASK;
+    counts->given_up += turn->turn == DF1_TURN_FAILED;
+    counts->unanswered += turn->gone_count;
+}
+
+/* Counts a byte that goes out, or a run of bytes: `last` of either. */
+static inline void df1_count_sent(df1_counts *counts, bool last)
+{
+    counts->sent += last;
+}
+
 /* ---- Null pointers ---- */
 
 /* The pointer, or where it is null one to nothing. */
