@@ -64,11 +64,10 @@ pub fn poll_of(station: u8) -> ArrayVec<u8, MAX_MESSAGE>
 }
 
 /// The bytes that a framer gives.
-fn given_by(framer: HalfFramer) -> ArrayVec<u8, MAX_MESSAGE>
+fn given_by(mut framer: HalfFramer) -> ArrayVec<u8, MAX_MESSAGE>
     ensures bytes { result.items ≡ bytes_of framer }
     ensures most { length result.items ≤ 509 }
 {
-    let mut framer = framer;
     let _begun = framer.done();
     let mut bytes = ArrayVec::new();
     while let Some(byte) = framer.next_byte() {
