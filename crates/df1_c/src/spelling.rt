@@ -10,7 +10,7 @@ ghost use Rattle.c_calls.specs.Copied.{copied, room_code};
 ghost use Rattle.df1_c.specs.Spelled.{body_fault, message_fault};
 
 use c_calls::copy;
-use c_ends::{Code, check_of};
+use c_ends::{Code, check_of, number_fault};
 use c_lines::{frame_of, message_of, poll_of, reply_of};
 use df1_base::MAX_BODY;
 use df1_check::Check;
@@ -61,41 +61,6 @@ pub extern "C" fn df1_spell_message(
     copy(&message_of(check_of(crc), station, body), into, count).number()
 }
 
-/// What stands against a master's message to a station.
-fn message_fault(station: u8, body: &[u8]) -> Option<Code>
-    ensures fault { result ≡ message_fault station body.now }
-    ensures none { result ≡ None → (station ≢ 16) × (station ≢ 255) × (length body.now ≤ 250) }
-{
-    match number_fault(station) {
-        Some(fault) => Some(fault),
-        None => body_fault(body),
-    }
-}
-
-/// A number that no station may have.
-fn number_fault(station: u8) -> Option<Code>
-    ensures fault { result ≡ number_fault station }
-    ensures none { result ≡ None → (station ≢ 16) × (station ≢ 255) }
-{
-    if station == 16 || station == 255 {
-        Some(Code::BadStation)
-    } else {
-        None
-    }
-}
-
-/// A body that is too long.
-fn body_fault(body: &[u8]) -> Option<Code>
-    ensures fault { result ≡ body_fault body.now }
-    ensures none { result ≡ None → length body.now ≤ 250 }
-{
-    if body.len() > MAX_BODY {
-        Some(Code::LongBody)
-    } else {
-        None
-    }
-}
-
 /// Spells a slave's message into a buffer. `count` is how many bytes the message has.
 #[unsafe(no_mangle)]
 pub extern "C" fn df1_spell_reply(crc: bool, body: &[u8], into: &mut [u8], count: &mut usize) -> u32
@@ -123,4 +88,27 @@ pub extern "C" fn df1_spell_poll(station: u8, into: &mut [u8], count: &mut usize
         return fault.number();
     }
     copy(&poll_of(station), into, count).number()
+}
+
+/// What stands against a master's message to a station.
+fn message_fault(station: u8, body: &[u8]) -> Option<Code>
+    ensures fault { result ≡ message_fault station body.now }
+    ensures none { result ≡ None → (station ≢ 16) × (station ≢ 255) × (length body.now ≤ 250) }
+{
+    match number_fault(station) {
+        Some(fault) => Some(fault),
+        None => body_fault(body),
+    }
+}
+
+/// A body that is too long.
+fn body_fault(body: &[u8]) -> Option<Code>
+    ensures fault { result ≡ body_fault body.now }
+    ensures none { result ≡ None → length body.now ≤ 250 }
+{
+    if body.len() > MAX_BODY {
+        Some(Code::LongBody)
+    } else {
+        None
+    }
 }
