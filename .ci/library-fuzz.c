@@ -1,4 +1,4 @@
-/* Calls of the library by whatever bytes say: three ends, one of each kind, and a decoder, with buffers of just the size that is told.
+/* Calls of the library by whatever bytes say: three ends, one of each kind, and a decoder of any side, with buffers of just the size that is told.
  * By libFuzzer: clang -fsanitize=fuzzer,address -Iinclude .ci/library-fuzz.c libdf1.a. By bytes of a generator, as under valgrind, which
  * sees each access of the library too: cc -DGENERATED -pthread -Iinclude .ci/library-fuzz.c libdf1.a; its word is how many rounds each of
  * two threads makes, on handles of its own. */
@@ -124,6 +124,26 @@ static void command(struct said *said, df1_end *end, unsigned what)
     free(bytes);
 }
 
+/* A frame, a message or a poll of a body, into a room of its own. */
+static void spell(struct said *said, const uint8_t *body, size_t length)
+{
+    unsigned what = byte_of(said);
+    bool crc = what % 2;
+    uint8_t station = byte_of(said);
+    size_t told = 0, room = number_of(said) % 512;
+    uint8_t *into = block_of(said, room);
+
+    if (what / 2 % 4 == 0)
+        look(df1_spell(crc, body, length, into, room, &told), &told, room, 506);
+    else if (what / 2 % 4 == 1)
+        look(df1_spell_message(station, crc, body, length, into, room, &told), &told, room, 509);
+    else if (what / 2 % 4 == 2)
+        look(df1_spell_reply(crc, body, length, into, room, &told), &told, room, 506);
+    else
+        look(df1_spell_poll(station, into, room, &told), &told, room, 4);
+    free(into);
+}
+
 static void look_at(struct said *said, df1_end *end, unsigned what)
 {
     uint32_t gone[16], count = 0;
@@ -168,7 +188,7 @@ static void look_at(struct said *said, df1_end *end, unsigned what)
         }
         free(values);
     } else
-        look(df1_spell(byte_of(said) % 2, into, room, NULL, 0, &told), &told, 0, 506);
+        spell(said, into, room);
     free(into);
 }
 
@@ -183,7 +203,7 @@ static void hear(struct said *said, df1_decoder *decoder, df1_end *end)
     for (; count > 0; count--) {
         uint8_t byte = byte_of(said);
 
-        MUST(df1_decoder_byte(decoder, byte, &hearing) != DF1_DONE || hearing.heard <= DF1_HEARD_STRAY_PAIR);
+        MUST(df1_decoder_byte(decoder, byte, &hearing) != DF1_DONE || hearing.heard <= DF1_HEARD_EOT);
         MUST(df1_end_byte(end, byte, &step) != DF1_DONE || step.did <= DF1_ROUTED);
     }
     look(df1_decoder_body(decoder, body, sizeof body, &told), &told, sizeof body, 250);
@@ -198,7 +218,7 @@ int LLVMFuzzerTestOneInput(const uint8_t *data, size_t size)
 
     for (at = 0; at < 3; at++)
         make(&said, at, &ends[at]);
-    MUST(df1_decoder_make(byte_of(&said) % 2, &decoder) == DF1_DONE);
+    MUST(df1_decoder_make_side(byte_of(&said) % 3, byte_of(&said) % 2, &decoder) == DF1_DONE);
     while (said.left > 0) {
         unsigned what = byte_of(&said), which = what / 32 % 3;
 

@@ -45,8 +45,7 @@ size_t bytes_of(const char *text, uint8_t *into)
     return count;
 }
 
-/* A block of memory of just these bytes, so that a checker of memory sees a byte that is read or written beside them. */
-static uint8_t *block_of(const void *bytes, size_t length)
+uint8_t *block_of(const void *bytes, size_t length)
 {
     uint8_t *block = (uint8_t *)malloc(length + (length == 0));
 
@@ -56,8 +55,7 @@ static uint8_t *block_of(const void *bytes, size_t length)
     return block;
 }
 
-/* Whether `length` bytes at `bytes` are all `value`. */
-static bool are_all(const void *bytes, uint8_t value, size_t length)
+bool are_all(const void *bytes, uint8_t value, size_t length)
 {
     const uint8_t *at = (const uint8_t *)bytes;
 
@@ -191,7 +189,7 @@ static int texts(void)
     uint32_t code;
     size_t last;
 
-    for (code = 0; code <= DF1_NO_STATION + 1; code++) {
+    for (code = 0; code <= DF1_BAD_SIDE + 1; code++) {
         size_t length = 0, again = 0;
 
         ROW(df1_code_text(code, text, 0, &length) == DF1_NO_ROOM && length >= 2 && length <= 80);
@@ -199,7 +197,7 @@ static int texts(void)
         ROW(df1_code_text(code, text, length - 1, &again) == DF1_NO_ROOM && again == length && are_all(text, 'x', sizeof text));
         ROW(df1_code_text(code, text, length, &again) == DF1_DONE && again == length);
         ROW(strlen(text) + 1 == length && text[length] == 'x');
-        ROW((strcmp(text, "no code of df1") == 0) == (code > DF1_NO_STATION));
+        ROW((strcmp(text, "no code of df1") == 0) == (code > DF1_BAD_SIDE));
     }
     ROW(df1_code_text(0xFFFFFFFF, text, 80, &last) == DF1_DONE && strcmp(text, "no code of df1") == 0);
     return 0;
@@ -885,7 +883,7 @@ int main(void)
 {
     static int (*const all[])(void) = {checks,         firsts_and_nulls, spelling,       texts,  hearing, longest_bodies,
                                        edges_of_links, edges_of_later_members, calls_without_memory, handles, transfers,
-                                       routes, talks};
+                                       routes, sides, talks};
     static int (*const each[])(enum kind) = {refused, edges_of_nodes, words, word_runs, issuing, makes_without_memory};
     int failed = 0;
     size_t at;

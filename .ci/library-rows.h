@@ -16,6 +16,12 @@
 /* The bytes of a hexadecimal text with blanks, and how many they are. */
 size_t bytes_of(const char *text, uint8_t *into);
 
+/* A block of memory of just these bytes, so that a checker of memory sees a byte that is read or written beside them. */
+uint8_t *block_of(const void *bytes, size_t length);
+
+/* Whether `length` bytes at `bytes` are all `value`. */
+bool are_all(const void *bytes, uint8_t value, size_t length);
+
 /* How many more allocations are granted; all where it is negative. */
 extern long grants;
 
@@ -27,6 +33,9 @@ int transfers(void);
 
 /* Messages between stations: the line of the first row that fails, or 0. */
 int routes(void);
+
+/* Sides of a half-duplex line without an end: the line of the first row that fails, or 0. */
+int sides(void);
 
 /* Ends that talk: the line of the first row that fails, or 0. */
 int talks(void);

@@ -1,6 +1,6 @@
 /* df1: the proved parts of a DF1 link (Allen-Bradley PLC-5 and SLC), for C and C++.
  *
- * Handles: a df1_end is one end of a link, a df1_decoder hears a full-duplex line without one. A handle is a plain struct of
+ * Handles: a df1_end is one end of a link, a df1_decoder hears a side of a line without one. A handle is a plain struct of
  * yours that starts as DF1_NOTHING, `= DF1_NOTHING;`, which is all zeros. A call whose name ends in _make fills it, a call
  * whose name ends in _free empties it; in between it goes to the other calls by its address. Its members are for the library
  * alone. What a call does with a handle that was copied, once one of the two copies was changed, isn't defined, freeing twice
@@ -78,7 +78,8 @@ enum df1_code {
     DF1_BAD_FILE = 34,         /* a transfer's file is over 999 */
     DF1_BAD_WORDS = 35,        /* a transfer's words are none, over 3,000, or not whole */
     DF1_BAD_ROUTES = 36,       /* routes is neither 0 nor 1 */
-    DF1_NO_STATION = 37        /* the master has no such station */
+    DF1_NO_STATION = 37,       /* the master has no such station */
+    DF1_BAD_SIDE = 38          /* a side is none of df1_side */
 };
 
 /* ---- Checks and frames ---- */
@@ -95,6 +96,21 @@ uint16_t df1_crc(const uint8_t *bytes, size_t length);
  * doubled, DLE ETX, and the BCC or, where `crc` is set, the CRC. `*length` is how many bytes the frame has, at most 506.
  * DF1_LONG_BODY, DF1_NO_ROOM. */
 uint32_t df1_spell(bool crc, const uint8_t *body, size_t body_length, uint8_t *into, size_t room, size_t *length);
+
+/* Spells a half-duplex master's message to a station, with a body of at most 250 bytes, into the `room` bytes at `into`: DLE SOH,
+ * the station, DLE STX, the body with each DLE doubled, DLE ETX, and the BCC or, where `crc` is set, the CRC; the check covers
+ * the station too, and the CRC STX and ETX. `*length` is how many bytes the message has, at most 509. The first of
+ * DF1_BAD_STATION, DF1_LONG_BODY, DF1_NO_ROOM. */
+uint32_t df1_spell_message(uint8_t station, bool crc, const uint8_t *body, size_t body_length, uint8_t *into, size_t room,
+                           size_t *length);
+
+/* Spells a slave's message with a body of at most 250 bytes into the `room` bytes at `into`. No station stands in it, so its bytes
+ * are those of df1_spell, at most 506. DF1_LONG_BODY, DF1_NO_ROOM. */
+uint32_t df1_spell_reply(bool crc, const uint8_t *body, size_t body_length, uint8_t *into, size_t room, size_t *length);
+
+/* Spells a half-duplex master's poll of a station into the `room` bytes at `into`: DLE ENQ, the station, and its BCC, whatever the
+ * line's check. `*length` is 4. The first of DF1_BAD_STATION, DF1_NO_ROOM. */
+uint32_t df1_spell_poll(uint8_t station, uint8_t *into, size_t room, size_t *length);
 
 /* The text of a code, as "the handle holds nothing that the call is for", with a zero byte at its end, into the `room` bytes at
  * `into`. `*length` is how many bytes the text has with that zero, at most 80; a number that is no code has the text
@@ -115,30 +131,47 @@ typedef struct df1_end {
 
 #define DF1_NOTHING {NULL, false}
 
-/* What is heard at a byte of a full-duplex line. */
+/* Whose bytes a decoder hears. On a line where both directions are seen each has a decoder of its own. */
+enum df1_side {
+    DF1_SIDE_FULL = 0,   /* those of an end of a full-duplex line */
+    DF1_SIDE_MASTER = 1, /* those that the master of a half-duplex line gives, as a slave hears them */
+    DF1_SIDE_SLAVE = 2   /* those that the slaves of a half-duplex line give, as the master hears them */
+};
+
+/* What is heard at a byte, F: of a full-duplex line, M: of the master of a half-duplex line, S: of its slaves. */
 enum df1_heard {
-    DF1_HEARD_NOTHING = 0,     /* nothing is heard at this byte */
-    DF1_HEARD_GOOD = 1,        /* a frame with the right check and a body of 6 to 250 bytes */
-    DF1_HEARD_SHORT = 2,       /* a frame with the right check and a body of under 6 bytes */
-    DF1_HEARD_BAD_CHECK = 3,   /* a frame with a wrong check and a body of at most 250 bytes */
-    DF1_HEARD_LONG = 4,        /* a frame with a longer body */
-    DF1_HEARD_BROKEN = 5,      /* a frame that was broken off by DLE and `byte` */
-    DF1_HEARD_RESTART = 6,     /* a frame that was cut off by the DLE STX of the next */
-    DF1_HEARD_ACK = 7,         /* DLE ACK */
-    DF1_HEARD_NAK = 8,         /* DLE NAK */
-    DF1_HEARD_ENQ = 9,         /* DLE ENQ, outside a frame */
-    DF1_HEARD_STRAY = 10,      /* `byte`, outside a frame */
-    DF1_HEARD_STRAY_PAIR = 11  /* DLE and `byte`, outside a frame */
+    DF1_HEARD_NOTHING = 0,     /* F, M, S: nothing is heard at this byte */
+    DF1_HEARD_GOOD = 1,        /* F, M, S: a frame or message with the right check and a body of 6 to 250 bytes; M: to `station` */
+    DF1_HEARD_SHORT = 2,       /* F: a frame with the right check and a body of under 6 bytes */
+    DF1_HEARD_BAD_CHECK = 3,   /* F: a frame with a wrong check and a body of at most 250 bytes */
+    DF1_HEARD_LONG = 4,        /* F: a frame with a longer body */
+    DF1_HEARD_BROKEN = 5,      /* F: a frame that was broken off by DLE and `byte` */
+    DF1_HEARD_RESTART = 6,     /* F: a frame that was cut off by the DLE STX of the next */
+    DF1_HEARD_ACK = 7,         /* F, M, S: DLE ACK */
+    DF1_HEARD_NAK = 8,         /* F, M, S: DLE NAK; M: it asks the slaves to drop what they keep */
+    DF1_HEARD_ENQ = 9,         /* F: DLE ENQ, outside a frame */
+    DF1_HEARD_STRAY = 10,      /* F, M, S: `byte`, outside frames, messages and polls */
+    DF1_HEARD_STRAY_PAIR = 11, /* F, M, S: DLE and `byte`, outside frames, messages and polls */
+    DF1_HEARD_HEADER = 12,     /* M: a message to `station` has begun, with DLE SOH, its number and DLE STX */
+    DF1_HEARD_POLL = 13,       /* M: a poll of `station` */
+    DF1_HEARD_BAD_POLL = 14,   /* M: a poll with a wrong BCC */
+    DF1_HEARD_DAMAGED = 15,    /* M, S: a message that didn't end as one, or has a wrong check or a body of under 6 or over 250
+                                * bytes; M: to `station` */
+    DF1_HEARD_EOT = 16         /* S: DLE EOT, by which a polled slave says that it has no message */
 };
 
 typedef struct df1_hearing {
-    uint32_t heard; /* enum df1_heard */
-    uint8_t byte;   /* 0 where `heard` names none */
+    uint32_t heard;  /* enum df1_heard */
+    uint8_t byte;    /* 0 where `heard` names none */
+    uint8_t station; /* 0 where `heard` names none */
 } df1_hearing;
 
-/* Fills an empty handle with a decoder that has heard nothing, of a line with CRCs where `crc` is set, else with BCCs.
+/* Fills an empty handle with a decoder of a full-duplex line that has heard nothing, with CRCs where `crc` is set, else with BCCs.
  * DF1_NO_MEMORY; DF1_NO_HANDLE for a handle that isn't empty. */
 uint32_t df1_decoder_make(bool crc, df1_decoder *decoder);
+
+/* The same of a side, a df1_side. DF1_NO_MEMORY; DF1_NO_HANDLE for a handle that isn't empty; DF1_BAD_SIDE. */
+uint32_t df1_decoder_make_side(uint32_t side, bool crc, df1_decoder *decoder);
 
 /* Lets the decoder and its memory go. The handle is empty then. DF1_NO_HANDLE. */
 uint32_t df1_decoder_free(df1_decoder *decoder);
@@ -146,8 +179,9 @@ uint32_t df1_decoder_free(df1_decoder *decoder);
 /* The decoder hears a byte. DF1_NO_HANDLE. */
 uint32_t df1_decoder_byte(df1_decoder *decoder, uint8_t byte, df1_hearing *hearing);
 
-/* The body of the frame that ended at the latest byte, at most 250 bytes, be it good, too short or with a wrong check, into the
- * `room` bytes at `into`. `*length` is how many bytes it has: 0 after every other byte. DF1_NO_HANDLE, DF1_NO_ROOM. */
+/* The body of the frame or message that ended at the latest byte, at most 250 bytes, into the `room` bytes at `into`: of a
+ * full-duplex frame be it good, too short or with a wrong check, of a half-duplex message where it is good. `*length` is how many
+ * bytes it has: 0 after every other byte. DF1_NO_HANDLE, DF1_NO_ROOM. */
 uint32_t df1_decoder_body(df1_decoder *decoder, uint8_t *into, size_t room, size_t *length);
 
 /* ---- How an end is set up ----
@@ -538,6 +572,11 @@ DF1_NOT_NULL(df1_write_values, uint16_t)
 #define df1_crc(bytes, length) df1_crc(df1_read_bytes(bytes), length)
 #define df1_spell(crc, body, body_length, into, room, length) \
     df1_spell(crc, df1_read_bytes(body), body_length, df1_write_bytes(into), room, length)
+#define df1_spell_message(station, crc, body, body_length, into, room, length) \
+    df1_spell_message(station, crc, df1_read_bytes(body), body_length, df1_write_bytes(into), room, length)
+#define df1_spell_reply(crc, body, body_length, into, room, length) \
+    df1_spell_reply(crc, df1_read_bytes(body), body_length, df1_write_bytes(into), room, length)
+#define df1_spell_poll(station, into, room, length) df1_spell_poll(station, df1_write_bytes(into), room, length)
 #define df1_code_text(code, into, room, length) df1_code_text(code, df1_write_text(into), room, length)
 #define df1_decoder_body(decoder, into, room, length) df1_decoder_body(decoder, df1_write_bytes(into), room, length)
 #define df1_duplex_make(link, node, files, file_count, words, word_count, block, block_length, end) \

@@ -42,7 +42,7 @@ class Handle(ctypes.Structure):
 
 
 class Hearing(Plain):
-    _fields_ = [("heard", u32), ("byte", u8)]
+    _fields_ = [("heard", u32), ("byte", u8), ("station", u8)]
 
 
 class Duplex(Plain):
@@ -98,8 +98,12 @@ parameters = {
     "df1_bcc": [c_char_p, c_size_t],
     "df1_crc": [c_char_p, c_size_t],
     "df1_spell": [c_bool, c_char_p, c_size_t, c_char_p, c_size_t, length],
+    "df1_spell_message": [u8, c_bool, c_char_p, c_size_t, c_char_p, c_size_t, length],
+    "df1_spell_reply": [c_bool, c_char_p, c_size_t, c_char_p, c_size_t, length],
+    "df1_spell_poll": [u8, c_char_p, c_size_t, length],
     "df1_code_text": [u32, c_char_p, c_size_t, length],
     "df1_decoder_make": [c_bool, handle],
+    "df1_decoder_make_side": [u32, c_bool, handle],
     "df1_decoder_free": [handle],
     "df1_decoder_byte": [handle, u8, POINTER(Hearing)],
     "df1_decoder_body": [handle, c_char_p, c_size_t, length],
@@ -194,11 +198,30 @@ class Library:
         if code != self.DF1_DONE:
             raise Refused(call, code, self.text(code))
 
-    def bytes(self, call: str, *words: Any, room: int = 506) -> "bytes":
+    def bytes(self, call: str, *words: Any, room: int = 509) -> "bytes":
         """The bytes that a call writes into a room."""
         into, count = ctypes.create_string_buffer(room), c_size_t()
         self.do(call, *words, into, room, byref(count))
         return into.raw[: count.value]
+
+    def spell(self, crc: bool, body: Octets) -> "bytes":
+        """The full-duplex frame of a body."""
+        body = octets(body)
+        return self.bytes("df1_spell", crc, body, len(body))
+
+    def spell_message(self, station: int, crc: bool, body: Octets) -> "bytes":
+        """A half-duplex master's message to a station."""
+        body = octets(body)
+        return self.bytes("df1_spell_message", station, crc, body, len(body))
+
+    def spell_reply(self, crc: bool, body: Octets) -> "bytes":
+        """A slave's message."""
+        body = octets(body)
+        return self.bytes("df1_spell_reply", crc, body, len(body))
+
+    def spell_poll(self, station: int) -> "bytes":
+        """A half-duplex master's poll of a station."""
+        return self.bytes("df1_spell_poll", station)
 
 
 class Held:
@@ -218,10 +241,10 @@ class Held:
 
 
 class Decoder(Held):
-    """A decoder of a full-duplex line, with a CRC or else with BCC."""
+    """A decoder of a line with a CRC or else with BCC: of a full-duplex one, or else of the side that the header's number names."""
 
-    def __init__(self, library: Library, crc: bool):
-        super().__init__(library, "decoder", "df1_decoder_make", crc)
+    def __init__(self, library: Library, crc: bool, side: int = 0):
+        super().__init__(library, "decoder", "df1_decoder_make_side", side, crc)
 
     def byte(self, byte: int) -> Hearing:
         hearing = Hearing()

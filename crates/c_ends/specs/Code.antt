@@ -42,11 +42,12 @@ code_number code.BadFile = 34
 code_number code.BadWords = 35
 code_number code.BadRoutes = 36
 code_number code.NoStation = 37
+code_number code.BadSide = 38
 
 -- all codes, by their numbers
 abbrev pub all_codes : List Code
 all_codes =
-    code.Done ∷ code.NoHandle ∷ code.NoMemory ∷ code.NoRoom ∷ code.BadAckTicks ∷ code.BadPollTicks ∷ code.BadMaxSends ∷ code.BadStation ∷ code.TooManyStations ∷ code.StationTwice ∷ code.BadReplyTicks ∷ code.BadRoom ∷ code.TooManyFiles ∷ code.BadType ∷ code.EmptyFile ∷ code.LargeFile ∷ code.FileTwice ∷ code.NoWord ∷ code.BadCompat ∷ code.LongBlock ∷ code.LongBody ∷ code.NoPayload ∷ code.LongPayload ∷ code.NotCommand ∷ code.Spent ∷ code.NoCommand ∷ code.NotAnswered ∷ code.NoFile ∷ code.BadMaxNaks ∷ code.BadMaxEnqs ∷ code.BadMaxResends ∷ code.BadWindow ∷ code.BadPerSource ∷ code.NotReserved ∷ code.BadFile ∷ code.BadWords ∷ code.BadRoutes ∷ code.NoStation ∷ []
+    code.Done ∷ code.NoHandle ∷ code.NoMemory ∷ code.NoRoom ∷ code.BadAckTicks ∷ code.BadPollTicks ∷ code.BadMaxSends ∷ code.BadStation ∷ code.TooManyStations ∷ code.StationTwice ∷ code.BadReplyTicks ∷ code.BadRoom ∷ code.TooManyFiles ∷ code.BadType ∷ code.EmptyFile ∷ code.LargeFile ∷ code.FileTwice ∷ code.NoWord ∷ code.BadCompat ∷ code.LongBlock ∷ code.LongBody ∷ code.NoPayload ∷ code.LongPayload ∷ code.NotCommand ∷ code.Spent ∷ code.NoCommand ∷ code.NotAnswered ∷ code.NoFile ∷ code.BadMaxNaks ∷ code.BadMaxEnqs ∷ code.BadMaxResends ∷ code.BadWindow ∷ code.BadPerSource ∷ code.NotReserved ∷ code.BadFile ∷ code.BadWords ∷ code.BadRoutes ∷ code.NoStation ∷ code.BadSide ∷ []
 
 -- the code of a number, if it is one's
 abbrev pub code_of : ℕ → Option Code
@@ -91,3 +92,4 @@ code_text code.BadFile = codes "a transfer's file is over 999"
 code_text code.BadWords = codes "a transfer's words are none, over 3,000, or not whole"
 code_text code.BadRoutes = codes "routes is neither 0 nor 1"
 code_text code.NoStation = codes "the master has no such station"
+code_text code.BadSide = codes "a side is none of df1_side"

@@ -82,10 +82,12 @@ pub enum Code {
     BadRoutes = 36,
     /// A master has no station of this number.
     NoStation = 37,
+    /// A side is none of `df1_side`.
+    BadSide = 38,
 }
 
 /// All codes, by their numbers.
-const CODES: [Code; 38] = [
+const CODES: [Code; 39] = [
     Code::Done,
     Code::NoHandle,
     Code::NoMemory,
@@ -124,6 +126,7 @@ const CODES: [Code; 38] = [
     Code::BadWords,
     Code::BadRoutes,
     Code::NoStation,
+    Code::BadSide,
 ];
 
 impl Code {
@@ -185,6 +188,7 @@ impl Code {
             Code::BadWords => "a transfer's words are none, over 3,000, or not whole",
             Code::BadRoutes => "routes is neither 0 nor 1",
             Code::NoStation => "the master has no such station",
+            Code::BadSide => "a side is none of df1_side",
         }
     }
 }

@@ -1,6 +1,6 @@
 //! What a handle may hold.
 
-use df1_frame::Decoder;
+use c_lines::LineDecoder;
 use df1_node::Node;
 use duplex_end::End;
 use half_master::Master;
@@ -10,8 +10,8 @@ use station_router::Router;
 /// What a handle holds: a decoder, or an end of a link over a node.
 #[derive(Drop)]
 pub enum Held {
-    /// A decoder of a full-duplex line.
-    Decoder(Decoder<250>),
+    /// A decoder of one side of a line.
+    Decoder(LineDecoder),
     /// An end of a full-duplex link.
     Duplex(End<Node>),
     /// The master of a half-duplex link, which may carry messages between its stations.

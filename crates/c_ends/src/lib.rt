@@ -13,6 +13,6 @@ mod values;
 
 pub use code::Code;
 pub use held::Held;
-pub use links::{check_of, duplex_of, master_of, slave_of};
+pub use links::{check_of, duplex_of, master_of, number_fault, slave_of};
 pub use parts::{DuplexLink, FileParts, MasterLink, NodeParts, SlaveLink, WordParts};
 pub use told::{OutTold, StepTold, TurnTold, out_of, routed, step_of, turn_of};

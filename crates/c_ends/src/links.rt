@@ -2,7 +2,7 @@
 //! of them counts: the link's members in their order, a master's stations, the number of a slave, then what stands behind
 //! the end.
 
-ghost use Rattle.std.specs.Prelude.{◌≡◌, ◌≤◌, ◌==◌, [], length, Err, IfErr, IfOk, MatchOption};
+ghost use Rattle.std.specs.Prelude.{◌≡◌, ◌≢◌, ◌≤◌, ◌==◌, [], length, Err, IfErr, IfOk, MatchOption};
 ghost use Rattle.std.specs.Option.{option_or};
 ghost use Rattle.std.specs.List.{list_any};
 ghost use Rattle.c_ends.specs.Links.{carried_by, check_of, duplex_fault, duplex_setup, first_duplex, first_master, first_slave, many_fault, master_fault, master_setup, number_fault, routes_fault, slave_fault, slave_setup, station_fault, twice_fault};
@@ -214,9 +214,10 @@ fn routes_fault(routes: u32) -> Option<Code>
     }
 }
 
-/// A number that no station may have.
-fn number_fault(number: u8) -> Option<Code>
-    ensures { result ≡ number_fault number }
+/// The code of a number that no station may have, 16 or 255.
+pub fn number_fault(number: u8) -> Option<Code>
+    ensures fault { result ≡ number_fault number }
+    ensures none { result ≡ None → (number ≢ 16) × (number ≢ 255) }
 {
     if number == 16 || number == 255 {
         Some(Code::BadStation)

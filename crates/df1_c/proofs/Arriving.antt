@@ -1,14 +1,16 @@
 -- What a call does to the bytes that a handle stands for. Assumes nothing.
-use Rattle.std.proofs.Common.{◌≡◌, ℕ, Bool, true, false, List, [], ◌∷◌, ◌++◌, length, Option, Some, None, refl, sym, ap, subst, ◌∙◌}
+use Rattle.std.proofs.Common.{◌≡◌, ℕ, Bool, true, false, List, [], ◌∷◌, ◌++◌, length, Option, Some, None, refl, sym, ap, subst}
 use Rattle.std.specs.Prelude.{◌↔◌, IsTrue, if◌then◌else◌}
 use Rattle.std.specs.Option.{option_map}
 use Rattle.df1_check.specs.declared.Check.{Check}
-use Rattle.df1_frame.specs.Grammar.{full_duplex}
-use Rattle.df1_frame.specs.Standing.{Decoding, lent_at}
-use Rattle.df1_frame.proofs.LineLemmas.{stands-next, heard-next}
-use Rattle.df1_frame.proofs.GrammarLemmas.{machine, works}
+use Rattle.df1_frame.specs.Standing.{lent_at}
 use Rattle.half_frame.specs.MasterStanding as at_master
 use Rattle.half_frame.specs.SlaveStanding as at_slave
+use Rattle.c_lines.specs.declared.hearing.Hearing.{Hearing}
+use Rattle.c_lines.specs.declared.side.Side.{Side}
+use Rattle.c_lines.specs.Arrived.{IsBody, IsHearing}
+use Rattle.c_lines.specs.Decoders.{lent_by}
+use Rattle.c_lines.proofs.Arriving as line
 use Rattle.duplex_end.proofs.Arriving as duplex
 use Rattle.half_master.proofs.EarLemmas as master
 use Rattle.half_slave.specs.Slave.{step_at_byte}
@@ -17,12 +19,11 @@ use Rattle.c_ends.specs.declared.held.Held.{Held}
 use Rattle.c_ends.specs.declared.held.Held.TheVariants as held
 use Rattle.c_ends.specs.Code.{code_number}
 use Rattle.df1_node.specs.contracts.node.NodeHost.TheImpl.{ghosts as node_host}
-use Rattle.df1_c.specs.declared.decoders.Hearing.{Hearing}
 use Rattle.c_ends.specs.declared.told.StepTold.{StepTold}
-use Rattle.df1_c.specs.Arrived.{IsDecoderFor, IsHearing, IsEndFor, HearsWhole, IsBodyOf, Copies}
+use Rattle.df1_c.specs.Arrived.{IsDecoderFor, IsEndFor, HearsWhole, IsBodyOf, Copies}
 use Rattle.c_calls.specs.Behind.{routed_host}
 use Rattle.c_calls.specs.Copied.{copied}
-use Rattle.df1_c.specs.Decoders.{after_fed, heard_in, hearing_told, lent_in, lent_code}
+use Rattle.df1_c.specs.Decoders.{after_fed, heard_in, lent_in, lent_code}
 use Rattle.c_calls.specs.Ends.{after_byte, step_of, body_of, body_code, after_tick, after_take}
 use Rattle.c_calls.specs.Answers.{told_of}
 
@@ -30,41 +31,39 @@ use Rattle.c_calls.specs.Answers.{told_of}
 
 -- stands for a byte more
 pub fed-stands : (old new : Option Held) (byte : ℕ) → new ≡ option_map (λ held. after_fed held byte) old
-    → (check : Check) (bytes : List ℕ) → IsDecoderFor check bytes old → IsDecoderFor check (bytes ++ byte ∷ []) new
-fed-stands None new byte after check bytes stands = absurd stands
-fed-stands (Some (held.Decoder decoder)) new byte after check bytes stands =
-    subst (λ (o : Option Held). IsDecoderFor check (bytes ++ byte ∷ []) o) (sym after)
-    (stands-next (full_duplex check 250) (machine check 250) (works check 250) byte bytes decoder stands)
-fed-stands (Some (held.Duplex end)) new byte after check bytes stands = absurd stands
-fed-stands (Some (held.Master end)) new byte after check bytes stands = absurd stands
-fed-stands (Some (held.Slave end)) new byte after check bytes stands = absurd stands
+    → (side : Side) (check : Check) (bytes : List ℕ) → IsDecoderFor side check bytes old → IsDecoderFor side check (bytes ++ byte ∷ []) new
+fed-stands None new byte after side check bytes stands = absurd stands
+fed-stands (Some (held.Decoder decoder)) new byte after side check bytes stands =
+    subst (λ (o : Option Held). IsDecoderFor side check (bytes ++ byte ∷ []) o) (sym after) (line.byte-stands decoder byte side check bytes stands)
+fed-stands (Some (held.Duplex end)) new byte after side check bytes stands = absurd stands
+fed-stands (Some (held.Master end)) new byte after side check bytes stands = absurd stands
+fed-stands (Some (held.Slave end)) new byte after side check bytes stands = absurd stands
 
 -- and tells what is heard there
 pub fed-hears : (old : Option Held) (byte : ℕ) (before told : Hearing) → told ≡ told_of old (λ held. heard_in held byte) before
-    → (check : Check) (bytes : List ℕ) → IsDecoderFor check bytes old → IsHearing check (bytes ++ byte ∷ []) told
-fed-hears None byte before told is check bytes stands = absurd stands
-fed-hears (Some (held.Decoder decoder)) byte before told is check bytes stands =
-    let heard = heard-next (full_duplex check 250) (machine check 250) (works check 250) byte bytes decoder stands in
-    record { items = heard.items; front = heard.front; splits = heard.splits; is = is ∙ ap hearing_told heard.is }
-fed-hears (Some (held.Duplex end)) byte before told is check bytes stands = absurd stands
-fed-hears (Some (held.Master end)) byte before told is check bytes stands = absurd stands
-fed-hears (Some (held.Slave end)) byte before told is check bytes stands = absurd stands
+    → (side : Side) (check : Check) (bytes : List ℕ) → IsDecoderFor side check bytes old → IsHearing side check (bytes ++ byte ∷ []) told
+fed-hears None byte before told is side check bytes stands = absurd stands
+fed-hears (Some (held.Decoder decoder)) byte before told is side check bytes stands =
+    subst (λ (h : Hearing). IsHearing side check (bytes ++ byte ∷ []) h) (sym is) (line.byte-hears decoder byte side check bytes stands)
+fed-hears (Some (held.Duplex end)) byte before told is side check bytes stands = absurd stands
+fed-hears (Some (held.Master end)) byte before told is side check bytes stands = absurd stands
+fed-hears (Some (held.Slave end)) byte before told is side check bytes stands = absurd stands
 
 -- the body that it lends is copied
 pub lent-copied : (old : Option Held) (into new : List ℕ) (before count answer : ℕ) → answer ≡ code_number (lent_code old (length into))
     → new ≡ told_of old (λ held. option_map (copied into) (lent_in held)) into → count ≡ told_of old (λ held. option_map length (lent_in held)) before
-    → (check : Check) (bytes : List ℕ) → IsDecoderFor check bytes old → Copies (IsBodyOf check bytes old) answer into new count
-lent-copied None into new before count answer coded given counted check bytes stands = absurd stands
-lent-copied (Some (held.Decoder decoder)) into new before count answer coded given counted check bytes stands = record {
-  body = lent_at decoder.standing;
-  is_body = record { items = stands.items; front = stands.front; splits = stands.splits; is = ap (λ (d : Decoding). lent_at d.standing) stands.is };
+    → (side : Side) (check : Check) (bytes : List ℕ) → IsDecoderFor side check bytes old → Copies (IsBody side check bytes) answer into new count
+lent-copied None into new before count answer coded given counted side check bytes stands = absurd stands
+lent-copied (Some (held.Decoder decoder)) into new before count answer coded given counted side check bytes stands = record {
+  body = lent_by decoder;
+  is_body = line.lent-is decoder side check bytes stands;
   code = coded;
   bytes = given;
   counted = counted;
 }
-lent-copied (Some (held.Duplex end)) into new before count answer coded given counted check bytes stands = absurd stands
-lent-copied (Some (held.Master end)) into new before count answer coded given counted check bytes stands = absurd stands
-lent-copied (Some (held.Slave end)) into new before count answer coded given counted check bytes stands = absurd stands
+lent-copied (Some (held.Duplex end)) into new before count answer coded given counted side check bytes stands = absurd stands
+lent-copied (Some (held.Master end)) into new before count answer coded given counted side check bytes stands = absurd stands
+lent-copied (Some (held.Slave end)) into new before count answer coded given counted side check bytes stands = absurd stands
 
 -- ---- an end
 

@@ -22,6 +22,8 @@ use Rattle.c_ends.specs.Code.{code_number}
 use Rattle.c_ends.specs.Links.{number_fault, station_fault, duplex_fault, master_fault, slave_fault}
 use Rattle.c_ends.specs.Parts.{kind_of, specs_of, make_code, compat_of, files_fault, node_fault}
 use Rattle.c_ends.specs.Values.{given_or_first, reserved_fault, value_fault, values_of}
+use Rattle.c_lines.specs.Sides.{side_of}
+use Rattle.df1_c.specs.Decoders.{side_fault}
 use Rattle.df1_c.specs.Held.{taken_fault}
 
 abbrev pub NeverDone : Option Code → Type 0
@@ -112,6 +114,9 @@ slave-never link node files words block =
     (first-or _ _ (reserved-never link.reserved)
     (first-or _ _ (number-never node.address)
     (first-or _ _ (node-never node files words block) tt)))
+
+pub side-never : (number : ℕ) → NeverDone (side_fault number)
+side-never number = one-if (is_none (side_of number)) code.BadSide refl
 
 pub taken-never : (old : Option Held) → NeverDone (taken_fault old)
 taken-never None = tt

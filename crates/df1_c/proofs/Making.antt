@@ -1,10 +1,11 @@
 -- What a call that makes an end does, by what its parts made, and the bytes that the end stands for. Assumes nothing.
 use Rattle.std.proofs.Common.{◌≡◌, ◌⊎◌, ℕ, Bool, true, List, [], Option, Some, None, Result, Ok, Err, refl, sym, ap, subst, ◌∙◌, inl, inr}
 use Rattle.std.specs.Prelude.{◌==◌, is_none, IfOk, IfErr, MatchOption, MatchResult}
-use Rattle.std.specs.Option.{option_or}
-use Rattle.df1_frame.specs.Grammar.{full_duplex}
-use Rattle.df1_frame.proofs.LineLemmas.{stands-start}
-use Rattle.df1_frame.proofs.GrammarLemmas.{machine, works}
+use Rattle.std.specs.Option.{option_or, unwrap_or}
+use Rattle.c_lines.specs.declared.side.Side.{Side}
+use Rattle.c_lines.specs.declared.side.Side.TheVariants as side
+use Rattle.c_lines.specs.Sides.{side_of}
+use Rattle.c_lines.proofs.Arriving.{new-stands}
 use Rattle.duplex_end.proofs.Arriving as duplex
 use Rattle.half_master.proofs.EarLemmas as master
 use Rattle.half_slave.proofs.Arriving as slave
@@ -22,9 +23,9 @@ use Rattle.c_ends.specs.Code.{code_number}
 use Rattle.c_ends.specs.Links.{carried_by, check_of, duplex_fault, first_duplex, duplex_setup, master_fault, first_master, master_setup, slave_fault, first_slave, slave_setup}
 use Rattle.c_ends.specs.Parts.{first_node}
 use Rattle.df1_c.specs.Arrived.{IsDecoderFor, IsEndFor}
-use Rattle.df1_c.specs.Decoders.{new_decoder}
+use Rattle.df1_c.specs.Decoders.{new_decoder, side_decoder, side_fault}
 use Rattle.df1_c.specs.Held.{IsMake, taken_fault}
-use Rattle.df1_c.proofs.Faults.{NeverDone, first-or, duplex-never, master-never, slave-never, taken-never}
+use Rattle.df1_c.proofs.Faults.{NeverDone, first-or, duplex-never, master-never, side-never, slave-never, taken-never}
 
 pub none_of : (o : Option Held) → is_none o ≡ true → o ≡ None
 none_of None e = refl
@@ -74,11 +75,22 @@ done-made (Some fault) first number old new never refused is =
     let told : code_number fault ≡ 0 = sym refused.0 ∙ is in
     cc (ap (λ (n : ℕ). n == 0) told, never)
 
-pub decoder-stands : (crc : Bool) (number : ℕ) (old new : Option Held) → IsMake (taken_fault old) (new_decoder crc) number old new
-    → number ≡ code_number code.Done → IsDecoderFor (check_of crc) [] new
-decoder-stands crc number old new make is =
-    let made = done-made (taken_fault old) (new_decoder crc) number old new (taken-never old) make is in
-    subst (λ (o : Option Held). IsDecoderFor (check_of crc) [] o) (sym made) (stands-start (full_duplex (check_of crc) 250) (machine (check_of crc) 250) (works (check_of crc) 250))
+decoder-made : (fault : Option Code) (line_side : Side) (crc : Bool) (number : ℕ) (old new : Option Held) → NeverDone fault → IsMake fault (new_decoder line_side crc) number old new
+    → number ≡ code_number code.Done → IsDecoderFor line_side (check_of crc) [] new
+decoder-made fault line_side crc number old new never make is =
+    let made = done-made fault (new_decoder line_side crc) number old new never make is in
+    subst (λ (o : Option Held). IsDecoderFor line_side (check_of crc) [] o) (sym made) (new-stands line_side (check_of crc))
+
+pub decoder-stands : (crc : Bool) (number : ℕ) (old new : Option Held) → IsMake (taken_fault old) (new_decoder side.Full crc) number old new
+    → number ≡ code_number code.Done → IsDecoderFor side.Full (check_of crc) [] new
+decoder-stands crc number old new make is = decoder-made (taken_fault old) side.Full crc number old new (taken-never old) make is
+
+pub side-stands : (told : ℕ) (crc : Bool) (number : ℕ) (old new : Option Held) → IsMake (option_or (taken_fault old) (side_fault told)) (side_decoder told crc) number old new
+    → (line_side : Side) → side_of told ≡ Some line_side → number ≡ code_number code.Done → IsDecoderFor line_side (check_of crc) [] new
+side-stands told crc number old new make line_side known is =
+    let never = first-or (taken_fault old) (side_fault told) (taken-never old) (side-never told) in
+    subst (λ (s : Side). IsDecoderFor s (check_of crc) [] new) (ap (λ (o : Option Side). unwrap_or o side.Full) known)
+    (decoder-made (option_or (taken_fault old) (side_fault told)) (unwrap_or (side_of told) side.Full) crc number old new never make is)
 
 pub duplex-stands : (link : DuplexLink) (node : NodeParts) (files : List FileParts) (words : List WordParts) (block : List ℕ) (number : ℕ) (old new : Option Held)
     → IsMake (option_or (taken_fault old) (duplex_fault link node files words block)) (first_duplex link node files words block) number old new

@@ -3,36 +3,26 @@ use Rattle.std.specs.Prelude.{◌≡◌, ℕ, List, length}
 use Rattle.std.specs.declared.option.Option.{Option}
 use Rattle.std.specs.declared.option.Option.TheVariants.{Some, None}
 use Rattle.df1_check.specs.declared.Check.{Check}
-use Rattle.df1_frame.specs.Line.{ReadOff, last_heard}
-use Rattle.df1_frame.specs.Grammar.{full_duplex}
-use Rattle.df1_frame.specs.Standing.{decoding, lent}
-use Rattle.half_frame.specs.MasterGrammar.{master_hears}
-use Rattle.half_frame.specs.MasterStanding as at_master
-use Rattle.half_frame.specs.SlaveGrammar.{slave_hears}
-use Rattle.half_frame.specs.SlaveStanding as at_slave
+use Rattle.c_lines.specs.declared.side.Side.{Side}
+use Rattle.c_lines.specs.declared.side.Side.TheVariants as side
+use Rattle.c_lines.specs.Arrived.{IsBody, StandsFor}
 use Rattle.duplex_end.specs.Arrived as duplex
 use Rattle.half_master.specs.Arrived as master
 use Rattle.half_slave.specs.Arrived as slave
 use Rattle.c_ends.specs.declared.held.Held.{Held}
 use Rattle.c_ends.specs.declared.held.Held.TheVariants as held
 use Rattle.c_ends.specs.Code.{code_number}
-use Rattle.df1_c.specs.declared.decoders.Hearing.{Hearing}
 use Rattle.c_calls.specs.Copied.{copied, room_code}
-use Rattle.df1_c.specs.Decoders.{hearing_told}
 
 -- ---- a decoder
 
--- it is held, and is where the grammar says, over all of these bytes
-abbrev pub IsDecoderFor : Check → List ℕ → Option Held → Type 0
-IsDecoderFor check bytes None = ⊥
-IsDecoderFor check bytes (Some (held.Decoder decoder)) = ReadOff (full_duplex check 250) bytes (decoding check 250) decoder
-IsDecoderFor check bytes (Some (held.Duplex end)) = ⊥
-IsDecoderFor check bytes (Some (held.Master end)) = ⊥
-IsDecoderFor check bytes (Some (held.Slave end)) = ⊥
-
--- it is told what the grammar hears at the last of these bytes
-abbrev pub IsHearing : Check → List ℕ → Hearing → Type 0
-IsHearing check bytes told = ReadOff (full_duplex check 250) bytes (λ items front. hearing_told (last_heard (full_duplex check 250) items front)) told
+-- it is held, is one of this side, and is where the side's grammar says, over all of these bytes
+abbrev pub IsDecoderFor : Side → Check → List ℕ → Option Held → Type 0
+IsDecoderFor side check bytes None = ⊥
+IsDecoderFor side check bytes (Some (held.Decoder decoder)) = StandsFor side check bytes decoder
+IsDecoderFor side check bytes (Some (held.Duplex end)) = ⊥
+IsDecoderFor side check bytes (Some (held.Master end)) = ⊥
+IsDecoderFor side check bytes (Some (held.Slave end)) = ⊥
 
 -- ---- an end
 
@@ -52,14 +42,15 @@ HearsWhole check bytes (Some (held.Duplex end)) = duplex.HearsWhole check bytes
 HearsWhole check bytes (Some (held.Master end)) = master.HearsWhole check bytes
 HearsWhole check bytes (Some (held.Slave end)) = (station : ℕ) × slave.HearsMessage check bytes station
 
--- ---- the body that is lent at the last of these bytes: that of a frame with room for it or of a whole message that ended there, else none
+-- ---- the body that is lent
 
+-- that an end lends at the last of these bytes: a master hears what slaves give, and a slave what the master gives
 abbrev pub IsBodyOf : Check → List ℕ → Option Held → List ℕ → Type 0
 IsBodyOf check bytes None body = ⊥
-IsBodyOf check bytes (Some (held.Decoder decoder)) body = ReadOff (full_duplex check 250) bytes (lent check 250) body
-IsBodyOf check bytes (Some (held.Duplex end)) body = ReadOff (full_duplex check 250) bytes (lent check 250) body
-IsBodyOf check bytes (Some (held.Master end)) body = ReadOff (master_hears check 250) bytes (at_master.lent check 250) body
-IsBodyOf check bytes (Some (held.Slave end)) body = ReadOff (slave_hears check 250) bytes (at_slave.lent check 250) body
+IsBodyOf check bytes (Some (held.Decoder decoder)) body = ⊥
+IsBodyOf check bytes (Some (held.Duplex end)) body = IsBody side.Full check bytes body
+IsBodyOf check bytes (Some (held.Master end)) body = IsBody side.Slave check bytes body
+IsBodyOf check bytes (Some (held.Slave end)) body = IsBody side.Master check bytes body
 
 -- a call that copies such a body to the front of a buffer: its bytes are counted, and the code says whether there is room
 pub record Copies (IsBody : List ℕ → Type 0) (answer : ℕ) (old new : List ℕ) (count : ℕ) : Type 0 where

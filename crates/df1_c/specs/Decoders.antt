@@ -1,22 +1,31 @@
 -- What a call does to the decoder that a handle holds.
-use Rattle.std.specs.Prelude.{ℕ, Bool, true, false, List, length, if◌then◌else◌}
+use Rattle.std.specs.Prelude.{ℕ, Bool, true, false, List, length, is_none, if◌then◌else◌}
 use Rattle.std.specs.declared.option.Option.{Option}
 use Rattle.std.specs.declared.option.Option.TheVariants.{Some, None}
-use Rattle.df1_frame.specs.declared.heard.Heard.{Heard}
-use Rattle.df1_frame.specs.declared.heard.Heard.TheVariants as heard
-use Rattle.df1_frame.specs.Standing.{Outside, lent_at}
-use Rattle.df1_frame.specs.Step.{next}
+use Rattle.std.specs.Option.{unwrap_or}
+use Rattle.c_lines.specs.declared.hearing.Hearing.{Hearing}
+use Rattle.c_lines.specs.declared.side.Side.{Side}
+use Rattle.c_lines.specs.declared.side.Side.TheVariants as side
+use Rattle.c_lines.specs.Decoders as line
+use Rattle.c_lines.specs.Sides.{side_of}
 use Rattle.c_ends.specs.declared.code.Code.{Code}
 use Rattle.c_ends.specs.declared.code.Code.TheVariants as code
 use Rattle.c_ends.specs.declared.held.Held.{Held}
 use Rattle.c_ends.specs.declared.held.Held.TheVariants as held
 use Rattle.c_ends.specs.Links.{check_of}
-use Rattle.df1_c.specs.declared.decoders.Hearing.{Hearing}
 use Rattle.c_calls.specs.Copied.{room_code}
 
--- a decoder that has heard nothing
-abbrev pub new_decoder : Bool → Held
-new_decoder crc = held.Decoder (record { check = check_of crc; standing = Outside })
+-- a decoder of a side that has heard nothing
+abbrev pub new_decoder : Side → Bool → Held
+new_decoder side crc = held.Decoder (line.new_decoder side (check_of crc))
+
+-- a number that is no side's
+abbrev pub side_fault : ℕ → Option Code
+side_fault number = if is_none (side_of number) then Some code.BadSide else None
+
+-- a decoder of the side of a number; of one that is no side's nothing is asked
+abbrev pub side_decoder : ℕ → Bool → Held
+side_decoder number crc = new_decoder (unwrap_or (side_of number) side.Full) crc
 
 -- it is a decoder
 abbrev pub is_decoder : Held → Bool
@@ -37,36 +46,21 @@ decoder_freed (Some held) = if is_decoder held then None else Some held
 
 -- after a byte; nothing else hears one here
 abbrev pub after_fed : Held → ℕ → Held
-after_fed (held.Decoder decoder) b = held.Decoder (next 250 decoder b).0
+after_fed (held.Decoder decoder) b = held.Decoder (line.after_byte decoder b)
 after_fed (held.Duplex end) b = held.Duplex end
 after_fed (held.Master master) b = held.Master master
 after_fed (held.Slave slave) b = held.Slave slave
 
--- the number of what is heard, and the byte that it names, or 0
-abbrev pub hearing_told : Option Heard → Hearing
-hearing_told None = record { heard = 0; byte = 0 }
-hearing_told (Some heard.Good) = record { heard = 1; byte = 0 }
-hearing_told (Some heard.Short) = record { heard = 2; byte = 0 }
-hearing_told (Some heard.BadCheck) = record { heard = 3; byte = 0 }
-hearing_told (Some heard.Long) = record { heard = 4; byte = 0 }
-hearing_told (Some (heard.Broken b)) = record { heard = 5; byte = b }
-hearing_told (Some heard.Restart) = record { heard = 6; byte = 0 }
-hearing_told (Some heard.Ack) = record { heard = 7; byte = 0 }
-hearing_told (Some heard.Nak) = record { heard = 8; byte = 0 }
-hearing_told (Some heard.Enq) = record { heard = 9; byte = 0 }
-hearing_told (Some (heard.Stray b)) = record { heard = 10; byte = b }
-hearing_told (Some (heard.StrayPair b)) = record { heard = 11; byte = b }
-
 -- what a decoder hears at a byte
 abbrev pub heard_in : Held → ℕ → Option Hearing
-heard_in (held.Decoder decoder) b = Some (hearing_told (next 250 decoder b).1)
+heard_in (held.Decoder decoder) b = Some (line.hearing_at decoder b)
 heard_in (held.Duplex end) b = None
 heard_in (held.Master master) b = None
 heard_in (held.Slave slave) b = None
 
 -- the body that a decoder lends
 abbrev pub lent_in : Held → Option (List ℕ)
-lent_in (held.Decoder decoder) = Some (lent_at decoder.standing)
+lent_in (held.Decoder decoder) = Some (line.lent_by decoder)
 lent_in (held.Duplex end) = None
 lent_in (held.Master master) = None
 lent_in (held.Slave slave) = None

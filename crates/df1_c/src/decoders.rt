@@ -1,44 +1,69 @@
 //! A decoder behind a handle: made, the bytes that it hears, the body that it lends, and letting it go.
 
 ghost use Rattle.std.specs.Prelude.{◌≡◌, ◌∷◌, ◌++◌, [], ℕ, List, length, Some};
-ghost use Rattle.std.specs.Option.{option_map, unwrap_or};
+ghost use Rattle.std.specs.Option.{option_map, option_or, unwrap_or};
 ghost use Rattle.df1_check.specs.declared.Check.{Check as CheckKind};
+ghost use Rattle.c_lines.specs.declared.side.Side.{Side as LineSide};
+ghost use Rattle.c_lines.specs.declared.side.Side.TheVariants.{Full};
+ghost use Rattle.c_lines.specs.Arrived.{IsBody, IsHearing};
+ghost use Rattle.c_lines.specs.Sides.{side_of};
 ghost use Rattle.c_ends.specs.Code.{code_number};
 ghost use Rattle.c_ends.specs.Links.{check_of};
-ghost use Rattle.df1_c.specs.Arrived.{Copies, IsBodyOf, IsDecoderFor, IsHearing};
-ghost use Rattle.c_calls.specs.Copied.{copied};
 ghost use Rattle.c_calls.specs.Answers.{told_of};
+ghost use Rattle.c_calls.specs.Copied.{copied};
+ghost use Rattle.df1_c.specs.Arrived.{Copies, IsDecoderFor};
 ghost use Rattle.df1_c.specs.Held.{IsMake, holding, taken_fault};
-ghost use Rattle.df1_c.specs.Decoders.{after_fed, decoder_code, decoder_freed, heard_in, hearing_told, is_decoder, lent_code, lent_in, new_decoder};
+ghost use Rattle.df1_c.specs.Decoders.{after_fed, decoder_code, decoder_freed, heard_in, is_decoder, lent_code, lent_in, new_decoder, side_decoder, side_fault};
 
 use crate::seat::Seat;
 use c_calls::copy;
 use c_ends::{Code, Held, check_of};
-use df1_frame::{Decoder, Heard};
+use c_lines::{Hearing, LineDecoder, Side};
 use std::alloc::Global;
 use std::mem::ManuallyDrop;
 
-/// What is heard at a byte.
-#[repr(C)]
-#[derive(Clone, Copy)]
-pub struct Hearing {
-    pub heard: u32,
-    /// The byte that `heard` names, or 0.
-    pub byte: u8,
-}
-
-/// Fills an empty handle with a decoder that has heard nothing.
+/// Fills an empty handle with a decoder of a full-duplex line that has heard nothing.
 #[tactic(auto, unfolding(crate::specs::Held::value_in))]
 #[unsafe(no_mangle)]
 pub extern "C" fn df1_decoder_make(alloc: Global, crc: bool, decoder: &mut Seat) -> u32
-    ensures made { IsMake (taken_fault (holding decoder.old)) (new_decoder crc) result (holding decoder.old) (holding decoder.new) }
-    ensures stands { result ≡ code_number Code.Done → IsDecoderFor (check_of crc) [] (holding decoder.new) }
+    ensures made { IsMake (taken_fault (holding decoder.old)) (new_decoder Full crc) result (holding decoder.old) (holding decoder.new) }
+    ensures stands { result ≡ code_number Code.Done → IsDecoderFor Full (check_of crc) [] (holding decoder.new) }
 {
     if !decoder.is_empty() {
         return Code::NoHandle.number();
     }
-    let made = Held::Decoder(Decoder::new(check_of(crc)));
-    decoder.fill(alloc, Ok(made)).number()
+    fill(alloc, Side::Full, crc, decoder).number()
+}
+
+/// Fills an empty handle with a decoder of this side of a line that has heard nothing.
+#[tactic(auto, unfolding(crate::specs::Held::value_in))]
+#[unsafe(no_mangle)]
+pub extern "C" fn df1_decoder_make_side(
+    alloc: Global,
+    side: u32,
+    crc: bool,
+    decoder: &mut Seat,
+) -> u32
+    ensures made { IsMake (option_or (taken_fault (holding decoder.old)) (side_fault side)) (side_decoder side crc) result (holding decoder.old) (holding decoder.new) }
+    ensures stands { (line_side : LineSide) → side_of side ≡ Some line_side → result ≡ code_number Code.Done → IsDecoderFor line_side (check_of crc) [] (holding decoder.new) }
+{
+    if !decoder.is_empty() {
+        return Code::NoHandle.number();
+    }
+    let Some(side) = Side::of_number(side) else {
+        return Code::BadSide.number();
+    };
+    fill(alloc, side, crc, decoder).number()
+}
+
+/// Fills an empty handle with a decoder of a side that has heard nothing, unless there is no memory.
+#[tactic(auto, unfolding(crate::specs::Held::value_in))]
+fn fill(alloc: Global, side: Side, crc: bool, decoder: &mut Seat) -> Code
+    requires { holding decoder.old ≡ None }
+    ensures { IsMake None (new_decoder side crc) (code_number result) (holding decoder.old) (holding decoder.new) }
+{
+    let made = Held::Decoder(LineDecoder::new(side, check_of(crc)));
+    decoder.fill(alloc, Ok(made))
 }
 
 /// Lets a decoder go, with its memory.
@@ -80,8 +105,8 @@ pub extern "C" fn df1_decoder_byte(
     ensures code { result ≡ code_number (decoder_code (holding decoder.old)) }
     ensures after { holding decoder.new ≡ option_map (λ held. after_fed held byte) (holding decoder.old) }
     ensures told { hearing.new ≡ told_of (holding decoder.old) (λ held. heard_in held byte) hearing.old }
-    ensures stands { (check : CheckKind) (bytes : List ℕ) → IsDecoderFor check bytes (holding decoder.old) → IsDecoderFor check (bytes ++ byte ∷ []) (holding decoder.new) }
-    ensures heard { (check : CheckKind) (bytes : List ℕ) → IsDecoderFor check bytes (holding decoder.old) → IsHearing check (bytes ++ byte ∷ []) hearing.new }
+    ensures stands { (side : LineSide) (check : CheckKind) (bytes : List ℕ) → IsDecoderFor side check bytes (holding decoder.old) → IsDecoderFor side check (bytes ++ byte ∷ []) (holding decoder.new) }
+    ensures heard { (side : LineSide) (check : CheckKind) (bytes : List ℕ) → IsDecoderFor side check bytes (holding decoder.old) → IsHearing side check (bytes ++ byte ∷ []) hearing.new }
 {
     let Some(mut held) = decoder.take(alloc) else {
         return Code::NoHandle.number();
@@ -98,35 +123,14 @@ fn feed(held: &mut Held, byte: u8, hearing: &mut Hearing) -> Code
 {
     match held {
         Held::Decoder(decoder) => {
-            *hearing = hearing_of(decoder.feed(byte));
+            *hearing = decoder.feed(byte);
             Code::Done
         }
         Held::Duplex(_) | Held::Master(_) | Held::Slave(_) => Code::NoHandle,
     }
 }
 
-/// What is heard as C sees it.
-fn hearing_of(heard: Option<Heard>) -> Hearing
-    ensures { result ≡ hearing_told heard }
-{
-    let (heard, byte) = match heard {
-        None => (0, 0),
-        Some(Heard::Good) => (1, 0),
-        Some(Heard::Short) => (2, 0),
-        Some(Heard::BadCheck) => (3, 0),
-        Some(Heard::Long) => (4, 0),
-        Some(Heard::Broken(byte)) => (5, byte),
-        Some(Heard::Restart) => (6, 0),
-        Some(Heard::Ack) => (7, 0),
-        Some(Heard::Nak) => (8, 0),
-        Some(Heard::Enq) => (9, 0),
-        Some(Heard::Stray(byte)) => (10, byte),
-        Some(Heard::StrayPair(byte)) => (11, byte),
-    };
-    Hearing { heard, byte }
-}
-
-/// Copies the body of the frame that ended at the latest byte.
+/// Copies the body of the frame or message that ended at the latest byte.
 #[tactic(auto, unfolding(crate::specs::Held::value_in))]
 #[unsafe(no_mangle)]
 pub extern "C" fn df1_decoder_body(
@@ -139,7 +143,7 @@ pub extern "C" fn df1_decoder_body(
     ensures same { holding decoder.new ≡ holding decoder.old }
     ensures bytes { into.new ≡ told_of (holding decoder.old) (λ held. option_map (copied into.old) (lent_in held)) into.old }
     ensures count { count.new ≡ told_of (holding decoder.old) (λ held. option_map length (lent_in held)) count.old }
-    ensures lent { (check : CheckKind) (bytes : List ℕ) → IsDecoderFor check bytes (holding decoder.old) → Copies (IsBodyOf check bytes (holding decoder.old)) result into.old into.new count.new }
+    ensures lent { (side : LineSide) (check : CheckKind) (bytes : List ℕ) → IsDecoderFor side check bytes (holding decoder.old) → Copies (IsBody side check bytes) result into.old into.new count.new }
 {
     let Some(held) = decoder.take(alloc) else {
         return Code::NoHandle.number();

@@ -1,7 +1,7 @@
 use Rattle.std.proofs.Common.{◌≡◌, ◌≤◌, ◌++◌, length}
-use Rattle.df1_c.specs.Spelled.{frame_of}
+use Rattle.c_lines.specs.Spelled.{frame_of}
 use Rattle.df1_frame.specs.Units.{bytes_of}
-use Rattle.df1_c.proofs.spelling.frame_of.Given as goal
+use Rattle.c_lines.proofs.spelling.frame_of.Given as goal
 
 abbrev pub invariant-loop-unit : goal.invariant-loop-unit
 invariant-loop-unit l = record {

@@ -1,0 +1,5 @@
+pub mod Arrived
+pub mod Decoders
+pub mod Hearings
+pub mod Sides
+pub mod Spelled
