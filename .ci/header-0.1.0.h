@@ -1,0 +1,612 @@
+/* df1: the proved parts of a DF1 link (Allen-Bradley PLC-5 and SLC), for C and C++.
+ *
+ * Handles: a df1_end is one end of a link, a df1_decoder hears a side of a line without one. A handle is a plain struct of
+ * yours that starts as DF1_NOTHING, `= DF1_NOTHING;`, which is all zeros. A call whose name ends in _make fills it, a call
+ * whose name ends in _free empties it; in between it goes to the other calls by its address. Its members are for the library
+ * alone. What a call does with a handle that was copied, once one of the two copies was changed, isn't defined, freeing twice
+ * through a copy among it; an empty handle, and one of another kind, is answered DF1_NO_HANDLE.
+ * Codes: each call that can be refused answers a df1_code, DF1_DONE where it did what it is for. With another one neither the
+ * handle nor what pointers lead to is changed, but that `*length` says how many bytes are there with DF1_NO_ROOM.
+ * Threads: a call keeps no state besides the handle, so calls on two handles may run at a time. One handle has one call at a time: it
+ * may go from thread to thread, by a mutex that each call on it holds, or by the start or the end of a thread.
+ * Memory: what a call is handed it reads and writes only while it runs; it keeps no pointer. A handle takes its memory from
+ * malloc: the calls whose names end in _make, df1_end_issue, df1_end_issue_from, df1_end_pull and df1_end_push take some, and say
+ * where there is none.
+ * Time is the caller's: one call of df1_end_tick is one tick, as long as you like.
+ * Outside: no call blocks, prints, reads a clock or ends the program.
+ * Pointers: one that goes with a length of 0 may be null, as an empty vector's is; no other may. A caller who breaks this, or
+ * tells a length beyond what he owns, has no promise at all. The calls themselves take no null pointer: the macros at the end of
+ * this header put another one in its place, so who calls them without the header (from another language, or by a pointer to a
+ * function) does that himself.
+ */
+#ifndef DF1_H
+#define DF1_H
+
+#include <stddef.h>
+#include <stdint.h>
+#ifndef __cplusplus
+#include <stdbool.h>
+#endif
+
+#ifdef __cplusplus
+extern "C" {
+#endif
+
+/* The version of this header: 0x010203 is 1.2.3. A program that was built with it runs with each library of the same first number
+ * whose version isn't lower, and, as long as that number is 0, of the same second number too. */
+#define DF1_VERSION 0x000100
+
+/* The version of the library, told the same way. */
+uint32_t df1_version(void);
+
+/* Answers of the calls, with their texts. */
+enum df1_code {
+    DF1_DONE = 0,              /* the call did what it is for */
+    DF1_NO_HANDLE = 1,         /* the handle holds nothing that the call is for */
+    DF1_NO_MEMORY = 2,         /* malloc gave no memory */
+    DF1_NO_ROOM = 3,           /* the buffer is too small */
+    DF1_BAD_ACK_TICKS = 4,     /* ack_ticks is out of its range */
+    DF1_BAD_POLL_TICKS = 5,    /* poll_ticks is out of its range */
+    DF1_BAD_MAX_SENDS = 6,     /* max_sends is out of its range */
+    DF1_BAD_STATION = 7,       /* a station's number is 16 or 255 */
+    DF1_TOO_MANY_STATIONS = 8, /* over 32 stations */
+    DF1_STATION_TWICE = 9,     /* a station is listed twice */
+    DF1_BAD_REPLY_TICKS = 10,  /* reply_ticks is out of its range */
+    DF1_BAD_ROOM = 11,         /* room is out of its range */
+    DF1_TOO_MANY_FILES = 12,   /* over 256 data files */
+    DF1_BAD_TYPE = 13,         /* a file's type is none of df1_file_type */
+    DF1_EMPTY_FILE = 14,       /* a file has no elements */
+    DF1_LARGE_FILE = 15,       /* a file has over 1,000 elements */
+    DF1_FILE_TWICE = 16,       /* two files have one number */
+    DF1_NO_WORD = 17,          /* there is no such file or word */
+    DF1_BAD_COMPAT = 18,       /* compat names no Bit or Integer file of the end */
+    DF1_LONG_BLOCK = 19,       /* a block of over 244 bytes */
+    DF1_LONG_BODY = 20,        /* a body of over 250 bytes */
+    DF1_NO_PAYLOAD = 21,       /* a payload of no bytes */
+    DF1_LONG_PAYLOAD = 22,     /* a payload of over 245 bytes */
+    DF1_NOT_COMMAND = 23,      /* bit 6 of CMD is set, so the payload is that of a reply */
+    DF1_SPENT = 24,            /* 65,535 commands were issued already */
+    DF1_NO_COMMAND = 25,       /* no command of this number was issued */
+    DF1_NOT_ANSWERED = 26,     /* no reply to it was accepted */
+    DF1_NO_FILE = 27,          /* there is no file at this place */
+    DF1_BAD_MAX_NAKS = 28,     /* max_naks is out of its range */
+    DF1_BAD_MAX_ENQS = 29,     /* max_enqs is out of its range */
+    DF1_BAD_MAX_RESENDS = 30,  /* max_resends is out of its range */
+    DF1_BAD_WINDOW = 31,       /* window is out of its range */
+    DF1_BAD_PER_SOURCE = 32,   /* per_source is out of its range */
+    DF1_NOT_RESERVED = 33,     /* a reserved member isn't 0 */
+    DF1_BAD_FILE = 34,         /* a transfer's file is over 999 */
+    DF1_BAD_WORDS = 35,        /* a transfer's words are none, over 3,000, or not whole */
+    DF1_BAD_ROUTES = 36,       /* routes is neither 0 nor 1 */
+    DF1_NO_STATION = 37,       /* the master has no such station */
+    DF1_BAD_SIDE = 38          /* a side is none of df1_side */
+};
+
+/* ---- Checks and frames ---- */
+
+/* The BCC of `length` bytes at `bytes`: the two's complement of their 8-bit sum, 0 for none. It ends a frame whose body they
+ * are, each DLE counted once. */
+uint8_t df1_bcc(const uint8_t *bytes, size_t length);
+
+/* The CRC-16 of `length` bytes at `bytes`, 0 for none: the polynomial x^16 + x^15 + x^2 + 1, reflected, from a register of 0.
+ * It ends a frame whose body they are with the byte ETX (03) after it. On the line its low byte goes first. */
+uint16_t df1_crc(const uint8_t *bytes, size_t length);
+
+/* Spells the full-duplex frame of a body of at most 250 bytes into the `room` bytes at `into`: DLE STX, the body with each DLE
+ * doubled, DLE ETX, and the BCC or, where `crc` is set, the CRC. `*length` is how many bytes the frame has, at most 506.
+ * DF1_LONG_BODY, DF1_NO_ROOM. */
+uint32_t df1_spell(bool crc, const uint8_t *body, size_t body_length, uint8_t *into, size_t room, size_t *length);
+
+/* Spells a half-duplex master's message to a station, with a body of at most 250 bytes, into the `room` bytes at `into`: DLE SOH,
+ * the station, DLE STX, the body with each DLE doubled, DLE ETX, and the BCC or, where `crc` is set, the CRC; the check covers
+ * the station too, and the CRC STX and ETX. `*length` is how many bytes the message has, at most 509. The first of
+ * DF1_BAD_STATION, DF1_LONG_BODY, DF1_NO_ROOM. */
+uint32_t df1_spell_message(uint8_t station, bool crc, const uint8_t *body, size_t body_length, uint8_t *into, size_t room,
+                           size_t *length);
+
+/* Spells a slave's message with a body of at most 250 bytes into the `room` bytes at `into`. No station stands in it, so its bytes
+ * are those of df1_spell, at most 506. DF1_LONG_BODY, DF1_NO_ROOM. */
+uint32_t df1_spell_reply(bool crc, const uint8_t *body, size_t body_length, uint8_t *into, size_t room, size_t *length);
+
+/* Spells a half-duplex master's poll of a station into the `room` bytes at `into`: DLE ENQ, the station, and its BCC, whatever the
+ * line's check. `*length` is 4. The first of DF1_BAD_STATION, DF1_NO_ROOM. */
+uint32_t df1_spell_poll(uint8_t station, uint8_t *into, size_t room, size_t *length);
+
+/* The text of a code, as "the handle holds nothing that the call is for", with a zero byte at its end, into the `room` bytes at
+ * `into`. `*length` is how many bytes the text has with that zero, at most 80; a number that is no code has the text
+ * "no code of df1". DF1_NO_ROOM. */
+uint32_t df1_code_text(uint32_t code, char *into, size_t room, size_t *length);
+
+/* What a decoder holds nothing of, and what it is. */
+typedef struct df1_decoder {
+    void *at;
+    bool holds;
+} df1_decoder;
+
+/* An end of a link: a full-duplex end, the master of a half-duplex link, or a slave of one. */
+typedef struct df1_end {
+    void *at;
+    bool holds;
+} df1_end;
+
+#define DF1_NOTHING {NULL, false}
+
+/* Whose bytes a decoder hears. On a line where both directions are seen each has a decoder of its own. */
+enum df1_side {
+    DF1_SIDE_FULL = 0,   /* those of an end of a full-duplex line */
+    DF1_SIDE_MASTER = 1, /* those that the master of a half-duplex line gives, as a slave hears them */
+    DF1_SIDE_SLAVE = 2   /* those that the slaves of a half-duplex line give, as the master hears them */
+};
+
+/* What is heard at a byte, F: of a full-duplex line, M: of the master of a half-duplex line, S: of its slaves. */
+enum df1_heard {
+    DF1_HEARD_NOTHING = 0,     /* F, M, S: nothing is heard at this byte */
+    DF1_HEARD_GOOD = 1,        /* F, M, S: a frame or message with the right check and a body of 6 to 250 bytes; M: to `station` */
+    DF1_HEARD_SHORT = 2,       /* F: a frame with the right check and a body of under 6 bytes */
+    DF1_HEARD_BAD_CHECK = 3,   /* F: a frame with a wrong check and a body of at most 250 bytes */
+    DF1_HEARD_LONG = 4,        /* F: a frame with a longer body */
+    DF1_HEARD_BROKEN = 5,      /* F: a frame that was broken off by DLE and `byte` */
+    DF1_HEARD_RESTART = 6,     /* F: a frame that was cut off by the DLE STX of the next */
+    DF1_HEARD_ACK = 7,         /* F, M, S: DLE ACK */
+    DF1_HEARD_NAK = 8,         /* F, M, S: DLE NAK; M: it asks the slaves to drop what they keep */
+    DF1_HEARD_ENQ = 9,         /* F: DLE ENQ, outside a frame */
+    DF1_HEARD_STRAY = 10,      /* F, M, S: `byte`, outside frames, messages and polls */
+    DF1_HEARD_STRAY_PAIR = 11, /* F, M, S: DLE and `byte`, outside frames, messages and polls */
+    DF1_HEARD_HEADER = 12,     /* M: a message to `station` has begun, with DLE SOH, its number and DLE STX */
+    DF1_HEARD_POLL = 13,       /* M: a poll of `station` */
+    DF1_HEARD_BAD_POLL = 14,   /* M: a poll with a wrong BCC */
+    DF1_HEARD_DAMAGED = 15,    /* M, S: a message that didn't end as one, or has a wrong check or a body of under 6 or over 250
+                                * bytes; M: to `station` */
+    DF1_HEARD_EOT = 16         /* S: DLE EOT, by which a polled slave says that it has no message */
+};
+
+typedef struct df1_hearing {
+    uint32_t heard;  /* enum df1_heard */
+    uint8_t byte;    /* 0 where `heard` names none */
+    uint8_t station; /* 0 where `heard` names none */
+} df1_hearing;
+
+/* Fills an empty handle with a decoder of a full-duplex line that has heard nothing, with CRCs where `crc` is set, else with BCCs.
+ * DF1_NO_MEMORY; DF1_NO_HANDLE for a handle that isn't empty. */
+uint32_t df1_decoder_make(bool crc, df1_decoder *decoder);
+
+/* The same of a side, a df1_side. DF1_NO_MEMORY; DF1_NO_HANDLE for a handle that isn't empty; DF1_BAD_SIDE. */
+uint32_t df1_decoder_make_side(uint32_t side, bool crc, df1_decoder *decoder);
+
+/* Lets the decoder and its memory go. The handle is empty then. DF1_NO_HANDLE. */
+uint32_t df1_decoder_free(df1_decoder *decoder);
+
+/* The decoder hears a byte. DF1_NO_HANDLE. */
+uint32_t df1_decoder_byte(df1_decoder *decoder, uint8_t byte, df1_hearing *hearing);
+
+/* The body of the frame or message that ended at the latest byte, at most 250 bytes, into the `room` bytes at `into`: of a
+ * full-duplex frame be it good, too short or with a wrong check, of a half-duplex message where it is good. `*length` is how many
+ * bytes it has: 0 after every other byte. DF1_NO_HANDLE, DF1_NO_ROOM. */
+uint32_t df1_decoder_body(df1_decoder *decoder, uint8_t *into, size_t room, size_t *length);
+
+/* ---- How an end is set up ----
+ *
+ * Reserved members are 0: a member that comes in a later version takes the place of one, and 0 then stands for its value at
+ * first. So what is built with this header works on with a later library, and what is built with a later header and sets a
+ * member that this library doesn't know is refused by DF1_NOT_RESERVED. An initializer leaves them 0. DF1_DUPLEX_INIT and its like
+ * have the values that a script of df1 begins with; set those that differ after it. */
+
+/* A full-duplex link. */
+typedef struct df1_duplex {
+    bool crc;           /* CRC, and not BCC, ends its frames */
+    bool embed;         /* responses may stand inside the frames that the end gives */
+    uint32_t ack_ticks; /* ticks without a response until it asks with an ENQ: 1 to 1,000,000 */
+    uint32_t max_naks;  /* how many NAKs one message may have before it is given up: 0 to 255 */
+    uint32_t max_enqs;  /* how many ENQs one message may cost before it is given up: 0 to 255 */
+    uint32_t reserved[4];
+} df1_duplex;
+
+#define DF1_DUPLEX_INIT {false, false, 10, 3, 3, {0, 0, 0, 0}}
+
+/* The link of a half-duplex master. */
+typedef struct df1_master {
+    bool crc;             /* CRC, and not BCC, ends its messages */
+    uint32_t ack_ticks;   /* the ticks of a wait for ACK: 1 to 1,000,000 */
+    uint32_t max_resends; /* how often a message is given again before it is given up: 0 to 255 */
+    uint32_t poll_ticks;  /* the ticks of a wait after a poll: 1 to 1,000,000 */
+    uint32_t routes;      /* 1: it carries each message whose DST is a station's number to that station, so its node needs an
+                           * address that no station has; 0: each message is its node's */
+    uint32_t reserved[3];
+} df1_master;
+
+#define DF1_MASTER_INIT {false, 10, 3, 10, 0, {0, 0, 0}}
+
+/* The link of a half-duplex slave. Its station number is the address of its node, neither 16 nor 255. */
+typedef struct df1_slave {
+    bool crc;           /* CRC, and not BCC, ends its messages */
+    uint32_t max_sends; /* how often a message is given before it is given up: 1 to 255 */
+    uint32_t reserved[4];
+} df1_slave;
+
+#define DF1_SLAVE_INIT {false, 3, {0, 0, 0, 0}}
+
+/* What stands behind an end: it executes the commands that come, and issues some. */
+typedef struct df1_node {
+    uint8_t address;      /* SRC of its own commands, DST of what is sent to it */
+    uint16_t tns;         /* the transaction number of its first command; each further command has the next */
+    uint32_t reply_ticks; /* ticks without a reply until a command is unanswered: 1 to 1,000,000. At a full-duplex end and at a
+                             slave each df1_end_tick counts; at a master only one at which it polls, so none while it gives
+                             or waits, nor while a message is to be given. While no station answers its polls, that is one
+                             tick in poll_ticks + 1 */
+    uint32_t room;        /* how many replies may wait to be given: 2 to 64 */
+    bool has_compat;      /* whether there is a file for the basic reads and writes */
+    uint16_t compat;      /* its number: a Bit or Integer file */
+    uint32_t window;      /* how many of its commands may be out at a time: 1 to 16; 0 is 1 */
+    uint32_t per_source;  /* how many of one source's, by SRC: 1 to 16; 0 is 16 */
+    uint32_t reserved[4];
+} df1_node;
+
+#define DF1_NODE_INIT(address) {address, 1, 100, 2, false, 0, 1, 16, {0, 0, 0, 0}}
+
+/* The types of data files, by their type bytes. */
+enum df1_file_type {
+    DF1_STATUS = 0x84,
+    DF1_BIT = 0x85,
+    DF1_TIMER = 0x86,
+    DF1_COUNTER = 0x87,
+    DF1_CONTROL = 0x88,
+    DF1_INTEGER = 0x89,
+    DF1_FLOAT = 0x8A
+};
+
+/* A data file. Elements of timers, counters and controls have three words, those of floats two, all others one. */
+typedef struct df1_file {
+    uint16_t number;
+    uint8_t type;      /* enum df1_file_type */
+    uint16_t elements; /* 1 to 1,000 */
+} df1_file;
+
+/* A word of a data file and its value. The words of a file count from 0. */
+typedef struct df1_word {
+    uint16_t file;
+    uint32_t index;
+    uint16_t value;
+} df1_word;
+
+/* What an end has besides its link and its node, all by pointers and lengths: `files`, at most 256; `words`, their first values
+ * (all others are 0; of two for one word the later counts); `block`, the data of the reply to a diagnostic status command, at
+ * most 244 bytes.
+ *
+ * Each call fills an empty handle with an end to which nothing happened yet. Where several parts are out of range the code
+ * names the first of: the handle (DF1_NO_HANDLE where it isn't empty), the link's members in their order, for a master its
+ * stations (DF1_TOO_MANY_STATIONS, then the first that is bad or listed twice), for a slave its number, the node's reply_ticks,
+ * room, window, per_source and reserved members, the files (DF1_TOO_MANY_FILES, then the first of the wrong type, then the first that is empty, large, or there
+ * twice), compat, the words (DF1_NO_WORD), the block. DF1_NO_MEMORY comes with all of them in range. */
+uint32_t df1_duplex_make(const df1_duplex *link, const df1_node *node, const df1_file *files, size_t file_count,
+                         const df1_word *words, size_t word_count, const uint8_t *block, size_t block_length, df1_end *end);
+uint32_t df1_master_make(const df1_master *link, const uint8_t *stations, size_t station_count, const df1_node *node,
+                         const df1_file *files, size_t file_count, const df1_word *words, size_t word_count,
+                         const uint8_t *block, size_t block_length, df1_end *end);
+uint32_t df1_slave_make(const df1_slave *link, const df1_node *node, const df1_file *files, size_t file_count,
+                        const df1_word *words, size_t word_count, const uint8_t *block, size_t block_length, df1_end *end);
+
+/* Lets the end and its memory go. The handle is empty then. DF1_NO_HANDLE. */
+uint32_t df1_end_free(df1_end *end);
+
+/* ---- Bytes and ticks ---- */
+
+/* What an end made of a byte. */
+enum df1_act {
+    DF1_ACT_NOTHING = 0,  /* none of these */
+    DF1_ACT_ACCEPT = 1,   /* a message was accepted */
+    DF1_ACT_REPEAT = 2,   /* a message came again, and is acknowledged again */
+    DF1_ACT_REFUSE = 3,   /* there was no room for a message */
+    DF1_ACT_DAMAGED = 4,  /* a frame was damaged */
+    DF1_ACT_FORGOT = 5,   /* a frame was given up for a new one */
+    DF1_ACT_PEER_ACK = 6, /* DLE ACK */
+    DF1_ACT_PEER_NAK = 7, /* DLE NAK */
+    DF1_ACT_PEER_ENQ = 8  /* DLE ENQ */
+};
+
+/* What was done with an accepted message. */
+enum df1_did {
+    DF1_NOT_ACCEPTED = 0, /* the act isn't DF1_ACT_ACCEPT */
+    DF1_EXECUTED = 1,     /* a command was executed, and its reply waits */
+    DF1_ANSWERED = 2,     /* the reply to command `did_command` */
+    DF1_STRAY = 3,        /* a reply to no command that is out */
+    DF1_ROUTED = 4        /* a message to a station, which a master with `routes` keeps until it gives it to that station */
+};
+
+/* What became known of a message that the end gave. */
+enum df1_news {
+    DF1_NO_NEWS = 0,
+    DF1_NEWS_UNDELIVERED = 1, /* command `news_command` was given up */
+    DF1_NEWS_DROPPED = 2      /* a reply was given up */
+};
+
+/* What a byte did. */
+typedef struct df1_step {
+    uint32_t act;          /* enum df1_act */
+    uint32_t did;          /* enum df1_did */
+    uint32_t did_command;  /* 0 where `did` names none */
+    uint32_t news;         /* enum df1_news */
+    uint32_t news_command; /* 0 where `news` names none */
+    bool whole;            /* a good frame was heard, whatever the act */
+    uint8_t station;       /* at a slave the station that a good message names, which may be another one; else 0 */
+} df1_step;
+
+/* What a tick did besides commands that it left unanswered. */
+enum df1_turn_kind {
+    DF1_TURN_STILL = 0, /* nothing that is told */
+    DF1_TURN_ASK = 1,   /* the end asks for a response, by an ENQ */
+    DF1_TURN_FAILED = 2 /* it gave a message up; `news` tells what that was */
+};
+
+typedef struct df1_turn {
+    uint32_t turn;         /* enum df1_turn_kind */
+    uint32_t news;         /* enum df1_news */
+    uint32_t news_command; /* 0 where `news` names none */
+    uint32_t gone_count;   /* how many commands it left unanswered, at most 16 */
+} df1_turn;
+
+/* A byte that goes out. */
+typedef struct df1_out {
+    bool there;   /* whether there is one */
+    uint8_t byte; /* 0 where there is none */
+    bool last;    /* it is the last byte of a frame or message; no response, ENQ, poll or EOT has one */
+} df1_out;
+
+/* The end hears a byte of the line. At a slave DLE NAK from the master is a reset: commands of the slave that wait to be handed
+ * out are DF1_UNDELIVERED from then on, and replies that wait are dropped, and no news tells of either; `news` is of the message
+ * that the slave held. So after DF1_ACT_PEER_NAK at a slave ask df1_end_outcome. DF1_NO_HANDLE. */
+uint32_t df1_end_byte(df1_end *end, uint8_t byte, df1_step *step);
+
+/* The body of the frame that ended at the latest byte, at most 250 bytes, DST first, into the `room` bytes at `into`: of a
+ * full-duplex frame be it good, too short or with a wrong check, of a half-duplex message where it is good. `*length` is how many
+ * bytes it has: 0 after every other byte. DF1_NO_HANDLE, DF1_NO_ROOM. */
+uint32_t df1_end_body(df1_end *end, uint8_t *into, size_t room, size_t *length);
+
+/* A tick has passed: the numbers of the commands that it left unanswered go to the front of the `room` numbers at `gone`, which
+ * are at least 16. At a slave a tick counts for its own commands that are out, and for nothing else, so it tells DF1_TURN_STILL: this
+ * is the library's own addition, since the polled line itself has no ticks of a slave, and a caller who passes none there has a
+ * command wait for its reply for good. DF1_NO_HANDLE, and DF1_NO_ROOM where `room` is under 16. */
+uint32_t df1_end_tick(df1_end *end, df1_turn *turn, uint32_t *gone, size_t room);
+
+/* The end gives the next byte for the line, if there is one. After each byte and each tick take until the end is quiet. A master
+ * gives none where it passes over a reply to a node that is no station of its list, and may have more to give then; no news tells of
+ * it. DF1_NO_HANDLE. */
+uint32_t df1_end_take(df1_end *end, df1_out *out);
+
+/* Whether the end has nothing to give, so that df1_end_take gives none. DF1_NO_HANDLE. */
+uint32_t df1_end_quiet(df1_end *end, bool *quiet);
+
+/* ---- Runs of bytes ----
+ *
+ * What these two do is what df1_end_byte and df1_end_take do for one byte after another. A loop over what was read:
+ *
+ *     for (size_t at = 0; at < count; at += used) {
+ *         df1_end_bytes(&end, bytes + at, count - at, &used, &step);
+ *         ... act on step ...
+ *         do {
+ *             df1_end_take_bytes(&end, out, sizeof out, &given);
+ *             ... write given.length bytes of out ...
+ *         } while (!given.quiet);
+ *     }
+ */
+
+/* The end hears the first of `length` bytes: up to one at which there is something to do, since `act`, `news` or `whole` tells
+ * something or the end has something to give then, or all of them where there is no such one. `*used` is how many it heard, and
+ * `*step` what the last of them did: all zeros for none. DF1_NO_HANDLE. */
+uint32_t df1_end_bytes(df1_end *end, const uint8_t *bytes, size_t length, size_t *used, df1_step *step);
+
+/* A run of bytes that goes out. */
+typedef struct df1_given {
+    size_t length; /* how many bytes it has */
+    bool last;     /* the last of them is the last byte of a frame or message */
+    bool quiet;    /* the end has nothing more to give */
+} df1_given;
+
+/* The end gives its next bytes into the `room` bytes at `into`: as many as there is room for, and 512 at most, up to the first that
+ * ends a frame or message. DF1_NO_HANDLE. */
+uint32_t df1_end_take_bytes(df1_end *end, uint8_t *into, size_t room, df1_given *given);
+
+/* ---- Commands that the end issues ---- */
+
+/* What became of a command. */
+enum df1_outcome {
+    DF1_WAITING = 1,     /* it was not handed out yet */
+    DF1_OUT = 2,         /* it was handed out, and nothing became of it yet */
+    DF1_REPLIED = 3,     /* its reply was accepted */
+    DF1_UNDELIVERED = 4, /* it was given up on its way */
+    DF1_UNANSWERED = 5   /* no reply came in time */
+};
+
+/* Issues a command to the node `dst`. The payload, 1 to 245 bytes, is CMD and what follows TNS. `*number` is then the command's
+ * number, from 1. DF1_NO_HANDLE; DF1_NO_STATION where a master has no station `dst`; DF1_NO_PAYLOAD, DF1_LONG_PAYLOAD, DF1_NOT_COMMAND,
+ * DF1_SPENT, DF1_NO_MEMORY. */
+uint32_t df1_end_issue(df1_end *end, uint8_t dst, const uint8_t *payload, size_t length, uint32_t *number);
+
+/* The same in the name of a source, which is SRC of the command and DST of its reply: a gateway issues for several nodes. All
+ * sources of an end share its transaction numbers. Commands are given lowest number first, but that a source with per_source
+ * commands out doesn't hold up the others. */
+uint32_t df1_end_issue_from(df1_end *end, uint8_t src, uint8_t dst, const uint8_t *payload, size_t length, uint32_t *number);
+
+/* What became of command `number`: a df1_outcome. DF1_NO_HANDLE, DF1_NO_COMMAND. */
+uint32_t df1_end_outcome(df1_end *end, uint32_t number, uint32_t *outcome);
+
+/* The accepted reply to command `number`, 6 to 250 bytes, DST first, into the `room` bytes at `into`. DF1_NO_HANDLE,
+ * DF1_NO_COMMAND, DF1_NOT_ANSWERED, DF1_NO_ROOM. */
+uint32_t df1_end_reply(df1_end *end, uint32_t number, uint8_t *into, size_t room, size_t *length);
+
+/* ---- Transfers ----
+ *
+ * A transfer moves the words 0 to `words` - 1 of a data file, 1 to 3,000, by word range reads or writes of 100 words each: there
+ * is an order for each 100 words, and one for what is left. The orders are commands of the end, numbered `*first`, `*first` + 1
+ * and so on, whose outcomes and replies the calls above tell too. A word is two bytes, the low one first. */
+
+/* Issues the orders of a transfer that reads `words` words of file `file` of the node `dst`, in the end's own name: all of them or
+ * none. DF1_NO_HANDLE, DF1_NO_STATION, DF1_BAD_FILE, DF1_BAD_WORDS, DF1_SPENT where fewer numbers are left than orders, DF1_NO_MEMORY; none is
+ * issued then. */
+uint32_t df1_end_pull(df1_end *end, uint8_t dst, uint16_t file, uint32_t words, uint32_t *first);
+
+/* The same of a transfer that writes the `length` bytes at `bytes`, 2 for each word, to the file. DF1_BAD_WORDS where `length` is 0,
+ * odd, or over 6,000. */
+uint32_t df1_end_push(df1_end *end, uint8_t dst, uint16_t file, const uint8_t *bytes, size_t length, uint32_t *first);
+
+/* What a transfer came to so far. Of several orders that weren't done the lowest is told. */
+enum df1_transfer_state {
+    DF1_UNDER_WAY = 0, /* command `number` waits or is out, and each order before it was done */
+    DF1_WHOLE = 1,     /* each order was done */
+    DF1_MISSING = 2,   /* command `number` isn't answered, and won't be; or it was never issued */
+    DF1_REFUSED = 3,   /* command `number` was refused, with `sts` and `ext` */
+    DF1_ODD = 4        /* the reply to command `number` has other data than its order asks for */
+};
+
+typedef struct df1_transfer {
+    uint32_t state;  /* enum df1_transfer_state */
+    uint32_t number; /* 0 where `state` names none */
+    uint8_t sts;     /* STS of a refusal, or 0 */
+    uint8_t ext;     /* EXT STS of a refusal, or 0 where STS isn't F0 */
+} df1_transfer;
+
+/* What the transfer came to so far that reads `words` words by the commands from number `first` on. Where it is whole its words go
+ * into the `room` bytes at `into`, and `*length` is how many bytes they have; else `*length` is 0. DF1_NO_HANDLE, DF1_BAD_WORDS,
+ * DF1_NO_ROOM. */
+uint32_t df1_end_pulled(df1_end *end, uint32_t first, uint32_t words, uint8_t *into, size_t room, size_t *length,
+                        df1_transfer *came);
+
+/* What the transfer came to so far that writes `words` words by the commands from number `first` on. DF1_NO_HANDLE, DF1_BAD_WORDS. */
+uint32_t df1_end_pushed(df1_end *end, uint32_t first, uint32_t words, df1_transfer *came);
+
+/* ---- Data files ---- */
+
+/* The value of a word. DF1_NO_HANDLE, DF1_NO_WORD. */
+uint32_t df1_end_word(df1_end *end, uint16_t file, uint32_t index, uint16_t *value);
+
+/* Sets a word, as a program in the controller would. DF1_NO_HANDLE, DF1_NO_WORD. */
+uint32_t df1_end_set_word(df1_end *end, uint16_t file, uint32_t index, uint16_t value);
+
+/* The values of `count` words, from word `first` of the file on. DF1_NO_HANDLE; DF1_NO_WORD where the file doesn't have them all. */
+uint32_t df1_end_words(df1_end *end, uint16_t file, uint32_t first, uint16_t *values, size_t count);
+
+/* Sets `count` words, from word `first` of the file on, as a program in the controller would: all of them or none.
+ * DF1_NO_HANDLE; DF1_NO_WORD where the file doesn't have them all. */
+uint32_t df1_end_set_words(df1_end *end, uint16_t file, uint32_t first, const uint16_t *values, size_t count);
+
+/* Looks for a word, from word `first` of the file on, whose value isn't what `seen` has for it: `*place` is the place of the first
+ * such word in `seen`, where its value is put, or `count` where there is none. So calls until `*place` is `count` tell each word that
+ * changed since the last ones, by a command of the line or by the caller. DF1_NO_HANDLE; DF1_NO_WORD where the file doesn't have
+ * them all. */
+uint32_t df1_end_changed(df1_end *end, uint16_t file, uint32_t first, uint16_t *seen, size_t count, size_t *place);
+
+/* How many data files the end has. DF1_NO_HANDLE. */
+uint32_t df1_end_files(df1_end *end, uint32_t *count);
+
+/* The data file at this place, from 0, in the order in which they were given. DF1_NO_HANDLE, DF1_NO_FILE. */
+uint32_t df1_end_file(df1_end *end, uint32_t place, df1_file *file);
+
+/* ---- How a line does ----
+ *
+ * Counts over what the calls above told, kept by the caller: all zeros at first. */
+typedef struct df1_counts {
+    uint64_t good;       /* good frames or messages that were heard, by a slave also those for other stations */
+    uint64_t accepted;   /* of them those that were accepted */
+    uint64_t repeated;   /* those that came again: the other end missed an ACK */
+    uint64_t refused;    /* those for which there was no room */
+    uint64_t damaged;    /* frames or messages that were damaged */
+    uint64_t cut_off;    /* frames that were given up for a new one */
+    uint64_t acks;       /* DLE ACK that was heard */
+    uint64_t naks;       /* DLE NAK */
+    uint64_t enquiries;  /* DLE ENQ */
+    uint64_t sent;       /* frames or messages that went out, each as often as it did */
+    uint64_t asked;      /* DLE ENQ by which the end asked for a response */
+    uint64_t given_up;   /* messages of the end that were given up */
+    uint64_t unanswered; /* commands of the end to which no reply came in time */
+} df1_counts;
+
+/* Counts what a byte did, or the last one of a run. */
+static inline void df1_count_step(df1_counts *counts, const df1_step *step)
+{
+    counts->good += step->whole;
+    counts->accepted += step->act == DF1_ACT_ACCEPT;
+    counts->repeated += step->act == DF1_ACT_REPEAT;
+    counts->refused += step->act == DF1_ACT_REFUSE;
+    counts->damaged += step->act == DF1_ACT_DAMAGED;
+    counts->cut_off += step->act == DF1_ACT_FORGOT;
+    counts->acks += step->act == DF1_ACT_PEER_ACK;
+    counts->naks += step->act == DF1_ACT_PEER_NAK;
+    counts->enquiries += step->act == DF1_ACT_PEER_ENQ;
+    counts->given_up += step->news != DF1_NO_NEWS;
+}
+
+/* Counts what a tick did. */
+static inline void df1_count_turn(df1_counts *counts, const df1_turn *turn)
+{
+    counts->asked += turn->turn == DF1_TURN_ASK;
+    counts->given_up += turn->turn == DF1_TURN_FAILED;
+    counts->unanswered += turn->gone_count;
+}
+
+/* Counts a byte that goes out, or a run of bytes: `last` of either. */
+static inline void df1_count_sent(df1_counts *counts, bool last)
+{
+    counts->sent += last;
+}
+
+/* ---- Null pointers ---- */
+
+/* The pointer, or where it is null one to nothing. */
+#define DF1_NOT_NULL(name, type)                      \
+    static inline type *name(type *at)                \
+    {                                                 \
+        static uint64_t nothing;                      \
+                                                      \
+        return at != NULL ? at : (type *)&nothing;    \
+    }
+DF1_NOT_NULL(df1_read_bytes, const uint8_t)
+DF1_NOT_NULL(df1_read_files, const df1_file)
+DF1_NOT_NULL(df1_read_words, const df1_word)
+DF1_NOT_NULL(df1_write_bytes, uint8_t)
+DF1_NOT_NULL(df1_write_text, char)
+DF1_NOT_NULL(df1_write_numbers, uint32_t)
+DF1_NOT_NULL(df1_read_values, const uint16_t)
+DF1_NOT_NULL(df1_write_values, uint16_t)
+#undef DF1_NOT_NULL
+
+#define df1_bcc(bytes, length) df1_bcc(df1_read_bytes(bytes), length)
+#define df1_crc(bytes, length) df1_crc(df1_read_bytes(bytes), length)
+#define df1_spell(crc, body, body_length, into, room, length) \
+    df1_spell(crc, df1_read_bytes(body), body_length, df1_write_bytes(into), room, length)
+#define df1_spell_message(station, crc, body, body_length, into, room, length) \
+    df1_spell_message(station, crc, df1_read_bytes(body), body_length, df1_write_bytes(into), room, length)
+#define df1_spell_reply(crc, body, body_length, into, room, length) \
+    df1_spell_reply(crc, df1_read_bytes(body), body_length, df1_write_bytes(into), room, length)
+#define df1_spell_poll(station, into, room, length) df1_spell_poll(station, df1_write_bytes(into), room, length)
+#define df1_code_text(code, into, room, length) df1_code_text(code, df1_write_text(into), room, length)
+#define df1_decoder_body(decoder, into, room, length) df1_decoder_body(decoder, df1_write_bytes(into), room, length)
+#define df1_duplex_make(link, node, files, file_count, words, word_count, block, block_length, end) \
+    df1_duplex_make(link, node, df1_read_files(files), file_count, df1_read_words(words), word_count, \
+                    df1_read_bytes(block), block_length, end)
+#define df1_master_make(link, stations, station_count, node, files, file_count, words, word_count, block, block_length, end) \
+    df1_master_make(link, df1_read_bytes(stations), station_count, node, df1_read_files(files), file_count, \
+                    df1_read_words(words), word_count, df1_read_bytes(block), block_length, end)
+#define df1_slave_make(link, node, files, file_count, words, word_count, block, block_length, end) \
+    df1_slave_make(link, node, df1_read_files(files), file_count, df1_read_words(words), word_count, \
+                   df1_read_bytes(block), block_length, end)
+#define df1_end_body(end, into, room, length) df1_end_body(end, df1_write_bytes(into), room, length)
+#define df1_end_bytes(end, bytes, length, used, step) df1_end_bytes(end, df1_read_bytes(bytes), length, used, step)
+#define df1_end_take_bytes(end, into, room, given) df1_end_take_bytes(end, df1_write_bytes(into), room, given)
+#define df1_end_tick(end, turn, gone, room) df1_end_tick(end, turn, df1_write_numbers(gone), room)
+#define df1_end_issue(end, dst, payload, length, number) df1_end_issue(end, dst, df1_read_bytes(payload), length, number)
+#define df1_end_issue_from(end, src, dst, payload, length, number) \
+    df1_end_issue_from(end, src, dst, df1_read_bytes(payload), length, number)
+#define df1_end_reply(end, number, into, room, length) df1_end_reply(end, number, df1_write_bytes(into), room, length)
+#define df1_end_push(end, dst, file, bytes, length, first) df1_end_push(end, dst, file, df1_read_bytes(bytes), length, first)
+#define df1_end_pulled(end, first, words, into, room, length, came) \
+    df1_end_pulled(end, first, words, df1_write_bytes(into), room, length, came)
+#define df1_end_words(end, file, first, values, count) df1_end_words(end, file, first, df1_write_values(values), count)
+#define df1_end_changed(end, file, first, seen, count, place) \
+    df1_end_changed(end, file, first, df1_write_values(seen), count, place)
+#define df1_end_set_words(end, file, first, values, count) \
+    df1_end_set_words(end, file, first, df1_read_values(values), count)
+
+#ifdef __cplusplus
+}
+#endif
+
+#endif
