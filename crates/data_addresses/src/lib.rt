@@ -21,5 +21,7 @@ mod address;
 pub mod laws;
 mod number;
 mod parts;
+mod text;
 
 pub use address::{Address, AddressFault, read_address};
+pub use text::write_address;

@@ -1,5 +1,6 @@
 //! Texts with their addresses, and texts that are none with the first part that isn't as it should be.
-use data_addresses::{Address, AddressFault, read_address};
+use arrayvec::ArrayVec;
+use data_addresses::{Address, AddressFault, read_address, write_address};
 use df1_base::FileType;
 
 /// Each text with its type, file, element, sub-element and bit.
@@ -59,5 +60,22 @@ fn texts_are_addresses(rt: HostRuntime) {
 fn other_texts_tell_their_fault(rt: HostRuntime) {
     for (text, fault) in REFUSED {
         assert_eq!(rt; read_address(text), Err(fault));
+    }
+}
+
+#[test]
+fn addresses_are_told_shortly(rt: HostRuntime) {
+    let rows: [(&[u8], &[u8]); 5] = [
+        (b"N007:03/015", b"N7:3/15"),
+        (b"S:1", b"S2:1"),
+        (b"T4:1.ACC", b"T4:1.2"),
+        (b"T4:1.CTL/13", b"T4:1/13"),
+        (b"F8:0", b"F8:0"),
+    ];
+    let mut told = ArrayVec::new();
+    for (text, short) in rows {
+        let at = read_address(text).expect(&rt, "an address");
+        write_address(&at, &mut told);
+        assert_eq!(rt; told.as_slice(), short);
     }
 }
