@@ -1,5 +1,5 @@
 //! Laws of payloads.
-ghost use Rattle.std.specs.Prelude.{◌≡◌, ◌≤◌, ◌==◌, ◌∷◌, [], ℕ, Bool, true, false, List, drop, if◌then◌else◌, None, Ok, Some};
+ghost use Rattle.std.specs.Prelude.{◌≡◌, ◌≤◌, ◌==◌, ◌∷◌, [], ℕ, Bool, true, false, List, drop, length, slice_index, if◌then◌else◌, None, Ok, Some};
 ghost use Rattle.std.specs.Int.{bit_at};
 ghost use Rattle.df1_base.specs.declared.file_type.FileType.TheVariants.{Float, Integer, Timer};
 ghost use Rattle.plc_commands.specs.Order as plc;
@@ -15,6 +15,12 @@ ghost use Rattle.command_payloads.specs.Payloads.{bit_payload, logical_read_payl
 pub fn payloads_are_read()
     ensures plc { (order : plc.Order) (payload : List ℕ) → SpellsPlc order payload → plc_reading.order_of (cmd_byte order) (drop 1 payload) ≡ Ok order }
     ensures slc { (order : slc.Order) (payload : List ℕ) → SpellsSlc order payload → slc.order_of (drop 1 payload) ≡ Ok order }
+{}
+
+/// A payload begins with a CMD whose bit 6 is clear, so it is one of a command and not of a reply.
+pub fn payloads_are_commands()
+    ensures plc { (order : plc.Order) (payload : List ℕ) → SpellsPlc order payload → (1 ≤ length payload) × ((bit_at (slice_index payload 0) 6 == 1) ≡ false) }
+    ensures slc { (order : slc.Order) (payload : List ℕ) → SpellsSlc order payload → (1 ≤ length payload) × ((bit_at (slice_index payload 0) 6 == 1) ≡ false) }
 {}
 
 /// The order that sets a bit of a word, or clears it, makes this bit what is asked, and leaves the others as they are.
