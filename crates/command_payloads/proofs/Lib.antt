@@ -1,0 +1,5 @@
+pub mod Faults
+pub mod OfPlc
+pub mod OfSlc
+pub mod OneBit
+pub mod Read

@@ -1,0 +1,3 @@
+pub mod Faults
+pub mod Payloads
+pub mod Orders

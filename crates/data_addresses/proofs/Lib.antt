@@ -1,0 +1,4 @@
+pub mod Digits
+pub mod Known
+pub mod Spelled
+pub mod Texts

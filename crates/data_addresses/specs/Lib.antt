@@ -1,0 +1,5 @@
+pub mod Numbers
+pub mod Text
+pub mod Reading
+pub mod Canonical
+pub mod Fields

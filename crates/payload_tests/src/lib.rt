@@ -1,0 +1,9 @@
+//! Tests of addresses from their texts, of the payloads of commands at them, and of what replies tell.
+#![tactic(auto)]
+
+#[cfg(test)]
+mod addresses;
+#[cfg(test)]
+mod payloads;
+#[cfg(test)]
+mod replies;

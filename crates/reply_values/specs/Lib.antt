@@ -1,0 +1,4 @@
+pub mod Reply
+pub mod Texts
+pub mod Typed
+pub mod Values
