@@ -1,7 +1,8 @@
 -- What orders that a station executes do to the words of their addresses.
-use Rattle.std.proofs.Common.{◌≡◌, ℕ, ◌+◌, ◌*◌, ◌/◌, Bool, true, false, List, [], ◌∷◌, length, Option, Some, None, refl, sym, ap, ◌∙◌, arith}
+use Rattle.std.proofs.Common.{◌≡◌, ℕ, ◌+◌, ◌*◌, ◌/◌, ◌<◌, Bool, true, false, List, [], ◌∷◌, length, get_or, Option, Some, None, refl, sym, ap, ◌∙◌, arith}
 use Rattle.std.specs.Option.{option_map_or}
 use Rattle.std.proofs.lemmas.Bool.{cond_both, true≢false}
+use Rattle.std.proofs.lemmas.List.FromFn.{length-map-range_with_len}
 use Rattle.df1_base.specs.declared.code.Code.{Code}
 use Rattle.df1_base.specs.declared.code.Code.TheVariants.{Done}
 use Rattle.logical_address.proofs.Fronts.{some_is}
@@ -19,7 +20,9 @@ use Rattle.plc_commands.specs.Order.{window}
 use Rattle.plc_commands.specs.Tests.{range_place, range_read_tests, range_write_tests}
 use Rattle.plc_commands.specs.Meaning as plc
 use Rattle.slc_commands.specs.Meaning as slc
-use Rattle.command_payloads.specs.Orders.{logical_read_order, word_range_read_order, word_range_write_order}
+use Rattle.slc_commands.specs.Words.{masked}
+use Rattle.slc_commands.proofs.WordLists.{all_bits}
+use Rattle.command_payloads.specs.Orders.{logical_read_order, logical_write_order, word_range_read_order, word_range_write_order}
 use Rattle.command_payloads.specs.Words.{index_of}
 
 -- ---- tests refuse with codes that aren't Done
@@ -108,3 +111,33 @@ logical_read_gives tables false at count e =
     ap (λ (effect : Effect). words_of effect.reply) done ∙ words_of-bytes_of (slc.words_before tables order)
     ∙ ap (λ (n : ℕ). words_at tables at.file n (2 * count / 2)) (index_is (slc.place_of order) at (file_of tables.specs at.file) refl refl refl)
     ∙ ap (words_at tables at.file (index_of tables.specs at)) (half count)
+
+-- ---- logical writes
+
+-- all words of an order that has no mask are replaced
+replaced : (tables : DataTables) (file first count : ℕ) (words : List ℕ) → count ≡ length words → ((k d : ℕ) → k < length words → get_or words k d < 65536) → masked 65535 (words_at tables file first count) (words_of (bytes_of words)) ≡ words
+replaced tables file first count words size fit =
+    ap (masked 65535 (words_at tables file first count)) (words_of-bytes_of words)
+    ∙ all_bits (words_at tables file first count) words (length-map-range_with_len _ first count ∙ size) fit
+
+pub logical_write_gives : (tables : DataTables) (with_sub : Bool) (at : Address) (words : List ℕ) → ((k d : ℕ) → k < length words → get_or words k d < 65536) → (slc.meaning tables (logical_write_order with_sub at words)).code ≡ Done
+    → (slc.meaning tables (logical_write_order with_sub at words)).tables ≡ with_words tables at.file (index_of tables.specs at) words
+unfolding AreRefusals
+logical_write_gives tables true at words fit e =
+    let order = logical_write_order true at words in
+    let tests = slc.tests tables.specs order in
+    let are : AreRefusals tests = (refl, (refl, (refl, (refl, (refl, (refl, (refl, tt))))))) in
+    let done = tested_done (refusal tests) tables (slc.effect_of tables order) (never_done tests are) e in
+    let first = slc.first_word tables.specs order in
+    ap (λ (effect : Effect). effect.tables) done
+    ∙ ap (with_words tables at.file first) (replaced tables at.file first (2 * length words / 2) words (half (length words)) fit)
+    ∙ ap (λ (n : ℕ). with_words tables at.file n words) (index_is (slc.place_of order) at (file_of tables.specs at.file) refl refl refl)
+logical_write_gives tables false at words fit e =
+    let order = logical_write_order false at words in
+    let tests = slc.tests tables.specs order in
+    let are : AreRefusals tests = (refl, (refl, (refl, (refl, (refl, (refl, (refl, tt))))))) in
+    let done = tested_done (refusal tests) tables (slc.effect_of tables order) (never_done tests are) e in
+    let first = slc.first_word tables.specs order in
+    ap (λ (effect : Effect). effect.tables) done
+    ∙ ap (with_words tables at.file first) (replaced tables at.file first (2 * length words / 2) words (half (length words)) fit)
+    ∙ ap (λ (n : ℕ). with_words tables at.file n words) (index_is (slc.place_of order) at (file_of tables.specs at.file) refl refl refl)
