@@ -1,3 +1,4 @@
+pub mod Done
 pub mod Faults
 pub mod OfPlc
 pub mod OfSlc

@@ -1,3 +1,4 @@
 pub mod Faults
-pub mod Payloads
 pub mod Orders
+pub mod Payloads
+pub mod Words

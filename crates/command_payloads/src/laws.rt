@@ -1,14 +1,20 @@
 //! Laws of payloads.
-ghost use Rattle.std.specs.Prelude.{◌≡◌, ◌≤◌, ◌==◌, ◌∷◌, [], ℕ, Bool, true, false, List, drop, length, slice_index, if◌then◌else◌, None, Ok, Some};
+ghost use Rattle.std.specs.Prelude.{◌≡◌, ◌<◌, ◌≤◌, ◌^◌, ◌==◌, ◌∷◌, [], ℕ, Bool, true, false, List, drop, length, slice_index, if◌then◌else◌, None, Ok, Option, Some, All};
 ghost use Rattle.std.specs.Int.{bit_at};
+ghost use Rattle.df1_base.specs.declared.code.Code.TheVariants.{Done};
 ghost use Rattle.df1_base.specs.declared.file_type.FileType.TheVariants.{Float, Integer, Timer};
 ghost use Rattle.plc_commands.specs.Order as plc;
 ghost use Rattle.plc_commands.specs.Spelling.{cmd_byte};
 ghost use Rattle.plc_commands.specs.Reading as plc_reading;
 ghost use Rattle.plc_commands.specs.Meaning.{changed_word};
+ghost use Rattle.plc_commands.specs.Meaning as plc_meaning;
 ghost use Rattle.slc_commands.specs.Order as slc;
+ghost use Rattle.slc_commands.specs.Meaning as slc_meaning;
+ghost use Rattle.data_files.specs.Tables.{DataTables, with_words, words_at};
+ghost use Rattle.data_files.specs.WordBytes.{words_of};
 ghost use Rattle.data_addresses.specs.declared.address.Address.{Address as Place};
-ghost use Rattle.command_payloads.specs.Orders.{SpellsPlc, SpellsSlc, bit_set};
+ghost use Rattle.command_payloads.specs.Orders.{SpellsPlc, SpellsSlc, bit_set, logical_read_order, logical_write_order, word_range_read_order, word_range_write_order};
+ghost use Rattle.command_payloads.specs.Words.{index_of};
 ghost use Rattle.command_payloads.specs.Payloads.{bit_payload, logical_read_payload, logical_write_payload, masked_write_payload, typed_read_payload, typed_write_payload, unprotected_write_payload, word_range_read_payload, word_range_write_payload};
 
 /// A station reads a payload as the order that it spells, and so as no other.
@@ -21,6 +27,19 @@ pub fn payloads_are_read()
 pub fn payloads_are_commands()
     ensures plc { (order : plc.Order) (payload : List ℕ) → SpellsPlc order payload → (1 ≤ length payload) × ((bit_at (slice_index payload 0) 6 == 1) ≡ false) }
     ensures slc { (order : slc.Order) (payload : List ℕ) → SpellsSlc order payload → (1 ≤ length payload) × ((bit_at (slice_index payload 0) 6 == 1) ≡ false) }
+{}
+
+/// What a station gives that executes the order of a read is the words at its address, and what one does that executes that of a
+/// write of words is that these words become those that were given.
+pub fn words_at_an_address_are_read_and_written()
+    ensures word_range_read { (tables : DataTables) (compat : Option ℕ) (block : List ℕ) (at : Place) (count : ℕ) → (plc_meaning.meaning tables compat block (word_range_read_order at count)).code ≡ Done →
+        words_of (plc_meaning.meaning tables compat block (word_range_read_order at count)).reply ≡ words_at tables at.file (index_of tables.specs at) count }
+    ensures word_range_write { (tables : DataTables) (compat : Option ℕ) (block : List ℕ) (at : Place) (words : List ℕ) → (plc_meaning.meaning tables compat block (word_range_write_order at words)).code ≡ Done →
+        (plc_meaning.meaning tables compat block (word_range_write_order at words)).tables ≡ with_words tables at.file (index_of tables.specs at) words }
+    ensures logical_read { (tables : DataTables) (with_sub : Bool) (at : Place) (count : ℕ) → (slc_meaning.meaning tables (logical_read_order with_sub at count)).code ≡ Done →
+        words_of (slc_meaning.meaning tables (logical_read_order with_sub at count)).reply ≡ words_at tables at.file (index_of tables.specs at) count }
+    ensures logical_write { (tables : DataTables) (with_sub : Bool) (at : Place) (words : List ℕ) → All (λ word. word < 2 ^ 16) words → (slc_meaning.meaning tables (logical_write_order with_sub at words)).code ≡ Done →
+        (slc_meaning.meaning tables (logical_write_order with_sub at words)).tables ≡ with_words tables at.file (index_of tables.specs at) words }
 {}
 
 /// The order that sets a bit of a word, or clears it, makes this bit what is asked, and leaves the others as they are.

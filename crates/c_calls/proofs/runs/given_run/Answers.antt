@@ -3,7 +3,7 @@ use lib.Dec.{T}
 use Rattle.std.specs.Prelude.{if◌then◌else◌}
 use Rattle.c_ends.specs.declared.held.Held.{Held}
 use Rattle.c_calls.specs.Ends.{after_take}
-use Rattle.c_calls.specs.Runs.{Given, given_behind, given_of, out_at}
+use Rattle.c_calls.specs.Runs.{Given, given_behind, out_at}
 use Rattle.c_calls.proofs.runs.given_run.Goals as goal
 
 ends : (none last : Bool) (ended final rest : Given) → none ≡ true → (if none then ended else if last then final else rest) ≡ ended
