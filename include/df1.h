@@ -79,7 +79,23 @@ enum df1_code {
     DF1_BAD_WORDS = 35,        /* a transfer's words are none, over 3,000, or not whole */
     DF1_BAD_ROUTES = 36,       /* routes is neither 0 nor 1 */
     DF1_NO_STATION = 37,       /* the master has no such station */
-    DF1_BAD_SIDE = 38          /* a side is none of df1_side */
+    DF1_BAD_SIDE = 38,         /* a side is none of df1_side */
+    DF1_BAD_COMMAND = 39,      /* the command is none of df1_command */
+    DF1_NO_ADDRESS_TYPE = 40,  /* the address doesn't begin with the letter of a file's type */
+    DF1_NO_ADDRESS_FILE = 41,  /* the address's file isn't a number 0 to 999 */
+    DF1_NO_ADDRESS_COLON = 42, /* no colon follows the address's file */
+    DF1_NO_ADDRESS_ELEMENT = 43, /* the address's element isn't a number 0 to 999 */
+    DF1_NO_ADDRESS_SUB = 44,   /* the address's sub-element is no word of the element */
+    DF1_NO_ADDRESS_BIT = 45,   /* the address's bit isn't a number 0 to 15, or it is a float's */
+    DF1_NO_ADDRESS_END = 46,   /* something else follows the address */
+    DF1_NO_DATA = 47,          /* no word is read or written */
+    DF1_TOO_MUCH_DATA = 48,    /* the data is more than a message has room for */
+    DF1_NO_ELEMENT_TYPE = 49,  /* elements of the file have no type for a typed command */
+    DF1_NO_SUB = 50,           /* the command has no room for a sub-element */
+    DF1_HALF_ELEMENT = 51,     /* the words are no whole elements */
+    DF1_NO_BIT = 52,           /* the address has no bit 0 to 15 */
+    DF1_NO_REPLY = 53,         /* a reply is cut off */
+    DF1_NO_TYPED_DATA = 54     /* the data is no typed data */
 };
 
 /* ---- Checks and frames ---- */
