@@ -1,5 +1,5 @@
 -- What a run does to the bytes that an end stands for. Assumes nothing.
-use Rattle.std.proofs.Common.{◌≡◌, ℕ, zero, suc, ◌+◌, Bool, true, false, not, List, [], ◌∷◌, ◌++◌, take, Option, Some, None, refl, sym, ap, subst, ◌∙◌, append_assoc, append-nil, arith}
+use Rattle.std.proofs.Common.{◌≡◌, ℕ, zero, suc, ◌+◌, Bool, true, false, not, List, [], ◌∷◌, ◌++◌, take, Option, Some, None, refl, sym, subst, append_assoc, append-nil, arith}
 use Rattle.std.specs.Prelude.{if◌then◌else◌}
 use Rattle.std.specs.Option.{option_map}
 use Rattle.df1_check.specs.declared.Check.{Check}
@@ -8,7 +8,7 @@ use Rattle.c_ends.specs.declared.held.Held.TheVariants as held
 use Rattle.c_ends.specs.declared.told.StepTold.{StepTold}
 use Rattle.c_calls.specs.Answers.{told_of}
 use Rattle.c_calls.specs.Ends.{after_byte, after_take}
-use Rattle.c_calls.specs.Runs.{Given, Heard, after_given, after_heard, given_behind, given_of, heard_behind, heard_of, heard_told, is_due, out_at, step_at, still}
+use Rattle.c_calls.specs.Runs.{Given, Heard, after_given, after_heard, given_behind, heard_behind, heard_of, heard_told, is_due, out_at, step_at, still}
 use Rattle.df1_c.specs.Arrived.{IsEndFor}
 use Rattle.df1_c.proofs.Arriving.{heard, taken}
 
