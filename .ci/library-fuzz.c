@@ -50,7 +50,7 @@ static uint8_t *block_of(struct said *said, size_t length)
 /* What a call that fills a buffer may answer. */
 static void look(uint32_t code, const size_t *length, size_t room, size_t most)
 {
-    MUST(code <= DF1_NO_STATION);
+    MUST(code <= DF1_NO_TYPED_DATA);
     MUST(code != DF1_DONE || (*length <= room && *length <= most));
     MUST(code != DF1_NO_ROOM || (*length > room && *length <= most));
 }
@@ -144,6 +144,83 @@ static void spell(struct said *said, const uint8_t *body, size_t length)
     free(into);
 }
 
+/* An address of a text, of which a character may be another one; where it is none, of what bytes say. */
+static df1_address address_of(struct said *said)
+{
+    static const char *const texts[] = {"N7:3", "T4:1.ACC/13", "S:1/15", "F8:0.1", "R6:999.LEN", "C005:010.2"};
+    static const char letters[] = "SBTCRNF:./0123456789";
+    const char *like = texts[byte_of(said) % 6];
+    df1_address address = {0, 0, 0, 0, false, 0};
+    size_t place = byte_of(said) % 24, length = strlen(like), told = 0;
+    char *text = (char *)block_of(said, length), again[25];
+
+    memcpy(text, like, length);
+    if (place < length)
+        text[place] = letters[byte_of(said) % (sizeof letters - 1)];
+    if (df1_address_read(text, length, &address) == DF1_DONE) {
+        MUST(address.file <= 999 && address.element <= 999 && address.sub <= 2 && address.bit <= 15);
+    } else {
+        address.type = (uint8_t)(DF1_STATUS + byte_of(said) % 8);
+        address.file = (uint16_t)(number_of(said) * 3);
+        address.element = (uint16_t)(number_of(said) * 3);
+        address.sub = byte_of(said) % 3;
+        address.has_bit = byte_of(said) % 2;
+        address.bit = byte_of(said) % 20;
+    }
+    free(text);
+    look(df1_address_text(&address, again, sizeof again, &told), &told, sizeof again, sizeof again);
+    return address;
+}
+
+/* The payload of a command into a room of its own, which an end takes where it is done. */
+static void payload(struct said *said, df1_end *end, const uint8_t *bytes, size_t length)
+{
+    unsigned what = byte_of(said) % 7;
+    df1_address at = address_of(said);
+    size_t told = 0, room = number_of(said) % 256, count = number_of(said) % 130;
+    uint8_t *into = block_of(said, room);
+    uint16_t *words = (uint16_t *)(void *)block_of(said, 2 * count);
+    uint32_t number, code, command = byte_of(said) % 5;
+
+    if (what == 0)
+        code = df1_payload_read(command, &at, (uint16_t)count, into, room, &told);
+    else if (what == 1)
+        code = df1_payload_write(command, &at, words, count, into, room, &told);
+    else if (what == 2)
+        code = df1_payload_masked(&at, (uint16_t)number_of(said), words, count, into, room, &told);
+    else if (what == 3)
+        code = df1_payload_modify(&at, (uint16_t)number_of(said), (uint16_t)number_of(said), into, room, &told);
+    else if (what == 4)
+        code = df1_payload_bit(&at, byte_of(said) % 2, into, room, &told);
+    else if (what == 5)
+        code = df1_payload_echo(bytes, length, into, room, &told);
+    else
+        code = df1_payload_status(into, room, &told);
+    look(code, &told, room, 245);
+    if (code == DF1_DONE) {
+        code = df1_end_issue(end, byte_of(said) % 4, into, told, &number);
+        MUST(code <= DF1_NO_MEMORY || code == DF1_NO_STATION || code == DF1_SPENT);
+    }
+    free(words);
+    free(into);
+}
+
+/* What bytes tell as a reply and as typed data lies in them, and each status has a text. */
+static void read_reply(const uint8_t *bytes, size_t length)
+{
+    df1_answer answer;
+    df1_typed typed;
+    char text[80];
+    size_t told = 0;
+
+    if (df1_reply_read(bytes, length, &answer) == DF1_DONE) {
+        MUST(answer.data + answer.data_length == length);
+        look(df1_status_text(answer.sts, answer.ext, text, sizeof text, &told), &told, sizeof text, sizeof text);
+    }
+    if (df1_typed_read(bytes, length, &typed) == DF1_DONE)
+        MUST(typed.data + typed.data_length == length);
+}
+
 static void look_at(struct said *said, df1_end *end, unsigned what)
 {
     uint32_t gone[16], count = 0;
@@ -187,8 +264,12 @@ static void look_at(struct said *said, df1_end *end, unsigned what)
                 MUST(df1_end_set_words(end, (uint16_t)number_of(said), number_of(said), values, room) <= DF1_NO_STATION);
         }
         free(values);
-    } else
+    } else if (what == 12)
         spell(said, into, room);
+    else if (what == 13)
+        payload(said, end, into, room);
+    else
+        read_reply(into, room);
     free(into);
 }
 
@@ -225,7 +306,7 @@ int LLVMFuzzerTestOneInput(const uint8_t *data, size_t size)
         if (what % 32 < 8)
             command(&said, &ends[which], what % 8);
         else if (what % 32 < 16)
-            look_at(&said, &ends[which], byte_of(&said) % 13);
+            look_at(&said, &ends[which], byte_of(&said) % 15);
         else if (what % 32 < 26)
             carry(&ends[which], &ends[(which + what % 2 + 1) % 3], byte_of(&said));
         else if (what % 32 < 31)

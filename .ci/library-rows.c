@@ -189,7 +189,7 @@ static int texts(void)
     uint32_t code;
     size_t last;
 
-    for (code = 0; code <= DF1_BAD_SIDE + 1; code++) {
+    for (code = 0; code <= DF1_NO_TYPED_DATA + 1; code++) {
         size_t length = 0, again = 0;
 
         ROW(df1_code_text(code, text, 0, &length) == DF1_NO_ROOM && length >= 2 && length <= 80);
@@ -197,7 +197,7 @@ static int texts(void)
         ROW(df1_code_text(code, text, length - 1, &again) == DF1_NO_ROOM && again == length && are_all(text, 'x', sizeof text));
         ROW(df1_code_text(code, text, length, &again) == DF1_DONE && again == length);
         ROW(strlen(text) + 1 == length && text[length] == 'x');
-        ROW((strcmp(text, "no code of df1") == 0) == (code > DF1_BAD_SIDE));
+        ROW((strcmp(text, "no code of df1") == 0) == (code > DF1_NO_TYPED_DATA));
     }
     ROW(df1_code_text(0xFFFFFFFF, text, 80, &last) == DF1_DONE && strcmp(text, "no code of df1") == 0);
     return 0;
@@ -879,11 +879,364 @@ static int of_each_kind(int (*rows)(enum kind))
     return failed;
 }
 
+/* ---- Addresses, payloads and replies ---- */
+
+/* The texts of addresses, each with that which it has again. */
+static int addresses(void)
+{
+    static const struct {
+        const char *text;
+        df1_address at;
+        const char *told;
+    } rows[] = {
+        {"N7:3", {DF1_INTEGER, 7, 3, 0, false, 0}, "N7:3"},
+        {"N007:03/015", {DF1_INTEGER, 7, 3, 0, true, 15}, "N7:3/15"},
+        {"F8:0", {DF1_FLOAT, 8, 0, 0, false, 0}, "F8:0"},
+        {"T4:1.ACC", {DF1_TIMER, 4, 1, 2, false, 0}, "T4:1.2"},
+        {"C5:999.CTL/13", {DF1_COUNTER, 5, 999, 0, true, 13}, "C5:999/13"},
+        {"R6:0.LEN", {DF1_CONTROL, 6, 0, 1, false, 0}, "R6:0.1"},
+        {"S:1/0", {DF1_STATUS, 2, 1, 0, true, 0}, "S2:1/0"},
+        {"B999:0", {DF1_BIT, 999, 0, 0, false, 0}, "B999:0"},
+    };
+    size_t at, length, told;
+
+    for (at = 0; at < COUNT(rows); at++) {
+        df1_address address = {1, 1, 1, 1, true, 1};
+        uint8_t *text = block_of(rows[at].text, strlen(rows[at].text)), *into;
+
+        ROW(df1_address_read((const char *)text, strlen(rows[at].text), &address) == DF1_DONE);
+        ROW(address.type == rows[at].at.type && address.file == rows[at].at.file && address.element == rows[at].at.element);
+        ROW(address.sub == rows[at].at.sub && address.has_bit == rows[at].at.has_bit && address.bit == rows[at].at.bit);
+        free(text);
+        length = strlen(rows[at].told) + 1;
+        into = block_of(rows[at].told, length);
+        memset(into, 0xA5, length);
+        ROW(df1_address_text(&address, (char *)into, length - 1, &told) == DF1_NO_ROOM && told == length && are_all(into, 0xA5, length));
+        ROW(df1_address_text(&address, (char *)into, length, &told) == DF1_DONE && told == length && memcmp(into, rows[at].told, length) == 0);
+        free(into);
+    }
+    return 0;
+}
+
+static int no_addresses(void)
+{
+    static const struct {
+        const char *text;
+        uint32_t code;
+    } rows[] = {
+        {"", DF1_NO_ADDRESS_TYPE},        {"O:0", DF1_NO_ADDRESS_TYPE},     {"n7:0", DF1_NO_ADDRESS_TYPE},
+        {"N:0", DF1_NO_ADDRESS_FILE},     {"N1000:0", DF1_NO_ADDRESS_FILE}, {"N7", DF1_NO_ADDRESS_COLON},
+        {"N7;0", DF1_NO_ADDRESS_COLON},   {"N7:", DF1_NO_ADDRESS_ELEMENT},  {"N7:1000", DF1_NO_ADDRESS_ELEMENT},
+        {"T4:1.LEN", DF1_NO_ADDRESS_SUB}, {"N7:0.1", DF1_NO_ADDRESS_SUB},   {"N7:3/16", DF1_NO_ADDRESS_BIT},
+        {"F8:0/1", DF1_NO_ADDRESS_BIT},   {"N7:3 ", DF1_NO_ADDRESS_END},    {"T4:1.ACCX", DF1_NO_ADDRESS_END},
+    };
+    df1_address address = {1, 2, 3, 4, true, 5};
+    size_t at, length = 99;
+    char into[32];
+
+    for (at = 0; at < COUNT(rows); at++)
+        ROW(df1_address_read(rows[at].text, strlen(rows[at].text), &address) == rows[at].code);
+    ROW(address.type == 1 && address.file == 2 && address.element == 3 && address.sub == 4 && address.has_bit && address.bit == 5);
+    ROW(df1_address_text(&address, into, sizeof into, &length) == DF1_BAD_TYPE && length == 99);
+    address.type = DF1_INTEGER;
+    address.file = address.element = address.sub = 65535;
+    address.bit = 255;
+    ROW(df1_address_text(&address, into, sizeof into, &length) == DF1_DONE && length == 23 && strcmp(into, "N65535:65535.65535/255") == 0);
+    ROW(df1_address_read(NULL, 0, &address) == DF1_NO_ADDRESS_TYPE && df1_address_text(&address, NULL, 0, &length) == DF1_NO_ROOM);
+    return 0;
+}
+
+static df1_address place(const char *text)
+{
+    df1_address address = {0, 0, 0, 0, false, 0};
+
+    df1_address_read(text, strlen(text), &address);
+    return address;
+}
+
+/* What a call spelled, and its code. */
+struct spelled {
+    uint8_t bytes[250];
+    size_t length;
+    uint32_t code;
+};
+
+/* Whether the bytes of a hexadecimal text were spelled. */
+static bool is_spelled(const struct spelled *got, const char *text)
+{
+    uint8_t wanted[32];
+    size_t length = bytes_of(text, wanted);
+
+    return got->code == DF1_DONE && got->length == length && memcmp(got->bytes, wanted, length) == 0;
+}
+
+/* Whether a code was told, and nothing changed. */
+static bool is_refused(const struct spelled *got, uint32_t code)
+{
+    return got->code == code && got->length == 99 && are_all(got->bytes, 0xA5, sizeof got->bytes);
+}
+
+static struct spelled nothing_spelled(void)
+{
+    struct spelled got;
+
+    memset(got.bytes, 0xA5, sizeof got.bytes);
+    got.length = 99;
+    got.code = DF1_DONE;
+    return got;
+}
+
+static struct spelled spelled_read(uint32_t command, const char *text, uint16_t count)
+{
+    struct spelled got = nothing_spelled();
+    df1_address at = place(text);
+
+    got.code = df1_payload_read(command, &at, count, got.bytes, sizeof got.bytes, &got.length);
+    return got;
+}
+
+static struct spelled spelled_write(uint32_t command, const char *text, const uint16_t *words, size_t count)
+{
+    struct spelled got = nothing_spelled();
+    df1_address at = place(text);
+
+    got.code = df1_payload_write(command, &at, words, count, got.bytes, sizeof got.bytes, &got.length);
+    return got;
+}
+
+/* Reads: each row has its bytes, or its code. The bit of an address makes no difference. */
+static int payloads_that_read(void)
+{
+    static const struct {
+        uint32_t command;
+        const char *at;
+        uint16_t count;
+        const char *bytes;
+        uint32_t code;
+    } rows[] = {
+        {DF1_WORD_RANGE, "N7:0", 2, "0F 01 00 00 02 00 06 07 00 04", DF1_DONE},
+        {DF1_WORD_RANGE, "T4:1.ACC", 122, "0F 01 00 00 7A 00 0E 04 01 02 F4", DF1_DONE},
+        {DF1_TYPED, "F8:0", 1, "0F 68 00 00 01 00 06 08 00 01 00", DF1_DONE},
+        {DF1_TYPED, "F8:0", 59, "0F 68 00 00 3B 00 06 08 00 3B 00", DF1_DONE},
+        {DF1_LOGICAL_2, "N7:1", 1, "0F A1 02 07 89 01", DF1_DONE},
+        {DF1_LOGICAL_3, "N7:0", 1, "0F A2 02 07 89 00 00", DF1_DONE},
+        {DF1_LOGICAL_3, "N7:16/3", 16, "0F A2 20 07 89 10 00", DF1_DONE},
+        {DF1_LOGICAL_3, "N255:256", 1, "0F A2 02 FF FF 00 89 FF 00 01 00", DF1_DONE},
+        {4, "", 0, NULL, DF1_BAD_COMMAND},
+        {DF1_LOGICAL_3, "", 0, NULL, DF1_BAD_TYPE},
+        {DF1_WORD_RANGE, "N7:0", 0, NULL, DF1_NO_DATA},
+        {DF1_WORD_RANGE, "N7:0", 123, NULL, DF1_TOO_MUCH_DATA},
+        {DF1_TYPED, "T4:1.ACC", 0, NULL, DF1_NO_ELEMENT_TYPE},
+        {DF1_TYPED, "F8:0.1", 0, NULL, DF1_NO_SUB},
+        {DF1_TYPED, "F8:0", 60, NULL, DF1_TOO_MUCH_DATA},
+        {DF1_LOGICAL_2, "T4:1.ACC", 0, NULL, DF1_NO_SUB},
+    };
+    size_t at;
+
+    for (at = 0; at < COUNT(rows); at++) {
+        struct spelled got = spelled_read(rows[at].command, rows[at].at, rows[at].count);
+
+        ROW(rows[at].code == DF1_DONE ? is_spelled(&got, rows[at].bytes) : is_refused(&got, rows[at].code));
+    }
+    return 0;
+}
+
+static int payloads_that_write(void)
+{
+    static const uint16_t one[] = {0xABCD}, two[] = {0xABCD, 1}, float_of_1_5[] = {0, 0x3FC0};
+    static uint16_t many[123];
+    struct spelled got;
+
+    got = spelled_write(DF1_WORD_RANGE, "T4:1.ACC", one, 1);
+    ROW(is_spelled(&got, "0F 00 00 00 01 00 0E 04 01 02 CD AB"));
+    got = spelled_write(DF1_TYPED, "N7:0", two, 2);
+    ROW(is_spelled(&got, "0F 67 00 00 02 00 06 07 00 99 09 05 42 CD AB 01 00"));
+    got = spelled_write(DF1_TYPED, "F8:0", float_of_1_5, 2);
+    ROW(is_spelled(&got, "0F 67 00 00 01 00 06 08 00 99 09 06 94 08 00 00 C0 3F"));
+    got = spelled_write(DF1_LOGICAL_2, "N7:2", one, 1);
+    ROW(is_spelled(&got, "0F A9 02 07 89 02 CD AB"));
+    got = spelled_write(DF1_LOGICAL_3, "N7:2", one, 1);
+    ROW(is_spelled(&got, "0F AA 02 07 89 02 00 CD AB"));
+    got = spelled_write(DF1_WORD_RANGE, "N7:0", many, 118);
+    ROW(got.code == DF1_DONE && got.length == 245 && are_all(got.bytes + 245, 0xA5, 5));
+    got = spelled_write(DF1_WORD_RANGE, "N7:0", many, 119);
+    ROW(is_refused(&got, DF1_TOO_MUCH_DATA));
+    got = spelled_write(DF1_TYPED, "F8:0", many, 123);
+    ROW(is_refused(&got, DF1_TOO_MUCH_DATA));
+    got = spelled_write(DF1_TYPED, "F8:0", many, 3);
+    ROW(is_refused(&got, DF1_HALF_ELEMENT));
+    got = spelled_write(DF1_LOGICAL_3, "N7:0", NULL, 0);
+    ROW(is_refused(&got, DF1_NO_DATA));
+    got = spelled_write(DF1_LOGICAL_3, "", NULL, 0);
+    ROW(is_refused(&got, DF1_BAD_TYPE));
+    got = spelled_write(4, "", NULL, 0);
+    ROW(is_refused(&got, DF1_BAD_COMMAND));
+    return 0;
+}
+
+static int payloads_of_bits(void)
+{
+    static const uint16_t words[] = {0xABCD};
+    df1_address at = place("N7:0"), bit = place("N7:3/5"), last = place("N7:3/15"), none = place("");
+    struct spelled got = nothing_spelled();
+
+    got.code = df1_payload_masked(&at, 0x00FF, words, 1, got.bytes, 11, &got.length);
+    ROW(is_spelled(&got, "0F AB 02 07 89 00 00 FF 00 CD AB"));
+    got.code = df1_payload_modify(&at, 0x00FF, 0x5600, got.bytes, 9, &got.length);
+    ROW(is_spelled(&got, "0F 26 06 07 00 FF 00 00 56"));
+    got.code = df1_payload_bit(&bit, true, got.bytes, 9, &got.length);
+    ROW(is_spelled(&got, "0F 26 06 07 03 DF FF 20 00"));
+    got.code = df1_payload_bit(&last, false, got.bytes, 9, &got.length);
+    ROW(is_spelled(&got, "0F 26 06 07 03 FF 7F 00 00"));
+    got = nothing_spelled();
+    got.code = df1_payload_masked(&at, 1, NULL, 0, got.bytes, sizeof got.bytes, &got.length);
+    ROW(is_refused(&got, DF1_NO_DATA));
+    got.code = df1_payload_masked(&none, 1, NULL, 0, got.bytes, sizeof got.bytes, &got.length);
+    ROW(is_refused(&got, DF1_BAD_TYPE));
+    got.code = df1_payload_modify(&none, 1, 1, got.bytes, sizeof got.bytes, &got.length);
+    ROW(is_refused(&got, DF1_BAD_TYPE));
+    got.code = df1_payload_bit(&at, true, got.bytes, sizeof got.bytes, &got.length);
+    ROW(is_refused(&got, DF1_NO_BIT));
+    bit.bit = 16;
+    got.code = df1_payload_bit(&bit, true, got.bytes, sizeof got.bytes, &got.length);
+    ROW(is_refused(&got, DF1_NO_BIT));
+    got.code = df1_payload_bit(&none, true, got.bytes, sizeof got.bytes, &got.length);
+    ROW(is_refused(&got, DF1_BAD_TYPE));
+    return 0;
+}
+
+/* The payloads without an address, and the room that one needs. */
+static int payloads_of_all(void)
+{
+    static const uint8_t byte[] = {0xE2}, many[244] = {0};
+    df1_address at = place("N7:3");
+    struct spelled got = nothing_spelled();
+    size_t room;
+
+    got.code = df1_payload_echo(many, 244, got.bytes, sizeof got.bytes, &got.length);
+    ROW(is_refused(&got, DF1_TOO_MUCH_DATA));
+    got.code = df1_payload_echo(byte, 1, got.bytes, 3, &got.length);
+    ROW(is_spelled(&got, "06 00 E2"));
+    got.code = df1_payload_echo(many, 243, got.bytes, sizeof got.bytes, &got.length);
+    ROW(got.code == DF1_DONE && got.length == 245 && are_all(got.bytes + 245, 0xA5, 5));
+    got.code = df1_payload_echo(NULL, 0, NULL, 0, &got.length);
+    ROW(got.code == DF1_NO_ROOM && got.length == 2);
+    got.code = df1_payload_status(got.bytes, 2, &got.length);
+    ROW(is_spelled(&got, "06 03"));
+    ROW(df1_payload_status(NULL, 0, &got.length) == DF1_NO_ROOM && got.length == 2);
+    for (room = 0; room <= 7; room++) {
+        uint8_t *into = block_of(many, room);
+
+        memset(into, 0xA5, room);
+        ROW(df1_payload_read(DF1_LOGICAL_3, &at, 1, into, room, &got.length) == (room < 7 ? DF1_NO_ROOM : DF1_DONE) && got.length == 7);
+        ROW(room < 7 ? are_all(into, 0xA5, room) : into[5] == 3 && into[6] == 0);
+        free(into);
+    }
+    return 0;
+}
+
+/* What replies tell: each row has STS, EXT STS, where the data begins, and how many bytes it has. */
+static int replies(void)
+{
+    static const struct {
+        const char *reply;
+        uint8_t sts, ext;
+        size_t data, data_length;
+    } rows[] = {
+        {"00 01 4F 00 01 00 34 12", 0, 0, 6, 2},
+        {"00 01 4F 00 01 00", 0, 0, 6, 0},
+        {"00 01 48 50 01 00", 0x50, 0, 6, 0},
+        {"00 01 4F F0 01 00 0A", 0xF0, 0x0A, 7, 0},
+        {"00 01 4F F0 01 00 0A 34 12", 0xF0, 0x0A, 7, 2},
+    };
+    df1_answer answer = {1, 1, 1, 1};
+    uint8_t bytes[16];
+    size_t at;
+
+    for (at = 0; at < COUNT(rows); at++) {
+        size_t length = bytes_of(rows[at].reply, bytes);
+        uint8_t *block = block_of(bytes, length);
+
+        ROW(df1_reply_read(block, length, &answer) == DF1_DONE && answer.sts == rows[at].sts && answer.ext == rows[at].ext);
+        ROW(answer.data == rows[at].data && answer.data_length == rows[at].data_length);
+        free(block);
+    }
+    ROW(df1_reply_read(bytes, 6, &answer) == DF1_NO_REPLY && df1_reply_read(NULL, 0, &answer) == DF1_NO_REPLY);
+    bytes[3] = 0;
+    ROW(df1_reply_read(bytes, 5, &answer) == DF1_NO_REPLY && answer.sts == 0xF0 && answer.ext == 0x0A && answer.data == 7);
+    return 0;
+}
+
+static int texts_of_statuses(void)
+{
+    static const struct {
+        uint8_t sts, ext;
+        const char *text;
+    } rows[] = {
+        {0x00, 0x0A, "the command was executed"},
+        {0x10, 0x00, "the command or its format is unknown there"},
+        {0x1F, 0x00, "the command or its format is unknown there"},
+        {0x07, 0x00, "the station is offline"},
+        {0xF0, 0x06, "there is no such file, element or sub-element"},
+        {0xF0, 0x1C, "see the manual of the controller"},
+        {0xE0, 0x00, "see the manual of the controller"},
+        {0x02, 0x00, "delivery can't be guaranteed: the remote node doesn't acknowledge the command"},
+    };
+    size_t at, length, told;
+
+    for (at = 0; at < COUNT(rows); at++) {
+        uint8_t *into;
+
+        length = strlen(rows[at].text) + 1;
+        into = block_of(rows[at].text, length);
+        memset(into, 0xA5, length);
+        ROW(df1_status_text(rows[at].sts, rows[at].ext, (char *)into, length - 1, &told) == DF1_NO_ROOM && told == length);
+        ROW(are_all(into, 0xA5, length));
+        ROW(df1_status_text(rows[at].sts, rows[at].ext, (char *)into, length, &told) == DF1_DONE && told == length);
+        ROW(memcmp(into, rows[at].text, length) == 0);
+        free(into);
+    }
+    ROW(df1_status_text(0, 0, NULL, 0, &told) == DF1_NO_ROOM && told == 25);
+    return 0;
+}
+
+/* Typed data: an element alone, and arrays of words and of floats. */
+static int typed_data(void)
+{
+    static const struct {
+        const char *bytes;
+        uint16_t kind, size;
+        bool is_array;
+        size_t data, data_length;
+    } rows[] = {
+        {"42 34 12", 4, 2, false, 1, 2},
+        {"99 09 05 42 34 12 78 56", 4, 2, true, 4, 4},
+        {"99 09 06 94 08 00 00 C0 3F", 8, 4, true, 5, 4},
+        {"99 09 01 42", 4, 2, true, 4, 0},
+    };
+    df1_typed typed = {1, 1, false, 1, 1};
+    uint8_t bytes[16];
+    size_t at;
+
+    for (at = 0; at < COUNT(rows); at++) {
+        size_t length = bytes_of(rows[at].bytes, bytes);
+        uint8_t *block = block_of(bytes, length);
+
+        ROW(df1_typed_read(block, length, &typed) == DF1_DONE && typed.kind == rows[at].kind && typed.size == rows[at].size);
+        ROW(typed.is_array == rows[at].is_array && typed.data == rows[at].data && typed.data_length == rows[at].data_length);
+        free(block);
+    }
+    ROW(df1_typed_read(bytes, bytes_of("99 09 05 42 34 12", bytes), &typed) == DF1_NO_TYPED_DATA);
+    ROW(df1_typed_read(NULL, 0, &typed) == DF1_NO_TYPED_DATA && typed.data == 4 && typed.is_array);
+    return 0;
+}
+
 int main(void)
 {
     static int (*const all[])(void) = {checks,         firsts_and_nulls, spelling,       texts,  hearing, longest_bodies,
                                        edges_of_links, edges_of_later_members, calls_without_memory, handles, transfers,
-                                       routes, sides, talks};
+                                       routes, sides, talks, addresses, no_addresses, payloads_that_read, payloads_that_write,
+                                       payloads_of_bits, payloads_of_all, replies, texts_of_statuses, typed_data};
     static int (*const each[])(enum kind) = {refused, edges_of_nodes, words, word_runs, issuing, makes_without_memory};
     int failed = 0;
     size_t at;

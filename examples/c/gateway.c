@@ -27,6 +27,9 @@
 
 enum kind { ASKS_ECHO, ASKS_READ, ASKS_WRITE };
 
+/* Where the words begin. */
+static const df1_address first = {DF1_INTEGER, 7, 0, 0, false, 0};
+
 /* What a command asks for. */
 struct asked {
     enum kind kind;
@@ -142,30 +145,37 @@ static void issue(struct gateway *g, struct asked asked, const uint8_t *payload,
 
 static void ask(struct gateway *g)
 {
-    static const uint8_t echo[] = {0x06, 0x00, 0x55};
-    static const uint8_t read[] = {0x0F, 0xA2, 2 * WORDS, 7, DF1_INTEGER, 0, 0};
+    static const uint8_t echoed[] = {0x55};
+    uint8_t payload[245];
+    size_t length = 0;
 
-    if (g->answers)
-        issue(g, (struct asked){ASKS_READ, 0, 0}, read, sizeof read);
-    else
-        issue(g, (struct asked){ASKS_ECHO, 0, 0}, echo, sizeof echo);
+    if (g->answers) {
+        df1_payload_read(DF1_LOGICAL_3, &first, WORDS, payload, sizeof payload, &length);
+        issue(g, (struct asked){ASKS_READ, 0, 0}, payload, length);
+    } else {
+        df1_payload_echo(echoed, sizeof echoed, payload, sizeof payload, &length);
+        issue(g, (struct asked){ASKS_ECHO, 0, 0}, payload, length);
+    }
 }
 
 /* A line of standard input. */
 static void obey(struct gateway *g)
 {
-    uint8_t write[] = {0x0F, 0xAA, 2, 7, DF1_INTEGER, 0, 0, 0, 0};
     struct asked asked = {ASKS_WRITE, 0, 0};
+    df1_address at = first;
+    uint8_t payload[245];
+    size_t length = 0;
+    uint16_t value;
     char more;
 
     if (sscanf(g->line, "N7:%u=%d%c", &asked.word, &asked.value, &more) != 2 || asked.word >= WORDS || asked.value < -32768 || asked.value > 65535) {
         fprintf(stderr, "%s: this is no N7:0=VALUE to N7:%d=VALUE\n", g->line, WORDS - 1);
         return;
     }
-    write[5] = (uint8_t)asked.word;
-    write[7] = (uint8_t)asked.value;
-    write[8] = (uint8_t)((unsigned)asked.value >> 8);
-    issue(g, asked, write, sizeof write);
+    at.element = (uint16_t)asked.word;
+    value = (uint16_t)asked.value;
+    df1_payload_write(DF1_LOGICAL_3, &at, &value, 1, payload, sizeof payload, &length);
+    issue(g, asked, payload, length);
 }
 
 /* Reads what standard input has, and does the lines that have ended. */
@@ -209,16 +219,18 @@ static void replied(struct gateway *g, struct asked asked, uint32_t number)
 {
     uint8_t reply[250];
     size_t length = 0;
+    df1_answer answer = {0xF0, 0, 0, 0}; /* of one that is cut off, behind STS F0 */
 
     if (df1_end_reply(&g->end, number, reply, sizeof reply, &length) != DF1_DONE)
         return;
     g->fresh = g->fresh || asked.kind == ASKS_READ;
-    if (asked.kind == ASKS_WRITE && reply[3] == 0)
+    df1_reply_read(reply, length, &answer);
+    if (asked.kind == ASKS_WRITE && answer.sts == 0)
         fprintf(stderr, "N7:%u=%d: set\n", asked.word, asked.value);
-    else if (reply[3] != 0)
-        fprintf(stderr, "%s: refused, STS %02X\n", asked.kind == ASKS_WRITE ? "a word to be set" : "a read", reply[3]);
-    else if (asked.kind == ASKS_READ && length == 6 + 2 * WORDS)
-        changed(g, reply + 6);
+    else if (answer.sts != 0)
+        fprintf(stderr, "%s: refused, STS %02X\n", asked.kind == ASKS_WRITE ? "a word to be set" : "a read", answer.sts);
+    else if (asked.kind == ASKS_READ && answer.data_length == 2 * WORDS)
+        changed(g, reply + answer.data);
 }
 
 /* Tells what became of the commands, in their order. */

@@ -29,6 +29,11 @@ def octets(data: Octets) -> bytes:
     return data if isinstance(data, bytes) else memoryview(data).tobytes()
 
 
+def numbers(values: Sequence[int], name: str) -> Any:
+    """Words as ctypes take them."""
+    return (u16 * len(values))(*(fitting(u16, value, name) for value in values))
+
+
 class Plain(ctypes.Structure):
     """A struct of the header. A number that doesn't fit its member is refused."""
 
@@ -91,6 +96,18 @@ class Given(Plain):
     _fields_ = [("length", c_size_t), ("last", c_bool), ("quiet", c_bool)]
 
 
+class Address(Plain):
+    _fields_ = [("type", u8), ("file", u16), ("element", u16), ("sub", u16), ("has_bit", c_bool), ("bit", u8)]
+
+
+class Answer(Plain):
+    _fields_ = [("sts", u8), ("ext", u8), ("data", c_size_t), ("data_length", c_size_t)]
+
+
+class Typed(Plain):
+    _fields_ = [("kind", u16), ("size", u16), ("is_array", c_bool), ("data", c_size_t), ("data_length", c_size_t)]
+
+
 handle, length = POINTER(Handle), POINTER(c_size_t)
 behind = [POINTER(Node), POINTER(File), c_size_t, POINTER(Word), c_size_t, c_char_p, c_size_t, handle]
 parameters = {
@@ -133,6 +150,18 @@ parameters = {
     "df1_end_changed": [handle, u16, u32, POINTER(u16), c_size_t, length],
     "df1_end_files": [handle, POINTER(u32)],
     "df1_end_file": [handle, u32, POINTER(File)],
+    "df1_address_read": [c_char_p, c_size_t, POINTER(Address)],
+    "df1_address_text": [POINTER(Address), c_char_p, c_size_t, length],
+    "df1_payload_read": [u32, POINTER(Address), u16, c_char_p, c_size_t, length],
+    "df1_payload_write": [u32, POINTER(Address), POINTER(u16), c_size_t, c_char_p, c_size_t, length],
+    "df1_payload_masked": [POINTER(Address), u16, POINTER(u16), c_size_t, c_char_p, c_size_t, length],
+    "df1_payload_modify": [POINTER(Address), u16, u16, c_char_p, c_size_t, length],
+    "df1_payload_bit": [POINTER(Address), c_bool, c_char_p, c_size_t, length],
+    "df1_payload_echo": [c_char_p, c_size_t, c_char_p, c_size_t, length],
+    "df1_payload_status": [c_char_p, c_size_t, length],
+    "df1_reply_read": [c_char_p, c_size_t, POINTER(Answer)],
+    "df1_status_text": [u8, u8, c_char_p, c_size_t, length],
+    "df1_typed_read": [c_char_p, c_size_t, POINTER(Typed)],
 }
 
 
@@ -222,6 +251,64 @@ class Library:
     def spell_poll(self, station: int) -> "bytes":
         """A half-duplex master's poll of a station."""
         return self.bytes("df1_spell_poll", station)
+
+    def address(self, text: str) -> Address:
+        """The address of a text, as N7:3, F8:0, T4:1.ACC or N7:3/5."""
+        letters, address = text.encode(), Address()
+        self.do("df1_address_read", letters, len(letters), address)
+        return address
+
+    def address_text(self, address: Address) -> str:
+        return self.bytes("df1_address_text", address)[:-1].decode()
+
+    def place(self, at: Union[Address, str]) -> Address:
+        """An address as it is, or of its text."""
+        return self.address(at) if isinstance(at, str) else at
+
+    def payload_read(self, command: int, at: Union[Address, str], count: int) -> "bytes":
+        """The payload that reads words, or elements by DF1_TYPED, from an address on; `command` is a df1_command."""
+        return self.bytes("df1_payload_read", command, self.place(at), count)
+
+    def payload_write(self, command: int, at: Union[Address, str], words: Sequence[int]) -> "bytes":
+        """The payload that writes words from an address on; `command` is a df1_command."""
+        return self.bytes("df1_payload_write", command, self.place(at), numbers(words, "words"), len(words))
+
+    def payload_masked(self, at: Union[Address, str], mask: int, words: Sequence[int]) -> "bytes":
+        """The payload that writes the bits of a mask of words from an address on."""
+        return self.bytes("df1_payload_masked", self.place(at), mask, numbers(words, "words"), len(words))
+
+    def payload_modify(self, at: Union[Address, str], and_mask: int, or_mask: int) -> "bytes":
+        """The payload that makes a word its old value AND one mask, OR the other."""
+        return self.bytes("df1_payload_modify", self.place(at), and_mask, or_mask)
+
+    def payload_bit(self, at: Union[Address, str], on: bool) -> "bytes":
+        """The payload that sets the bit of an address, or clears it."""
+        return self.bytes("df1_payload_bit", self.place(at), on)
+
+    def payload_echo(self, data: Octets) -> "bytes":
+        """The payload that asks for bytes back."""
+        data = octets(data)
+        return self.bytes("df1_payload_echo", data, len(data))
+
+    def payload_status(self) -> "bytes":
+        """The payload that asks for the status of a station."""
+        return self.bytes("df1_payload_status")
+
+    def reply(self, reply: Octets) -> Tuple[Answer, "bytes"]:
+        """What a reply tells, DST first, and its data."""
+        reply, answer = octets(reply), Answer()
+        self.do("df1_reply_read", reply, len(reply), answer)
+        return answer, reply[answer.data : answer.data + answer.data_length]
+
+    def status_text(self, sts: int, ext: int = 0) -> str:
+        """The text of STS and EXT STS."""
+        return self.bytes("df1_status_text", sts, ext)[:-1].decode()
+
+    def typed(self, data: Octets) -> Tuple[Typed, "bytes"]:
+        """What the data of a reply to a typed read is, and the bytes of its words."""
+        data, typed = octets(data), Typed()
+        self.do("df1_typed_read", data, len(data), typed)
+        return typed, data[typed.data : typed.data + typed.data_length]
 
 
 class Held:
@@ -373,12 +460,11 @@ class End(Held):
 
     def set_words(self, file: int, first: int, values: Sequence[int]) -> None:
         """Sets a run of words, all of them or none."""
-        kept = (u16 * len(values))(*(fitting(u16, value, "values") for value in values))
-        self.library.do("df1_end_set_words", self.handle, file, first, kept, len(values))
+        self.library.do("df1_end_set_words", self.handle, file, first, numbers(values, "values"), len(values))
 
     def changes(self, file: int, first: int, seen: List[int]) -> List[int]:
         """The places in `seen` whose words, from word `first` of the file on, aren't what it had for them; it has their values then."""
-        kept, place, places = (u16 * len(seen))(*(fitting(u16, value, "seen") for value in seen)), c_size_t(), []
+        kept, place, places = numbers(seen, "seen"), c_size_t(), []
         while not places or places[-1] < len(seen):
             self.library.do("df1_end_changed", self.handle, file, first, kept, len(seen), place)
             places.append(place.value)

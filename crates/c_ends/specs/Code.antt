@@ -43,11 +43,27 @@ code_number code.BadWords = 35
 code_number code.BadRoutes = 36
 code_number code.NoStation = 37
 code_number code.BadSide = 38
+code_number code.BadCommand = 39
+code_number code.NoAddressType = 40
+code_number code.NoAddressFile = 41
+code_number code.NoAddressColon = 42
+code_number code.NoAddressElement = 43
+code_number code.NoAddressSub = 44
+code_number code.NoAddressBit = 45
+code_number code.NoAddressEnd = 46
+code_number code.NoData = 47
+code_number code.TooMuchData = 48
+code_number code.NoElementType = 49
+code_number code.NoSub = 50
+code_number code.HalfElement = 51
+code_number code.NoBit = 52
+code_number code.NoReply = 53
+code_number code.NoTypedData = 54
 
 -- all codes, by their numbers
 abbrev pub all_codes : List Code
 all_codes =
-    code.Done ∷ code.NoHandle ∷ code.NoMemory ∷ code.NoRoom ∷ code.BadAckTicks ∷ code.BadPollTicks ∷ code.BadMaxSends ∷ code.BadStation ∷ code.TooManyStations ∷ code.StationTwice ∷ code.BadReplyTicks ∷ code.BadRoom ∷ code.TooManyFiles ∷ code.BadType ∷ code.EmptyFile ∷ code.LargeFile ∷ code.FileTwice ∷ code.NoWord ∷ code.BadCompat ∷ code.LongBlock ∷ code.LongBody ∷ code.NoPayload ∷ code.LongPayload ∷ code.NotCommand ∷ code.Spent ∷ code.NoCommand ∷ code.NotAnswered ∷ code.NoFile ∷ code.BadMaxNaks ∷ code.BadMaxEnqs ∷ code.BadMaxResends ∷ code.BadWindow ∷ code.BadPerSource ∷ code.NotReserved ∷ code.BadFile ∷ code.BadWords ∷ code.BadRoutes ∷ code.NoStation ∷ code.BadSide ∷ []
+    code.Done ∷ code.NoHandle ∷ code.NoMemory ∷ code.NoRoom ∷ code.BadAckTicks ∷ code.BadPollTicks ∷ code.BadMaxSends ∷ code.BadStation ∷ code.TooManyStations ∷ code.StationTwice ∷ code.BadReplyTicks ∷ code.BadRoom ∷ code.TooManyFiles ∷ code.BadType ∷ code.EmptyFile ∷ code.LargeFile ∷ code.FileTwice ∷ code.NoWord ∷ code.BadCompat ∷ code.LongBlock ∷ code.LongBody ∷ code.NoPayload ∷ code.LongPayload ∷ code.NotCommand ∷ code.Spent ∷ code.NoCommand ∷ code.NotAnswered ∷ code.NoFile ∷ code.BadMaxNaks ∷ code.BadMaxEnqs ∷ code.BadMaxResends ∷ code.BadWindow ∷ code.BadPerSource ∷ code.NotReserved ∷ code.BadFile ∷ code.BadWords ∷ code.BadRoutes ∷ code.NoStation ∷ code.BadSide ∷ code.BadCommand ∷ code.NoAddressType ∷ code.NoAddressFile ∷ code.NoAddressColon ∷ code.NoAddressElement ∷ code.NoAddressSub ∷ code.NoAddressBit ∷ code.NoAddressEnd ∷ code.NoData ∷ code.TooMuchData ∷ code.NoElementType ∷ code.NoSub ∷ code.HalfElement ∷ code.NoBit ∷ code.NoReply ∷ code.NoTypedData ∷ []
 
 -- the code of a number, if it is one's
 abbrev pub code_of : ℕ → Option Code
@@ -93,3 +109,19 @@ code_text code.BadWords = codes "a transfer's words are none, over 3,000, or not
 code_text code.BadRoutes = codes "routes is neither 0 nor 1"
 code_text code.NoStation = codes "the master has no such station"
 code_text code.BadSide = codes "a side is none of df1_side"
+code_text code.BadCommand = codes "the command is none of df1_command"
+code_text code.NoAddressType = codes "the address doesn't begin with the letter of a file's type"
+code_text code.NoAddressFile = codes "the address's file isn't a number 0 to 999"
+code_text code.NoAddressColon = codes "no colon follows the address's file"
+code_text code.NoAddressElement = codes "the address's element isn't a number 0 to 999"
+code_text code.NoAddressSub = codes "the address's sub-element is no word of the element"
+code_text code.NoAddressBit = codes "the address's bit isn't a number 0 to 15, or it is a float's"
+code_text code.NoAddressEnd = codes "something else follows the address"
+code_text code.NoData = codes "no word is read or written"
+code_text code.TooMuchData = codes "the data is more than a message has room for"
+code_text code.NoElementType = codes "elements of the file have no type for a typed command"
+code_text code.NoSub = codes "the command has no room for a sub-element"
+code_text code.HalfElement = codes "the words are no whole elements"
+code_text code.NoBit = codes "the address has no bit 0 to 15"
+code_text code.NoReply = codes "a reply is cut off"
+code_text code.NoTypedData = codes "the data is no typed data"

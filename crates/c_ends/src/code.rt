@@ -84,10 +84,42 @@ pub enum Code {
     NoStation = 37,
     /// A side is none of `df1_side`.
     BadSide = 38,
+    /// A command is none of `df1_command`.
+    BadCommand = 39,
+    /// An address doesn't begin with the letter of a file's type.
+    NoAddressType = 40,
+    /// An address's file isn't a number 0 to 999.
+    NoAddressFile = 41,
+    /// No colon follows an address's file.
+    NoAddressColon = 42,
+    /// An address's element isn't a number 0 to 999.
+    NoAddressElement = 43,
+    /// An address's sub-element is no word of the element.
+    NoAddressSub = 44,
+    /// An address's bit isn't a number 0 to 15, or it is a float's.
+    NoAddressBit = 45,
+    /// Something else follows an address.
+    NoAddressEnd = 46,
+    /// No word is read or written.
+    NoData = 47,
+    /// The data is more than a message has room for.
+    TooMuchData = 48,
+    /// Elements of a file have no type for a typed command.
+    NoElementType = 49,
+    /// A command has no room for a sub-element.
+    NoSub = 50,
+    /// Words are no whole elements.
+    HalfElement = 51,
+    /// An address has no bit 0 to 15.
+    NoBit = 52,
+    /// A reply is cut off.
+    NoReply = 53,
+    /// Data is no typed data.
+    NoTypedData = 54,
 }
 
 /// All codes, by their numbers.
-const CODES: [Code; 39] = [
+const CODES: [Code; 55] = [
     Code::Done,
     Code::NoHandle,
     Code::NoMemory,
@@ -127,6 +159,22 @@ const CODES: [Code; 39] = [
     Code::BadRoutes,
     Code::NoStation,
     Code::BadSide,
+    Code::BadCommand,
+    Code::NoAddressType,
+    Code::NoAddressFile,
+    Code::NoAddressColon,
+    Code::NoAddressElement,
+    Code::NoAddressSub,
+    Code::NoAddressBit,
+    Code::NoAddressEnd,
+    Code::NoData,
+    Code::TooMuchData,
+    Code::NoElementType,
+    Code::NoSub,
+    Code::HalfElement,
+    Code::NoBit,
+    Code::NoReply,
+    Code::NoTypedData,
 ];
 
 impl Code {
@@ -189,6 +237,22 @@ impl Code {
             Code::BadRoutes => "routes is neither 0 nor 1",
             Code::NoStation => "the master has no such station",
             Code::BadSide => "a side is none of df1_side",
+            Code::BadCommand => "the command is none of df1_command",
+            Code::NoAddressType => "the address doesn't begin with the letter of a file's type",
+            Code::NoAddressFile => "the address's file isn't a number 0 to 999",
+            Code::NoAddressColon => "no colon follows the address's file",
+            Code::NoAddressElement => "the address's element isn't a number 0 to 999",
+            Code::NoAddressSub => "the address's sub-element is no word of the element",
+            Code::NoAddressBit => "the address's bit isn't a number 0 to 15, or it is a float's",
+            Code::NoAddressEnd => "something else follows the address",
+            Code::NoData => "no word is read or written",
+            Code::TooMuchData => "the data is more than a message has room for",
+            Code::NoElementType => "elements of the file have no type for a typed command",
+            Code::NoSub => "the command has no room for a sub-element",
+            Code::HalfElement => "the words are no whole elements",
+            Code::NoBit => "the address has no bit 0 to 15",
+            Code::NoReply => "a reply is cut off",
+            Code::NoTypedData => "the data is no typed data",
         }
     }
 }

@@ -25,9 +25,9 @@ const KINDS: [FileType; 7] = [
     FileType::Float,
 ];
 
-/// The type of a type byte.
+/// The type of a type byte, and None exactly where it is no type's (manual topic: addressing).
 #[tactic(auto, unfolding(crate::specs::Parts::kind_of))]
-fn kind_of(byte: u8) -> Option<FileType>
+pub fn kind_of(byte: u8) -> Option<FileType>
     ensures { result ≡ kind_of byte }
 {
     KINDS.iter().copied().find(|kind| type_byte(*kind) == byte)

@@ -12,6 +12,7 @@ mod told;
 mod values;
 
 pub use code::Code;
+pub use files::kind_of;
 pub use held::Held;
 pub use links::{check_of, duplex_of, master_of, number_fault, slave_of};
 pub use parts::{DuplexLink, FileParts, MasterLink, NodeParts, SlaveLink, WordParts};

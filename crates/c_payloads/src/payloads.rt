@@ -1,0 +1,132 @@
+//! The payload of each call, or the code of the first fault.
+
+ghost use Rattle.std.specs.Prelude.{◌≡◌, IfOk, IfSome};
+ghost use Rattle.std.specs.Result.{result_map_both};
+ghost use Rattle.plc_commands.specs.Order.{Echo, Status};
+ghost use Rattle.command_payloads.specs.Faults.{answer_of, unless};
+ghost use Rattle.command_payloads.specs.Orders.{SpellsPlc, SpellsSlc, bit_order, masked_write_order, read_modify_write_order};
+ghost use Rattle.command_payloads.specs.Payloads as bytes;
+ghost use Rattle.c_payloads.specs.Commands.{SpellsRead, SpellsWrite, command_of};
+ghost use Rattle.c_payloads.specs.Parts.{address_in};
+ghost use Rattle.c_payloads.specs.Payloads.{bit_told, echo_told, masked_told, modify_told, read_told, write_told};
+
+use crate::commands::{add_read, add_write, command_of};
+use crate::faults::payload_code;
+use crate::parts::{AddressParts, address_in};
+use arrayvec::ArrayVec;
+use c_ends::Code;
+use command_payloads::{bit_write, echo, masked_write, read_modify_write, station_status};
+
+/// The payload that reads so many words from an address on, 1 to 122, or so many elements by a typed command (manual topic:
+/// commands). Else the first of these comes: `BadCommand`, `BadType`, what stands against the payload.
+pub fn read_payload(command: u32, at: &AddressParts, count: u16) -> Result<ArrayVec<u8, 245>, Code>
+    ensures told { result_map_both (λ payload. payload.items) (λ code. code) result ≡ read_told command at.now count }
+    ensures spelled { IfOk result (λ payload. IfSome (command_of command) (λ command. IfSome (address_in at.now) (λ place. SpellsRead command place count payload.items))) }
+{
+    let Some(command) = command_of(command) else {
+        return Err(Code::BadCommand);
+    };
+    let Some(place) = address_in(at) else {
+        return Err(Code::BadType);
+    };
+    let mut payload = ArrayVec::new();
+    match add_read(command, &place, count, &mut payload) {
+        Ok(()) => Ok(payload),
+        Err(fault) => Err(payload_code(fault)),
+    }
+}
+
+/// The payload that writes words from an address on, as many as a message has room for (manual topic: commands). Else the first
+/// of these comes: `BadCommand`, `BadType`, what stands against the payload.
+pub fn write_payload(
+    command: u32,
+    at: &AddressParts,
+    words: &[u16],
+) -> Result<ArrayVec<u8, 245>, Code>
+    ensures told { result_map_both (λ payload. payload.items) (λ code. code) result ≡ write_told command at.now words.now }
+    ensures spelled { IfOk result (λ payload. IfSome (command_of command) (λ command. IfSome (address_in at.now) (λ place. SpellsWrite command place words.now payload.items))) }
+{
+    let Some(command) = command_of(command) else {
+        return Err(Code::BadCommand);
+    };
+    let Some(place) = address_in(at) else {
+        return Err(Code::BadType);
+    };
+    let mut payload = ArrayVec::new();
+    match add_write(command, &place, words, &mut payload) {
+        Ok(()) => Ok(payload),
+        Err(fault) => Err(payload_code(fault)),
+    }
+}
+
+/// The payload that writes the bits of a mask of words from an address on (manual topic: commands, protected typed logical write
+/// with mask). Else the first of these comes: `BadType`, `NoData`, `TooMuchData`.
+pub fn masked_payload(
+    at: &AddressParts,
+    mask: u16,
+    words: &[u16],
+) -> Result<ArrayVec<u8, 245>, Code>
+    ensures told { result_map_both (λ payload. payload.items) (λ code. code) result ≡ masked_told at.now mask words.now }
+    ensures spelled { IfOk result (λ payload. IfSome (address_in at.now) (λ place. SpellsSlc (masked_write_order place mask words.now) payload.items)) }
+{
+    let Some(place) = address_in(at) else {
+        return Err(Code::BadType);
+    };
+    let mut payload = ArrayVec::new();
+    match masked_write(&place, mask, words, &mut payload) {
+        Ok(()) => Ok(payload),
+        Err(fault) => Err(payload_code(fault)),
+    }
+}
+
+/// The payload that makes a word its old value AND one mask, OR the other (manual topic: commands, read-modify-write), or
+/// `BadType`. The bit of the address makes no difference.
+pub fn modify_payload(at: &AddressParts, and: u16, or: u16) -> Result<ArrayVec<u8, 245>, Code>
+    ensures told { result_map_both (λ payload. payload.items) (λ code. code) result ≡ modify_told at.now and or }
+    ensures spelled { IfOk result (λ payload. IfSome (address_in at.now) (λ place. SpellsPlc (read_modify_write_order place and or) payload.items)) }
+{
+    let Some(place) = address_in(at) else {
+        return Err(Code::BadType);
+    };
+    let mut payload = ArrayVec::new();
+    read_modify_write(&place, and, or, &mut payload);
+    Ok(payload)
+}
+
+/// The payload that sets the bit of an address, or clears it, and leaves the other bits of the word as they are (manual topic:
+/// commands, read-modify-write). Else the first of these comes: `BadType`; `NoBit` where the address has none, or one over 15.
+pub fn bit_payload(at: &AddressParts, on: bool) -> Result<ArrayVec<u8, 245>, Code>
+    ensures told { result_map_both (λ payload. payload.items) (λ code. code) result ≡ bit_told at.now on }
+    ensures spelled { IfOk result (λ payload. IfSome (address_in at.now) (λ place. IfSome place.bit (λ bit. SpellsPlc (bit_order place bit on) payload.items))) }
+{
+    let Some(place) = address_in(at) else {
+        return Err(Code::BadType);
+    };
+    let mut payload = ArrayVec::new();
+    match bit_write(&place, on, &mut payload) {
+        Ok(()) => Ok(payload),
+        Err(fault) => Err(payload_code(fault)),
+    }
+}
+
+/// The payload that asks for bytes back, at most 243 (manual topic: commands, echo). Else `TooMuchData`.
+pub fn echo_payload(bytes: &[u8]) -> Result<ArrayVec<u8, 245>, Code>
+    ensures told { result_map_both (λ payload. payload.items) (λ code. code) result ≡ echo_told bytes.now }
+    ensures spelled { IfOk result (λ payload. SpellsPlc (Echo bytes.now) payload.items) }
+{
+    let mut payload = ArrayVec::new();
+    match echo(bytes, &mut payload) {
+        Ok(()) => Ok(payload),
+        Err(fault) => Err(payload_code(fault)),
+    }
+}
+
+/// The payload that asks for the status of a station (manual topic: commands, diagnostic status).
+pub fn status_payload() -> ArrayVec<u8, 245>
+    ensures bytes { result.items ≡ bytes.status_payload }
+    ensures spelled { SpellsPlc Status result.items }
+{
+    let mut payload = ArrayVec::new();
+    station_status(&mut payload);
+    payload
+}

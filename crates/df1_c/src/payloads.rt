@@ -1,0 +1,136 @@
+//! The payloads of commands, as an end issues them: CMD and what follows TNS.
+
+ghost use Rattle.std.specs.Prelude.{◌≡◌, ◌≤◌, length, IfOk};
+ghost use Rattle.std.specs.Result.{result_map_both};
+ghost use Rattle.command_payloads.specs.Payloads.{status_payload};
+ghost use Rattle.c_ends.specs.Code.{code_number};
+ghost use Rattle.c_calls.specs.Copied.{copied, room_code};
+ghost use Rattle.c_payloads.specs.Payloads.{bit_told, echo_told, masked_told, modify_told, read_told, write_told};
+ghost use Rattle.df1_c.specs.Payloads.{given_code, given_count, given_into};
+
+use arrayvec::ArrayVec;
+use c_calls::copy;
+use c_ends::Code;
+use c_payloads::{
+    AddressParts, bit_payload, echo_payload, masked_payload, modify_payload, read_payload,
+    status_payload, write_payload,
+};
+
+/// Gives the payload that reads words from an address on, or elements by a typed command, into a buffer. `count` is how many
+/// bytes it has.
+#[unsafe(no_mangle)]
+pub extern "C" fn df1_payload_read(
+    command: u32,
+    address: &AddressParts,
+    words: u16,
+    into: &mut [u8],
+    count: &mut usize,
+) -> u32
+    ensures code { result ≡ code_number (given_code (read_told command address.now words) (length into.old)) }
+    ensures bytes { into.new ≡ given_into into.old (read_told command address.now words) }
+    ensures count { count.new ≡ given_count count.old (read_told command address.now words) }
+    ensures most { IfOk (read_told command address.now words) (λ _. count.new ≤ 245) }
+{
+    give(read_payload(command, address, words), into, count)
+}
+
+/// Gives the payload that writes words from an address on into a buffer. `count` is how many bytes it has.
+#[unsafe(no_mangle)]
+pub extern "C" fn df1_payload_write(
+    command: u32,
+    address: &AddressParts,
+    words: &[u16],
+    into: &mut [u8],
+    count: &mut usize,
+) -> u32
+    ensures code { result ≡ code_number (given_code (write_told command address.now words.now) (length into.old)) }
+    ensures bytes { into.new ≡ given_into into.old (write_told command address.now words.now) }
+    ensures count { count.new ≡ given_count count.old (write_told command address.now words.now) }
+    ensures most { IfOk (write_told command address.now words.now) (λ _. count.new ≤ 245) }
+{
+    give(write_payload(command, address, words), into, count)
+}
+
+/// Gives the payload that writes the bits of a mask of words from an address on into a buffer. `count` is how many bytes it has.
+#[unsafe(no_mangle)]
+pub extern "C" fn df1_payload_masked(
+    address: &AddressParts,
+    mask: u16,
+    words: &[u16],
+    into: &mut [u8],
+    count: &mut usize,
+) -> u32
+    ensures code { result ≡ code_number (given_code (masked_told address.now mask words.now) (length into.old)) }
+    ensures bytes { into.new ≡ given_into into.old (masked_told address.now mask words.now) }
+    ensures count { count.new ≡ given_count count.old (masked_told address.now mask words.now) }
+    ensures most { IfOk (masked_told address.now mask words.now) (λ _. count.new ≤ 245) }
+{
+    give(masked_payload(address, mask, words), into, count)
+}
+
+/// Gives the payload that makes a word its old value AND one mask, OR the other, into a buffer. `count` is how many bytes it has.
+#[unsafe(no_mangle)]
+pub extern "C" fn df1_payload_modify(
+    address: &AddressParts,
+    and_mask: u16,
+    or_mask: u16,
+    into: &mut [u8],
+    count: &mut usize,
+) -> u32
+    ensures code { result ≡ code_number (given_code (modify_told address.now and_mask or_mask) (length into.old)) }
+    ensures bytes { into.new ≡ given_into into.old (modify_told address.now and_mask or_mask) }
+    ensures count { count.new ≡ given_count count.old (modify_told address.now and_mask or_mask) }
+    ensures most { IfOk (modify_told address.now and_mask or_mask) (λ _. count.new ≤ 245) }
+{
+    give(modify_payload(address, and_mask, or_mask), into, count)
+}
+
+/// Gives the payload that sets the bit of an address, or clears it, into a buffer. `count` is how many bytes it has.
+#[unsafe(no_mangle)]
+pub extern "C" fn df1_payload_bit(
+    address: &AddressParts,
+    on: bool,
+    into: &mut [u8],
+    count: &mut usize,
+) -> u32
+    ensures code { result ≡ code_number (given_code (bit_told address.now on) (length into.old)) }
+    ensures bytes { into.new ≡ given_into into.old (bit_told address.now on) }
+    ensures count { count.new ≡ given_count count.old (bit_told address.now on) }
+    ensures most { IfOk (bit_told address.now on) (λ _. count.new ≤ 245) }
+{
+    give(bit_payload(address, on), into, count)
+}
+
+/// Gives the payload that asks for bytes back into a buffer. `count` is how many bytes it has.
+#[unsafe(no_mangle)]
+pub extern "C" fn df1_payload_echo(bytes: &[u8], into: &mut [u8], count: &mut usize) -> u32
+    ensures code { result ≡ code_number (given_code (echo_told bytes.now) (length into.old)) }
+    ensures bytes { into.new ≡ given_into into.old (echo_told bytes.now) }
+    ensures count { count.new ≡ given_count count.old (echo_told bytes.now) }
+    ensures most { IfOk (echo_told bytes.now) (λ _. count.new ≤ 245) }
+{
+    give(echo_payload(bytes), into, count)
+}
+
+/// Gives the payload that asks for the status of a station into a buffer. `count` is how many bytes it has.
+#[unsafe(no_mangle)]
+pub extern "C" fn df1_payload_status(into: &mut [u8], count: &mut usize) -> u32
+    ensures code { result ≡ code_number (room_code 2 (length into.old)) }
+    ensures bytes { into.new ≡ copied into.old status_payload }
+    ensures count { count.new ≡ 2 }
+{
+    copy(&status_payload(), into, count).number()
+}
+
+/// Copies a payload, or answers why there is none.
+fn give(payload: Result<ArrayVec<u8, 245>, Code>, into: &mut [u8], count: &mut usize) -> u32
+    ensures code { result ≡ code_number (given_code (result_map_both (λ payload. payload.items) (λ code. code) payload) (length into.old)) }
+    ensures bytes { into.new ≡ given_into into.old (result_map_both (λ payload. payload.items) (λ code. code) payload) }
+    ensures count { count.new ≡ given_count count.old (result_map_both (λ payload. payload.items) (λ code. code) payload) }
+    ensures most { IfOk payload (λ _. count.new ≤ 245) }
+{
+    match payload {
+        Ok(payload) => copy(&payload, into, count).number(),
+        Err(fault) => fault.number(),
+    }
+}
