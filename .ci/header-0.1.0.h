@@ -79,7 +79,23 @@ enum df1_code {
     DF1_BAD_WORDS = 35,        /* a transfer's words are none, over 3,000, or not whole */
     DF1_BAD_ROUTES = 36,       /* routes is neither 0 nor 1 */
     DF1_NO_STATION = 37,       /* the master has no such station */
-    DF1_BAD_SIDE = 38          /* a side is none of df1_side */
+    DF1_BAD_SIDE = 38,         /* a side is none of df1_side */
+    DF1_BAD_COMMAND = 39,      /* the command is none of df1_command */
+    DF1_NO_ADDRESS_TYPE = 40,  /* the address doesn't begin with the letter of a file's type */
+    DF1_NO_ADDRESS_FILE = 41,  /* the address's file isn't a number 0 to 999 */
+    DF1_NO_ADDRESS_COLON = 42, /* no colon follows the address's file */
+    DF1_NO_ADDRESS_ELEMENT = 43, /* the address's element isn't a number 0 to 999 */
+    DF1_NO_ADDRESS_SUB = 44,   /* the address's sub-element is no word of the element */
+    DF1_NO_ADDRESS_BIT = 45,   /* the address's bit isn't a number 0 to 15, or it is a float's */
+    DF1_NO_ADDRESS_END = 46,   /* something else follows the address */
+    DF1_NO_DATA = 47,          /* no word is read or written */
+    DF1_TOO_MUCH_DATA = 48,    /* the data is more than a message has room for */
+    DF1_NO_ELEMENT_TYPE = 49,  /* elements of the file have no type for a typed command */
+    DF1_NO_SUB = 50,           /* the command has no room for a sub-element */
+    DF1_HALF_ELEMENT = 51,     /* the words are no whole elements */
+    DF1_NO_BIT = 52,           /* the address has no bit 0 to 15 */
+    DF1_NO_REPLY = 53,         /* a reply is cut off */
+    DF1_NO_TYPED_DATA = 54     /* the data is no typed data */
 };
 
 /* ---- Checks and frames ---- */
@@ -196,8 +212,8 @@ typedef struct df1_duplex {
     bool crc;           /* CRC, and not BCC, ends its frames */
     bool embed;         /* responses may stand inside the frames that the end gives */
     uint32_t ack_ticks; /* ticks without a response until it asks with an ENQ: 1 to 1,000,000 */
-    uint32_t max_naks;  /* how many NAKs one message may have before it is given up: 0 to 255 */
-    uint32_t max_enqs;  /* how many ENQs one message may cost before it is given up: 0 to 255 */
+    uint32_t max_naks;  /* maximum retransmissions of one message after NAK: 0 to 255 */
+    uint32_t max_enqs;  /* maximum ENQs for one message: 0 to 255 */
     uint32_t reserved[4];
 } df1_duplex;
 
@@ -500,6 +516,109 @@ uint32_t df1_end_files(df1_end *end, uint32_t *count);
 /* The data file at this place, from 0, in the order in which they were given. DF1_NO_HANDLE, DF1_NO_FILE. */
 uint32_t df1_end_file(df1_end *end, uint32_t place, df1_file *file);
 
+/* ---- Payloads and replies ----
+ *
+ * What a program issues, and what it is answered, without its bytes: an address from its text, the payload of a command for
+ * df1_end_issue from that, and what the reply of df1_end_reply tells. Words are numbers; their bytes go low first.
+ *
+ *     df1_address_read("N7:3", 4, &address);
+ *     df1_payload_read(DF1_LOGICAL_3, &address, 1, payload, sizeof payload, &length);
+ *     df1_end_issue(&end, 1, payload, length, &number);
+ *     ... at DF1_ANSWERED ...
+ *     df1_end_reply(&end, number, reply, sizeof reply, &length);
+ *     df1_reply_read(reply, length, &answer);
+ *     ... with answer.sts 0 the word is reply[answer.data] | reply[answer.data + 1] << 8 ...
+ */
+
+/* The place of a word in the data files of a controller, or of one of its bits. */
+typedef struct df1_address {
+    uint8_t type;     /* enum df1_file_type */
+    uint16_t file;    /* at most 999 of one that was read */
+    uint16_t element; /* from 0; at most 999 of one that was read */
+    uint16_t sub;     /* the word of the element, from 0; 0 where it isn't given */
+    bool has_bit;     /* whether it names a bit */
+    uint8_t bit;      /* 0 to 15 of one that was read; 0 where has_bit isn't set */
+} df1_address;
+
+/* Reads the text of an address of `length` characters: the letter S, B, T, C, R, N or F of a file's type, the file, a colon and the
+ * element; then perhaps a point and a word of the element, by its number or as CTL, PRE, ACC, LEN or POS; then perhaps a slash and a bit,
+ * not of a float. So N7:3, F8:0, T4:1.ACC and N7:3/5; S:1 is S2:1. The first of DF1_NO_ADDRESS_TYPE, _FILE, _COLON, _ELEMENT, _SUB,
+ * _BIT, _END. */
+uint32_t df1_address_read(const char *text, size_t length, df1_address *address);
+
+/* The text of an address, without zeros in front of a number and with a zero byte at its end, into the `room` bytes at `into`: a
+ * sub-element by its number where it isn't 0, a bit where there is one. `*length` is how many bytes the text has with that zero, at
+ * most 25. DF1_BAD_TYPE, DF1_NO_ROOM. */
+uint32_t df1_address_text(const df1_address *address, char *into, size_t room, size_t *length);
+
+/* The commands that read and write words of data files. */
+enum df1_command {
+    DF1_WORD_RANGE = 0, /* 0F 01 and 0F 00: words of a PLC-5; 122 can be read and 118 written, fewer with a long address */
+    DF1_TYPED = 1,      /* 0F 68 and 0F 67: elements of a PLC-5, of no Timer, Counter or Control file, without a sub-element; 120 of
+                         * one word or 59 floats can be read, and 116 words written, fewer with a long address */
+    DF1_LOGICAL_2 = 2,  /* 0F A1 and 0F A9: words of an SLC, without a sub-element; 122 can be read and 119 written */
+    DF1_LOGICAL_3 = 3   /* 0F A2 and 0F AA: words of an SLC; 122 can be read and 119 written, fewer with a long address */
+};
+
+/* The payload that reads `count` words from an address on, of a typed command `count` elements, into the `room` bytes at `into`, at
+ * most 245. The bit of the address makes no difference. `*length` is how many bytes the payload has. The first of DF1_BAD_COMMAND,
+ * DF1_BAD_TYPE, DF1_NO_ELEMENT_TYPE, DF1_NO_SUB, DF1_NO_DATA, DF1_TOO_MUCH_DATA, DF1_NO_ROOM. */
+uint32_t df1_payload_read(uint32_t command, const df1_address *address, uint16_t count, uint8_t *into, size_t room, size_t *length);
+
+/* The payload that writes the `count` words at `words` from an address on; a float is two of them, the low one first. The first of
+ * DF1_BAD_COMMAND, DF1_BAD_TYPE, DF1_NO_ELEMENT_TYPE, DF1_NO_SUB, DF1_NO_DATA, DF1_TOO_MUCH_DATA for over 122 words, DF1_HALF_ELEMENT
+ * for half a float of a typed command, DF1_TOO_MUCH_DATA for a payload of over 245 bytes, DF1_NO_ROOM. */
+uint32_t df1_payload_write(uint32_t command, const df1_address *address, const uint16_t *words, size_t count, uint8_t *into,
+                           size_t room, size_t *length);
+
+/* The payload that writes bits of the words from an address on (0F AB): a word becomes its old value where a bit of `mask` is clear,
+ * and the new one where it is set. DF1_BAD_TYPE, DF1_NO_DATA, DF1_TOO_MUCH_DATA, DF1_NO_ROOM. */
+uint32_t df1_payload_masked(const df1_address *address, uint16_t mask, const uint16_t *words, size_t count, uint8_t *into,
+                            size_t room, size_t *length);
+
+/* The payload that makes a word of a PLC-5 its old value AND `and_mask`, OR `or_mask` (0F 26). DF1_BAD_TYPE, DF1_NO_ROOM. */
+uint32_t df1_payload_modify(const df1_address *address, uint16_t and_mask, uint16_t or_mask, uint8_t *into, size_t room,
+                            size_t *length);
+
+/* The payload that sets the bit of an address, or clears it, and leaves the other bits of the word as they are (0F 26).
+ * DF1_BAD_TYPE; DF1_NO_BIT where the address has none, or one over 15; DF1_NO_ROOM. */
+uint32_t df1_payload_bit(const df1_address *address, bool on, uint8_t *into, size_t room, size_t *length);
+
+/* The payload that asks for the `count` bytes at `bytes` back (06 00), at most 243. DF1_TOO_MUCH_DATA, DF1_NO_ROOM. */
+uint32_t df1_payload_echo(const uint8_t *bytes, size_t count, uint8_t *into, size_t room, size_t *length);
+
+/* The payload that asks for the status of a station (06 03): 2 bytes. DF1_NO_ROOM. */
+uint32_t df1_payload_status(uint8_t *into, size_t room, size_t *length);
+
+/* What a reply tells. */
+typedef struct df1_answer {
+    uint8_t sts;        /* 0 where the command was executed */
+    uint8_t ext;        /* EXT STS where sts is 0xF0, else 0 */
+    size_t data;        /* where the data begins in the reply: at 6, or at 7 where sts is 0xF0 */
+    size_t data_length; /* how many bytes it has */
+} df1_answer;
+
+/* What the `length` bytes of a reply tell, DST first. DF1_NO_REPLY where they are under 6, or under 7 with STS F0. */
+uint32_t df1_reply_read(const uint8_t *reply, size_t length, df1_answer *answer);
+
+/* The text of STS and EXT STS, as "there is no such file, element or sub-element", with a zero byte at its end, into the `room` bytes
+ * at `into`. EXT STS makes no difference where STS isn't F0; what the manual doesn't list has the text "see the manual of the
+ * controller". `*length` is how many bytes the text has with that zero, at most 80. DF1_NO_ROOM. */
+uint32_t df1_status_text(uint8_t sts, uint8_t ext, char *into, size_t room, size_t *length);
+
+/* What the data of a typed read is. */
+typedef struct df1_typed {
+    uint16_t kind;      /* of an element: 2 bit string, 4 integer, 8 floating point */
+    uint16_t size;      /* bytes of an element */
+    bool is_array;      /* whether it is an array of elements */
+    size_t data;        /* where the words of the elements begin in what was read */
+    size_t data_length; /* how many bytes they have, each word low byte first */
+} df1_typed;
+
+/* What the `length` bytes of data of a reply to a typed read are: behind the parameter of an element, alone or behind that of an array,
+ * the words. DF1_NO_TYPED_DATA where a parameter can't be read, or an array has another number of bytes than it says. */
+uint32_t df1_typed_read(const uint8_t *data, size_t length, df1_typed *typed);
+
 /* ---- How a line does ----
  *
  * Counts over what the calls above told, kept by the caller: all zeros at first. */
@@ -563,6 +682,7 @@ DF1_NOT_NULL(df1_read_files, const df1_file)
 DF1_NOT_NULL(df1_read_words, const df1_word)
 DF1_NOT_NULL(df1_write_bytes, uint8_t)
 DF1_NOT_NULL(df1_write_text, char)
+DF1_NOT_NULL(df1_read_text, const char)
 DF1_NOT_NULL(df1_write_numbers, uint32_t)
 DF1_NOT_NULL(df1_read_values, const uint16_t)
 DF1_NOT_NULL(df1_write_values, uint16_t)
@@ -604,6 +724,23 @@ DF1_NOT_NULL(df1_write_values, uint16_t)
     df1_end_changed(end, file, first, df1_write_values(seen), count, place)
 #define df1_end_set_words(end, file, first, values, count) \
     df1_end_set_words(end, file, first, df1_read_values(values), count)
+#define df1_address_read(text, length, address) df1_address_read(df1_read_text(text), length, address)
+#define df1_address_text(address, into, room, length) df1_address_text(address, df1_write_text(into), room, length)
+#define df1_payload_read(command, address, count, into, room, length) \
+    df1_payload_read(command, address, count, df1_write_bytes(into), room, length)
+#define df1_payload_write(command, address, words, count, into, room, length) \
+    df1_payload_write(command, address, df1_read_values(words), count, df1_write_bytes(into), room, length)
+#define df1_payload_masked(address, mask, words, count, into, room, length) \
+    df1_payload_masked(address, mask, df1_read_values(words), count, df1_write_bytes(into), room, length)
+#define df1_payload_modify(address, and_mask, or_mask, into, room, length) \
+    df1_payload_modify(address, and_mask, or_mask, df1_write_bytes(into), room, length)
+#define df1_payload_bit(address, on, into, room, length) df1_payload_bit(address, on, df1_write_bytes(into), room, length)
+#define df1_payload_echo(bytes, count, into, room, length) \
+    df1_payload_echo(df1_read_bytes(bytes), count, df1_write_bytes(into), room, length)
+#define df1_payload_status(into, room, length) df1_payload_status(df1_write_bytes(into), room, length)
+#define df1_reply_read(reply, length, answer) df1_reply_read(df1_read_bytes(reply), length, answer)
+#define df1_status_text(sts, ext, into, room, length) df1_status_text(sts, ext, df1_write_text(into), room, length)
+#define df1_typed_read(data, length, typed) df1_typed_read(df1_read_bytes(data), length, typed)
 
 #ifdef __cplusplus
 }

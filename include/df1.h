@@ -212,8 +212,8 @@ typedef struct df1_duplex {
     bool crc;           /* CRC, and not BCC, ends its frames */
     bool embed;         /* responses may stand inside the frames that the end gives */
     uint32_t ack_ticks; /* ticks without a response until it asks with an ENQ: 1 to 1,000,000 */
-    uint32_t max_naks;  /* how many NAKs one message may have before it is given up: 0 to 255 */
-    uint32_t max_enqs;  /* how many ENQs one message may cost before it is given up: 0 to 255 */
+    uint32_t max_naks;  /* maximum retransmissions of one message after NAK: 0 to 255 */
+    uint32_t max_enqs;  /* maximum ENQs for one message: 0 to 255 */
     uint32_t reserved[4];
 } df1_duplex;
 
