@@ -555,14 +555,15 @@ uint32_t df1_address_text(const df1_address *address, char *into, size_t room, s
 enum df1_command {
     DF1_WORD_RANGE = 0, /* 0F 01 and 0F 00: words of a PLC-5; 122 can be read and 118 written, fewer with a long address */
     DF1_TYPED = 1,      /* 0F 68 and 0F 67: elements of a PLC-5, of no Timer, Counter or Control file, without a sub-element; 120 of
-                         * one word or 59 floats can be read, and 116 words written, fewer with a long address */
-    DF1_LOGICAL_2 = 2,  /* 0F A1 and 0F A9: words of an SLC, without a sub-element; 122 can be read and 119 written */
+                         * one word or 59 floats can be read, and 116 of one word or 57 floats written, fewer with a long address */
+    DF1_LOGICAL_2 = 2,  /* 0F A1 and 0F A9: words of an SLC, without a sub-element; 122 can be read and 119 written, fewer with a long
+                         * address */
     DF1_LOGICAL_3 = 3   /* 0F A2 and 0F AA: words of an SLC; 122 can be read and 119 written, fewer with a long address */
 };
 
-/* The payload that reads `count` words from an address on, of a typed command `count` elements, into the `room` bytes at `into`, at
- * most 245. The bit of the address makes no difference. `*length` is how many bytes the payload has. The first of DF1_BAD_COMMAND,
- * DF1_BAD_TYPE, DF1_NO_ELEMENT_TYPE, DF1_NO_SUB, DF1_NO_DATA, DF1_TOO_MUCH_DATA, DF1_NO_ROOM. */
+/* The payload that reads `count` words from an address on, of a typed command `count` elements, into the `room` bytes at `into`. The bit
+ * of the address makes no difference. `*length` is how many bytes the payload has, at most 245, here and in the calls below. The first of
+ * DF1_BAD_COMMAND, DF1_BAD_TYPE, DF1_NO_ELEMENT_TYPE, DF1_NO_SUB, DF1_NO_DATA, DF1_TOO_MUCH_DATA, DF1_NO_ROOM. */
 uint32_t df1_payload_read(uint32_t command, const df1_address *address, uint16_t count, uint8_t *into, size_t room, size_t *length);
 
 /* The payload that writes the `count` words at `words` from an address on; a float is two of them, the low one first. The first of

@@ -1,14 +1,11 @@
 //! The payload of each call, or the code of the first fault.
 
-ghost use Rattle.std.specs.Prelude.{◌≡◌, IfOk, IfSome};
+ghost use Rattle.std.specs.Prelude.{◌≡◌, IfOk};
 ghost use Rattle.std.specs.Result.{result_map_both};
 ghost use Rattle.plc_commands.specs.Order.{Echo, Status};
-ghost use Rattle.command_payloads.specs.Faults.{answer_of, unless};
-ghost use Rattle.command_payloads.specs.Orders.{SpellsPlc, SpellsSlc, bit_order, masked_write_order, read_modify_write_order};
+ghost use Rattle.command_payloads.specs.Orders.{SpellsPlc};
 ghost use Rattle.command_payloads.specs.Payloads as bytes;
-ghost use Rattle.c_payloads.specs.Commands.{SpellsRead, SpellsWrite, command_of};
-ghost use Rattle.c_payloads.specs.Parts.{address_in};
-ghost use Rattle.c_payloads.specs.Payloads.{bit_told, echo_told, masked_told, modify_told, read_told, write_told};
+ghost use Rattle.c_payloads.specs.Payloads.{IsBit, IsMasked, IsModify, IsRead, IsWrite, bit_told, echo_told, masked_told, modify_told, read_told, write_told};
 
 use crate::commands::{add_read, add_write, command_of};
 use crate::faults::payload_code;
@@ -21,7 +18,7 @@ use command_payloads::{bit_write, echo, masked_write, read_modify_write, station
 /// commands). Else the first of these comes: `BadCommand`, `BadType`, what stands against the payload.
 pub fn read_payload(command: u32, at: &AddressParts, count: u16) -> Result<ArrayVec<u8, 245>, Code>
     ensures told { result_map_both (λ payload. payload.items) (λ code. code) result ≡ read_told command at.now count }
-    ensures spelled { IfOk result (λ payload. IfSome (command_of command) (λ command. IfSome (address_in at.now) (λ place. SpellsRead command place count payload.items))) }
+    ensures spelled { IfOk result (λ payload. IsRead command at.now count payload.items) }
 {
     let Some(command) = command_of(command) else {
         return Err(Code::BadCommand);
@@ -44,7 +41,7 @@ pub fn write_payload(
     words: &[u16],
 ) -> Result<ArrayVec<u8, 245>, Code>
     ensures told { result_map_both (λ payload. payload.items) (λ code. code) result ≡ write_told command at.now words.now }
-    ensures spelled { IfOk result (λ payload. IfSome (command_of command) (λ command. IfSome (address_in at.now) (λ place. SpellsWrite command place words.now payload.items))) }
+    ensures spelled { IfOk result (λ payload. IsWrite command at.now words.now payload.items) }
 {
     let Some(command) = command_of(command) else {
         return Err(Code::BadCommand);
@@ -67,7 +64,7 @@ pub fn masked_payload(
     words: &[u16],
 ) -> Result<ArrayVec<u8, 245>, Code>
     ensures told { result_map_both (λ payload. payload.items) (λ code. code) result ≡ masked_told at.now mask words.now }
-    ensures spelled { IfOk result (λ payload. IfSome (address_in at.now) (λ place. SpellsSlc (masked_write_order place mask words.now) payload.items)) }
+    ensures spelled { IfOk result (λ payload. IsMasked at.now mask words.now payload.items) }
 {
     let Some(place) = address_in(at) else {
         return Err(Code::BadType);
@@ -83,7 +80,7 @@ pub fn masked_payload(
 /// `BadType`. The bit of the address makes no difference.
 pub fn modify_payload(at: &AddressParts, and: u16, or: u16) -> Result<ArrayVec<u8, 245>, Code>
     ensures told { result_map_both (λ payload. payload.items) (λ code. code) result ≡ modify_told at.now and or }
-    ensures spelled { IfOk result (λ payload. IfSome (address_in at.now) (λ place. SpellsPlc (read_modify_write_order place and or) payload.items)) }
+    ensures spelled { IfOk result (λ payload. IsModify at.now and or payload.items) }
 {
     let Some(place) = address_in(at) else {
         return Err(Code::BadType);
@@ -97,7 +94,7 @@ pub fn modify_payload(at: &AddressParts, and: u16, or: u16) -> Result<ArrayVec<u
 /// commands, read-modify-write). Else the first of these comes: `BadType`; `NoBit` where the address has none, or one over 15.
 pub fn bit_payload(at: &AddressParts, on: bool) -> Result<ArrayVec<u8, 245>, Code>
     ensures told { result_map_both (λ payload. payload.items) (λ code. code) result ≡ bit_told at.now on }
-    ensures spelled { IfOk result (λ payload. IfSome (address_in at.now) (λ place. IfSome place.bit (λ bit. SpellsPlc (bit_order place bit on) payload.items))) }
+    ensures spelled { IfOk result (λ payload. IsBit at.now on payload.items) }
 {
     let Some(place) = address_in(at) else {
         return Err(Code::BadType);

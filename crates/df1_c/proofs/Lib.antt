@@ -4,3 +4,4 @@ mod Heap
 pub mod Making
 mod Pointed
 mod RunsArrived
+mod Spelled

@@ -1,11 +1,13 @@
 //! The payloads of commands, as an end issues them: CMD and what follows TNS.
 
-ghost use Rattle.std.specs.Prelude.{◌≡◌, ◌≤◌, length, IfOk};
+ghost use Rattle.std.specs.Prelude.{◌≡◌, ◌≤◌, length, take, IfOk};
 ghost use Rattle.std.specs.Result.{result_map_both};
+ghost use Rattle.plc_commands.specs.Order.{Echo, Status};
+ghost use Rattle.command_payloads.specs.Orders.{SpellsPlc};
 ghost use Rattle.command_payloads.specs.Payloads.{status_payload};
 ghost use Rattle.c_ends.specs.Code.{code_number};
 ghost use Rattle.c_calls.specs.Copied.{copied, room_code};
-ghost use Rattle.c_payloads.specs.Payloads.{bit_told, echo_told, masked_told, modify_told, read_told, write_told};
+ghost use Rattle.c_payloads.specs.Payloads.{IsBit, IsMasked, IsModify, IsRead, IsWrite, bit_told, echo_told, masked_told, modify_told, read_told, write_told};
 ghost use Rattle.df1_c.specs.Payloads.{given_code, given_count, given_into};
 
 use arrayvec::ArrayVec;
@@ -30,6 +32,7 @@ pub extern "C" fn df1_payload_read(
     ensures bytes { into.new ≡ given_into into.old (read_told command address.now words) }
     ensures count { count.new ≡ given_count count.old (read_told command address.now words) }
     ensures most { IfOk (read_told command address.now words) (λ _. count.new ≤ 245) }
+    ensures spelled { IfOk (read_told command address.now words) (λ given. length given ≤ length into.old → IsRead command address.now words (take count.new into.new)) }
 {
     give(read_payload(command, address, words), into, count)
 }
@@ -47,6 +50,7 @@ pub extern "C" fn df1_payload_write(
     ensures bytes { into.new ≡ given_into into.old (write_told command address.now words.now) }
     ensures count { count.new ≡ given_count count.old (write_told command address.now words.now) }
     ensures most { IfOk (write_told command address.now words.now) (λ _. count.new ≤ 245) }
+    ensures spelled { IfOk (write_told command address.now words.now) (λ given. length given ≤ length into.old → IsWrite command address.now words.now (take count.new into.new)) }
 {
     give(write_payload(command, address, words), into, count)
 }
@@ -64,6 +68,7 @@ pub extern "C" fn df1_payload_masked(
     ensures bytes { into.new ≡ given_into into.old (masked_told address.now mask words.now) }
     ensures count { count.new ≡ given_count count.old (masked_told address.now mask words.now) }
     ensures most { IfOk (masked_told address.now mask words.now) (λ _. count.new ≤ 245) }
+    ensures spelled { IfOk (masked_told address.now mask words.now) (λ given. length given ≤ length into.old → IsMasked address.now mask words.now (take count.new into.new)) }
 {
     give(masked_payload(address, mask, words), into, count)
 }
@@ -81,6 +86,7 @@ pub extern "C" fn df1_payload_modify(
     ensures bytes { into.new ≡ given_into into.old (modify_told address.now and_mask or_mask) }
     ensures count { count.new ≡ given_count count.old (modify_told address.now and_mask or_mask) }
     ensures most { IfOk (modify_told address.now and_mask or_mask) (λ _. count.new ≤ 245) }
+    ensures spelled { IfOk (modify_told address.now and_mask or_mask) (λ given. length given ≤ length into.old → IsModify address.now and_mask or_mask (take count.new into.new)) }
 {
     give(modify_payload(address, and_mask, or_mask), into, count)
 }
@@ -97,6 +103,7 @@ pub extern "C" fn df1_payload_bit(
     ensures bytes { into.new ≡ given_into into.old (bit_told address.now on) }
     ensures count { count.new ≡ given_count count.old (bit_told address.now on) }
     ensures most { IfOk (bit_told address.now on) (λ _. count.new ≤ 245) }
+    ensures spelled { IfOk (bit_told address.now on) (λ given. length given ≤ length into.old → IsBit address.now on (take count.new into.new)) }
 {
     give(bit_payload(address, on), into, count)
 }
@@ -108,6 +115,7 @@ pub extern "C" fn df1_payload_echo(bytes: &[u8], into: &mut [u8], count: &mut us
     ensures bytes { into.new ≡ given_into into.old (echo_told bytes.now) }
     ensures count { count.new ≡ given_count count.old (echo_told bytes.now) }
     ensures most { IfOk (echo_told bytes.now) (λ _. count.new ≤ 245) }
+    ensures spelled { IfOk (echo_told bytes.now) (λ given. length given ≤ length into.old → SpellsPlc (Echo bytes.now) (take count.new into.new)) }
 {
     give(echo_payload(bytes), into, count)
 }
@@ -118,6 +126,7 @@ pub extern "C" fn df1_payload_status(into: &mut [u8], count: &mut usize) -> u32
     ensures code { result ≡ code_number (room_code 2 (length into.old)) }
     ensures bytes { into.new ≡ copied into.old status_payload }
     ensures count { count.new ≡ 2 }
+    ensures spelled { 2 ≤ length into.old → SpellsPlc Status (take 2 into.new) }
 {
     copy(&status_payload(), into, count).number()
 }
@@ -128,6 +137,7 @@ fn give(payload: Result<ArrayVec<u8, 245>, Code>, into: &mut [u8], count: &mut u
     ensures bytes { into.new ≡ given_into into.old (result_map_both (λ payload. payload.items) (λ code. code) payload) }
     ensures count { count.new ≡ given_count count.old (result_map_both (λ payload. payload.items) (λ code. code) payload) }
     ensures most { IfOk payload (λ _. count.new ≤ 245) }
+    ensures whole { IfOk payload (λ payload. length payload.items ≤ length into.old → take count.new into.new ≡ payload.items) }
 {
     match payload {
         Ok(payload) => copy(&payload, into, count).number(),
