@@ -92,6 +92,10 @@ class Out(Plain):
     _fields_ = [("there", c_bool), ("byte", u8), ("last", c_bool)]
 
 
+class State(Plain):
+    _fields_ = [("quiet", c_bool), ("holds", c_bool), ("polls", c_bool), ("station", u8)]
+
+
 class Given(Plain):
     _fields_ = [("length", c_size_t), ("last", c_bool), ("quiet", c_bool)]
 
@@ -133,6 +137,7 @@ parameters = {
     "df1_end_tick": [handle, POINTER(Turn), POINTER(u32), c_size_t],
     "df1_end_take": [handle, POINTER(Out)],
     "df1_end_quiet": [handle, POINTER(c_bool)],
+    "df1_end_state": [handle, POINTER(State)],
     "df1_end_bytes": [handle, c_char_p, c_size_t, length, POINTER(Step)],
     "df1_end_take_bytes": [handle, c_char_p, c_size_t, POINTER(Given)],
     "df1_end_issue": [handle, u8, c_char_p, c_size_t, POINTER(u32)],
@@ -381,6 +386,12 @@ class End(Held):
         quiet = c_bool()
         self.library.do("df1_end_quiet", self.handle, quiet)
         return quiet.value
+
+    def state(self) -> State:
+        """Whether it has something to give, whether a message of its own is under way, and which station it polls."""
+        state = State()
+        self.library.do("df1_end_state", self.handle, state)
+        return state
 
     def hear(self, data: Octets) -> Tuple[int, Step]:
         """Hears the first of these bytes, up to one after which there is something to do, or all: how many, and what the last did."""

@@ -4,5 +4,6 @@ pub mod Commands
 pub mod Copied
 pub mod Ends
 pub mod Runs
+pub mod State
 pub mod Transfers
 pub mod Words

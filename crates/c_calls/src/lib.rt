@@ -6,6 +6,7 @@ mod commands;
 mod copying;
 mod ends;
 mod runs;
+mod state;
 mod transfers;
 mod words;
 
@@ -13,5 +14,6 @@ pub use commands::{copy_reply, issue, tell_outcome};
 pub use copying::copy;
 pub use ends::{copy_body, give, hear, tell_quiet, tick};
 pub use runs::{GivenTold, give_run, hear_run};
+pub use state::{StateTold, tell_state};
 pub use transfers::{copy_pulled, pull, push, tell_pushed};
 pub use words::{set_word, set_words, tell_change, tell_file, tell_files, tell_word, tell_words};

@@ -7,11 +7,12 @@ ghost use Rattle.c_ends.specs.Code.{code_number};
 ghost use Rattle.c_calls.specs.Answers.{end_code, told_of};
 ghost use Rattle.c_calls.specs.Copied.{copied};
 ghost use Rattle.c_calls.specs.Ends.{after_byte, after_take, after_tick, body_code, body_of, gone_of, out_of, quiet_of, step_of, tick_code, turn_of, with_room};
+ghost use Rattle.c_calls.specs.State.{state_of};
 ghost use Rattle.df1_c.specs.Arrived.{Copies, HearsWhole, IsBodyOf, IsEndFor};
 ghost use Rattle.df1_c.specs.Held.{freed, holding};
 
 use crate::seat::Seat;
-use c_calls::{copy_body, give, hear, tell_quiet, tick};
+use c_calls::{StateTold, copy_body, give, hear, tell_quiet, tell_state, tick};
 use c_ends::{Code, OutTold, StepTold, TurnTold};
 use std::alloc::Global;
 use std::mem::ManuallyDrop;
@@ -127,6 +128,22 @@ pub extern "C" fn df1_end_quiet(alloc: Global, end: &mut Seat, quiet: &mut bool)
         return Code::NoHandle.number();
     };
     let code = tell_quiet(&held, quiet);
+    *end = Seat::of(held);
+    code.number()
+}
+
+/// Tells the state of the end.
+#[tactic(auto, unfolding(crate::specs::Held::value_in))]
+#[unsafe(no_mangle)]
+pub extern "C" fn df1_end_state(alloc: Global, end: &mut Seat, state: &mut StateTold) -> u32
+    ensures code { result ≡ code_number (end_code (holding end.old)) }
+    ensures same { holding end.new ≡ holding end.old }
+    ensures told { state.new ≡ told_of (holding end.old) state_of state.old }
+{
+    let Some(held) = end.take(alloc) else {
+        return Code::NoHandle.number();
+    };
+    let code = tell_state(&held, state);
     *end = Seat::of(held);
     code.number()
 }

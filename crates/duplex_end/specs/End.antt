@@ -43,6 +43,16 @@ new_end setup host = record {
 abbrev pub with_host : {H : Type 0} → EndState H → H → EndState H
 with_host e host = record e { host = host }
 
+-- a sender has a message
+abbrev pub has_message : Phase → Bool
+has_message phase.Idle = false
+has_message phase.Sending = true
+has_message phase.Waiting = true
+
+-- the end has a message of its host that was neither acknowledged nor given up
+abbrev pub holds_message : {H : Type 0} → EndState H → Bool
+holds_message e = has_message (phase_of e.sender)
+
 -- ---- what the parts make of an act, of a fate and of a byte that was given
 
 -- the sender hears ACK and NAK

@@ -31,7 +31,7 @@ ghost use Rattle.df1_frame.specs.Grammar.{full_duplex};
 ghost use Rattle.df1_frame.specs.Standing.{lent};
 ghost use Rattle.duplex_receiver.specs.Receiver.{body_at};
 ghost use Rattle.embedded_response.specs.Giving.{chosen, take};
-ghost use Rattle.duplex_end.specs.End.{new_end, with_host, end_after_byte, step_at_byte, answered, answer_of, end_after_tick, turn_at_tick, gone_at_tick, next_place, begun_next, given_next, end_after_take, out_at_take};
+ghost use Rattle.duplex_end.specs.End.{holds_message, new_end, with_host, end_after_byte, step_at_byte, answered, answer_of, end_after_tick, turn_at_tick, gone_at_tick, next_place, begun_next, given_next, end_after_take, out_at_take};
 ghost use Rattle.duplex_end.specs.Joined.{most_left};
 ghost use Rattle.duplex_end.specs.Arrived.{StandsFor, HearsWhole};
 ghost use Rattle.duplex_end.specs.contracts.End.{the_row};
@@ -200,6 +200,16 @@ impl<H: Host + Drop> End<H> {
         ensures { result.now ≡ self.now.sending }
     {
         &self.sending
+    }
+
+    /// Whether it has a message of its host that was neither acknowledged nor given up.
+    pub fn holds_message(&self) -> bool
+        ensures { result ≡ holds_message self.now }
+    {
+        match self.sender.phase() {
+            Phase::Idle => false,
+            Phase::Sending | Phase::Waiting => true,
+        }
     }
 
     /// Gives an act at the last byte heard its effect, and says what the end made of it. It isn't inlined, since it is

@@ -1,5 +1,6 @@
 -- A half-duplex master over any host: what a byte, a tick and a take do to it. A host's meaning is the record of its ghost members.
 use Rattle.std.specs.Prelude.{ℕ, ◌+◌, ◌-◌, Bool, true, false, List, [], Option, Some, None, is_some, nat_lt, ◌==◌, not, ◌&&◌, slice_get, slice_index, if◌then◌else◌}
+use Rattle.std.specs.Option.{option_map}
 use Rattle.df1_base.specs.declared.host.Host.{Ghosts}
 use Rattle.df1_base.specs.declared.host.Did.{Did}
 use Rattle.df1_base.specs.declared.host.Fate.{Fate}
@@ -55,6 +56,25 @@ new_master setup numbers host = record {
 -- the master with another host
 abbrev pub with_host : {H : Type 0} → MasterState H → H → MasterState H
 with_host e host = record e { host = host }
+
+-- a message is on its way, neither acknowledged nor given up
+abbrev pub has_message : Phase → Bool
+has_message phase.Idle = false
+has_message (phase.WaitsForAck left resent) = true
+has_message (phase.WaitsAfterPoll left place) = false
+
+-- the master has a message of its host that was neither acknowledged nor given up
+abbrev pub holds_message : {H : Type 0} → MasterState H → Bool
+holds_message e = has_message e.phase
+
+-- the station that is being polled, or is to answer its poll
+abbrev pub polled_by : List Station → Phase → Option ℕ
+polled_by stations phase.Idle = None
+polled_by stations (phase.WaitsForAck left resent) = None
+polled_by stations (phase.WaitsAfterPoll left place) = option_map (λ station. station.number) (slice_get stations place)
+
+abbrev pub polled_station : {H : Type 0} → MasterState H → Option ℕ
+polled_station e = polled_by e.stations e.phase
 
 -- the body that is lent
 abbrev pub body_of : {H : Type 0} → MasterState H → List ℕ

@@ -32,7 +32,7 @@ ghost use Rattle.half_frame.specs.MasterStanding.{held as held_of, held_at, lent
 ghost use Rattle.half_mouth.specs.Giving.{bytes_left};
 ghost use Rattle.df1_base.specs.Host.{IsBody};
 ghost use Rattle.half_master.specs.Stations.{AreStations, is_listed};
-ghost use Rattle.half_master.specs.Master.{new_master, with_host, body_of, effect_heard, effect_at_tick, performed, master_after_byte, step_at_byte, master_after_tick, turn_at_tick, gone_at_tick, transmitted, acknowledged, polled, begun, begun_with, message_next, given_next, master_after_take, out_at_take, is_quiet};
+ghost use Rattle.half_master.specs.Master.{holds_message, polled_station, new_master, with_host, body_of, effect_heard, effect_at_tick, performed, master_after_byte, step_at_byte, master_after_tick, turn_at_tick, gone_at_tick, transmitted, acknowledged, polled, begun, begun_with, message_next, given_next, master_after_take, out_at_take, is_quiet};
 ghost use Rattle.half_master.specs.Fitting.{IsMessage, Suits, most_left};
 ghost use Rattle.half_master.specs.Arrived.{StandsFor, HearsWhole};
 ghost use Rattle.half_master.specs.contracts.Master.{the_row};
@@ -215,6 +215,26 @@ impl<H: Host + Drop> Master<H> {
         ensures { result.now ≡ self.now.sending }
     {
         &self.sending
+    }
+
+    /// Whether it has a message of its host that was neither acknowledged nor given up.
+    pub fn holds_message(&self) -> bool
+        ensures { result ≡ holds_message self.now }
+    {
+        match self.phase {
+            Phase::WaitsForAck { .. } => true,
+            Phase::Idle | Phase::WaitsAfterPoll { .. } => false,
+        }
+    }
+
+    /// The station whose poll is being given, or which is to answer it.
+    pub fn polled_station(&self) -> Option<u8>
+        ensures { result ≡ polled_station self.now }
+    {
+        match self.phase {
+            Phase::WaitsAfterPoll { place, .. } => Some(self.stations.get(place)?.number),
+            Phase::Idle | Phase::WaitsForAck { .. } => None,
+        }
     }
 
     /// How many bytes the ear holds, at most 250.

@@ -55,6 +55,10 @@ new_slave setup host = record {
 abbrev pub with_host : {H : Type 0} → SlaveState H → H → SlaveState H
 with_host s host = record s { host = host }
 
+-- the slave has a message of its host that was neither acknowledged nor given up
+abbrev pub holds_message : {H : Type 0} → SlaveState H → Bool
+holds_message s = is_some s.held
+
 -- nothing is to be given
 abbrev pub is_quiet : {H : Type 0} → SlaveState H → Bool
 is_quiet s = is_done s.mouth && is_none s.responds

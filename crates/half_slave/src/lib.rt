@@ -36,7 +36,7 @@ ghost use Rattle.half_frame.specs.declared.heard.SlaveHeard.TheVariants.{Address
 ghost use Rattle.half_frame.specs.SlaveGrammar.{slave_hears};
 ghost use Rattle.half_frame.specs.SlaveStanding.{lent};
 ghost use Rattle.half_mouth.specs.Giving.{bytes_left};
-ghost use Rattle.half_slave.specs.Slave.{new_slave, with_host, is_quiet, body_of, heard_at, listened, verdict, verdict_act, received, told, sent, answered, act_at, fate_at, slave_after_heard, step_at_heard, slave_after_byte, step_at_byte, response_code, mouth_at_take, responds_at_take, slave_after_take, out_at_take, left_to_give};
+ghost use Rattle.half_slave.specs.Slave.{holds_message, new_slave, with_host, is_quiet, body_of, heard_at, listened, verdict, verdict_act, received, told, sent, answered, act_at, fate_at, slave_after_heard, step_at_heard, slave_after_byte, step_at_byte, response_code, mouth_at_take, responds_at_take, slave_after_take, out_at_take, left_to_give};
 ghost use Rattle.half_slave.specs.Arrived.{StandsFor, TellsMessage};
 ghost use Rattle.half_slave.specs.contracts.Slave.{the_row};
 
@@ -179,6 +179,13 @@ impl<H: Host + Drop> Slave<H> {
         ensures { result.now ≡ self.now.sending }
     {
         &self.sending
+    }
+
+    /// Whether it has a message of its host that was neither acknowledged nor given up.
+    pub fn holds_message(&self) -> bool
+        ensures { result ≡ holds_message self.now }
+    {
+        self.held.is_some()
     }
 
     /// Hears a byte; a header or a poll closes the wait.
