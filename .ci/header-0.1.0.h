@@ -133,7 +133,7 @@ uint32_t df1_spell_poll(uint8_t station, uint8_t *into, size_t room, size_t *len
  * "no code of df1". DF1_NO_ROOM. */
 uint32_t df1_code_text(uint32_t code, char *into, size_t room, size_t *length);
 
-/* What a decoder holds nothing of, and what it is. */
+/* A decoder of one side of a line. */
 typedef struct df1_decoder {
     void *at;
     bool holds;
@@ -350,7 +350,7 @@ typedef struct df1_step {
 enum df1_turn_kind {
     DF1_TURN_STILL = 0, /* nothing that is told */
     DF1_TURN_ASK = 1,   /* the end asks for a response, by an ENQ */
-    DF1_TURN_FAILED = 2 /* it gave a message up; `news` tells what that was */
+    DF1_TURN_FAILED = 2 /* it gave a message up; `news` tells what that was, but of a command that was unanswered already */
 };
 
 typedef struct df1_turn {
@@ -390,6 +390,18 @@ uint32_t df1_end_take(df1_end *end, df1_out *out);
 
 /* Whether the end has nothing to give, so that df1_end_take gives none. DF1_NO_HANDLE. */
 uint32_t df1_end_quiet(df1_end *end, bool *quiet);
+
+/* The state of an end. */
+typedef struct df1_state {
+    bool quiet;      /* it has nothing to give */
+    bool holds;      /* a message of its own is under way, neither acknowledged nor given up */
+    bool polls;      /* it is a master that gives a poll, or waits for the answer to one */
+    uint8_t station; /* the station that it polls; 0 where `polls` isn't set */
+} df1_state;
+
+/* Tells the state of the end. A DLE ACK was that of a message where `holds` was set before its last byte and isn't after it. A poll is
+ * over when `polls` goes: it was answered where that is at a byte, and wasn't in time where it is at a tick. DF1_NO_HANDLE. */
+uint32_t df1_end_state(df1_end *end, df1_state *state);
 
 /* ---- Runs of bytes ----
  *

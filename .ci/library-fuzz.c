@@ -228,6 +228,7 @@ static void look_at(struct said *said, df1_end *end, unsigned what)
     df1_turn turn;
     df1_file file;
     df1_given given;
+    df1_state state;
     df1_step step;
     size_t told = 0, room = number_of(said) % 260;
     uint8_t *into = block_of(said, room);
@@ -239,7 +240,7 @@ static void look_at(struct said *said, df1_end *end, unsigned what)
     else if (what == 1)
         look(df1_end_body(end, into, room, &told), &told, room, 250);
     else if (what == 2)
-        MUST(df1_end_quiet(end, &quiet) <= DF1_NO_HANDLE);
+        MUST(df1_end_quiet(end, &quiet) <= DF1_NO_HANDLE && df1_end_state(end, &state) <= DF1_NO_HANDLE);
     else if (what == 3)
         MUST(df1_end_set_word(end, (uint16_t)number_of(said), number_of(said), value) <= DF1_NO_STATION);
     else if (what == 4)

@@ -291,6 +291,7 @@ struct written {
     df1_out out;
     bool quiet;
     df1_given given;
+    df1_state state;
     uint32_t number;
     uint16_t values[2];
     uint16_t value;
@@ -312,7 +313,7 @@ static int no_end(df1_end *end)
     ROW(df1_end_tick(end, &now.turn, now.gone, 16) == DF1_NO_HANDLE);
     ROW(df1_end_tick(end, &now.turn, now.gone, 15) == DF1_NO_HANDLE);
     ROW(df1_end_take(end, &now.out) == DF1_NO_HANDLE);
-    ROW(df1_end_quiet(end, &now.quiet) == DF1_NO_HANDLE);
+    ROW(df1_end_quiet(end, &now.quiet) == DF1_NO_HANDLE && df1_end_state(end, &now.state) == DF1_NO_HANDLE);
     ROW(df1_end_bytes(end, payload, 3, &now.length, &now.step) == DF1_NO_HANDLE);
     ROW(df1_end_take_bytes(end, now.bytes, 8, &now.given) == DF1_NO_HANDLE);
     ROW(df1_end_issue(end, 1, payload, 3, &now.number) == DF1_NO_HANDLE);

@@ -133,6 +133,14 @@ static int give(df1_end *end, const struct row *row)
     return 0;
 }
 
+/* Whether an end that has nothing to give holds a message, and polls this station, or none where it is 0. */
+static bool has_state(df1_end *end, bool holds, uint8_t station)
+{
+    df1_state state;
+
+    return df1_end_state(end, &state) == DF1_DONE && state.quiet && state.holds == holds && state.polls == (station != 0) && state.station == station;
+}
+
 /* Plays rows over ends, and answers the line of what failed. */
 static int play(const char *name, df1_end *ends, const struct row *rows, size_t count)
 {
@@ -442,14 +450,23 @@ static int polled(void)
         {1, STILL, POLL3, NOTHING, "10 04"},
     };
     df1_end ends[3] = {DF1_NOTHING, DF1_NOTHING, DF1_NOTHING};
-    uint32_t number;
+    uint32_t number, gone[16];
+    df1_turn turn;
     int at;
 
     ROW(master(link, stations, 2, &ends[0]) == DF1_DONE && slave(3, 3, &ends[1]) == DF1_DONE && slave(3, 5, &ends[2]) == DF1_DONE);
     ROW(df1_end_issue(&ends[0], 3, write_1234, sizeof write_1234, &number) == DF1_DONE);
-    ROW(play("a polled line", ends, rows, 3) == 0);
+    ROW(play("a polled line", ends, rows, 3) == 0 && has_state(&ends[0], true, 0) && has_state(&ends[1], false, 0));
     ROW(has_body(&ends[2], "03 00 0F 00 01 00 AA 02 07 89 00 00 34 12"));
-    ROW(play("a polled line", ends, rows + 3, COUNT(rows) - 3) == 0);
+    ROW(play("a polled line", ends, rows + 3, 1) == 0 && has_state(&ends[0], false, 0));
+    ROW(play("a polled line", ends, rows + 4, 3) == 0 && has_state(&ends[0], false, 3) && has_state(&ends[1], true, 0));
+    ROW(play("a polled line", ends, rows + 7, 2) == 0 && has_state(&ends[0], false, 0) && has_state(&ends[1], false, 0));
+    ROW(play("a polled line", ends, rows + 9, 4) == 0 && has_state(&ends[0], false, 5));
+    ROW(play("a polled line", ends, rows + 13, 1) == 0 && has_state(&ends[0], false, 0));
+    ROW(play("a polled line", ends, rows + 14, COUNT(rows) - 14) == 0 && has_state(&ends[0], false, 3));
+    /* The poll that nobody answers is over at its tenth tick. */
+    for (at = 1; at <= 10; at++)
+        ROW(df1_end_tick(&ends[0], &turn, gone, 16) == DF1_DONE && has_state(&ends[0], false, at < 10 ? 3 : 0));
     ROW(has_outcome(&ends[0], 1, DF1_REPLIED) && has_reply(&ends[0], 1, "00 03 4F 00 01 00"));
     ROW(has_word(&ends[0], 0) && has_word(&ends[1], 0x1234) && has_word(&ends[2], 0));
     for (at = 0; at < 3; at++)
