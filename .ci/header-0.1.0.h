@@ -1,21 +1,22 @@
 /* df1: the proved parts of a DF1 link (Allen-Bradley PLC-5 and SLC), for C and C++.
  *
  * Handles: a df1_end is one end of a link, a df1_decoder hears a side of a line without one. A handle is a plain struct of
- * yours that starts as DF1_NOTHING, `= DF1_NOTHING;`, which is all zeros. A call whose name ends in _make fills it, a call
+ * yours that starts as DF1_NOTHING, `= DF1_NOTHING;`, which is all zeros. A call with _make in its name fills it, a call
  * whose name ends in _free empties it; in between it goes to the other calls by its address. Its members are for the library
  * alone. What a call does with a handle that was copied, once one of the two copies was changed, isn't defined, freeing twice
  * through a copy among it; an empty handle, and one of another kind, is answered DF1_NO_HANDLE.
  * Codes: each call that can be refused answers a df1_code, DF1_DONE where it did what it is for. With another one neither the
  * handle nor what pointers lead to is changed, but that `*length` says how many bytes are there with DF1_NO_ROOM.
- * Threads: a call keeps no state besides the handle, so calls on two handles may run at a time. One handle has one call at a time: it
- * may go from thread to thread, by a mutex that each call on it holds, or by the start or the end of a thread.
+ * Threads: a call keeps no state besides the handle, so calls on two handles may run at a time. A handle belongs to one thread,
+ * the one that filled it.
  * Memory: what a call is handed it reads and writes only while it runs; it keeps no pointer. A handle takes its memory from
- * malloc: the calls whose names end in _make, df1_end_issue, df1_end_issue_from, df1_end_pull and df1_end_push take some, and say
+ * malloc: the calls with _make in their names, df1_end_issue, df1_end_issue_from, df1_end_pull and df1_end_push take some, and say
  * where there is none.
  * Time is the caller's: one call of df1_end_tick is one tick, as long as you like.
  * Outside: no call blocks, prints, reads a clock or ends the program.
  * Pointers: one that goes with a length of 0 may be null, as an empty vector's is; no other may. A caller who breaks this, or
- * tells a length beyond what he owns, has no promise at all. The calls themselves take no null pointer: the macros at the end of
+ * tells a length beyond what he owns, has no promise at all. What a call writes overlaps nothing else that it is handed, and each
+ * pointer is aligned for its type. The calls themselves take no null pointer: the macros at the end of
  * this header put another one in its place, so who calls them without the header (from another language, or by a pointer to a
  * function) does that himself.
  */
@@ -164,7 +165,7 @@ enum df1_heard {
     DF1_HEARD_BROKEN = 5,      /* F: a frame that was broken off by DLE and `byte` */
     DF1_HEARD_RESTART = 6,     /* F: a frame that was cut off by the DLE STX of the next */
     DF1_HEARD_ACK = 7,         /* F, M, S: DLE ACK */
-    DF1_HEARD_NAK = 8,         /* F, M, S: DLE NAK; M: it asks the slaves to drop what they keep */
+    DF1_HEARD_NAK = 8,         /* F, M, S: DLE NAK, and DLE 0F too; M: it asks the slaves to drop what they keep */
     DF1_HEARD_ENQ = 9,         /* F: DLE ENQ, outside a frame */
     DF1_HEARD_STRAY = 10,      /* F, M, S: `byte`, outside frames, messages and polls */
     DF1_HEARD_STRAY_PAIR = 11, /* F, M, S: DLE and `byte`, outside frames, messages and polls */
@@ -417,8 +418,8 @@ uint32_t df1_end_state(df1_end *end, df1_state *state);
  *     }
  */
 
-/* The end hears the first of `length` bytes: up to one at which there is something to do, since `act`, `news` or `whole` tells
- * something or the end has something to give then, or all of them where there is no such one. `*used` is how many it heard, and
+/* The end hears the first of `length` bytes: up to one at which there is something to do, since a member of its step isn't 0
+ * or the end has something to give then, or all of them where there is no such one. `*used` is how many it heard, and
  * `*step` what the last of them did: all zeros for none. DF1_NO_HANDLE. */
 uint32_t df1_end_bytes(df1_end *end, const uint8_t *bytes, size_t length, size_t *used, df1_step *step);
 
@@ -430,7 +431,8 @@ typedef struct df1_given {
 } df1_given;
 
 /* The end gives its next bytes into the `room` bytes at `into`: as many as there is room for, and 512 at most, up to the first that
- * ends a frame or message. DF1_NO_HANDLE. */
+ * ends a frame or message. A master's run also ends, perhaps with none, where it passes over a reply, as df1_end_take says: so take
+ * until `quiet`. With no room nothing is given. DF1_NO_HANDLE. */
 uint32_t df1_end_take_bytes(df1_end *end, uint8_t *into, size_t room, df1_given *given);
 
 /* ---- Commands that the end issues ---- */
@@ -509,7 +511,8 @@ uint32_t df1_end_word(df1_end *end, uint16_t file, uint32_t index, uint16_t *val
 /* Sets a word, as a program in the controller would. DF1_NO_HANDLE, DF1_NO_WORD. */
 uint32_t df1_end_set_word(df1_end *end, uint16_t file, uint32_t index, uint16_t value);
 
-/* The values of `count` words, from word `first` of the file on. DF1_NO_HANDLE; DF1_NO_WORD where the file doesn't have them all. */
+/* The values of `count` words, from word `first` of the file on. DF1_NO_HANDLE; DF1_NO_WORD where there is no such file or it doesn't have them all, for
+ * none of them where `first` is beyond its end. */
 uint32_t df1_end_words(df1_end *end, uint16_t file, uint32_t first, uint16_t *values, size_t count);
 
 /* Sets `count` words, from word `first` of the file on, as a program in the controller would: all of them or none.
@@ -558,7 +561,7 @@ typedef struct df1_address {
  * _BIT, _END. */
 uint32_t df1_address_read(const char *text, size_t length, df1_address *address);
 
-/* The text of an address, without zeros in front of a number and with a zero byte at its end, into the `room` bytes at `into`: a
+/* The text of an address, which df1_address_read reads where its numbers are at most 999, without zeros in front of a number and with a zero byte at its end, into the `room` bytes at `into`: a
  * sub-element by its number where it isn't 0, a bit where there is one. `*length` is how many bytes the text has with that zero, at
  * most 25. DF1_BAD_TYPE, DF1_NO_ROOM. */
 uint32_t df1_address_text(const df1_address *address, char *into, size_t room, size_t *length);
@@ -576,7 +579,7 @@ enum df1_command {
 /* The payload that reads `count` words from an address on, of a typed command `count` elements, into the `room` bytes at `into`. The bit
  * of the address makes no difference. `*length` is how many bytes the payload has, at most 245, here and in the calls below. The first of
  * DF1_BAD_COMMAND, DF1_BAD_TYPE, DF1_NO_ELEMENT_TYPE, DF1_NO_SUB, DF1_NO_DATA, DF1_TOO_MUCH_DATA, DF1_NO_ROOM. */
-uint32_t df1_payload_read(uint32_t command, const df1_address *address, uint16_t count, uint8_t *into, size_t room, size_t *length);
+uint32_t df1_payload_read(uint32_t command, const df1_address *address, uint32_t count, uint8_t *into, size_t room, size_t *length);
 
 /* The payload that writes the `count` words at `words` from an address on; a float is two of them, the low one first. The first of
  * DF1_BAD_COMMAND, DF1_BAD_TYPE, DF1_NO_ELEMENT_TYPE, DF1_NO_SUB, DF1_NO_DATA, DF1_TOO_MUCH_DATA for over 122 words, DF1_HALF_ELEMENT
@@ -593,7 +596,8 @@ uint32_t df1_payload_masked(const df1_address *address, uint16_t mask, const uin
 uint32_t df1_payload_modify(const df1_address *address, uint16_t and_mask, uint16_t or_mask, uint8_t *into, size_t room,
                             size_t *length);
 
-/* The payload that sets the bit of an address, or clears it, and leaves the other bits of the word as they are (0F 26).
+/* The payload that sets the bit of an address, or clears it, and leaves the other bits of the word as they are (0F 26). Here and above
+ * it isn't looked at whether the controller has the place.
  * DF1_BAD_TYPE; DF1_NO_BIT where the address has none, or one over 15; DF1_NO_ROOM. */
 uint32_t df1_payload_bit(const df1_address *address, bool on, uint8_t *into, size_t room, size_t *length);
 
@@ -611,7 +615,7 @@ typedef struct df1_answer {
     size_t data_length; /* how many bytes it has */
 } df1_answer;
 
-/* What the `length` bytes of a reply tell, DST first. DF1_NO_REPLY where they are under 6, or under 7 with STS F0. */
+/* What the `length` bytes of a reply tell, DST first; its CMD isn't looked at. DF1_NO_REPLY where they are under 6, or under 7 with STS F0. */
 uint32_t df1_reply_read(const uint8_t *reply, size_t length, df1_answer *answer);
 
 /* The text of STS and EXT STS, as "there is no such file, element or sub-element", with a zero byte at its end, into the `room` bytes
@@ -621,11 +625,11 @@ uint32_t df1_status_text(uint8_t sts, uint8_t ext, char *into, size_t room, size
 
 /* What the data of a typed read is. */
 typedef struct df1_typed {
-    uint16_t kind;      /* of an element: 2 bit string, 4 integer, 8 floating point */
-    uint16_t size;      /* bytes of an element */
+    uint16_t kind;      /* of an element, as it came: 2 bit string, 4 integer and 8 floating point are those of df1's files */
+    uint16_t size;      /* bytes of an element, as it came; it may be 0 */
     bool is_array;      /* whether it is an array of elements */
     size_t data;        /* where the words of the elements begin in what was read */
-    size_t data_length; /* how many bytes they have, each word low byte first */
+    size_t data_length; /* how many bytes they have, each word low byte first; perhaps no whole elements */
 } df1_typed;
 
 /* What the `length` bytes of data of a reply to a typed read are: behind the parameter of an element, alone or behind that of an array,

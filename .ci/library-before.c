@@ -1,4 +1,4 @@
-/* A program that uses each call of the first header, DF1_VERSION 0x000100, and none of a later one: it is compiled with that header,
+/* A program that was written with the first header, DF1_VERSION 0x000100, and knows no later one: it is compiled with that header,
  * which .ci/header-0.1.0.h keeps, and has to run on each later library of the same number. Two ends talk over a line that loses nothing,
  * and what is told has to be what the header says. Ends with 0 where it is. */
 #include <stdio.h>

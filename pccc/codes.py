@@ -19,11 +19,11 @@ CUSTOMARY = {2: "S", 3: "B", 4: "T", 5: "C", 6: "R", 7: "N", 8: "F"}
 # Each code in few words, and in a sentence.
 STS = {
     0x10: ("not understood", "the command or its format is unknown there"),
-    0x20: ("host can't communicate", "the host has a problem and can't communicate"),
-    0x30: ("host isn't there", "the remote host isn't there or is shut down"),
+    0x20: ("host can't communicate", "the host has a problem and will not communicate"),
+    0x30: ("host isn't there", "the remote host is missing, disconnected or shut down"),
     0x40: ("hardware fault", "the host couldn't complete the function because of a hardware fault"),
     0x50: ("no such address", "the address is wrong, or the memory is protected"),
-    0x60: ("not allowed", "the function isn't allowed because of its protection"),
+    0x60: ("not allowed", "command protection is set so that the function isn't allowed"),
     0x70: ("program mode", "the controller is in program mode"),
     0x80: ("no compatibility file", "there is no compatibility file, or the communication zone has a problem"),
 }
@@ -32,12 +32,12 @@ EXT = {
     0x02: ("too few levels", "the address has too few levels"),
     0x03: ("too many levels", "the address has too many levels"),
     0x06: ("no such element", "there is no such file, element or sub-element"),
-    0x07: ("wrong file or size", "the file or its size is wrong"),
-    0x08: ("not now", "it can't be done now"),
-    0x09: ("too long", "data or file is too long"),
+    0x07: ("wrong file or size", "the file has the wrong size"),
+    0x08: ("not now", "the request can't be completed: the situation has changed since it began"),
+    0x09: ("too long", "data or file is too large"),
     0x0A: ("past the end", "the address or the range is past the end of the file"),
     0x0B: ("access denied", "the access is denied"),
-    0x11: ("another type", "the file is of another type"),
+    0x11: ("another type", "the data type isn't allowed"),
 }
 
 

@@ -1,6 +1,6 @@
 """The library of df1 in Python, by ctypes: a Library is libdf1.so with its df1.h, an End and a Decoder are handles of it. df1.h says
 what each call does. A code other than DF1_DONE is raised as Refused, and a number that doesn't fit its C type as OverflowError.
-Bytes may be `bytes`, or whatever a memoryview takes."""
+Bytes may be `bytes`, or whatever a memoryview takes. An End and a Decoder stay on the thread that made them."""
 import ctypes
 import operator
 import os
@@ -19,9 +19,11 @@ LARGEST = {kind: 2 ** (8 * ctypes.sizeof(kind)) - 1 for kind in (u8, u16, u32, c
 
 def fitting(kind: Any, value: Any, name: str) -> Any:
     """The value, which ctypes would cut to the width of `kind` where that is a kind of number."""
-    if kind in LARGEST and not 0 <= operator.index(value) <= LARGEST[kind]:
+    if kind not in LARGEST:
+        return value
+    if not 0 <= operator.index(value) <= LARGEST[kind]:
         raise OverflowError(f"{name}: {value} is not in 0 to {LARGEST[kind]}")
-    return value
+    return operator.index(value)
 
 
 def octets(data: Octets) -> bytes:
@@ -157,7 +159,7 @@ parameters = {
     "df1_end_file": [handle, u32, POINTER(File)],
     "df1_address_read": [c_char_p, c_size_t, POINTER(Address)],
     "df1_address_text": [POINTER(Address), c_char_p, c_size_t, length],
-    "df1_payload_read": [u32, POINTER(Address), u16, c_char_p, c_size_t, length],
+    "df1_payload_read": [u32, POINTER(Address), u32, c_char_p, c_size_t, length],
     "df1_payload_write": [u32, POINTER(Address), POINTER(u16), c_size_t, c_char_p, c_size_t, length],
     "df1_payload_masked": [POINTER(Address), u16, POINTER(u16), c_size_t, c_char_p, c_size_t, length],
     "df1_payload_modify": [POINTER(Address), u16, u16, c_char_p, c_size_t, length],
@@ -205,17 +207,18 @@ class Library:
         at = next(((lib, header) for lib, header in found if lib.exists() and header.exists()), None)
         if at is None:
             raise FileNotFoundError("no libdf1.so with its df1.h: " + ", ".join(str(lib) for lib, _ in found))
-        shared = ctypes.CDLL(str(at[0]))
+        shared = ctypes.PyDLL(str(at[0]))  # which keeps the interpreter's lock: one call at a time
         header = at[1].read_text(encoding="ascii")
         for name, number in re.findall(r"\b(DF1_\w+) = (\w+)", header) + re.findall(r"#define (DF1_VERSION) (\w+)", header):
             setattr(self, name, int(number, 0))
+        shared.df1_version.restype = u32
+        if shared.df1_version() < self.DF1_VERSION:
+            raise OSError(f"{at[0]} is older than {at[1]}")
         for name, types in parameters.items():
             call = getattr(shared, name)
             call.argtypes = types
             call.restype = {"df1_bcc": u8, "df1_crc": u16}.get(name, u32)
             setattr(self, name, checked(name, types, call))
-        if self.df1_version() < self.DF1_VERSION:
-            raise OSError(f"{at[0]} is older than {at[1]}")
 
     def __getattr__(self, name: str) -> Any:
         """For those who check types: what isn't set above isn't there."""

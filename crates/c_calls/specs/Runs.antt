@@ -18,7 +18,7 @@ still = record { act = 0; did = 0; did_command = 0; news = 0; news_command = 0; 
 
 -- something is told of a step
 abbrev pub is_told : StepTold → Bool
-is_told step = not (step.act == 0) || (not (step.news == 0) || step.whole)
+is_told step = not (step.act == 0) || (not (step.did == 0) || (not (step.did_command == 0) || (not (step.news == 0) || (not (step.news_command == 0) || (step.whole || not (step.station == 0))))))
 
 -- what a byte did
 abbrev pub step_at : Held → ℕ → StepTold

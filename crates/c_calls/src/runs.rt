@@ -76,7 +76,13 @@ fn heard_run(held: &mut Held, bytes: &[u8]) -> (usize, StepTold)
 fn is_told(step: StepTold) -> bool
     ensures { result ≡ is_told step }
 {
-    step.act != 0 || step.news != 0 || step.whole
+    step.act != 0
+        || step.did != 0
+        || step.did_command != 0
+        || step.news != 0
+        || step.news_command != 0
+        || step.whole
+        || step.station != 0
 }
 
 /// Whether nothing is to be given.

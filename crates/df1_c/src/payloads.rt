@@ -1,6 +1,6 @@
 //! The payloads of commands, as an end issues them: CMD and what follows TNS.
 
-ghost use Rattle.std.specs.Prelude.{◌≡◌, ◌≤◌, length, take, IfOk};
+ghost use Rattle.std.specs.Prelude.{◌≡◌, ◌≤◌, length, take, IfOk, min};
 ghost use Rattle.std.specs.Result.{result_map_both};
 ghost use Rattle.plc_commands.specs.Order.{Echo, Status};
 ghost use Rattle.command_payloads.specs.Orders.{SpellsPlc};
@@ -18,22 +18,26 @@ use c_payloads::{
     status_payload, write_payload,
 };
 
+/// As many words as any more are told as: no message has room for them.
+const MANY_WORDS: u32 = 65535;
+
 /// Gives the payload that reads words from an address on, or elements by a typed command, into a buffer. `count` is how many
 /// bytes it has.
 #[unsafe(no_mangle)]
 pub extern "C" fn df1_payload_read(
     command: u32,
     address: &AddressParts,
-    words: u16,
+    words: u32,
     into: &mut [u8],
     count: &mut usize,
 ) -> u32
-    ensures code { result ≡ code_number (given_code (read_told command address.now words) (length into.old)) }
-    ensures bytes { into.new ≡ given_into into.old (read_told command address.now words) }
-    ensures count { count.new ≡ given_count count.old (read_told command address.now words) }
-    ensures most { IfOk (read_told command address.now words) (λ _. count.new ≤ 245) }
-    ensures spelled { IfOk (read_told command address.now words) (λ given. length given ≤ length into.old → IsRead command address.now words (take count.new into.new)) }
+    ensures code { result ≡ code_number (given_code (read_told command address.now (min words 65535)) (length into.old)) }
+    ensures bytes { into.new ≡ given_into into.old (read_told command address.now (min words 65535)) }
+    ensures count { count.new ≡ given_count count.old (read_told command address.now (min words 65535)) }
+    ensures most { IfOk (read_told command address.now (min words 65535)) (λ _. count.new ≤ 245) }
+    ensures spelled { IfOk (read_told command address.now (min words 65535)) (λ given. length given ≤ length into.old → IsRead command address.now (min words 65535) (take count.new into.new)) }
 {
+    let words = words.min(MANY_WORDS) as u16;
     give(read_payload(command, address, words), into, count)
 }
 

@@ -26,9 +26,6 @@ impl Model for Pointer {
     ghost also_owns = { λ p. pointer_owns p.at p.held };
 }
 
-// What a pointer owns may be used by any thread, one at a time.
-unsafe impl Send for Pointer {}
-
 impl Pointer {
     /// A pointer of nothing.
     pub(crate) fn empty() -> Pointer
