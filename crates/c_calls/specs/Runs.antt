@@ -1,6 +1,6 @@
 -- Runs of bytes: those that an end hears up to the first after which there is something to do, and those that it gives up to the
 -- first that ends a message. Each byte is one as of the calls for a byte.
-use Rattle.std.specs.Prelude.{ℕ, zero, suc, ◌+◌, Bool, true, false, not, ◌||◌, List, [], ◌∷◌, ◌++◌, ◌==◌, if◌then◌else◌}
+use Rattle.std.specs.Prelude.{◌≡◌, ℕ, zero, suc, ◌+◌, length, Bool, true, false, not, ◌||◌, List, [], ◌∷◌, ◌++◌, ◌==◌, if◌then◌else◌}
 use Rattle.std.specs.declared.option.Option.{Option}
 use Rattle.std.specs.declared.option.Option.TheVariants.{Some, None}
 use Rattle.std.specs.Option.{unwrap_or}
@@ -44,6 +44,35 @@ heard_behind used step held [] = record { used = used; step = step; after = held
 heard_behind used step held (byte ∷ bytes) =
     if is_due held byte then record { used = used + 1; step = step_at held byte; after = after_byte held byte }
     else heard_behind (used + 1) (step_at held byte) (after_byte held byte) bytes
+
+-- after bytes that are heard one after another
+abbrev pub after_bytes : Held → List ℕ → Held
+after_bytes held [] = held
+after_bytes held (byte ∷ bytes) = after_bytes (after_byte held byte) bytes
+
+-- there is nothing to do after any of these bytes
+abbrev pub AreIdle : Held → List ℕ → Type 0
+AreIdle held [] = Unit {0}
+AreIdle held (byte ∷ bytes) = (is_due held byte ≡ false) × AreIdle (after_byte held byte) bytes
+
+-- all bytes were heard, behind so many others, with nothing to do after any
+pub record HeardAll (before : ℕ) (held : Held) (bytes : List ℕ) (run : Heard) : Type 0 where
+  pub used : run.used ≡ before + length bytes
+  pub idle : AreIdle held bytes
+  pub step : is_told run.step ≡ false
+  pub after : run.after ≡ after_bytes held bytes
+
+-- they were heard up to the first after which there is something to do
+pub record HeardSome (before : ℕ) (held : Held) (bytes : List ℕ) (run : Heard) : Type 0 where
+  pub front : List ℕ
+  pub last : ℕ
+  pub rest : List ℕ
+  pub are : bytes ≡ front ++ last ∷ rest
+  pub used : run.used ≡ before + length front + 1
+  pub idle : AreIdle held front
+  pub due : is_due (after_bytes held front) last ≡ true
+  pub step : run.step ≡ step_at (after_bytes held front) last
+  pub after : run.after ≡ after_byte (after_bytes held front) last
 
 -- those of a run
 abbrev pub heard_of : Held → List ℕ → Heard
