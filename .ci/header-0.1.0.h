@@ -525,6 +525,12 @@ uint32_t df1_end_set_words(df1_end *end, uint16_t file, uint32_t first, const ui
  * them all. */
 uint32_t df1_end_changed(df1_end *end, uint16_t file, uint32_t first, uint16_t *seen, size_t count, size_t *place);
 
+/* Lets no command of the line write the data files of these numbers, and lets commands write all others, from now on; at first none is
+ * locked. A command that would write a locked file is refused with STS F0 and EXT STS 0B (access denied), an unprotected write
+ * with STS 50 (memory protected), and changes nothing. df1_end_set_word and df1_end_set_words still write it. DF1_NO_HANDLE;
+ * DF1_TOO_MANY_FILES over 256 numbers; DF1_NO_WORD where a number is no file's; then nothing is changed. */
+uint32_t df1_end_lock(df1_end *end, const uint16_t *files, size_t count);
+
 /* How many data files the end has. DF1_NO_HANDLE. */
 uint32_t df1_end_files(df1_end *end, uint32_t *count);
 
@@ -741,6 +747,7 @@ DF1_NOT_NULL(df1_write_values, uint16_t)
     df1_end_changed(end, file, first, df1_write_values(seen), count, place)
 #define df1_end_set_words(end, file, first, values, count) \
     df1_end_set_words(end, file, first, df1_read_values(values), count)
+#define df1_end_lock(end, files, count) df1_end_lock(end, df1_read_values(files), count)
 #define df1_address_read(text, length, address) df1_address_read(df1_read_text(text), length, address)
 #define df1_address_text(address, into, room, length) df1_address_text(address, df1_write_text(into), room, length)
 #define df1_payload_read(command, address, count, into, room, length) \

@@ -728,6 +728,25 @@ static int words(enum kind kind)
     return 0;
 }
 
+/* No command of the line writes a locked file, whose words the program sets. */
+static int locked_files(enum kind kind)
+{
+    static const uint16_t locked[1] = {7}, unknown[2] = {7, 9}, many[257] = {7};
+    static struct parts parts;
+    df1_end end = DF1_NOTHING;
+    uint16_t value;
+
+    set_parts(&parts);
+    ROW(make(kind, &parts, &end) == DF1_DONE);
+    ROW(df1_end_lock(&end, locked, 1) == DF1_DONE && df1_end_set_word(&end, 7, 1, 0x1234) == DF1_DONE);
+    ROW(df1_end_word(&end, 7, 1, &value) == DF1_DONE && value == 0x1234);
+    ROW(df1_end_lock(&end, unknown, 2) == DF1_NO_WORD && df1_end_lock(&end, many, 257) == DF1_TOO_MANY_FILES);
+    ROW(df1_end_lock(&end, NULL, 0) == DF1_DONE);
+    df1_end_free(&end);
+    ROW(df1_end_lock(&end, locked, 1) == DF1_NO_HANDLE);
+    return 0;
+}
+
 /* Runs of words: all of them are told or set, or none. */
 static int word_runs(enum kind kind)
 {
@@ -1238,7 +1257,7 @@ int main(void)
                                        edges_of_links, edges_of_later_members, calls_without_memory, handles, transfers,
                                        routes, sides, talks, addresses, no_addresses, payloads_that_read, payloads_that_write,
                                        payloads_of_bits, payloads_of_all, replies, texts_of_statuses, typed_data};
-    static int (*const each[])(enum kind) = {refused, edges_of_nodes, words, word_runs, issuing, makes_without_memory};
+    static int (*const each[])(enum kind) = {refused, edges_of_nodes, words, word_runs, locked_files, issuing, makes_without_memory};
     int failed = 0;
     size_t at;
 

@@ -154,6 +154,7 @@ parameters = {
     "df1_end_set_word": [handle, u16, u32, u16],
     "df1_end_words": [handle, u16, u32, POINTER(u16), c_size_t],
     "df1_end_set_words": [handle, u16, u32, POINTER(u16), c_size_t],
+    "df1_end_lock": [handle, POINTER(u16), c_size_t],
     "df1_end_changed": [handle, u16, u32, POINTER(u16), c_size_t, length],
     "df1_end_files": [handle, POINTER(u32)],
     "df1_end_file": [handle, u32, POINTER(File)],
@@ -475,6 +476,10 @@ class End(Held):
     def set_words(self, file: int, first: int, values: Sequence[int]) -> None:
         """Sets a run of words, all of them or none."""
         self.library.do("df1_end_set_words", self.handle, file, first, numbers(values, "values"), len(values))
+
+    def lock(self, files: Sequence[int]) -> None:
+        """Lets no command of the line write the data files of these numbers, and lets commands write all others."""
+        self.library.do("df1_end_lock", self.handle, numbers(files, "files"), len(files))
 
     def changes(self, file: int, first: int, seen: List[int]) -> List[int]:
         """The places in `seen` whose words, from word `first` of the file on, aren't what it had for them; it has their values then."""

@@ -20,7 +20,7 @@ use Rattle.plc_commands.specs.Meaning.{answered, checked, meaning, range_span, r
 use Rattle.plc_commands.specs.Order.{Order, RangeRead, RangeWrite, window}
 use Rattle.plc_commands.specs.Reading.{order_of}
 use Rattle.plc_commands.specs.Tests.{range_read_tests, range_write_tests}
-use Rattle.df1_node.specs.Answer.{Other, StationState, after_answer, asked_by, asked_of, done, effect_of, logical_order, reply_body, reply_to, status_of as status_of_code}
+use Rattle.df1_node.specs.Answer.{Other, StationState, after_answer, asked_by, asked_of, done, effect_of, is_locked, logical_order, reply_body, reply_to, status_of as status_of_code}
 use Rattle.each_once.specs.Commands.{command_body}
 use Rattle.bulk_orders.specs.Orders.{data_of_order, first_word, is_order, orders_of, pull_payload, push_payload, start_of, words_of_order}
 use Rattle.bulk_orders.specs.Outcomes.{data_of, status_of}
@@ -48,8 +48,12 @@ asks-read : (station : StationState) (number src dst file words j : ℕ) → don
 asks-read station number src dst file words j =
     ap (effect_of station) (asked-other 0x0F _ _ (no-logical-read _) (reads file words j))
 
+-- one that writes, unless no command may write the file
+abbrev unless_locked : StationState → Bool → Order → Effect
+unless_locked station locked order = if locked then refused station.tables (Ext 0x0B) else meaning station.tables station.compat station.block order
+
 asks-write : (station : StationState) (number src dst file : ℕ) (bytes : List ℕ) (j : ℕ) → length bytes ≡ 2 * (length bytes / 2) → IsTrue (is_order (length bytes / 2) j) → done station (body_of number src dst (push_payload file bytes j))
-    ≡ meaning station.tables station.compat station.block (RangeWrite (window (first_word j) (length bytes / 2) (start_of file)) (data_of_order bytes j))
+    ≡ unless_locked station (is_locked station.locked file) (RangeWrite (window (first_word j) (length bytes / 2) (start_of file)) (data_of_order bytes j))
 asks-write station number src dst file bytes j whole is = ap (effect_of station) (asked-other 0x0F _ _ (no-logical-write _) (writes file bytes j whole is))
 
 -- ---- tests
@@ -237,24 +241,37 @@ is-order words j some within = rw (le-leb 1 j some, le-leb j (orders_of words) w
 size-is : (bytes : List ℕ) (j : ℕ) → length bytes ≡ 2 * (length bytes / 2) → IsTrue (is_order (length bytes / 2) j) → length (data_of_order bytes j) / 2 ≡ words_of_order (length bytes / 2) j
 size-is bytes j whole is = let size = (data-size bytes j whole is).0 in omega (arith, size)
 
-does-write : (station : StationState) (number src dst file : ℕ) (bytes : List ℕ) (j : ℕ) → length bytes ≡ 2 * (length bytes / 2) → IsTrue (is_order (length bytes / 2) j) → done station (body_of number src dst (push_payload file bytes j))
+does-write : (station : StationState) (number src dst file : ℕ) (bytes : List ℕ) (j : ℕ) → is_locked station.locked file ≡ false → length bytes ≡ 2 * (length bytes / 2) → IsTrue (is_order (length bytes / 2) j) → done station (body_of number src dst (push_payload file bytes j))
     ≡ written station.tables (data_of_order bytes j) (checked (range_write_tests station.tables.specs (window (first_word j) (length bytes / 2) (start_of file)) (data_of_order bytes j))
     (range_span station.tables.specs (window (first_word j) (length bytes / 2) (start_of file)) (words_of_order (length bytes / 2) j) true))
-does-write station number src dst file bytes j whole is =
+does-write station number src dst file bytes j free whole is =
     asks-write station number src dst file bytes j whole is
+    ∙ ap (λ (locked : Bool). unless_locked station locked (RangeWrite (window (first_word j) (length bytes / 2) (start_of file)) (data_of_order bytes j))) free
     ∙ ap (λ (count : ℕ). written station.tables (data_of_order bytes j) (checked (range_write_tests station.tables.specs (window (first_word j) (length bytes / 2) (start_of file)) (data_of_order bytes j))
     (range_span station.tables.specs (window (first_word j) (length bytes / 2) (start_of file)) count true))) (size-is bytes j whole is)
 
 pub writes-order : (station : StationState) (number src dst file : ℕ) (bytes : List ℕ) (j : ℕ) → length bytes ≡ 2 * (length bytes / 2) → IsTrue (is_order (length bytes / 2) j) →
     Wrote station (body_of number src dst (push_payload file bytes j)) file (first_word j) (words_of_order (length bytes / 2) j) (data_of_order bytes j)
-writes-order station number src dst file bytes j whole is =
-    let words : ℕ = length bytes / 2 in
-    let count : ℕ = words_of_order words j in
-    let found = file_of station.tables.specs file in
-    writes-as station (body_of number src dst (push_payload file bytes j)) (data_of_order bytes j) (range_write_tests station.tables.specs (window (first_word j) words (start_of file)) (data_of_order bytes j)) file (first_word j) words count
-    ((6, refl), ((10, refl), ((6, refl), ((17, refl), ((11, refl), ((6, refl), ((10, refl), tt)))))))
-    (does-write station number src dst file bytes j whole is)
-    (λ hold. (index-is found file (first_word j) count true hold.1.1.0, part-is found file (first_word j) count (length (data_of_order bytes j) / 2) true (size-is bytes j whole is) hold.1.1.1.1.1.1.0, hold.1.1.1.1.0))
+writes-order station number src dst file bytes j whole is = by (is_locked station.locked file) refl
+  where
+    words : ℕ
+    words = length bytes / 2
+
+    body : List ℕ
+    body = body_of number src dst (push_payload file bytes j)
+
+    by : (locked : Bool) → is_locked station.locked file ≡ locked → Wrote station body file (first_word j) (words_of_order words j) (data_of_order bytes j)
+    by true locked =
+        let effect : done station body ≡ refused station.tables (Ext 0x0B) =
+        asks-write station number src dst file bytes j whole is ∙ ap (λ (l : Bool). unless_locked station l (RangeWrite (window (first_word j) words (start_of file)) (data_of_order bytes j))) locked in
+        Left (left-as station body (refused station.tables (Ext 0x0B)) effect) (refused-reply body (done station body) station.tables (Ext 0x0B) 0x0B effect refl)
+    by false free =
+        let count : ℕ = words_of_order words j in
+        let found = file_of station.tables.specs file in
+        writes-as station body (data_of_order bytes j) (range_write_tests station.tables.specs (window (first_word j) words (start_of file)) (data_of_order bytes j)) file (first_word j) words count
+        ((6, refl), ((10, refl), ((6, refl), ((17, refl), ((11, refl), ((6, refl), ((10, refl), tt)))))))
+        (does-write station number src dst file bytes j free whole is)
+        (λ hold. (index-is found file (first_word j) count true hold.1.1.0, part-is found file (first_word j) count (length (data_of_order bytes j) / 2) true (size-is bytes j whole is) hold.1.1.1.1.1.1.0, hold.1.1.1.1.0))
 
 -- ---- a file that has the words
 
@@ -312,9 +329,9 @@ reads-all station number src dst file words j some within has =
     (does-read station number src dst file words j)
     (index-is (file_of station.tables.specs file) file (first_word j) count false (ap is_some has.1))
 
-pub writes-all : (station : StationState) (number src dst file : ℕ) (bytes : List ℕ) (j : ℕ) → length bytes ≡ 2 * (length bytes / 2) → 1 ≤ j → j ≤ orders_of (length bytes / 2) →
+pub writes-all : (station : StationState) (number src dst file : ℕ) (bytes : List ℕ) (j : ℕ) → is_locked station.locked file ≡ false → length bytes ≡ 2 * (length bytes / 2) → 1 ≤ j → j ≤ orders_of (length bytes / 2) →
     (has : HasFileOf station.tables.specs file (length bytes / 2)) → is_status has.0.kind ≡ false → HasData (reply_to station (body_of number src dst (push_payload file bytes j))) []
-writes-all station number src dst file bytes j whole some within has may =
+writes-all station number src dst file bytes j free whole some within has may =
     let words : ℕ = length bytes / 2 in
     let count : ℕ = words_of_order words j in
     let bytes_now : List ℕ = data_of_order bytes j in
@@ -327,4 +344,4 @@ writes-all station number src dst file bytes j whole some within has may =
     let hold : AllHold tests =
     (refl, (le-leb (first_word j + length bytes_now / 2) words inside, place-found station.tables.specs file (first_word j) (length bytes_now / 2) words true has inside (ap not may))) in
     done-reply body (done station body) _ [] (written-effect station body bytes_now tests file (first_word j) words count
-    (none-where-hold tests hold) (does-write station number src dst file bytes j whole is) (index-is (file_of station.tables.specs file) file (first_word j) count true (ap is_some has.1)))
+    (none-where-hold tests hold) (does-write station number src dst file bytes j free whole is) (index-is (file_of station.tables.specs file) file (first_word j) count true (ap is_some has.1)))

@@ -11,7 +11,7 @@ use Rattle.data_files.specs.Tables.{DataTables, file_of, has_words, with_word, w
 use Rattle.data_files.specs.WordBytes.{words_of}
 use Rattle.data_files.proofs.Files.{specs-with_words}
 use Rattle.data_files.proofs.WordLists.{length-words_of}
-use Rattle.df1_node.specs.Answer.{StationState, after_answer, reply_to}
+use Rattle.df1_node.specs.Answer.{StationState, after_answer, is_locked, reply_to}
 use Rattle.df1_node.specs.Initiator.{InitiatorState}
 use Rattle.replay_report.specs.declared.record.Line.{Line}
 use Rattle.script_statement.specs.declared.who.Who.TheVariants.{A, B}
@@ -104,14 +104,14 @@ written-after file bytes src dst number j (suc count) station whole some within 
 -- ---- each reply is of a station with the same files
 
 answered-from : (station : StationState) (executed : List (List ℕ)) → ((s : StationState) (m : ℕ) (body : List ℕ) → slice_get executed m ≡ Some body → (after_answer s body).tables.specs ≡ s.tables.specs)
-    → (m : ℕ) (body reply : List ℕ) → slice_get (exchanges station executed) m ≡ Some (body, reply) → (s : StationState) × (reply ≡ reply_to s body) × (s.tables.specs ≡ station.tables.specs)
+    → (m : ℕ) (body reply : List ℕ) → slice_get (exchanges station executed) m ≡ Some (body, reply) → (s : StationState) × (reply ≡ reply_to s body) × (s.tables.specs ≡ station.tables.specs) × (s.locked ≡ station.locked)
 answered-from station [] keeps m body reply is = absurd cc
 answered-from station (x ∷ xs) keeps zero body reply is =
     let pair = some_pair_parts x body (reply_to station x) reply is in
-    (station, sym pair.1 ∙ ap (reply_to station) pair.0, refl)
+    (station, sym pair.1 ∙ ap (reply_to station) pair.0, refl, refl)
 answered-from station (x ∷ xs) keeps (suc m) body reply is =
     let found = answered-from (after_answer station x) xs (λ s k later at. keeps s (suc k) later at) m body reply is in
-    (found.0, found.1, found.2 ∙ keeps station 0 x refl)
+    (found.0, found.1, found.2 ∙ keeps station 0 x refl, found.3)
 
 wrote-specs : (station : StationState) (body : List ℕ) (file first count : ℕ) (bytes : List ℕ) → Wrote station body file first count bytes → (after_answer station body).tables.specs ≡ station.tables.specs
 wrote-specs station body file first count bytes (Left same refused) = ap (λ (s : StationState). s.tables.specs) same
@@ -184,6 +184,7 @@ pub record IsOfOrder (bodies executed : List (List ℕ)) (station : StationState
   pub by : StationState
   pub is_reply : reply ≡ reply_to by body
   pub files : by.tables.specs ≡ station.tables.specs
+  pub locks : by.locked ≡ station.locked
 
 still-done : (bodies executed : List (List ℕ)) (station : StationState) (k : ℕ) (reply : List ℕ) (o : IsOfOrder bodies executed station k reply) → status_of reply ≡ 0 → status_of (reply_to o.by o.body) ≡ 0
 still-done bodies executed station k reply o status = ap status_of (sym o.is_reply) ∙ status
@@ -218,7 +219,7 @@ module _ (file : ℕ) (bytes : List ℕ) (whole : length bytes ≡ 2 * (length b
       let to = reply-told i (push_bodies file bytes src dst number) station lines are k reply by in
       let exchange = exchange-at station (executed_in B lines) to.body reply to.is_answer in
       let from = answered-from station (executed_in B lines) keeps exchange.0 to.body reply exchange.2 in
-      record { body = to.body; is_command = to.is_command; place = exchange.0; is_executed = exchange.1; is_exchanged = exchange.2; by = from.0; is_reply = from.1; files = from.2 }
+      record { body = to.body; is_command = to.is_command; place = exchange.0; is_executed = exchange.1; is_exchanged = exchange.2; by = from.0; is_reply = from.1; files = from.2; locks = from.3 }
 
   fits : (n : ℕ) → 1 ≤ n → n ≤ orders_of (length bytes / 2) → (reply : List ℕ) → IsAnsweredBy i n reply → Fits 0 reply
   fits zero some within reply by = absurd (omega (arith, some))
@@ -276,9 +277,9 @@ module _ (file : ℕ) (bytes : List ℕ) (whole : length bytes ≡ 2 * (length b
   push-file some all = file-at all (orders_of (length bytes / 2) - 1) (omega (arith, some))
 
   -- where all commands are answered, and the file has the words and may be written, the transfer is whole
-  pub push-whole : ((n : ℕ) → 1 ≤ n → n ≤ orders_of (length bytes / 2) → IsAnswered A (push_bodies file bytes src dst number) (exchanges station (executed_in B lines)) lines n)
+  pub push-whole : is_locked station.locked file ≡ false → ((n : ℕ) → 1 ≤ n → n ≤ orders_of (length bytes / 2) → IsAnswered A (push_bodies file bytes src dst number) (exchanges station (executed_in B lines)) lines n)
       → (has : HasFileOf station.tables.specs file (length bytes / 2)) → is_status has.0.kind ≡ false → push_result i (length bytes / 2) ≡ Whole
-  push-whole answered has may = whole-where-good i (λ n. 0) (orders_of (length bytes / 2)) good
+  push-whole free answered has may = whole-where-good i (λ n. 0) (orders_of (length bytes / 2)) good
     where
       good-reply : (n : ℕ) → 1 ≤ n → n ≤ orders_of (length bytes / 2) → (reply : List ℕ) → IsAnsweredBy i n reply → IsGood i 0 n
       good-reply zero some within reply by = absurd (omega (arith, some))
@@ -287,7 +288,7 @@ module _ (file : ℕ) (bytes : List ℕ) (whole : length bytes ≡ 2 * (length b
           let order = body-at (push_payload file bytes) src dst number 1 (orders_of (length bytes / 2)) k o.body o.is_command in
           let is : reply ≡ reply_to o.by (body_of (number + k) src dst (push_payload file bytes (suc k))) =
           o.is_reply ∙ ap (reply_to o.by) (order.1 ∙ ap (λ (j : ℕ). body_of (number + k) src dst (push_payload file bytes j)) (one-add k)) in
-          let does = writes-all o.by (number + k) src dst file bytes (suc k) whole some within (has.0, ap (λ (specs : List FileSpec). file_of specs file) o.files ∙ has.1, has.2) may in
+          let does = writes-all o.by (number + k) src dst file bytes (suc k) (ap (λ (locked : List ℕ). is_locked locked file) o.locks ∙ free) whole some within (has.0, ap (λ (specs : List FileSpec). file_of specs file) o.files ∙ has.1, has.2) may in
           record { reply = reply; answered = by; status = ap status_of is ∙ does.0; size_is = ap (λ (r : List ℕ). length (data_of r)) is ∙ ap length does.1 }
 
       good : (n : ℕ) → 1 ≤ n → n ≤ orders_of (length bytes / 2) → IsGood i 0 n

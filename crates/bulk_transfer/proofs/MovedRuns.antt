@@ -190,7 +190,7 @@ pushed-whole script file bytes may whole few sound has writable =
     let complete = complete-run all (playable script (push_payload file bytes) (length bytes / 2) order) sound in
     let found = file-found b.files file (length bytes / 2) has in
     push-whole file bytes whole a.node b.node a.tns (initiator_after all) (first_station b) (record_of all).lines (told-of-orders script (push_payload file bytes) (length bytes / 2) order complete.honest)
-    (answered-orders script (push_payload file bytes) (length bytes / 2) order complete) (found.0, file-of-b script file (length bytes / 2) found, found.2) (may-write b.files file found.0 found.1 writable)
+    refl (answered-orders script (push_payload file bytes) (length bytes / 2) order complete) (found.0, file-of-b script file (length bytes / 2) found, found.2) (may-write b.files file found.0 found.1 writable)
 
 -- ---- of a rehearsal's report, what it came to and its words
 

@@ -3,6 +3,7 @@ pub mod Behind
 pub mod Commands
 pub mod Copied
 pub mod Ends
+pub mod Locks
 pub mod Runs
 pub mod State
 pub mod Transfers

@@ -6,12 +6,13 @@ ghost use Rattle.df1_check.specs.declared.Check.{Check as CheckKind};
 ghost use Rattle.c_ends.specs.Code.{code_number};
 ghost use Rattle.c_calls.specs.Answers.{end_code};
 ghost use Rattle.c_calls.specs.Behind.{code_at, told_at, with_change};
+ghost use Rattle.c_calls.specs.Locks.{files_locked, lock_code};
 ghost use Rattle.c_calls.specs.Words.{change_told, file_at, file_code, file_count, range_code, range_told, seen_told, word_code, word_set, word_told, words_set};
 ghost use Rattle.df1_c.specs.Arrived.{IsEndFor};
 ghost use Rattle.df1_c.specs.Held.{holding};
 
 use crate::seat::Seat;
-use c_calls::{set_word, set_words, tell_change, tell_file, tell_files, tell_word, tell_words};
+use c_calls::{lock, set_word, set_words, tell_change, tell_file, tell_files, tell_word, tell_words};
 use c_ends::{Code, FileParts};
 use std::alloc::Global;
 
@@ -123,6 +124,22 @@ pub extern "C" fn df1_end_set_words(
         return Code::NoHandle.number();
     };
     let code = set_words(&mut held, file, first, values);
+    *end = Seat::of(held);
+    code.number()
+}
+
+/// Locks data files, and unlocks all others: no command of the line may write a locked one.
+#[tactic(auto, unfolding(crate::specs::Held::value_in))]
+#[unsafe(no_mangle)]
+pub extern "C" fn df1_end_lock(alloc: Global, end: &mut Seat, files: &[u16]) -> u32
+    ensures code { result ≡ code_number (code_at (holding end.old) (λ node. lock_code node files.now)) }
+    ensures after { holding end.new ≡ option_map (with_change (files_locked files.now)) (holding end.old) }
+    ensures stands { (check : CheckKind) (bytes : List ℕ) → IsEndFor check bytes (holding end.old) → IsEndFor check bytes (holding end.new) }
+{
+    let Some(mut held) = end.take(alloc) else {
+        return Code::NoHandle.number();
+    };
+    let code = lock(&mut held, files);
     *end = Seat::of(held);
     code.number()
 }

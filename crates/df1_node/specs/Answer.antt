@@ -1,5 +1,7 @@
 -- What a station answers to a command: the tables after it, and the body of the reply.
-use Rattle.std.specs.Prelude.{ℕ, List, [], ◌∷◌, ◌++◌, drop, ◌==◌, slice_index, if◌then◌else◌, Option, Some, None, Result, Ok, Err, refl}
+use Rattle.std.specs.Prelude.{ℕ, Bool, false, ◌&&◌, List, [], ◌∷◌, ◌++◌, drop, ◌==◌, slice_index, if◌then◌else◌, Option, Some, None, Result, Ok, Err, refl}
+use Rattle.std.specs.List.{list_any}
+use Rattle.std.specs.Option.{option_map_or}
 use Rattle.std.specs.Coded.{Coded, code_by, coded×, coded_list, coded_option, coded_ℕ}
 use Rattle.df1_base.specs.declared.code.Code.{Code}
 use Rattle.df1_base.specs.declared.code.Code.TheVariants.{Done, Sts, Ext}
@@ -12,24 +14,33 @@ use Rattle.plc_commands.specs.Meaning.{meaning as plc_meaning}
 use Rattle.plc_commands.specs.Order as plc
 use Rattle.plc_commands.specs.Reading.{order_of as plc_order_of}
 
--- a station: its tables, its compatibility file, and the block that its status reply holds
+-- a station: its tables, its compatibility file, the block that its status reply holds, and the numbers of the files that no command may write
 pub record StationState : Type 0 where
   pub tables : DataTables
   pub compat : Option ℕ
   pub block : List ℕ
+  pub locked : List ℕ
 
+abbrev pub station_with : DataTables → Option ℕ → List ℕ → List ℕ → StationState
+station_with tables compat block locked = record { tables = tables; compat = compat; block = block; locked = locked }
+
+-- a station of whose files commands may write each
 abbrev pub station_of : DataTables → Option ℕ → List ℕ → StationState
-station_of tables compat block = record { tables = tables; compat = compat; block = block }
+station_of tables compat block = station_with tables compat block []
 
 -- stations are told apart by these
 abbrev pub station_code : Coded DataTables → Coded StationState
 station_code tables =
-    code_by (DataTables × (Option ℕ × List ℕ)) (coded× tables (coded× (coded_option coded_ℕ) (coded_list coded_ℕ)))
-    (λ s. (s.tables, (s.compat, s.block))) (λ p. record { tables = p.0; compat = p.1.0; block = p.1.1 }) (λ _. refl)
+    code_by (DataTables × (Option ℕ × (List ℕ × List ℕ))) (coded× tables (coded× (coded_option coded_ℕ) (coded× (coded_list coded_ℕ) (coded_list coded_ℕ))))
+    (λ s. (s.tables, (s.compat, (s.block, s.locked)))) (λ p. record { tables = p.0; compat = p.1.0; block = p.1.1.0; locked = p.1.1.1 }) (λ _. refl)
 
 -- the station with another word at a place
 abbrev pub with_station_word : StationState → ℕ → ℕ → ℕ → StationState
 with_station_word station number index value = record station { tables = with_word station.tables number index value }
+
+-- the station with other files that no command may write
+abbrev pub with_locks : StationState → List ℕ → StationState
+with_locks station files = record station { locked = files }
 
 -- what a command asks for: an order of the logical commands, or of the others
 pub data Asked : Type 0 where
@@ -53,10 +64,44 @@ asked_by None (Err code) = Err code
 abbrev pub asked_of : ℕ → List ℕ → Result Asked Code
 asked_of cmd payload = asked_by (logical_order cmd payload) (plc_order_of cmd payload)
 
+-- an order writes a file whose number passes a test
+abbrev pub slc_writes : (ℕ → Bool) → slc.Order → Bool
+slc_writes test order = slc.writes order.fnc && test order.at.file
+
+abbrev pub plc_writes : (ℕ → Bool) → Option ℕ → plc.Order → Bool
+plc_writes test compat (plc.Echo bytes) = false
+plc_writes test compat plc.Status = false
+plc_writes test compat (plc.Peek address size) = false
+plc_writes test compat (plc.Poke address bytes) = option_map_or test compat false
+plc_writes test compat (plc.RangeWrite window bytes) = test window.at.file
+plc_writes test compat (plc.RangeRead window size) = false
+plc_writes test compat (plc.Change sets) = list_any (λ set. test set.at.file) sets
+plc_writes test compat (plc.TypedWrite window element array bytes) = test window.at.file
+plc_writes test compat (plc.TypedRead window count) = false
+
+-- no command may write this file
+abbrev pub is_locked : List ℕ → ℕ → Bool
+is_locked locked file = list_any (λ other. other == file) locked
+
+-- the code that refuses a write of such a file: memory is protected (STS 50) for an unprotected write, and else access is denied
+-- (EXT STS 0B)
+abbrev pub plc_denial : plc.Order → Code
+plc_denial (plc.Poke address bytes) = Sts 0x50
+plc_denial other = Ext 0x0B
+
+-- what an order does: it is refused where it writes a file that no command may write, and else it does what it means
+abbrev pub slc_effect : DataTables → List ℕ → slc.Order → Effect
+slc_effect tables locked order = if slc_writes (is_locked locked) order then refused tables (Ext 0x0B) else slc_meaning tables order
+
+abbrev pub plc_effect : StationState → plc.Order → Effect
+plc_effect station order =
+    if plc_writes (is_locked station.locked) station.compat order then refused station.tables (plc_denial order)
+    else plc_meaning station.tables station.compat station.block order
+
 -- what a command does: it is read, and what is read is done
 abbrev pub effect_of : StationState → Result Asked Code → Effect
-effect_of station (Ok (Logical order)) = slc_meaning station.tables order
-effect_of station (Ok (Other order)) = plc_meaning station.tables station.compat station.block order
+effect_of station (Ok (Logical order)) = slc_effect station.tables station.locked order
+effect_of station (Ok (Other order)) = plc_effect station order
 effect_of station (Err code) = refused station.tables code
 
 -- STS of a code

@@ -1,6 +1,6 @@
 -- The laws of a host, of nodes: a fate is told once, nothing waits after a clearing, what is unanswered rises, and what is handed out is a body.
 use Rattle.std.proofs.Common.{◌≡◌, ℕ, suc, zero, ◌+◌, ◌<◌, ◌≤◌, Bool, true, false, ◌&&◌, cond, List, [], ◌∷◌, ◌++◌, length, drop, find, position, slice_get, slice_index, Option, Some, None, IsSome, IfSome, is_some, refl, sym, ap, subst, ◌∙◌, arith, length-append, length-drop}
-use Rattle.std.specs.Prelude.{nat_lt, not, IsTrue, Result, Ok, Err}
+use Rattle.std.specs.Prelude.{nat_lt, not, IsTrue, Result, Ok, Err, if◌then◌else◌}
 use Rattle.std.specs.Option.{option_and_then, option_map, option_map_or, option_or}
 use Rattle.std.specs.List.{All, prefix_len}
 use Rattle.std.proofs.lemmas.Bool.Decides.{nat_tests}
@@ -15,7 +15,8 @@ use Rattle.df1_base.specs.Host.{IsBody}
 use Rattle.pccc_envelope.specs.Envelope.{is_reply, spelling, reply_form, envelope_of}
 use Rattle.df1_node.specs.declared.handed.Handed.{Handed}
 use Rattle.df1_node.specs.declared.handed.Handed.TheVariants as handed
-use Rattle.data_files.specs.Effect.{Effect, FitsReply, is_refusal}
+use Rattle.data_files.specs.Effect.{Effect, FitsReply, is_refusal, refused}
+use Rattle.data_files.specs.Tables.{DataTables}
 use Rattle.slc_commands.specs.Meaning.{meaning as slc_meaning}
 use Rattle.slc_commands.specs.Order as slc
 use Rattle.slc_commands.proofs.Replies.{reply-fits as slc-fits}
@@ -23,7 +24,7 @@ use Rattle.plc_commands.specs.Meaning.{meaning as plc_meaning}
 use Rattle.plc_commands.specs.Order as plc
 use Rattle.plc_commands.specs.Reading.{order_of as plc_order_of}
 use Rattle.plc_commands.proofs.Replies.{IfShortEcho, echo-fits, reply-fits as plc-fits}
-use Rattle.df1_node.specs.Answer.{StationState, logical_order, asked_by, asked_of, effect_of, extension_of, status_of, done, after_answer, reply_to}
+use Rattle.df1_node.specs.Answer.{StationState, logical_order, asked_by, asked_of, effect_of, slc_effect, slc_writes, plc_writes, plc_denial, is_locked, extension_of, status_of, done, after_answer, reply_to}
 use Rattle.df1_node.specs.Initiator.{InitiatorState, Standing, Waiting, Out, Answered, Undelivered, Unanswered, Issued, is_waiting, is_last_tick, cleared, restated, source_of, count_out, count_out_of, is_due, next_place, body_at, next_command, answered_place, is_out_at, after_reply, after_hand_out, ticked, unanswered_from, all_cleared}
 use Rattle.df1_node.specs.Node.{NodeState, after_accept, next_body, after_next, is_handed, is_out as awaits, gone_unanswered, news_told, initiator_after, after_told, after_tick, after_clear, holds_bodies, has_room}
 
@@ -259,9 +260,22 @@ code-done (Ext extension) reply short alone = rw (alone refl) (omega arith)
 order-short : (e : Effect) → FitsReply e → IsShort e
 order-short e fits = code-done e.code e.reply fits.short fits.alone
 
+-- a refusal has no data
+refused-short : (tables : DataTables) (code : Code) → IsShort (refused tables code)
+refused-short tables code = let short = code-short code in omega (arith, short)
+
+unless-short : (denied : Bool) (tables : DataTables) (code : Code) (e : Effect) → IsShort e → IsShort (if denied then refused tables code else e)
+unless-short true tables code e short = refused-short tables code
+unless-short false tables code e short = short
+
+pub slc-short : (tables : DataTables) (locked : List ℕ) (order : slc.Order) → IsShort (slc_effect tables locked order)
+slc-short tables locked order = unless-short (slc_writes (is_locked locked) order) tables (Ext 0x0B) (slc_meaning tables order) (order-short (slc_meaning tables order) (slc-fits tables order))
+
 asked-short : (station : StationState) (logical : Option slc.Order) (other : Result plc.Order Code) → length station.block ≤ 244 → IfShortEcho other → IsShort (effect_of station (asked_by logical other))
-asked-short station (Some order) other few echo = order-short (slc_meaning station.tables order) (slc-fits station.tables order)
-asked-short station None (Ok order) few echo = order-short (plc_meaning station.tables station.compat station.block order) (plc-fits station.tables station.compat station.block order few echo)
+asked-short station (Some order) other few echo = slc-short station.tables station.locked order
+asked-short station None (Ok order) few echo =
+    let meant = plc_meaning station.tables station.compat station.block order in
+    unless-short (plc_writes (is_locked station.locked) station.compat order) station.tables (plc_denial order) meant (order-short meant (plc-fits station.tables station.compat station.block order few echo))
 asked-short station None (Err code) few echo = let short = code-short code in omega (arith, short)
 
 effect-short : (station : StationState) (cmd : ℕ) (payload : List ℕ) → length station.block ≤ 244 → length payload ≤ 244 → IsShort (effect_of station (asked_of cmd payload))

@@ -12,7 +12,7 @@ use Rattle.df1_base.specs.Host.{IsBody}
 use Rattle.pccc_envelope.specs.Envelope.{is_reply}
 use Rattle.df1_node.specs.declared.handed.Handed.{Handed}
 use Rattle.df1_node.specs.declared.handed.Handed.TheVariants as handed
-use Rattle.df1_node.specs.Answer.{StationState, after_answer, reply_to, with_station_word}
+use Rattle.df1_node.specs.Answer.{StationState, after_answer, reply_to, with_locks, with_station_word}
 use Rattle.df1_node.specs.Initiator.{InitiatorState, next_place, next_command, after_hand_out, answered_place, after_reply, is_out_at, after_give_up, unanswered_from, all_ticked, all_cleared, after_issue}
 
 -- how many replies may wait, the station, the replies that wait, oldest first, the commands, and what was handed out last and
@@ -118,6 +118,10 @@ after_node_issue node src dst payload = record node { initiator = after_issue no
 -- the node with another word at a place
 abbrev pub with_node_word : NodeState → ℕ → ℕ → ℕ → NodeState
 with_node_word node number index value = record node { station = with_station_word node.station number index value }
+
+-- the node with other files that no command may write
+abbrev pub with_node_locks : NodeState → List ℕ → NodeState
+with_node_locks node files = record node { station = with_locks node.station files }
 
 -- what may happen to a node
 pub data Step : Type 0 where

@@ -3,7 +3,7 @@
 ghost use Rattle.std.specs.Prelude.{◌≡◌, ◌+◌, ◌≤◌, [], All, length, map, IfOk, IfErr, OnOk, OnErr, Err, MatchOption, IsTrue, if◌then◌else◌};
 ghost use Rattle.df1_node.specs.Initiator.{issue_fault};
 ghost use Rattle.data_files.specs.Tables.{has_word};
-ghost use Rattle.df1_node.specs.Node.{NodeState, after_node_issue, with_node_word};
+ghost use Rattle.df1_node.specs.Node.{NodeState, after_node_issue, with_node_locks, with_node_word};
 ghost use Rattle.df1_node.specs.Together.{IsPayload, after_node_all, together_fault};
 ghost use Rattle.df1_node.specs.declared.handed.Handed.TheVariants.{Nothing};
 
@@ -134,6 +134,15 @@ impl Node {
         ensures after { self.new ≡ (if result then with_node_word self.old number index value else self.old) }
     {
         self.station.set_word(number, index, value)
+    }
+
+    /// Lets no command write the files of these numbers, at most 256, and lets commands write all others, from now on, as
+    /// `Station::lock` does.
+    pub fn lock(&mut self, files: &[u16])
+        requires { length files.now ≤ 256 }
+        ensures { self.new ≡ with_node_locks self.old files.now }
+    {
+        self.station.lock(files);
     }
 
     /// The initiator.

@@ -6,7 +6,7 @@ ghost use Rattle.std.specs.Prelude.{◌≡◌, ◌+◌, ◌≤◌, ◌++◌, fal
 ghost use Rattle.df1_base.specs.Host.{IsBody};
 ghost use Rattle.pccc_envelope.specs.Envelope.{is_reply, reply_form, spelling};
 ghost use Rattle.data_files.specs.Tables.{fits_compat, has_word};
-ghost use Rattle.df1_node.specs.Answer.{StationState, after_answer, extension_of, reply_to, status_of, with_station_word};
+ghost use Rattle.df1_node.specs.Answer.{StationState, after_answer, extension_of, reply_to, station_of, status_of, with_locks, with_station_word};
 
 use crate::Tables;
 use crate::commands::execute;
@@ -18,12 +18,14 @@ use std::marker::Model;
 /// STS: the code is in EXT STS.
 const EXTENDED_STATUS: u8 = 0xF0;
 
-/// A station: its data tables, its compatibility file and the block of its status reply.
+/// A station: its data tables, its compatibility file, the block of its status reply, and the numbers of the files that
+/// no command may write.
 #[derive(Drop)]
 pub struct Station {
     tables: Tables,
     compat: Option<u16>,
     block: ArrayVec<u8, 244>,
+    locked: ArrayVec<u16, 256>,
 }
 
 impl Model for Station {
@@ -36,7 +38,7 @@ impl Model for Station {
 
     ghost coded = { station_code (tables_code spec.the_row.coded) };
 
-    ghost view = { λ s. record { tables = s.tables; compat = s.compat; block = s.block.items } };
+    ghost view = { λ s. record { tables = s.tables; compat = s.compat; block = s.block.items; locked = s.locked.items } };
 
     ghost invariant = { λ s. IsTrue (fits_compat s.tables.specs s.compat) };
 }
@@ -47,7 +49,7 @@ impl Station {
     pub fn new(tables: Tables, compat: Option<u16>, block: &[u8]) -> Station
         requires block { length block.now ≤ 244 }
         requires compat { IsTrue (fits_compat tables.specs compat) }
-        ensures { result ≡ record { tables = tables; compat = compat; block = block.now } }
+        ensures { result ≡ station_of tables compat block.now }
     {
         let mut kept = ArrayVec::new();
         kept.try_extend_from_slice(block).unwrap();
@@ -55,6 +57,7 @@ impl Station {
             tables,
             compat,
             block: kept,
+            locked: ArrayVec::new(),
         }
     }
 
@@ -82,6 +85,17 @@ impl Station {
         self.tables.set(number, index, value)
     }
 
+    /// Lets no command write the files of these numbers, at most 256, and lets commands write all others, from now on. A
+    /// command that would write one of them is refused with STS F0 and EXT STS 0B (access denied), and changes nothing;
+    /// `set_word` still writes it. At first no file is locked.
+    pub fn lock(&mut self, files: &[u16])
+        requires { length files.now ≤ 256 }
+        ensures { self.new ≡ with_locks self.old files.now }
+    {
+        self.locked.clear();
+        self.locked.try_extend_from_slice(files).unwrap();
+    }
+
     /// Executes the command and replaces `into` by the body of the reply. The body has 6 to 250 bytes, and bit 6 of its
     /// CMD is clear. A command that is refused changes nothing.
     pub fn answer(&mut self, body: &[u8], into: &mut ArrayVec<u8, 250>)
@@ -97,6 +111,7 @@ impl Station {
             &mut self.tables,
             self.compat,
             &self.block,
+            &self.locked,
             envelope.cmd,
             &body[MIN_BODY..],
             &mut reply,

@@ -183,8 +183,18 @@ fn station_of(tables: Tables) -> Station {
 
 // Sends the command to a fresh station with these words, and compares the whole reply and all words.
 fn answers(rt: &impl Abort, alloc: Global, first: Words, answer: &Answer) -> Result<(), Fail> {
+    let station = station_of(worked_tables(alloc, first)?);
+    answers_of(rt, alloc, station, first, answer)
+}
+
+fn answers_of(
+    rt: &impl Abort,
+    alloc: Global,
+    mut station: Station,
+    first: Words,
+    answer: &Answer,
+) -> Result<(), Fail> {
     let (cmd, payload, sts, data, changed) = *answer;
-    let mut station = station_of(worked_tables(alloc, first)?);
     let mut after = worked_tables(alloc, first)?;
     for (file, index, value) in changed {
         assert!(rt; after.set(*file, *index, *value));
@@ -240,4 +250,73 @@ fn a_change_is_made_whole_or_not_at_all(rt: HostRuntime) -> Result<(), Fail> {
         answers(&rt, rt.alloc(), &[(7, 0, 0x3456)], row)?;
     }
     Ok(())
+}
+
+#[test]
+fn no_command_writes_a_locked_file(rt: HostRuntime) -> Result<(), Fail> {
+    // Files 7, the compatibility file, and 9, which isn't there, are locked.
+    let rows: [Answer; 11] = [
+        (0x0F, b"\xA2\x02\x07\x89\x00\x00", 0x00, b"\x34\x12", &[]),
+        (0x01, b"\x00\x00\x02", 0x00, b"\x34\x12", &[]),
+        (0x0F, b"\xA9\x02\x07\x89\x00\xCD\xAB", 0xF0, b"\x0B", &[]),
+        (0x0F, b"\xAA\x02\x07\x89\x00\x00\xCD\xAB", 0xF0, b"\x0B", &[]),
+        (
+            0x0F,
+            b"\xAB\x02\x07\x89\x00\x00\xFF\x00\xCD\xAB",
+            0xF0,
+            b"\x0B",
+            &[],
+        ),
+        (0x0F, b"\xAA\x02\x09\x89\x00\x00\xCD\xAB", 0xF0, b"\x0B", &[]),
+        (
+            0x0F,
+            b"\x00\x00\x00\x01\x00\x06\x07\x00\xCD\xAB",
+            0xF0,
+            b"\x0B",
+            &[],
+        ),
+        (
+            0x0F,
+            b"\x67\x00\x00\x02\x00\x06\x07\x00\x99\x09\x05\x42\xCD\xAB\x01\x00",
+            0xF0,
+            b"\x0B",
+            &[],
+        ),
+        (
+            0x0F,
+            b"\x26\x0E\x04\x00\x01\xFF\xFF\x03\x00\x06\x07\x00\xFF\xFF\x00\x00",
+            0xF0,
+            b"\x0B",
+            &[],
+        ),
+        (0x08, b"\x00\x00\xCD\xAB", 0x50, b"", &[]),
+        (
+            0x0F,
+            b"\xAA\x02\x04\x86\x00\x01\x05\x00",
+            0x00,
+            b"",
+            &[(4, 1, 0x0005)],
+        ),
+    ];
+    for row in &rows {
+        let mut station = station_of(worked_tables(rt.alloc(), FIRST)?);
+        station.lock(&[7, 9]);
+        answers_of(&rt, rt.alloc(), station, FIRST, row)?;
+    }
+    Ok(())
+}
+
+#[test]
+fn a_file_that_is_locked_no_more_is_written(rt: HostRuntime) -> Result<(), Fail> {
+    let row: Answer = (
+        0x0F,
+        b"\xAA\x02\x07\x89\x00\x00\xCD\xAB",
+        0x00,
+        b"",
+        &[(7, 0, 0xABCD)],
+    );
+    let mut station = station_of(worked_tables(rt.alloc(), FIRST)?);
+    station.lock(&[7]);
+    station.lock(&[4]);
+    answers_of(&rt, rt.alloc(), station, FIRST, &row)
 }

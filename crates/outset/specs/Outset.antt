@@ -3,7 +3,7 @@ use Rattle.std.specs.Prelude.{List, [], ◌∷◌, if◌then◌else◌}
 use Rattle.df1_check.specs.declared.Check.{Check}
 use Rattle.df1_node.specs.declared.handed.Handed.TheVariants as handed
 use Rattle.data_files.specs.Tables.{DataTables, fresh, has_word, with_word}
-use Rattle.df1_node.specs.Answer.{StationState}
+use Rattle.df1_node.specs.Answer.{StationState, station_of}
 use Rattle.df1_node.specs.Node.{NodeState}
 use Rattle.duplex_sender.specs.declared.Limits.{Limits}
 use Rattle.duplex_end.specs.declared.Setup.{Setup}
@@ -25,7 +25,7 @@ first_tables plan = with_all (fresh plan.files) plan.words
 
 -- the station of an end
 abbrev pub first_station : EndPlan → StationState
-first_station plan = record { tables = first_tables plan; compat = plan.compat; block = plan.block }
+first_station plan = station_of (first_tables plan) plan.compat plan.block
 
 -- the node of an end, with no command issued and no reply kept
 abbrev pub first_node : EndPlan → NodeState

@@ -5,8 +5,8 @@ use Rattle.plc_commands.proofs.Replies.{IsShortEcho, IfShortEcho, echo-fits, rep
 use Rattle.df1_node.specs.HostLaws.{code-done}
 use Rattle.df1_node.proofs.commands.execute_other.Goals as goal
 
-pub returns-in-Ok-clause-fits : goal.returns-in-Ok-clause-fits
-returns-in-Ok-clause-fits c =
+pub returns-in-Ok-2-clause-fits : goal.returns-in-Ok-2-clause-fits
+returns-in-Ok-2-clause-fits c =
     let read = subst IfShortEcho (sym c.read_plc.ensures.reads) (echo-fits c.args.cmd c.args.payload.now c.requires.payload) in
     let echo : IsShortEcho (seen c.in-Ok.order) = subst (λ r. IfShortEcho (result_map_both seen (λ code. code) r)) c.in-Ok.is read in
     let short = (reply-fits c.args.tables.now c.args.compat c.args.block.now (seen c.in-Ok.order) c.requires.block echo).short in
