@@ -1,5 +1,6 @@
 pub mod Acts
 pub mod Arrivals
+pub mod Certified
 pub mod Complete
 pub mod Example
 pub mod Issues
@@ -7,6 +8,7 @@ pub mod Once
 pub mod Plays
 pub mod Prompt
 pub mod Recoverable
+pub mod Rest
 pub mod Run
 pub mod Steps
 pub mod Told
