@@ -2,7 +2,7 @@
 use Rattle.std.proofs.Common.{◌≡◌, ◌∙◌, ℕ, zero, suc, ◌<◌, true, false, List, [], ◌∷◌, ◌++◌, length, map, Option, Some, ap, sym, subst, arith}
 use Rattle.std.specs.Prelude.{Contains, slice_get, slice_index_or}
 use Rattle.std.specs.List.{filter}
-use Rattle.std.specs.Option.{option_map}
+use Rattle.std.specs.Option.{option_map, option_map_or}
 use Rattle.std.proofs.lemmas.List.Elements.{All-contains, Contains-append_right, filter_map-append}
 use Rattle.std.proofs.lemmas.Option.{slice_get-map}
 use Rattle.df1_node.specs.Answer.{StationState, after_answer}
@@ -19,7 +19,7 @@ use Rattle.each_once.proofs.Sublists.{Has, within-has, within-filter}
 use Rattle.each_once.proofs.ToldLines.{adds-none}
 use Rattle.duplex_line.specs.Acts.{LineState}
 use Rattle.duplex_line.specs.Issues.{bodies_of}
-use Rattle.duplex_line.specs.Rest.{is_to_come_at, is_to_come}
+use Rattle.duplex_line.specs.Rest.{is_to_come}
 use Rattle.duplex_line.proofs.Once.Invariant.{lane_of, Holds}
 use Rattle.duplex_line.proofs.Certified.SilentLines.{TellNothing}
 
@@ -36,11 +36,11 @@ body-at issued place c body is same = slice_get-map (λ (x : Issued). x.body) is
 
 -- a command that was handed out isn't to come
 handed-come : (issued : List Issued) (all : List (List ℕ)) (n place : ℕ) (c : Issued) (body : List ℕ) → AreApart all → command_at all n ≡ Some body → slice_get all place ≡ Some body → slice_get issued place ≡ Some c → is_waiting c.standing ≡ false
-    → is_to_come_at (command_at issued n) ≡ true → ⊥
+    → option_map_or (λ (x : Issued). is_waiting x.standing) (command_at issued n) true ≡ true → ⊥
 handed-come issued all zero place c body apart is at here handed to_come = absurd cc
 handed-come issued all (suc m) place c body apart is at here handed to_come =
     let there : slice_get issued m ≡ Some c = subst (λ (p : ℕ). slice_get issued p ≡ Some c) (apart place m body at is) here in
-    let waits : is_waiting c.standing ≡ true = subst (λ (o : Option Issued). is_to_come_at o ≡ true) there to_come in
+    let waits : is_waiting c.standing ≡ true = subst (λ (o : Option Issued). option_map_or (λ (x : Issued). is_waiting x.standing) o true ≡ true) there to_come in
     absurd (let no : true ≡ false = sym waits ∙ handed in cc)
 
 -- where nothing was executed since, all was before
