@@ -12,6 +12,8 @@ pub mod IssueLimits
 pub mod LineSteps
 -- Which messages an end has handed out to its sender, and that what it transmits is the last of them.
 pub mod SentMessages
+-- In every run: how many replies may wait at a node, and how many commands it may have out, stays as it was set.
+pub mod Settings
 -- Over a whole run: each command once, both ways.
 pub mod WholeRun
 -- In every run, whatever is heard: each end's commands are those that the script issues, and the lines tell how each ended.

@@ -1,10 +1,10 @@
--- Scripts whose runs deceive no end: one command is issued, crosses the line, is executed and answered; the same where a byte of it is altered; three of two sources; and two echoes after a lone DLE.
+-- Scripts whose runs deceive no end: one command is issued, crosses the line, is executed and answered; the same where a byte of it is altered; three of two sources; one after another was given up; and two echoes after a lone DLE.
 use Rattle.std.specs.Prelude.{ℕ, Bool, true, false, List, [], ◌∷◌, ◌++◌, Some, None}
 use Rattle.df1_base.specs.declared.file_type.FileType.TheVariants.{Integer}
 use Rattle.df1_check.specs.declared.Check.TheVariants.{Bcc}
 use Rattle.script_statement.specs.declared.who.Who.TheVariants.{A, B}
 use Rattle.script_parts.specs.declared.script.Event.{Event}
-use Rattle.script_parts.specs.declared.script.Event.TheVariants.{Issue, Take, Deliver, Alter, Foreign, Tick}
+use Rattle.script_parts.specs.declared.script.Event.TheVariants.{Issue, Take, Deliver, Lose, Alter, Foreign, Tick}
 use Rattle.script_parts.specs.declared.script.Script.{Script}
 use Rattle.script_parts.specs.Plans.{first_plan}
 use Rattle.replay_report.specs.declared.record.Line.{Line}
@@ -86,6 +86,30 @@ third_command = 0x01 ∷ 0x09 ∷ 0x06 ∷ 0x00 ∷ 0x03 ∷ 0x00 ∷ 0x00 ∷ 0
 
 abbrev pub third_reply : List ℕ
 third_reply = 0x09 ∷ 0x01 ∷ 0x46 ∷ 0x00 ∷ 0x03 ∷ 0x00 ∷ 0x55 ∷ []
+
+-- end a takes no NAK: a byte of its first write is lost, and the NAK gives the write up; then nothing is under way, and a second write crosses the line
+abbrev pub lost_write : List Event
+lost_write =
+    Issue A None 1 (0x0F ∷ 0xAA ∷ 0x02 ∷ 0x07 ∷ 0x89 ∷ 0x00 ∷ 0x00 ∷ 0x34 ∷ 0x12 ∷ [])
+    ∷ Take A 19 ∷ Deliver (record { from = A; to = B }) 4 ∷ Lose (record { from = A; to = B }) 1 ∷ Deliver (record { from = A; to = B }) 14
+    ∷ Take B 2 ∷ Deliver (record { from = B; to = A }) 2
+    ∷ []
+
+abbrev pub second_write : List Event
+second_write =
+    Issue A None 1 (0x0F ∷ 0xAA ∷ 0x02 ∷ 0x07 ∷ 0x89 ∷ 0x01 ∷ 0x00 ∷ 0x78 ∷ 0x56 ∷ [])
+    ∷ Take A 19 ∷ Deliver (record { from = A; to = B }) 19
+    ∷ Take B 15 ∷ Deliver (record { from = B; to = A }) 15
+    ∷ Take A 2 ∷ Deliver (record { from = A; to = B }) 2
+    ∷ []
+
+abbrev pub after_a_lost_write : Script
+after_a_lost_write = record {
+  half = false;
+  check = Bcc;
+  ends = record (first_plan A 0) { max_naks = 0 } ∷ record (first_plan B 1) { files = record { number = 7; kind = Integer; count = 16 } ∷ [] } ∷ [];
+  events = lost_write ++ second_write;
+}
 
 -- A lone DLE comes to end b. Then end a, which gives a command up at the first tick, asks for an echo, which b's decoder takes apart,
 -- and for another, which is answered.

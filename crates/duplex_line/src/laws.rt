@@ -10,9 +10,7 @@ ghost use Rattle.duplex_end.specs.Arrived.{HeardByGrammar, bytes_arrived};
 ghost use Rattle.duplex_receiver.specs.Hearing.{Stands};
 ghost use Rattle.duplex_line.specs.Arrivals.{arrivals_in, heard_in};
 ghost use Rattle.duplex_line.specs.Issues.{commands_of_a, commands_of_b, issued_of, bodies_of};
-ghost use Rattle.df1_node.specs.Initiator.{Undelivered};
 ghost use Rattle.duplex_line.specs.Certified.{IsAnsweredAfter, IsCertified, are_senders_idle};
-ghost use Rattle.duplex_line.specs.Rest.{is_at_rest};
 ghost use Rattle.duplex_line.specs.Run.{start, last_state, state_after, lines_after, record_of};
 ghost use Rattle.duplex_line.specs.Once.{EachOnce};
 ghost use Rattle.duplex_line.specs.Transmissions.{AreCounted, begun_in, ended_in};
@@ -20,8 +18,10 @@ ghost use Rattle.duplex_line.specs.Wire.{AreDf1Wires};
 ghost use Rattle.duplex_line.specs.Prompt.{IsPrompt, EndsQuiet, HasRooms, is_quiet};
 ghost use Rattle.duplex_line.specs.Recoverable.{IsRecoverable};
 ghost use Rattle.duplex_line.specs.Complete.{IsComplete};
+ghost use Rattle.duplex_line.specs.Rest.{IsCalmAfter, IsMildAfterRest, IsWellAfter, is_at_rest};
 ghost use Rattle.each_once.specs.Tells.{executed_in, answers_in, outcomes_in};
-ghost use Rattle.duplex_line.specs.Example.{hit_write, is_damage, one_write, the_command, the_reply, two_sources, second_command, second_reply, third_command, third_reply, lone_dle, two_echoes, last_ack, after_noise};
+ghost use Rattle.df1_node.specs.Initiator.{Undelivered};
+ghost use Rattle.duplex_line.specs.Example.{hit_write, is_damage, one_write, the_command, the_reply, two_sources, second_command, second_reply, third_command, third_reply, lost_write, second_write, after_a_lost_write, lone_dle, two_echoes, last_ack, after_noise};
 
 /// A law: at each byte that arrives at an end in a run, a whole frame is heard exactly where the grammar of the line, over
 /// all bytes that arrived at that end so far, hears one at its last: so a deception is a frame by the grammar, which
@@ -102,6 +102,30 @@ pub fn what_is_on_the_wire_is_df1()
 #[tactic(auto, unfolding(crate::specs::Run::record_of))]
 pub fn a_damaged_run_recovers()
     ensures { (script : Script) → IsPlayable script → IsRecoverable script → IsComplete script (record_of script) }
+{}
+
+/// A law: a line is at rest where nothing is under way, no sender has a message, and no decoder is inside an item. Where no end was
+/// deceived so far, whatever was lost, altered, foreign or late, whatever was given up, and however few NAKs and ENQs an end
+/// takes: from there on each command that an end hands out is executed and answered, each by its own reply, if nothing
+/// disturbs the line from there on, its ends have room for as many replies as the other may have commands out, and the run
+/// ends with nothing under way; and so if no end is deceived to the end and bytes of bodies are altered from there on, as
+/// `a_damaged_run_recovers` says. A command that still waits at the end isn't spoken of: commands that were handed out before,
+/// and that nothing answers, may be all that an end may have out (manual topic: full-duplex protocol).
+#[tactic(auto, unfolding(crate::specs::Run::record_of))]
+pub fn after_rest_all_is_well()
+    ensures undisturbed { (script : Script) (front rest : List Event) → IsPlayable script → IsCalmAfter script front rest → IsWellAfter script front (record_of script) }
+    ensures damaged { (script : Script) (front rest : List Event) → IsPlayable script → IsMildAfterRest script front rest → IsWellAfter script front (record_of script) }
+{}
+
+/// A law: the premises of `after_rest_all_is_well` are met, and its conclusion isn't empty, by two writes of which the first loses
+/// a byte and is given up at the NAK: the second is executed and answered.
+#[tactic(auto, unfolding(crate::specs::Run::record_of))]
+pub fn a_write_after_a_lost_one_is_executed_and_answered()
+    ensures playable { IsPlayable after_a_lost_write }
+    ensures calm { IsCalmAfter after_a_lost_write lost_write second_write }
+    ensures given_up { outcomes_in A 1 (record_of after_a_lost_write).lines ≡ Undelivered ∷ [] }
+    ensures executed { executed_in B (record_of after_a_lost_write).lines ≡ second_command ∷ [] }
+    ensures answered { answers_in A (record_of after_a_lost_write).lines ≡ (2, second_reply) ∷ [] }
 {}
 
 /// A law: the premises of `a_damaged_run_recovers` are met, and its conclusion isn't empty, by a write of which a byte of the body

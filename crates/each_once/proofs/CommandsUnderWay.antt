@@ -19,13 +19,10 @@ use Rattle.each_once.proofs.HandedOut.{AreNumbered, numbered-at, numbered-apart,
 use Rattle.each_once.proofs.CommandBodies.{next-first, position-cons, bodies-restated, bodies-tick}
 use Rattle.each_once.proofs.CommandCounts.{count_mine, one_if, none-if, same-if, other-if, and-same, both_of, out_now, count-restated, count-more, count-same, count-none, count-fewer, mine-out, count-bodies}
 
--- a test that each passes
-abbrev pub each_body : List ℕ → Bool
-each_body body = true
-
-pub filter-each : (xs : List (List ℕ)) → filter each_body xs ≡ xs
-filter-each [] = refl
-filter-each (x ∷ xs) = ap (λ (ys : List (List ℕ)). x ∷ ys) (filter-each xs)
+-- where each passes a test, all of them do
+pub filter-all : (p : List ℕ → Bool) → ((x : List ℕ) → p x ≡ true) → (xs : List (List ℕ)) → filter p xs ≡ xs
+filter-all p each [] = refl
+filter-all p each (x ∷ xs) = rw (each x) (ap (λ (ys : List (List ℕ)). x ∷ ys) (filter-all p each xs))
 
 -- a command is answered
 abbrev pub IsDone : Standing → Type 0
@@ -84,6 +81,14 @@ out-out least other o = absurd o
 out-waits : (least : ℕ) (s : Standing) → IsOutFor least s → is_waiting s ≡ false
 out-waits least (Out left) o = refl
 out-waits least other o = absurd o
+
+-- one that waits isn't out
+waits-out : (s : Standing) → is_waiting s ≡ true → is_out s ≡ false
+waits-out Waiting w = refl
+waits-out (Out left) w = absurd cc
+waits-out (Answered reply) w = refl
+waits-out Undelivered w = refl
+waits-out Unanswered w = refl
 
 -- a tick fewer is left, and at least one
 abbrev pub IsTickFewer : ℕ → ℕ → Type 0
@@ -159,18 +164,32 @@ stands-so cs P Q p so h = record { command = h.command; is_at = h.is_at; stands 
 
 -- ---- the start
 
+-- none of those that pass the test was handed out
+pub under-way-new : (mine : List ℕ → Bool) (s : InitiatorState) (least : ℕ → ℕ) → ((p : ℕ) (c : Issued) → slice_get s.issued p ≡ Some c → mine c.body ≡ true → is_waiting c.standing ≡ true) → count_out s.issued ≤ s.window → AreUnderWay mine s [] 0 least
+under-way-new mine s least waits few =
+    let none = count-none (both_of mine is_out) s.issued (λ p c at. out-none c (mine c.body) refl (waits p c at)) in
+    let most = count-fewer (both_of mine is_waiting) (λ (c : Issued). mine c.body) s.issued s.issued refl (λ p c d at-c at-d both. ap (λ (x : Issued). mine x.body) (same_Some c d (sym at-c ∙ at-d)) ∙ (and_parts (mine d.body) (is_waiting d.standing) both).0) in
+    let all = count-fewer (λ (c : Issued). mine c.body) (both_of mine is_waiting) s.issued s.issued refl (λ p c d at-c at-d of. let same = same_Some c d (sym at-c ∙ at-d) in let own : mine c.body ≡ true = ap (λ (x : Issued). mine x.body) same ∙ of in rw (own, waits p c at-c own) refl) in
+    record {
+      order = [];
+      are_at = tt;
+      are_mine = λ k body at. absurd cc;
+      differ = tt;
+      stand = tt;
+      wait = λ p c at of has. waits p c at of;
+      counted = omega (arith, none);
+      few = few;
+      others = omega (arith, most, all);
+    }
+  where
+    out-none : (c : Issued) (own : Bool) → mine c.body ≡ own → (mine c.body ≡ true → is_waiting c.standing ≡ true) → (mine c.body && is_out c.standing) ≡ false
+    out-none c true own waits = rw (own, waits-out c.standing (waits own)) refl
+    out-none c false own waits = rw own refl
+
 pub under-way-start : (mine : List ℕ → Bool) (s : InitiatorState) (least : ℕ → ℕ) → s.issued ≡ [] → AreUnderWay mine s [] 0 least
-under-way-start mine s least none = record {
-  order = [];
-  are_at = tt;
-  are_mine = λ k body at. absurd cc;
-  differ = tt;
-  stand = tt;
-  wait = λ p c is of has. let no = subst (λ (cs : List Issued). slice_get cs p ≡ Some c) none is in absurd cc;
-  counted = let zero : count_mine mine is_out s.issued ≡ 0 = ap (count_mine mine is_out) none in omega (arith, zero);
-  few = let zero : count_out s.issued ≡ 0 = ap count_out none in omega (arith, zero);
-  others = let zero : count_mine mine is_waiting s.issued ≡ 0 = ap (count_mine mine is_waiting) none in let empty : count_by (λ c. mine c.body) s.issued ≡ 0 = ap (λ (cs : List Issued). count_by (λ c. mine c.body) cs) none in omega (arith, zero, empty);
-}
+under-way-start mine s least none =
+    under-way-new mine s least (λ p c at of. let no = subst (λ (cs : List Issued). slice_get cs p ≡ Some c) none at in absurd cc)
+    (let zero : count_out s.issued ≡ 0 = ap count_out none in omega (arith, zero))
 
 -- ---- a command is issued
 
@@ -211,7 +230,7 @@ other-order mine s q body handed done least at other u k p found same =
 pub body-of : (cs : List Issued) (p : ℕ) (c : Issued) → slice_get cs p ≡ Some c → slice_get (bodies_of cs) p ≡ Some c.body
 body-of cs p c at = slice_get-map (λ (x : Issued). x.body) cs p ∙ ap (option_map (λ (x : Issued). x.body)) at
 
-other-restated : (mine : List ℕ → Bool) (s : InitiatorState) (q : ℕ) (c : Issued) (standing : Standing) (handed : List (List ℕ)) (done : ℕ) (least : ℕ → ℕ) → slice_get s.issued q ≡ Some c → mine c.body ≡ false → count_out (restated s.issued q standing) ≤ s.window → AreUnderWay mine s handed done least
+pub other-restated : (mine : List ℕ → Bool) (s : InitiatorState) (q : ℕ) (c : Issued) (standing : Standing) (handed : List (List ℕ)) (done : ℕ) (least : ℕ → ℕ) → slice_get s.issued q ≡ Some c → mine c.body ≡ false → count_out (restated s.issued q standing) ≤ s.window → AreUnderWay mine s handed done least
     → AreUnderWay mine (record s { issued = restated s.issued q standing }) handed done least
 other-restated mine s q c standing handed done least at other few u =
     let now : Issued = record c { standing = standing } in
@@ -263,13 +282,6 @@ turn-waits cs least ps done k p c h at is = elim (turn-stands cs least ps done k
 some-next : (may : Bool) (o : Option (List ℕ)) (body : List ℕ) → (if may then o else None) ≡ Some body → may ≡ true
 some-next true o body is = refl
 some-next false o body is = absurd cc
-
-waits-out : (s : Standing) → is_waiting s ≡ true → is_out s ≡ false
-waits-out Waiting w = refl
-waits-out (Out left) w = absurd cc
-waits-out (Answered reply) w = refl
-waits-out Undelivered w = refl
-waits-out Unanswered w = refl
 
 -- the command that is handed out next: it waits, and fewer are out than may be
 pub record HandsOut (s : InitiatorState) (body : List ℕ) : Type 0 where

@@ -16,6 +16,7 @@ pub mod MessageLengths
 pub mod NodeSteps
 pub mod OneDirection
 pub mod OwnKeys
+pub mod RepliesSince
 pub mod RisingPlaces
 pub mod SentAndExecuted
 pub mod StationAnswers
@@ -25,3 +26,4 @@ pub mod ToldLines
 pub mod ToldOutcomes
 pub mod ToldReplies
 pub mod TwoNodes
+pub mod WaitingCommands

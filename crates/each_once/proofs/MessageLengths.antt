@@ -17,7 +17,8 @@ use Rattle.script_statement.specs.Statements.{is_payload}
 use Rattle.each_once.specs.Exchanges.{exchanges}
 use Rattle.each_once.proofs.CommandBodies.{next-first}
 use Rattle.each_once.proofs.HandedOrder.{AreAt}
-use Rattle.each_once.proofs.HandedOut.{is_command, Hosts}
+use Rattle.each_once.proofs.HandedOut.{is_command}
+use Rattle.each_once.proofs.RepliesSince.{AreReplies}
 
 abbrev pub AreBodies : List (List ℕ) → Type 0
 AreBodies [] = Unit {0}
@@ -71,10 +72,10 @@ next-of : (replies : List (List ℕ)) (s : InitiatorState) (body : List ℕ) →
 next-of [] s body replies commands next = command-fits s body commands next
 next-of (r ∷ rs) s body replies commands next = subst IsBody (same_Some r body next) replies.0
 
-pub next-fits : {first : StationState} {node : NodeState} {messages heard : List (List ℕ)} → Hosts first node messages heard → length first.block ≤ 244 → AreBodies heard → AreBodies (map (λ c. c.body) node.initiator.issued) →
+pub next-fits : (first : StationState) (node : NodeState) (messages heard : List (List ℕ)) → AreReplies first messages heard node.replies → length first.block ≤ 244 → AreBodies heard → AreBodies (map (λ c. c.body) node.initiator.issued) →
     (body : List ℕ) → next_body node ≡ Some body → (6 ≤ length body) × (length body ≤ 250)
-next-fits {first} {node} {messages} {heard} h few hears commands body next =
-    let replies = subst AreBodies h.replies (replies-fit first (filter is_command heard) few (bodies-filter is_command heard hears)) in
+next-fits first node messages heard are few hears commands body next =
+    let replies = subst AreBodies are (replies-fit first (filter is_command heard) few (bodies-filter is_command heard hears)) in
     next-of node.replies node.initiator body (bodies-back (filter is_reply messages) node.replies replies) commands next
 
 -- ---- a command that is issued

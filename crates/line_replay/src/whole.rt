@@ -6,6 +6,7 @@ ghost use Rattle.late_laws.specs.GivenUp.{NothingComesLate};
 ghost use Rattle.line_world.specs.Complete.{IsUndisturbed, IsComplete};
 ghost use Rattle.line_world.specs.Once.{EachCommandOnce};
 ghost use Rattle.line_world.specs.Recovery.{Recovers};
+ghost use Rattle.line_world.specs.Rested.{GoesWellAfterRest};
 ghost use Rattle.line_world.specs.Runs.{record_of};
 ghost use Rattle.line_world.specs.Wire.{AreDf1Wires};
 ghost use Rattle.outcome_bounds.specs.Bounds.{OutcomesCome};
@@ -21,8 +22,9 @@ use std::alloc::Global;
 /// that the executed ones make, each accepted reply was the one to that very command, none is executed after a later one of its
 /// source that was executed or answered, and none after it was told as given up, once nothing was on its way. Where nothing
 /// disturbed the line, no end was deceived, and all commands were executed and answered; and so they were where a full-duplex line
-/// recovers from what the script does to the bytes. After enough ticks at which an end had nothing to give each of its commands has
-/// its outcome. Whatever was heard, what each end sent is DF1, and carries its own commands and replies. `NoMemory` comes where
+/// recovers from what the script does to the bytes. Where a full-duplex line is at rest again, and no end was deceived, each command
+/// that an end hands out from there on was executed and answered, if nothing disturbs the line from there on, or it recovers.
+/// After enough ticks at which an end had nothing to give each of its commands has its outcome. Whatever was heard, what each end sent is DF1, and carries its own commands and replies. `NoMemory` comes where
 /// memory is wanting.
 pub fn replay(alloc: Global, script: &Script) -> Result<Record, NoMemory>
     requires { CanBePlayed script.now }
@@ -32,6 +34,7 @@ pub fn replay(alloc: Global, script: &Script) -> Result<Record, NoMemory>
     ensures late { IfOk result (λ r. r.deceived ≡ 0 → NothingComesLate script.now r) }
     ensures complete { IfOk result (λ r. IsUndisturbed script.now → IsComplete script.now r) }
     ensures recovered { IfOk result (λ r. Recovers script.now r) }
+    ensures rested { IfOk result (λ r. GoesWellAfterRest script.now r) }
     ensures outcomes { IfOk result (λ r. OutcomesCome script.now r) }
     ensures wires { IfOk result (λ r. AreDf1Wires script.now r) }
 {

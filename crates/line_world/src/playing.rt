@@ -5,6 +5,7 @@ ghost use Rattle.script_parts.specs.HalfPlayable.{CanBePlayed};
 ghost use Rattle.line_world.specs.Complete.{IsUndisturbed, IsComplete};
 ghost use Rattle.line_world.specs.Once.{EachCommandOnce};
 ghost use Rattle.line_world.specs.Recovery.{Recovers};
+ghost use Rattle.line_world.specs.Rested.{GoesWellAfterRest};
 ghost use Rattle.line_world.specs.Runs.{record_of, whole_world};
 ghost use Rattle.line_world.specs.Wire.{AreDf1Wires};
 
@@ -28,12 +29,15 @@ pub fn play(alloc: Global, script: &Script) -> Result<World, NoMemory>
 /// executed once at most, by the station that it was issued to, and those of each source in their order, the words are those
 /// that the executed ones make, and each accepted reply was the one to that very command. Where nothing disturbed the line, no
 /// end was deceived, and all commands were executed and answered; and so they were where a full-duplex line recovers from what
-/// the script does to the bytes. Whatever was heard, what each end sent is DF1, and carries its own commands and replies.
+/// the script does to the bytes. Whatever happened on a full-duplex line that is at rest again, where no end was deceived: if
+/// nothing disturbs it from there on, or it recovers, each command that an end hands out from there on was executed and
+/// answered. Whatever was heard, what each end sent is DF1, and carries its own commands and replies.
 pub fn replay(alloc: Global, script: &Script) -> Result<Record, NoMemory>
     requires { CanBePlayed script.now }
     ensures record { IfOk result (λ r. r ≡ record_of script.now) }
     ensures complete { IfOk result (λ r. IsUndisturbed script.now → IsComplete script.now r) }
     ensures recovered { IfOk result (λ r. Recovers script.now r) }
+    ensures rested { IfOk result (λ r. GoesWellAfterRest script.now r) }
     ensures once { IfOk result (λ r. r.deceived ≡ 0 → EachCommandOnce script.now r) }
     ensures wires { IfOk result (λ r. AreDf1Wires script.now r) }
 {

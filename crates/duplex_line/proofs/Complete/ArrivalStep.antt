@@ -1,5 +1,5 @@
 -- A byte arrives, in a run that nothing disturbs.
-use Rattle.std.proofs.Common.{◌≡◌, ◌∙◌, ◌<◌, ℕ, suc, ◌+◌, ◌≤◌, Bool, true, false, List, [], ◌∷◌, ◌++◌, length, map, Option, Some, None, refl, ap, sym, subst, arith, length-append, inl, inr}
+use Rattle.std.proofs.Common.{◌≡◌, ◌∙◌, ◌<◌, ℕ, suc, ◌+◌, ◌≤◌, Bool, true, false, List, [], ◌∷◌, ◌++◌, length, map, Option, Some, None, refl, ap, sym, subst, arith, append_assoc, length-append, inl, inr}
 use Rattle.std.specs.Prelude.{◌⊎◌, slice_get, not, ◌&&◌}
 use Rattle.std.specs.Option.{option_map}
 use Rattle.std.specs.List.{filter}
@@ -16,9 +16,8 @@ use Rattle.df1_frame.specs.declared.heard.Heard.TheVariants as hears
 use Rattle.df1_frame.specs.Standing.{Decoding, lent_at}
 use Rattle.df1_frame.specs.Step.{next}
 use Rattle.pccc_envelope.specs.declared.key.Key.{Key}
-use Rattle.pccc_envelope.specs.Envelope.{is_reply, key_of}
+use Rattle.pccc_envelope.specs.Envelope.{is_reply, tns_of, key_of}
 use Rattle.pccc_envelope.specs.Accepted.{is_kept}
-use Rattle.df1_node.specs.Answer.{StationState}
 use Rattle.df1_node.specs.Initiator.{answered_place, is_reply_to}
 use Rattle.df1_node.specs.Node.{NodeState, has_room, after_accept, after_told}
 use Rattle.duplex_sender.specs.declared.Limits.{Limits}
@@ -36,7 +35,7 @@ use Rattle.report_lines.specs.NodeLines.{news_lines}
 use Rattle.duplex_line.specs.Acts.{LineEndState, LineState, deceptions_at, cell_lines}
 use Rattle.each_once.specs.Tells.{executed_in}
 use Rattle.duplex_line.proofs.Once.IssueLimits.{byte-commands}
-use Rattle.each_once.proofs.Sublists.{filter-keeps, filter-drops}
+use Rattle.each_once.proofs.Sublists.{Has, IsWithin, get-last, within-filter, differ-within, filter-keeps, filter-drops}
 use Rattle.duplex_line.proofs.Once.SentMessages.{Sends, sends-byte}
 use Rattle.each_once.proofs.CommandBodies.{bodies-accept}
 use Rattle.duplex_line.proofs.Once.EndSteps.{hosts-act, hosts-fate}
@@ -47,12 +46,13 @@ use Rattle.duplex_line.proofs.Complete.ClearLane.{end_of, IsTrueEnd}
 use Rattle.duplex_line.specs.Recoverable.{Damage, Damages, hits_of}
 use Rattle.duplex_line.proofs.Complete.DamageDone.{IsDamage, damage-leaves}
 use Rattle.duplex_line.proofs.Complete.MessageUnderWay.{Marks, May, awaits, heard_by, byte-acts, begun-same, flow-silent, far-silent, flow-acked, far-acked, flow-naked, far-naked, good-end, bad-end, good-arrives, flow-accepted, far-accepted, flow-refused, far-refused}
-use Rattle.each_once.proofs.CommandsUnderWay.{each_body, under-way-reply}
+use Rattle.each_once.proofs.CommandsUnderWay.{under-way-reply}
 use Rattle.each_once.proofs.HandedOut.{is_command, Hosts}
-use Rattle.each_once.proofs.TwoNodes.{answer-fits, few-replies, key-is-new}
+use Rattle.each_once.proofs.TwoNodes.{answer-fits, few-replies, commands-differ, key-is-new}
 use Rattle.each_once.proofs.MessageLengths.{AreBodies}
-use Rattle.duplex_line.proofs.Complete.ToldMessages.{tells-silent, tells-accept, none-accepted}
-use Rattle.duplex_line.proofs.Complete.Invariant.{IsAllowed, IsAhead, Flows, allowed-accept}
+use Rattle.duplex_line.proofs.Complete.ToldMessages.{TellsOf, tells-silent, tells-accept, none-accepted}
+use Rattle.duplex_line.proofs.Once.Settings.{IsAllowed, allowed-accept}
+use Rattle.duplex_line.proofs.Complete.Invariant.{Origin, station_from, is_later, IsAhead, HostsSince, Flows, replies-of, within-both}
 
 -- ---- what is heard
 
@@ -128,7 +128,7 @@ abbrev lent_after : LineEndState → LaneCell → List ℕ
 lent_after b cell = lent_at (next 250 b.end.receiver.decoding cell.byte).0.standing
 
 -- nothing is heard
-reach-silent : (near far : Who) (first far_first : StationState) (end : EndState NodeState) (cell : LaneCell) (cells : List LaneCell) (b : LineEndState) (count after : ℕ) (late : Late) (dam : Damages) (lines : List Line)
+reach-silent : (near far : Who) (first far_first : Origin) (end : EndState NodeState) (cell : LaneCell) (cells : List LaneCell) (b : LineEndState) (count after : ℕ) (late : Late) (dam : Damages) (lines : List Line)
     → act_of_byte node_host b.end cell.byte ≡ act.Nothing → (next 250 b.end.receiver.decoding cell.byte).1 ≡ None → after ≡ 0 → Flows near far first far_first (coming end cell cells b count) late dam lines
     → Flows near far first far_first (reached end cell cells b after act.Nothing) late (leaves dam) (lines ++ told_at far act.Nothing b.end.sender b.end.host (lent_after b cell))
 reach-silent near far first far_first end cell cells b count after late dam lines acts is none h = record {
@@ -139,6 +139,7 @@ reach-silent near far first far_first end cell cells b count after late dam line
   allowed = h.allowed;
   far_allowed = h.far_allowed;
   rooms = h.rooms;
+  past = h.past;
   end = h.end;
   far_end = record {
     hosts = h.far_end.hosts;
@@ -156,13 +157,15 @@ reach-silent near far first far_first end cell cells b count after late dam line
   far_damage = far-stays dam.b h.far_marks b.end.mouth.begun (heard_by node_host b.end cell.byte act.Nothing).mouth.begun b.end.sender.limits.max_naks end.receiver.decoding b.lane (begun-same (is_waiting (phase_of b.end.sender) && not (is_waiting (phase_of b.end.sender))) b.end.mouth) h.far_damage;
   flow = flow-silent node_host end b.end cell cells b.lane h.sent h.far_heard late.a h.marks is h.flow;
   far_flow = far-silent node_host end b.end cell cells b.lane h.far_sent h.heard late.b h.far_marks is h.far_flow;
-  tells = tells-silent near h.heard lines [] refl h.tells;
-  far_tells = tells-silent far h.far_heard lines [] refl h.far_tells;
+  kept = h.kept;
+  far_kept = h.far_kept;
+  tells = tells-silent near (first.heard ++ h.heard) lines [] refl h.tells;
+  far_tells = tells-silent far (far_first.heard ++ h.far_heard) lines [] refl h.far_tells;
   honest = none;
 }
 
 -- a frame is heard whose check differs
-reach-damaged : (near far : Who) (first far_first : StationState) (end : EndState NodeState) (cell : LaneCell) (cells : List LaneCell) (b : LineEndState) (count after : ℕ) (late : Late) (dam : Damages) (lines : List Line)
+reach-damaged : (near far : Who) (first far_first : Origin) (end : EndState NodeState) (cell : LaneCell) (cells : List LaneCell) (b : LineEndState) (count after : ℕ) (late : Late) (dam : Damages) (lines : List Line)
     → act_of_byte node_host b.end cell.byte ≡ act.Damaged → (next 250 b.end.receiver.decoding cell.byte).1 ≡ Some hears.BadCheck → (body : List ℕ) → end_of cell ≡ Some body → ((marks : Marks) → IsTrueEnd (May end.sender.activity marks.hits) (end_of cell) (next 250 b.end.receiver.decoding cell.byte).1 (lent_after b cell) → May end.sender.activity marks.hits) → after ≡ 0 → Flows near far first far_first (coming end cell cells b count) late dam lines
     → Flows near far first far_first (reached end cell cells b after act.Damaged) late (leaves dam) (lines ++ told_at far act.Damaged b.end.sender b.end.host (lent_after b cell))
 reach-damaged near far first far_first end cell cells b count after late dam lines acts is body ends may none h = record {
@@ -173,6 +176,7 @@ reach-damaged near far first far_first end cell cells b count after late dam lin
   allowed = h.allowed;
   far_allowed = h.far_allowed;
   rooms = h.rooms;
+  past = h.past;
   end = h.end;
   far_end = record {
     hosts = h.far_end.hosts;
@@ -190,8 +194,10 @@ reach-damaged near far first far_first end cell cells b count after late dam lin
   far_damage = far-stays dam.b h.far_marks b.end.mouth.begun (heard_by node_host b.end cell.byte act.Damaged).mouth.begun b.end.sender.limits.max_naks end.receiver.decoding b.lane (begun-same (is_waiting (phase_of b.end.sender) && not (is_waiting (phase_of b.end.sender))) (offer b.end.mouth resp.Nak)) h.far_damage;
   flow = flow-refused node_host end b.end cell cells b.lane h.sent h.far_heard late.a h.marks body ends (may h.marks h.flow.clear.0.0) h.flow;
   far_flow = far-refused node_host end b.end cell cells b.lane h.far_sent h.heard late.b h.far_marks is h.far_flow;
-  tells = tells-silent near h.heard lines _ refl h.tells;
-  far_tells = tells-silent far h.far_heard lines _ refl h.far_tells;
+  kept = h.kept;
+  far_kept = h.far_kept;
+  tells = tells-silent near (first.heard ++ h.heard) lines _ refl h.tells;
+  far_tells = tells-silent far (far_first.heard ++ h.far_heard) lines _ refl h.far_tells;
   honest = none;
 }
 
@@ -201,7 +207,7 @@ delivered limits Idle one = absurd (omega (arith, one))
 delivered limits (Sending body naks enqs) one = absurd (omega (arith, one))
 delivered limits (Waiting body naks enqs left) one = refl
 
-reach-ack : (near far : Who) (first far_first : StationState) (end : EndState NodeState) (cell : LaneCell) (cells : List LaneCell) (b : LineEndState) (count after : ℕ) (late : Late) (dam : Damages) (lines : List Line)
+reach-ack : (near far : Who) (first far_first : Origin) (end : EndState NodeState) (cell : LaneCell) (cells : List LaneCell) (b : LineEndState) (count after : ℕ) (late : Late) (dam : Damages) (lines : List Line)
     → act_of_byte node_host b.end cell.byte ≡ act.PeerAck → (next 250 b.end.receiver.decoding cell.byte).1 ≡ Some hears.Ack → after ≡ 0 → Flows near far first far_first (coming end cell cells b count) late dam lines
     → Flows near far first far_first (reached end cell cells b after act.PeerAck) late (leaves dam) (lines ++ told_at far act.PeerAck b.end.sender b.end.host (lent_after b cell))
 reach-ack near far first far_first end cell cells b count after late dam lines acts is none h =
@@ -219,11 +225,12 @@ reach-ack near far first far_first end cell cells b count after late dam lines a
       allowed = h.allowed;
       far_allowed = h.far_allowed;
       rooms = h.rooms;
+      past = h.past;
       end = h.end;
       far_end = record {
-        hosts = hosts-fate (ack_fate b.end.sender) far_first b.end.host h.far_sent h.far_heard h.far_end.hosts;
+        hosts = hosts-fate (ack_fate b.end.sender) far_first.station b.end.host (far_first.sent ++ h.far_sent) (far_first.heard ++ h.far_heard) h.far_end.hosts;
         sends = subst (λ (e : EndState NodeState). Sends e h.far_sent) (byte-acts node_host b.end cell.byte act.PeerAck acts) (sends-byte node_host b.end cell.byte h.far_end.sends);
-        ahead = subst (λ (node : NodeState). IsAhead node.initiator (filter is_command h.far_sent) h.far_heard late.b) is_host (record { done = h.far_end.ahead.done; under_way = h.far_end.ahead.under_way; answers = h.far_end.ahead.answers });
+        ahead = subst (λ (node : NodeState). IsAhead far_first node.initiator (filter is_command h.far_sent) h.far_heard late.b) is_host (record { done = h.far_end.ahead.done; under_way = h.far_end.ahead.under_way; answers = h.far_end.ahead.answers });
         bodies = h.far_end.bodies;
         commands = subst (λ (node : NodeState). AreBodies (map (λ c. c.body) node.initiator.issued)) is_host h.far_end.commands;
         allowed = subst (λ (node : NodeState). IsAllowed h.far_allowed node) is_host (record { room = h.far_end.allowed.room; window = h.far_end.allowed.window; per_source = h.far_end.allowed.per_source });
@@ -236,13 +243,15 @@ reach-ack near far first far_first end cell cells b count after late dam lines a
       far_damage = far-stays dam.b h.far_marks b.end.mouth.begun (heard_by node_host b.end cell.byte act.PeerAck).mouth.begun b.end.sender.limits.max_naks end.receiver.decoding b.lane (begun-same (is_waiting (phase_of b.end.sender) && not (is_waiting (phase_of (on_ack b.end.sender)))) b.end.mouth) h.far_damage;
       flow = flow-acked node_host end b.end cell cells b.lane h.sent h.far_heard late.a h.marks is h.flow;
       far_flow = acked.0;
-      tells = tells-silent near h.heard lines news (ap (executed_in near) no_news) h.tells;
-      far_tells = tells-silent far h.far_heard lines news (ap (executed_in far) no_news) h.far_tells;
+      kept = h.kept;
+      far_kept = h.far_kept;
+      tells = tells-silent near (first.heard ++ h.heard) lines news (ap (executed_in near) no_news) h.tells;
+      far_tells = tells-silent far (far_first.heard ++ h.far_heard) lines news (ap (executed_in far) no_news) h.far_tells;
       honest = none;
     }
 
 -- a NAK is heard, and the message is sent again
-reach-nak : (near far : Who) (first far_first : StationState) (end : EndState NodeState) (cell : LaneCell) (cells : List LaneCell) (b : LineEndState) (count after : ℕ) (late : Late) (dam : Damages) (lines : List Line)
+reach-nak : (near far : Who) (first far_first : Origin) (end : EndState NodeState) (cell : LaneCell) (cells : List LaneCell) (b : LineEndState) (count after : ℕ) (late : Late) (dam : Damages) (lines : List Line)
     → act_of_byte node_host b.end cell.byte ≡ act.PeerNak → (next 250 b.end.receiver.decoding cell.byte).1 ≡ Some hears.Nak → after ≡ 0 → Flows near far first far_first (coming end cell cells b count) late dam lines
     → Flows near far first far_first (reached end cell cells b after act.PeerNak) late (leaves dam) (lines ++ told_at far act.PeerNak b.end.sender b.end.host (lent_after b cell))
 reach-nak near far first far_first end cell cells b count after late dam lines acts is none h =
@@ -259,11 +268,12 @@ reach-nak near far first far_first end cell cells b count after late dam lines a
       allowed = h.allowed;
       far_allowed = h.far_allowed;
       rooms = h.rooms;
+      past = h.past;
       end = h.end;
       far_end = record {
-        hosts = hosts-fate (nak_fate b.end.sender) far_first b.end.host h.far_sent h.far_heard h.far_end.hosts;
+        hosts = hosts-fate (nak_fate b.end.sender) far_first.station b.end.host (far_first.sent ++ h.far_sent) (far_first.heard ++ h.far_heard) h.far_end.hosts;
         sends = subst (λ (e : EndState NodeState). Sends e h.far_sent) (byte-acts node_host b.end cell.byte act.PeerNak acts) (sends-byte node_host b.end cell.byte h.far_end.sends);
-        ahead = subst (λ (node : NodeState). IsAhead node.initiator (filter is_command h.far_sent) h.far_heard late.b) is_host (record { done = h.far_end.ahead.done; under_way = h.far_end.ahead.under_way; answers = h.far_end.ahead.answers });
+        ahead = subst (λ (node : NodeState). IsAhead far_first node.initiator (filter is_command h.far_sent) h.far_heard late.b) is_host (record { done = h.far_end.ahead.done; under_way = h.far_end.ahead.under_way; answers = h.far_end.ahead.answers });
         bodies = h.far_end.bodies;
         commands = subst (λ (node : NodeState). AreBodies (map (λ c. c.body) node.initiator.issued)) is_host h.far_end.commands;
         allowed = subst (λ (node : NodeState). IsAllowed h.far_allowed node) is_host (record { room = h.far_end.allowed.room; window = h.far_end.allowed.window; per_source = h.far_end.allowed.per_source });
@@ -276,8 +286,10 @@ reach-nak near far first far_first end cell cells b count after late dam lines a
       far_damage = far-stays dam.b h.far_marks b.end.mouth.begun (heard_by node_host b.end cell.byte act.PeerNak).mouth.begun b.end.sender.limits.max_naks end.receiver.decoding b.lane (begun-same (is_waiting (phase_of b.end.sender) && not (is_waiting (phase_of (on_nak b.end.sender)))) b.end.mouth) h.far_damage;
       flow = flow-naked node_host end b.end cell cells b.lane h.sent h.far_heard late.a h.marks is h.flow;
       far_flow = again.0;
-      tells = tells-silent near h.heard lines news (ap (executed_in near) no_news) h.tells;
-      far_tells = tells-silent far h.far_heard lines news (ap (executed_in far) no_news) h.far_tells;
+      kept = h.kept;
+      far_kept = h.far_kept;
+      tells = tells-silent near (first.heard ++ h.heard) lines news (ap (executed_in near) no_news) h.tells;
+      far_tells = tells-silent far (far_first.heard ++ h.far_heard) lines news (ap (executed_in far) no_news) h.far_tells;
       honest = none;
     }
 
@@ -287,48 +299,54 @@ length-push : {A : Type 0} (xs : List A) (x : A) → length (xs ++ x ∷ []) ≡
 length-push xs x = omega (arith, length-append xs (x ∷ []))
 
 -- a reply answers the first command that isn't answered, and that is its place
-reply-ahead : (first : StationState) (node : NodeState) (sent heard : List (List ℕ)) (body : List ℕ) (late : ℕ) (command : List ℕ) → is_reply body ≡ true → Hosts first node sent heard → length node.initiator.issued ≤ 65535
-    → (a : IsAhead node.initiator (filter is_command sent) heard late) → slice_get (filter is_command sent) a.done ≡ Some command → is_reply_to command body ≡ true → IsAhead (after_accept node body).initiator (filter is_command sent) (heard ++ body ∷ []) late
+reply-ahead : (first : Origin) (node : NodeState) (sent heard : List (List ℕ)) (body : List ℕ) (late : ℕ) (command : List ℕ) → is_reply body ≡ true → HostsSince first node sent heard → length node.initiator.issued ≤ 65535
+    → (a : IsAhead first node.initiator (filter is_command sent) heard late) → slice_get (filter is_command sent) a.done ≡ Some command → is_reply_to command body ≡ true → IsAhead first (after_accept node body).initiator (filter is_command sent) (heard ++ body ∷ []) late
 reply-ahead first node sent heard body late command reply h few a next fits =
-    let answered = under-way-reply each_body node.initiator (filter is_command sent) a.done _ command body few h.initiates.numbered next fits a.under_way in
+    let answered = under-way-reply (is_later first) node.initiator (filter is_command sent) a.done _ command body few h.initiates.numbered next fits a.under_way in
     rw reply (record {
       done = suc a.done;
       under_way = answered.1;
       answers = ap length (filter-keeps is_reply heard body reply) ∙ length-push (filter is_reply heard) body ∙ ap suc a.answers;
     })
 
-command-ahead : (node : NodeState) (commands heard : List (List ℕ)) (body : List ℕ) (late : ℕ) → is_reply body ≡ false → IsAhead node.initiator commands heard late → IsAhead (after_accept node body).initiator commands (heard ++ body ∷ []) late
-command-ahead node commands heard body late command a = rw command (record {
+command-ahead : (first : Origin) (node : NodeState) (commands heard : List (List ℕ)) (body : List ℕ) (late : ℕ) → is_reply body ≡ false → IsAhead first node.initiator commands heard late → IsAhead first (after_accept node body).initiator commands (heard ++ body ∷ []) late
+command-ahead first node commands heard body late command a = rw command (record {
   done = a.done;
   under_way = a.under_way;
   answers = ap length (filter-drops is_reply heard body command) ∙ a.answers;
 })
 
-accepted-ahead : (near far : Who) (first far_first : StationState) (end : EndState NodeState) (cell : LaneCell) (cells : List LaneCell) (b : LineEndState) (count : ℕ) (late : Late) (dam : Damages) (lines : List Line) (body : List ℕ) → (h : Flows near far first far_first (coming end cell cells b count) late dam lines)
-    → h.sent ≡ h.far_heard ++ body ∷ [] → (reply : Bool) → is_reply body ≡ reply → IsAhead (after_accept b.end.host body).initiator (filter is_command h.far_sent) (h.far_heard ++ body ∷ []) late.b
+accepted-ahead : (near far : Who) (first far_first : Origin) (end : EndState NodeState) (cell : LaneCell) (cells : List LaneCell) (b : LineEndState) (count : ℕ) (late : Late) (dam : Damages) (lines : List Line) (body : List ℕ) → (h : Flows near far first far_first (coming end cell cells b count) late dam lines)
+    → h.sent ≡ h.far_heard ++ body ∷ [] → (reply : Bool) → is_reply body ≡ reply → IsAhead far_first (after_accept b.end.host body).initiator (filter is_command h.far_sent) (h.far_heard ++ body ∷ []) late.b
 accepted-ahead near far first far_first end cell cells b count late dam lines body h arrives true reply =
     let a = h.far_end.ahead in
-    let fits = answer-fits h.end.hosts h.far_end.hosts body arrives _ h.far_flow.flight reply a.done a.answers in
+    let replied = replies-of first end.host h.sent h.heard h.past.even h.end.hosts in
+    let fits = answer-fits (station_from first) h.sent h.heard end.host.replies h.far_sent h.far_heard replied body arrives _ h.far_flow.flight reply a.done a.answers in
     reply-ahead far_first b.end.host h.far_sent h.far_heard body late.b fits.0 reply h.far_end.hosts h.far_end.few a fits.1 fits.2
-accepted-ahead near far first far_first end cell cells b count late dam lines body h arrives false command = command-ahead b.end.host (filter is_command h.far_sent) h.far_heard body late.b command h.far_end.ahead
+accepted-ahead near far first far_first end cell cells b count late dam lines body h arrives false command = command-ahead far_first b.end.host (filter is_command h.far_sent) h.far_heard body late.b command h.far_end.ahead
 
 -- there is room for it
-has-room : (near far : Who) (first far_first : StationState) (end : EndState NodeState) (cell : LaneCell) (cells : List LaneCell) (b : LineEndState) (count : ℕ) (late : Late) (dam : Damages) (lines : List Line) (body : List ℕ) → (h : Flows near far first far_first (coming end cell cells b count) late dam lines)
+has-room : (near far : Who) (first far_first : Origin) (end : EndState NodeState) (cell : LaneCell) (cells : List LaneCell) (b : LineEndState) (count : ℕ) (late : Late) (dam : Damages) (lines : List Line) (body : List ℕ) → (h : Flows near far first far_first (coming end cell cells b count) late dam lines)
     → h.sent ≡ h.far_heard ++ body ∷ [] → (reply : Bool) → is_reply body ≡ reply → has_room b.end.host body ≡ true
 has-room near far first far_first end cell cells b count late dam lines body h arrives true reply = rw reply refl
 has-room near far first far_first end cell cells b count late dam lines body h arrives false command =
     let a = h.end.ahead in
-    let few = few-replies h.far_end.hosts h.end.hosts body arrives command _ h.far_flow.flight a.done _ a.answers a.under_way in
+    let replied = replies-of far_first b.end.host h.far_sent h.far_heard h.past.far_even h.far_end.hosts in
+    let few = few-replies (station_from far_first) h.far_sent h.far_heard b.end.host.replies h.sent h.heard replied (is_later first) end.host.initiator body arrives command _ h.far_flow.flight a.done _ a.answers a.under_way in
     let fewer : length b.end.host.replies < b.end.host.room = omega (arith, few, h.end.allowed.window, h.far_end.allowed.room, h.rooms.far_room) in
     rw command (lt-ltb (length b.end.host.replies) b.end.host.room fewer)
 
 -- its key is new
-new-key : (near far : Who) (first far_first : StationState) (end : EndState NodeState) (cell : LaneCell) (cells : List LaneCell) (b : LineEndState) (count : ℕ) (late : Late) (dam : Damages) (lines : List Line) (body : List ℕ) → (h : Flows near far first far_first (coming end cell cells b count) late dam lines)
+new-key : (near far : Who) (first far_first : Origin) (end : EndState NodeState) (cell : LaneCell) (cells : List LaneCell) (b : LineEndState) (count : ℕ) (late : Late) (dam : Damages) (lines : List Line) (body : List ℕ) → (h : Flows near far first far_first (coming end cell cells b count) late dam lines)
     → h.sent ≡ h.far_heard ++ body ∷ [] → is_kept b.end.receiver.kept (key_of body) ≡ false
 new-key near far first far_first end cell cells b count late dam lines body h arrives =
-    ap (λ (kept : Option Key). is_kept kept (key_of body)) h.flow.kept ∙ key-is-new h.far_end.hosts h.end.hosts body arrives _ h.far_flow.flight h.far_end.few h.end.few
+    let within : IsWithin (first.heard ++ h.heard) (far_first.sent ++ h.far_sent) =
+    subst (λ (xs : List (List ℕ)). IsWithin (first.heard ++ h.heard) (far_first.sent ++ xs)) (sym h.far_flow.flight) (within-both first.heard far_first.sent h.heard _ h.past.within) in
+    let executed = differ-within tns_of (filter is_command (first.heard ++ h.heard)) (filter is_command (far_first.sent ++ h.far_sent)) (within-filter is_command (first.heard ++ h.heard) (far_first.sent ++ h.far_sent) within) (commands-differ h.far_end.hosts h.far_end.few) in
+    let sends : first.sent ++ h.sent ≡ (first.sent ++ h.far_heard) ++ body ∷ [] = ap (λ (xs : List (List ℕ)). first.sent ++ xs) arrives ∙ sym (append_assoc first.sent h.far_heard (body ∷ [])) in
+    key-is-new h.end.hosts h.end.few executed (first.sent ++ h.far_heard) body sends b.end.receiver.kept h.kept
 
-reach-good : (near far : Who) → AreTwo near far → (first far_first : StationState) (end : EndState NodeState) (cell : LaneCell) (cells : List LaneCell) (b : LineEndState) (count after : ℕ) (late : Late) (dam : Damages) (lines : List Line)
+reach-good : (near far : Who) → AreTwo near far → (first far_first : Origin) (end : EndState NodeState) (cell : LaneCell) (cells : List LaneCell) (b : LineEndState) (count after : ℕ) (late : Late) (dam : Damages) (lines : List Line)
     → act_of_byte node_host b.end cell.byte ≡ act.Accept → (next 250 b.end.receiver.decoding cell.byte).1 ≡ Some hears.Good → end_of cell ≡ Some (lent_after b cell) → after ≡ 0 → (h : Flows near far first far_first (coming end cell cells b count) late dam lines) → h.sent ≡ h.far_heard ++ lent_after b cell ∷ []
     → Flows near far first far_first (reached end cell cells b after act.Accept) late (leaves dam) (lines ++ told_at far act.Accept b.end.sender b.end.host (lent_after b cell))
 reach-good near far two first far_first end cell cells b count after late dam lines acts is ends none h arrives =
@@ -342,9 +360,11 @@ reach-good near far two first far_first end cell cells b count after late dam li
       allowed = h.allowed;
       far_allowed = h.far_allowed;
       rooms = h.rooms;
+      past = h.past;
       end = h.end;
       far_end = record {
-        hosts = hosts-act act.Accept far_first b.end.host h.far_sent h.far_heard body h.far_end.hosts;
+        hosts = subst (λ (heard : List (List ℕ)). Hosts far_first.station (after_accept b.end.host body) (far_first.sent ++ h.far_sent) heard) (append_assoc far_first.heard h.far_heard (body ∷ []))
+            (hosts-act act.Accept far_first.station b.end.host (far_first.sent ++ h.far_sent) (far_first.heard ++ h.far_heard) body h.far_end.hosts);
         sends = subst (λ (e : EndState NodeState). Sends e h.far_sent) (byte-acts node_host b.end cell.byte act.Accept acts) (sends-byte node_host b.end cell.byte h.far_end.sends);
         ahead = accepted-ahead near far first far_first end cell cells b count late dam lines body h arrives (is_reply body) refl;
         bodies = h.far_end.bodies;
@@ -359,8 +379,10 @@ reach-good near far two first far_first end cell cells b count after late dam li
       far_damage = far-stays dam.b h.far_marks b.end.mouth.begun (heard_by node_host b.end cell.byte act.Accept).mouth.begun b.end.sender.limits.max_naks end.receiver.decoding b.lane (begun-same (is_waiting (phase_of b.end.sender) && not (is_waiting (phase_of b.end.sender))) (offer b.end.mouth resp.Ack)) h.far_damage;
       flow = flow-accepted node_host end b.end cell cells b.lane h.sent h.far_heard late.a h.marks ends h.flow;
       far_flow = far-accepted node_host end b.end cell cells b.lane h.far_sent h.heard late.b h.far_marks is h.far_flow;
-      tells = tells-silent near h.heard lines _ (none-accepted near far two.other body place (is_reply body)) h.tells;
-      far_tells = tells-accept far two.far_itself h.far_heard lines body place (is_reply body) refl h.far_tells;
+      kept = (body, subst (λ (xs : List (List ℕ)). Has xs body) (append_assoc first.sent h.far_heard (body ∷ [])) (get-last (first.sent ++ h.far_heard) body), refl);
+      far_kept = h.far_kept;
+      tells = tells-silent near (first.heard ++ h.heard) lines _ (none-accepted near far two.other body place (is_reply body)) h.tells;
+      far_tells = subst (λ (heard : List (List ℕ)). TellsOf far heard (lines ++ told_at far act.Accept b.end.sender b.end.host body)) (append_assoc far_first.heard h.far_heard (body ∷ [])) (tells-accept far two.far_itself (far_first.heard ++ h.far_heard) lines body place (is_reply body) refl h.far_tells);
       honest = none;
     }
 
@@ -376,7 +398,7 @@ ends-so hits d a h cell body lent are good ends (inl same) sure = same
 ends-so hits d a h cell body lent are good ends (inr may) (inl none) = honest-end h cell.ends lent body good ends none
 ends-so hits d a h cell body lent are good ends (inr may) (inr none) = absurd (let zero : hits_of d (length d.firsts) ≡ 0 = rw none refl in omega (arith, may, are, zero))
 
-pub flows-arrival : (near far : Who) → AreTwo near far → (first far_first : StationState) (end : EndState NodeState) (cell : LaneCell) (cells : List LaneCell) (b : LineEndState) (count : ℕ) (late : Late) (dam : Damages) (lines : List Line) → IsSure (count + deceptions_at b cell) dam
+pub flows-arrival : (near far : Who) → AreTwo near far → (first far_first : Origin) (end : EndState NodeState) (cell : LaneCell) (cells : List LaneCell) (b : LineEndState) (count : ℕ) (late : Late) (dam : Damages) (lines : List Line) → IsSure (count + deceptions_at b cell) dam
     → Flows near far first far_first (coming end cell cells b count) late dam lines → Flows near far first far_first (arrived end cell cells b (count + deceptions_at b cell)) late (leaves dam) (lines ++ cell_lines far b cell)
 flows-arrival near far two first far_first end cell cells b count late dam lines sure h = elim (heard-cases (May end.sender.activity h.marks.hits) (end_of cell) heard body h.flow.clear.0.0) [
   | inl none ↦

@@ -37,8 +37,9 @@ pub record IsDamage (d : Damage) (marks : Marks) (begun most : ℕ) (decoding : 
   pub few : marks.hits ≤ most
   pub touched : d.touched ≡ true → IsTouched decoding lane marks.last_hit
 
-pub damage-start : (most : ℕ) (decoding : Decoding) → IsDamage no_damage (record { hits = 0; last_hit = false }) 0 most decoding []
-damage-start most decoding = record { hits_are = refl; last_is = refl; firsts = tt; hits = tt; few = omega arith; touched = λ is. cc }
+-- none was done so far
+pub damage-none : (begun most : ℕ) (decoding : Decoding) (lane : List LaneCell) → IsDamage no_damage (record { hits = 0; last_hit = false }) begun most decoding lane
+damage-none begun most decoding lane = record { hits_are = refl; last_is = refl; firsts = tt; hits = tt; few = omega arith; touched = λ is. cc }
 
 -- the head of the lane is gone
 pub damage-leaves : (d : Damage) (marks : Marks) (begun most : ℕ) (decoding after : Decoding) (lane rest : List LaneCell) → IsDamage d marks begun most decoding lane → IsDamage (record d { touched = false }) marks begun most after rest

@@ -16,7 +16,7 @@ use Rattle.df1_frame.specs.Standing.{Standing, Outside, Ended, AfterDle, Inside,
 use Rattle.df1_frame.specs.Step.{step, next}
 use Rattle.df1_frame.proofs.GatheredLemmas.{gathered-nothing, gather-gathered, close-gathered}
 use Rattle.df1_frame.proofs.SpellingLemmas.{same-same}
-use Rattle.embedded_response.specs.Giving.{Giving, Choice, Second, Respond, Give, Enquire, nothing, offer, unask, begin, code_of, plain, unit_out, chosen, given, take}
+use Rattle.embedded_response.specs.Giving.{Giving, Choice, Second, Respond, Give, Enquire, offer, unask, begin, code_of, plain, unit_out, chosen, given, take}
 use Rattle.duplex_end.proofs.Choices.{Chosen, is-chosen}
 use Rattle.duplex_line.proofs.Complete.CheckBytes.{check-some, checks-left, check-goes, check-ends, responds-gap}
 
@@ -436,9 +436,11 @@ sync-anew Q {g = g} {body = body} {d = d} none s =
 
 -- ---- what is put in
 
--- before anything
-pub sync-start : (P : Type 0) (check : Check) (embed : Bool) → InSync P (nothing check embed) [] (record { check = check; standing = Outside })
-sync-start P check embed = record { check = refl; asks_nothing = refl; progress = Done; pending = NoPair; is_progress = tt; left = refl; gap = tt; second = refl; seen = []; as_many = refl; same = inl refl; stands = tt }
+-- where nothing is to be given, and the decoder takes the next byte for the first of an item
+pub sync-rest : (P : Type 0) (g : Giving) (body : List ℕ) (d : Decoding) → d.check ≡ g.check → chosen g ≡ None → IsOutside d.standing → InSync P g body d
+sync-rest P g body d same e outside =
+    let none = none-there g e in
+    record { check = same; asks_nothing = none.3; progress = Done; pending = NoPair; is_progress = tt; left = none.2; gap = tt; second = none.0; seen = []; as_many = refl; same = inl refl; stands = outside }
 
 -- a response waits, or no ENQ is wished
 pub sync-offer : {P : Type 0} {g : Giving} {body : List ℕ} {d : Decoding} (r : Resp) → InSync P g body d → InSync P (offer g r) body d

@@ -1,5 +1,5 @@
 -- A command is issued, and a byte is given, in a run that nothing disturbs.
-use Rattle.std.proofs.Common.{◌≡◌, ◌∙◌, ℕ, ◌+◌, ◌-◌, ◌^◌, ◌<◌, ◌≤◌, Bool, true, false, List, [], ◌∷◌, ◌++◌, length, map, Option, Some, None, is_none, is_some, eqb, refl, ap, sym, subst, arith, append-nil, length-append}
+use Rattle.std.proofs.Common.{◌≡◌, ◌∙◌, ℕ, ◌+◌, ◌-◌, ◌^◌, ◌<◌, ◌≤◌, Bool, true, false, List, [], ◌∷◌, ◌++◌, length, map, Option, Some, None, is_none, is_some, eqb, refl, ap, sym, subst, arith, append-nil, append_assoc, length-append}
 use Rattle.std.specs.Prelude.{IsTrue, ◌&&◌, slice_index, option_to_list, unwrap_or, if◌then◌else◌}
 use Rattle.std.specs.List.{filter}
 use Rattle.std.specs.Option.{option_map, option_map_or}
@@ -10,13 +10,13 @@ use Rattle.duplex_sender.specs.declared.Phase.TheVariants as phase
 use Rattle.duplex_sender.specs.declared.Limits.{Limits}
 use Rattle.duplex_sender.specs.Sender.{SenderState, phase_of, body_of, sent_last}
 use Rattle.embedded_response.specs.Giving.{Giving, begin, chosen, take}
-use Rattle.df1_node.specs.Answer.{StationState}
 use Rattle.df1_node.specs.Initiator.{Issued, Waiting, next_issued}
 use Rattle.df1_node.specs.Node.{NodeState, next_body, after_next, after_node_issue}
 use Rattle.duplex_end.specs.End.{EndState, begun_at, begun_next, prepared, given_next, end_after_take, out_at_take, ends_here, after_out}
 use Rattle.duplex_end.proofs.Choices.{is-chosen}
 use Rattle.duplex_end.proofs.Joining.{take-sends}
 use Rattle.duplex_end.proofs.Order.{end-is, out-is}
+use Rattle.duplex_end.proofs.Runs.{take-receiver}
 use Rattle.script_statement.specs.declared.who.Who.{Who}
 use Rattle.script_statement.specs.Statements.{is_payload}
 use Rattle.replay_report.specs.declared.record.Line.{Line}
@@ -38,14 +38,15 @@ use Rattle.duplex_line.proofs.Complete.DecoderPlace.{quiet-left}
 use Rattle.duplex_line.proofs.Complete.DamageDone.{IsDamage, damage-gives, damage-rests, damage-again, damage-new}
 use Rattle.duplex_line.proofs.Complete.QuietEnd.{gives-nothing}
 use Rattle.duplex_line.proofs.Complete.MessageUnderWay.{Flow, Marks, May, awaits, awaits-idle, awaits-sending, gave, take-begun, flow-transmits, flow-loads, flow-gives, flow-back, flow-host, far-host}
-use Rattle.each_once.proofs.CommandsUnderWay.{each_body, under-way-issue}
+use Rattle.each_once.proofs.CommandsUnderWay.{under-way-issue}
 use Rattle.each_once.proofs.MessageLengths.{AreBodies, issued-fits, next-fits, bodies-push, bodies-last}
-use Rattle.duplex_line.proofs.Complete.Invariant.{Allowance, IsAllowed, IsAhead, IsEnd, Flows, heard-bodies, allowed-next, ahead-next}
+use Rattle.duplex_line.proofs.Once.Settings.{Allowance, IsAllowed, allowed-handed}
+use Rattle.duplex_line.proofs.Complete.Invariant.{Origin, station_from, is_later, IsAhead, HostsSince, IsEnd, Flows, heard-bodies, replies-of, ahead-next}
 use Rattle.each_once.proofs.Sublists.{none-is}
 
 -- ---- a command is issued
 
-pub flows-issue : (near far : Who) (first far_first : StationState) (s : LineState) (late : Late) (dam : Damages) (lines : List Line) (src : Option ℕ) (dst : ℕ) (payload : List ℕ) → IsTrue (is_payload payload) → eqb (bit_at (slice_index payload 0) 6) 1 ≡ false → issued_by s.a < 65535
+pub flows-issue : (near far : Who) (first far_first : Origin) (s : LineState) (late : Late) (dam : Damages) (lines : List Line) (src : Option ℕ) (dst : ℕ) (payload : List ℕ) → IsTrue (is_payload payload) → eqb (bit_at (slice_index payload 0) 6) 1 ≡ false → issued_by s.a < 65535
     → Flows near far first far_first s late dam lines → Flows near far first far_first (after_deed s (Issue src dst payload)) late dam lines
 flows-issue near far first far_first s late dam lines src dst payload may command few h =
     let node = s.a.end.host in
@@ -60,10 +61,11 @@ flows-issue near far first far_first s late dam lines src dst payload may comman
       allowed = h.allowed;
       far_allowed = h.far_allowed;
       rooms = h.rooms;
+      past = h.past;
       end = record {
         hosts = hosts-issue h.end.hosts source dst payload command few;
         sends = sends-host s.a.end after h.end.sends;
-        ahead = record { done = h.end.ahead.done; under_way = under-way-issue each_body node.initiator source dst payload (filter is_command h.sent) h.end.ahead.done _ h.end.ahead.under_way; answers = h.end.ahead.answers };
+        ahead = record { done = h.end.ahead.done; under_way = under-way-issue (is_later first) node.initiator source dst payload (filter is_command h.sent) h.end.ahead.done _ h.end.ahead.under_way; answers = h.end.ahead.answers };
         bodies = h.end.bodies;
         commands = issued-fits node.initiator source dst payload h.end.commands may;
         allowed = record { room = h.end.allowed.room; window = h.end.allowed.window; per_source = h.end.allowed.per_source };
@@ -75,6 +77,8 @@ flows-issue near far first far_first s late dam lines src dst payload may comman
       far_marks = h.far_marks;
       flow = flow-host s.a.end s.b.end after s.a.lane s.b.lane h.sent h.far_heard late.a h.marks h.flow;
       far_flow = far-host s.a.end s.b.end after s.b.lane s.a.lane h.far_sent h.heard late.b h.far_marks h.far_flow;
+      kept = h.kept;
+      far_kept = h.far_kept;
       damage = h.damage;
       far_damage = h.far_damage;
       tells = h.tells;
@@ -143,8 +147,8 @@ record FarBegun (x b : EndState NodeState) (lane back : List LaneCell) (sent hea
 
 far-begun : (e b : EndState NodeState) (lane back : List LaneCell) (sent heard : List (List ℕ)) (late : ℕ) (d : Damage) (marks : Marks) (most : ℕ) (p : Phase) (next : Option (List ℕ)) → FarBegun e b lane back sent heard late d marks most → FarBegun (begun_at node_host e p next) b lane back sent heard late d marks most
 far-begun e b lane back sent heard late d marks most phase.Idle None f = f
-far-begun e b lane back sent heard late d marks most phase.Idle (Some body) f = record { flow = record { clear = f.flow.clear; responses = f.flow.responses; bodies = f.flow.bodies; flight = f.flow.flight; kept = f.flow.kept; patient = f.flow.patient; spent = f.flow.spent; struck = f.flow.struck; given = f.flow.given }; damage = f.damage }
-far-begun e b lane back sent heard late d marks most phase.Sending next f = record { flow = record { clear = f.flow.clear; responses = f.flow.responses; bodies = f.flow.bodies; flight = f.flow.flight; kept = f.flow.kept; patient = f.flow.patient; spent = f.flow.spent; struck = f.flow.struck; given = f.flow.given }; damage = f.damage }
+far-begun e b lane back sent heard late d marks most phase.Idle (Some body) f = record { flow = record { clear = f.flow.clear; responses = f.flow.responses; bodies = f.flow.bodies; flight = f.flow.flight; patient = f.flow.patient; spent = f.flow.spent; struck = f.flow.struck; given = f.flow.given }; damage = f.damage }
+far-begun e b lane back sent heard late d marks most phase.Sending next f = record { flow = record { clear = f.flow.clear; responses = f.flow.responses; bodies = f.flow.bodies; flight = f.flow.flight; patient = f.flow.patient; spent = f.flow.spent; struck = f.flow.struck; given = f.flow.given }; damage = f.damage }
 far-begun e b lane back sent heard late d marks most phase.Waiting next f = f
 
 flow-prepared : (e b : EndState NodeState) (lane back : List LaneCell) (sent heard : List (List ℕ)) (late : ℕ) (d : Damage) (marks : Marks) (most : ℕ) (idle : Bool) → is_none (chosen e.mouth) ≡ idle → e.mouth.begun < 2 ^ 64 - 1
@@ -185,8 +189,9 @@ take-transmissions e = ap (λ (x : EndState NodeState). x.mouth.begun) (end-is n
 -- ---- a byte is given
 
 -- what is next to be sent is a body
-next-body-fits : (near far : Who) (first far_first : StationState) (s : LineState) (late : Late) (dam : Damages) (lines : List Line) → (h : Flows near far first far_first s late dam lines) → (body : List ℕ) → next_body s.a.end.host ≡ Some body → (6 ≤ length body) × (length body ≤ 250)
-next-body-fits near far first far_first s late dam lines h body next = next-fits h.end.hosts h.end.block (heard-bodies h.far_sent h.heard _ h.far_end.bodies h.far_flow.flight) h.end.commands body next
+next-body-fits : (near far : Who) (first far_first : Origin) (s : LineState) (late : Late) (dam : Damages) (lines : List Line) → (h : Flows near far first far_first s late dam lines) → (body : List ℕ) → next_body s.a.end.host ≡ Some body → (6 ≤ length body) × (length body ≤ 250)
+next-body-fits near far first far_first s late dam lines h body next =
+    next-fits (station_from first) s.a.end.host h.sent h.heard (replies-of first s.a.end.host h.sent h.heard h.past.even h.end.hosts) h.end.block (heard-bodies h.far_sent h.heard _ h.far_end.bodies h.far_flow.flight) h.end.commands body next
 
 current-fits : (e : EndState NodeState) (sent : List (List ℕ)) → Sends e sent → AreBodies sent → phase_of e.sender ≡ phase.Sending → (6 ≤ length (body_of e.sender)) × (length (body_of e.sender) ≤ 250)
 current-fits e sent sends bodies is =
@@ -197,33 +202,34 @@ handed-bodies : (sent : List (List ℕ)) (o : Option (List ℕ)) → AreBodies s
 handed-bodies sent None bodies fits = rw (append-nil sent) bodies
 handed-bodies sent (Some body) bodies fits = let fit = fits body refl in bodies-push sent body bodies fit.0 fit.1
 
-handed-ahead : (o : Option (List ℕ)) (first : StationState) (node : NodeState) (sent heard : List (List ℕ)) (late : ℕ) → ((body : List ℕ) → o ≡ Some body → next_body node ≡ Some body) → Hosts first node sent heard → IsAhead node.initiator (filter is_command sent) heard late
-    → IsAhead (option_map_or (λ (body : List ℕ). after_next node) o node).initiator (filter is_command (sent ++ option_to_list o)) heard late
-handed-ahead None first node sent heard late next h a = rw (append-nil sent) a
-handed-ahead (Some body) first node sent heard late next h a = ahead-next first node body sent heard late (next body refl) h a
+handed-ahead : (o : Option (List ℕ)) (first : Origin) (node : NodeState) (sent heard : List (List ℕ)) (late : ℕ) → length node.initiator.issued ≤ 65535 → ((body : List ℕ) → o ≡ Some body → next_body node ≡ Some body) → HostsSince first node sent heard → IsAhead first node.initiator (filter is_command sent) heard late
+    → IsAhead first (option_map_or (λ (body : List ℕ). after_next node) o node).initiator (filter is_command (sent ++ option_to_list o)) heard late
+handed-ahead None first node sent heard late few next h a = rw (append-nil sent) a
+handed-ahead (Some body) first node sent heard late few next h a = ahead-next first node body sent heard late few (next body refl) h a
+
+handed-since : (o : Option (List ℕ)) (first : Origin) (node : NodeState) (sent heard : List (List ℕ)) → ((body : List ℕ) → o ≡ Some body → next_body node ≡ Some body) → HostsSince first node sent heard → HostsSince first (option_map_or (λ (body : List ℕ). after_next node) o node) (sent ++ option_to_list o) heard
+handed-since o first node sent heard next h =
+    subst (λ (messages : List (List ℕ)). Hosts first.station (option_map_or (λ (body : List ℕ). after_next node) o node) messages (first.heard ++ heard)) (append_assoc first.sent sent (option_to_list o))
+    (hosts-handed o first.station node (first.sent ++ sent) (first.heard ++ heard) next h)
 
 handed-commands : (o : Option (List ℕ)) (node : NodeState) → map (λ c. c.body) (option_map_or (λ (body : List ℕ). after_next node) o node).initiator.issued ≡ map (λ c. c.body) node.initiator.issued
 handed-commands None node = refl
 handed-commands (Some body) node = bodies-next node
 
-handed-allowed : (o : Option (List ℕ)) (allowed : Allowance) (node : NodeState) → IsAllowed allowed node → IsAllowed allowed (option_map_or (λ (body : List ℕ). after_next node) o node)
-handed-allowed None allowed node a = a
-handed-allowed (Some body) allowed node a = allowed-next allowed node a
-
 -- the end that gives it
-gave-end : (first : StationState) (allowed : Allowance) (e : EndState NodeState) (sent heard : List (List ℕ)) (late : ℕ) → ((body : List ℕ) → next_body e.host ≡ Some body → (6 ≤ length body) × (length body ≤ 250)) → IsEnd first allowed e sent heard late
+gave-end : (first : Origin) (allowed : Allowance) (e : EndState NodeState) (sent heard : List (List ℕ)) (late : ℕ) → ((body : List ℕ) → next_body e.host ≡ Some body → (6 ≤ length body) × (length body ≤ 250)) → IsEnd first allowed e sent heard late
     → IsEnd first allowed (end_after_take node_host e) (sent ++ option_to_list (handed_at node_host e)) heard late
 gave-end first allowed e sent heard late fits h =
     let o = handed_at node_host e in
     let host = option_map_or (λ (body : List ℕ). after_next e.host) o e.host in
     let is_host : host ≡ (end_after_take node_host e).host = sym (take-host node_host e) in
     record {
-      hosts = subst (λ (node : NodeState). Hosts first node (sent ++ option_to_list o) heard) is_host (hosts-handed o first e.host sent heard (λ body is. take-handed node_host e body is) h.hosts);
+      hosts = subst (λ (node : NodeState). HostsSince first node (sent ++ option_to_list o) heard) is_host (handed-since o first e.host sent heard (λ body is. take-handed node_host e body is) h.hosts);
       sends = sends-take node_host e h.sends;
-      ahead = subst (λ (node : NodeState). IsAhead node.initiator (filter is_command (sent ++ option_to_list o)) heard late) is_host (handed-ahead o first e.host sent heard late (λ body is. take-handed node_host e body is) h.hosts h.ahead);
+      ahead = subst (λ (node : NodeState). IsAhead first node.initiator (filter is_command (sent ++ option_to_list o)) heard late) is_host (handed-ahead o first e.host sent heard late h.few (λ body is. take-handed node_host e body is) h.hosts h.ahead);
       bodies = handed-bodies sent o h.bodies (λ body is. fits body (take-handed node_host e body is));
       commands = subst (λ (node : NodeState). AreBodies (map (λ c. c.body) node.initiator.issued)) is_host (subst AreBodies (sym (handed-commands o e.host)) h.commands);
-      allowed = subst (λ (node : NodeState). IsAllowed allowed node) is_host (handed-allowed o allowed e.host h.allowed);
+      allowed = subst (λ (node : NodeState). IsAllowed allowed node) is_host (allowed-handed o allowed e.host h.allowed);
       block = h.block;
       few = let same = take-commands e in omega (arith, same, h.few);
     }
@@ -271,7 +277,7 @@ gave-flow e b lane back sent heard far_sent far_heard late far_late d far_d mark
 abbrev taken_damage : LineState → Damages → Damages
 taken_damage s dam = record { a = with_take s.a (after_take s.a) dam.a; b = dam.b }
 
-take-some : (near far : Who) (first far_first : StationState) (s : LineState) (late : Late) (dam : Damages) (lines : List Line) (out : Out) → out_at_take node_host s.a.end ≡ Some out → s.a.end.mouth.begun < 2 ^ 64 - 1 → AreFewHits (after_take s.a) (with_take s.a (after_take s.a) dam.a) → Flows near far first far_first s late dam lines
+take-some : (near far : Who) (first far_first : Origin) (s : LineState) (late : Late) (dam : Damages) (lines : List Line) (out : Out) → out_at_take node_host s.a.end ≡ Some out → s.a.end.mouth.begun < 2 ^ 64 - 1 → AreFewHits (after_take s.a) (with_take s.a (after_take s.a) dam.a) → Flows near far first far_first s late dam lines
     → Flows near far first far_first (record { a = record { end = end_after_take node_host s.a.end; lane = s.a.lane ++ cell_of (end_after_take node_host s.a.end).sending out ∷ [] }; b = s.b; deceived = s.deceived }) late (taken_damage s dam) lines
 take-some near far first far_first s late dam lines out is small few h =
     let fits = next-body-fits near far first far_first s late dam lines h in
@@ -288,12 +294,15 @@ take-some near far first far_first s late dam lines out is small few h =
       allowed = h.allowed;
       far_allowed = h.far_allowed;
       rooms = h.rooms;
+      past = h.past;
       end = gave-end first h.allowed s.a.end h.sent h.heard late.a fits h.end;
       far_end = h.far_end;
       marks = both.marks;
       far_marks = h.far_marks;
       flow = both.flow;
       far_flow = both.far_flow;
+      kept = h.kept;
+      far_kept = rw (take-receiver node_host s.a.end) h.far_kept;
       damage = both.damage;
       far_damage = both.far_damage;
       tells = h.tells;
@@ -318,7 +327,7 @@ gives-no-message e idle n d none =
     by-test true false is = refl
     by-test false new is = refl
 
-take-by : (near far : Who) (first far_first : StationState) (s : LineState) (late : Late) (dam : Damages) (lines : List Line) (o : Option Out) → out_at_take node_host s.a.end ≡ o → s.a.end.mouth.begun < 2 ^ 64 - 1 → AreFewHits (after_take s.a) (with_take s.a (after_take s.a) dam.a) → Flows near far first far_first s late dam lines → Flows near far first far_first (after_deed s Take) late (taken_damage s dam) lines
+take-by : (near far : Who) (first far_first : Origin) (s : LineState) (late : Late) (dam : Damages) (lines : List Line) (o : Option Out) → out_at_take node_host s.a.end ≡ o → s.a.end.mouth.begun < 2 ^ 64 - 1 → AreFewHits (after_take s.a) (with_take s.a (after_take s.a) dam.a) → Flows near far first far_first s late dam lines → Flows near far first far_first (after_deed s Take) late (taken_damage s dam) lines
 take-by near far first far_first s late dam lines None is small few h =
     let same : after_take s.a ≡ s.a = take-none s.a (ap (option_map (λ (out : Out). out.byte)) is) in
     let none : with_take s.a (after_take s.a) dam.a ≡ dam.a = gives-no-message s.a.end (is_none (chosen s.a.end.mouth)) (after_take s.a).end.mouth.begun dam.a is in
@@ -328,5 +337,5 @@ take-by near far first far_first s late dam lines (Some out) is small few h =
     subst (λ (o : Option Out). Flows near far first far_first (record { a = record { end = end_after_take node_host s.a.end; lane = s.a.lane ++ option_to_list (option_map (cell_of (end_after_take node_host s.a.end).sending) o) }; b = s.b; deceived = s.deceived }) late (taken_damage s dam) lines) (sym is)
     (take-some near far first far_first s late dam lines out is small few h)
 
-pub flows-take : (near far : Who) (first far_first : StationState) (s : LineState) (late : Late) (dam : Damages) (lines : List Line) → s.a.end.mouth.begun < 2 ^ 64 - 1 → AreFewHits (after_take s.a) (with_take s.a (after_take s.a) dam.a) → Flows near far first far_first s late dam lines → Flows near far first far_first (after_deed s Take) late (record { a = with_take s.a (after_take s.a) dam.a; b = dam.b }) lines
+pub flows-take : (near far : Who) (first far_first : Origin) (s : LineState) (late : Late) (dam : Damages) (lines : List Line) → s.a.end.mouth.begun < 2 ^ 64 - 1 → AreFewHits (after_take s.a) (with_take s.a (after_take s.a) dam.a) → Flows near far first far_first s late dam lines → Flows near far first far_first (after_deed s Take) late (record { a = with_take s.a (after_take s.a) dam.a; b = dam.b }) lines
 flows-take near far first far_first s late dam lines small few h = take-by near far first far_first s late dam lines (out_at_take node_host s.a.end) refl small few h

@@ -1,5 +1,5 @@
 -- One direction that nothing disturbs: the message under way, and the one response that is awaited for it.
-use Rattle.std.proofs.Common.{◌≡◌, ◌∙◌, ℕ, zero, suc, ◌+◌, ◌-◌, ◌<◌, ◌≤◌, Bool, true, false, List, [], ◌∷◌, ◌++◌, length, Option, Some, None, refl, ap, sym, subst, arith, append-nil, length-append, inl, inr}
+use Rattle.std.proofs.Common.{◌≡◌, ◌∙◌, ℕ, zero, suc, ◌+◌, ◌-◌, ◌<◌, ◌≤◌, Bool, true, false, List, [], ◌∷◌, ◌++◌, length, Option, Some, None, refl, ap, sym, subst, arith, append-nil, inl, inr}
 use Rattle.std.specs.Prelude.{IsTrue, not, ◌&&◌, ◌⊎◌, ◌==◌, if◌then◌else◌}
 use Rattle.std.proofs.lemmas.Bool.{lt-ltb}
 use Rattle.df1_base.specs.declared.host.Host.{Ghosts}
@@ -13,8 +13,6 @@ use Rattle.df1_frame.specs.declared.heard.Heard.{Heard}
 use Rattle.df1_frame.specs.declared.heard.Heard.TheVariants as hears
 use Rattle.df1_frame.specs.Standing.{Decoding, lent_at}
 use Rattle.df1_frame.specs.Step.{next}
-use Rattle.pccc_envelope.specs.Envelope.{key_of}
-use Rattle.pccc_envelope.specs.Accepted.{last_key}
 use Rattle.duplex_sender.specs.declared.Limits.{Limits}
 use Rattle.duplex_sender.specs.declared.Phase.{Phase}
 use Rattle.duplex_sender.specs.declared.Phase.TheVariants as phase
@@ -25,7 +23,6 @@ use Rattle.embedded_response.specs.Giving.{Giving, Choice, Second, Respond, Give
 use Rattle.duplex_receiver.specs.Receiver.{kept_at}
 use Rattle.duplex_end.specs.End.{EndState, after_out, ends_here, sender_after, fate_at, responded, is_waiting, dropped, host_after, act_of_byte, end_after_byte, end_after_tick, asked, fate_of_tick, with_host}
 use Rattle.lane_cells.specs.Cells.{LaneCell, bare, cell_of}
-use Rattle.each_once.proofs.Sublists.{get-seam}
 use Rattle.duplex_line.proofs.Complete.DecoderPlace.{InSync, resps_heard, owed, is_resp, quiet-left, take-left, sync-plain, sync-begin, sync-offer, sync-unask}
 use Rattle.duplex_line.proofs.Complete.AlteredBytes.{head-altered, IsWithin}
 use Rattle.duplex_line.proofs.Complete.ClearLane.{end_of, IsTrueEnd, IsClear, resps, ends_one, goods, clear-other, clear-last, clear-anew, clear-give, goods-give}
@@ -87,7 +84,6 @@ pub record Flow {H : Type 0} (giver taker : EndState H) (lane back : List LaneCe
   pub responses : awaits giver.sender.activity ≡ goods lane + (due resp.Ack taker giver back + due resp.Nak taker giver back)
   pub bodies : EndWith (body_of giver.sender) lane
   pub flight : sent ≡ heard ++ in_flight giver.sender.activity (goods lane + due resp.Nak taker giver back)
-  pub kept : taker.receiver.kept ≡ last_key heard
   pub patient : IsPatient giver.sender.limits.ack_ticks late giver.sender.activity
   pub spent : naks_of giver.sender.activity + due resp.Nak taker giver back ≤ marks.hits
   pub struck : marks.last_hit ≡ true → May giver.sender.activity marks.hits ⊎ ((goods lane ≡ 0) × (giver.mouth.left ≡ []))
@@ -108,7 +104,7 @@ ends-give body (first ∷ cells) cell h is = (h.0, ends-give body cells cell h.1
 
 -- ---- a message is handed out, and its frame begun
 
-idle-activity : (a : Activity) (limits : Limits) → phase_of (record { limits = limits; activity = a }) ≡ phase.Idle → a ≡ Idle
+pub idle-activity : (a : Activity) (limits : Limits) → phase_of (record { limits = limits; activity = a }) ≡ phase.Idle → a ≡ Idle
 idle-activity Idle limits is = refl
 idle-activity (Sending body naks enqs) limits is = absurd cc
 idle-activity (Waiting body naks enqs left) limits is = absurd cc
@@ -134,7 +130,6 @@ flow-transmits e taker lane back sent heard late marks body none sends low high 
       responses = f.responses;
       bodies = f.bodies;
       flight = f.flight;
-      kept = f.kept;
       patient = f.patient;
       spent = f.spent;
       struck = λ hit. cc;
@@ -154,7 +149,6 @@ flow-loads e taker lane back sent heard late marks hits body host none idle f =
       responses = responses;
       bodies = no-ends body lane no_goods;
       flight = ap (λ (m : List (List ℕ)). m ++ body ∷ []) (flight ∙ append-nil heard);
-      kept = f.kept;
       patient = tt;
       spent = omega (arith, responses);
       struck = λ hit. inr (no_goods, quiet-left e.mouth none);
@@ -198,7 +192,6 @@ gave-plain p taker lane back sent heard late marks out is plain f =
       responses = f.responses ∙ ap (λ (n : ℕ). n + (due resp.Ack taker p back + due resp.Nak taker p back)) (sym count);
       bodies = ends-give (body_of p.sender) lane cell f.bodies (subst (IsBodyOf (body_of p.sender)) (sym none) tt);
       flight = f.flight ∙ ap (λ (n : ℕ). heard ++ in_flight p.sender.activity (n + due resp.Nak taker p back)) (sym count);
-      kept = f.kept;
       patient = f.patient;
       spent = f.spent;
       struck = λ hit. still count (f.struck hit);
@@ -247,7 +240,6 @@ gave-last p taker lane back sent heard late marks out number is last sends same 
       responses = rw (waiting, one) (omega (arith, before));
       bodies = no-ends-but (body_of (sent_last p.sender)) lane cell none (subst (IsBodyOf (body_of (sent_last p.sender))) (sym end) (sent_body ∙ sym (ap (λ (x : Activity). body_of (record { limits = p.sender.limits; activity = x })) waiting)));
       flight = rw (waiting, one, nothing_due) flight;
-      kept = f.kept;
       patient = rw waiting (omega arith);
       spent = rw naks f.spent;
       struck = λ hit. rw naks (inl (may-be given.1 (f.struck hit)));
@@ -278,7 +270,6 @@ flow-back P p other lane back sent heard late marks out is clear f =
       responses = omega (arith, f.responses, ack, nak);
       bodies = f.bodies;
       flight = f.flight ∙ ap (λ (n : ℕ). heard ++ in_flight other.sender.activity (goods lane + n)) (sym same);
-      kept = f.kept;
       patient = f.patient;
       spent = omega (arith, f.spent, same);
       struck = f.struck;
@@ -340,9 +331,9 @@ abbrev NoEnd : Option Heard → Type 0
 NoEnd h = (h ≡ Some hears.Good → ⊥) × (h ≡ Some hears.BadCheck → ⊥)
 
 -- what was given of a frame arrives, while what the taker owes stays
-arrives-plain : {H : Type 0} (a b b' : EndState H) (cell : LaneCell) (cells back : List LaneCell) (sent heard : List (List ℕ)) (late : ℕ) (marks : Marks) → NoEnd (next 250 b.receiver.decoding cell.byte).1 → b'.receiver.decoding ≡ (next 250 b.receiver.decoding cell.byte).0 → b'.receiver.kept ≡ b.receiver.kept
+arrives-plain : {H : Type 0} (a b b' : EndState H) (cell : LaneCell) (cells back : List LaneCell) (sent heard : List (List ℕ)) (late : ℕ) (marks : Marks) → NoEnd (next 250 b.receiver.decoding cell.byte).1 → b'.receiver.decoding ≡ (next 250 b.receiver.decoding cell.byte).0
     → ((r : Resp) → owed r b'.mouth ≡ owed r b.mouth) → Flow a b (cell ∷ cells) back sent heard late marks → Flow a b' cells back sent heard late marks
-arrives-plain a b b' cell cells back sent heard late marks none decoding kept owes f =
+arrives-plain a b b' cell cells back sent heard late marks none decoding owes f =
     let may = May a.sender.activity marks.hits in
     let no_end = silent-end may (end_of cell) (next 250 b.receiver.decoding cell.byte).1 _ none.0 none.1 f.clear.0.0 in
     let count : goods (cell ∷ cells) ≡ goods cells = rw no_end (omega arith) in
@@ -354,7 +345,6 @@ arrives-plain a b b' cell cells back sent heard late marks none decoding kept ow
       responses = omega (arith, f.responses, count, ack, nak);
       bodies = f.bodies.1;
       flight = f.flight ∙ ap (λ (n : ℕ). heard ++ in_flight a.sender.activity n) (sym same);
-      kept = kept ∙ f.kept;
       patient = f.patient;
       spent = omega (arith, f.spent, nak);
       struck = λ hit. fewer count (f.struck hit);
@@ -379,7 +369,6 @@ far-plain a b b' cell cells lane sent heard late marks none decoding sender send
       responses = rw sender (omega (arith, f.responses, same, also));
       bodies = rw sender f.bodies;
       flight = rw sender (f.flight ∙ ap (λ (n : ℕ). heard ++ in_flight b.sender.activity (goods lane + n)) (sym same));
-      kept = f.kept;
       patient = rw sender f.patient;
       spent = rw sender (omega (arith, f.spent, same));
       struck = rw (sender, left) f.struck;
@@ -390,7 +379,7 @@ far-plain a b b' cell cells lane sent heard late marks none decoding sender send
 pub flow-silent : {H : Type 0} (m : Ghosts H) (a b : EndState H) (cell : LaneCell) (cells back : List LaneCell) (sent heard : List (List ℕ)) (late : ℕ) (marks : Marks) → (next 250 b.receiver.decoding cell.byte).1 ≡ None → Flow a b (cell ∷ cells) back sent heard late marks
     → Flow a (heard_by m b cell.byte act.Nothing) cells back sent heard late marks
 flow-silent m a b cell cells back sent heard late marks is f =
-    arrives-plain a b (heard_by m b cell.byte act.Nothing) cell cells back sent heard late marks (λ good. let no = sym is ∙ good in cc, λ bad. let no = sym is ∙ bad in cc) refl refl (λ r. ap (owed r) (dropped-same (phase_of b.sender) b.mouth)) f
+    arrives-plain a b (heard_by m b cell.byte act.Nothing) cell cells back sent heard late marks (λ good. let no = sym is ∙ good in cc, λ bad. let no = sym is ∙ bad in cc) refl (λ r. ap (owed r) (dropped-same (phase_of b.sender) b.mouth)) f
 
 pub far-silent : {H : Type 0} (m : Ghosts H) (a b : EndState H) (cell : LaneCell) (cells lane : List LaneCell) (sent heard : List (List ℕ)) (late : ℕ) (marks : Marks) → (next 250 b.receiver.decoding cell.byte).1 ≡ None → Flow b a lane (cell ∷ cells) sent heard late marks
     → Flow (heard_by m b cell.byte act.Nothing) a lane cells sent heard late marks
@@ -466,7 +455,6 @@ far-acked m a b cell cells lane sent heard late marks is f =
         responses = rw (idle, none) (omega (arith, over, also));
         bodies = no-ends (body_of (on_ack b.sender)) lane none;
         flight = rw idle flight;
-        kept = f.kept;
         patient = rw idle tt;
         spent = rw idle (omega (arith, also));
         struck = λ hit. inr (none, left);
@@ -497,7 +485,6 @@ far-naked m a b cell cells lane sent heard late marks is few f =
         responses = rw (again.2, none) (omega (arith, over, also));
         bodies = no-ends (body_of (on_nak b.sender)) lane none;
         flight = rw again.2 flight;
-        kept = f.kept;
         patient = rw again.2 tt;
         spent = rw again.2 (omega (arith, also, f.spent, before));
         struck = λ hit. inr (none, left);
@@ -510,17 +497,14 @@ far-naked m a b cell cells lane sent heard late marks is few f =
 pub flow-acked : {H : Type 0} (m : Ghosts H) (a b : EndState H) (cell : LaneCell) (cells back : List LaneCell) (sent heard : List (List ℕ)) (late : ℕ) (marks : Marks) → (next 250 b.receiver.decoding cell.byte).1 ≡ Some hears.Ack → Flow a b (cell ∷ cells) back sent heard late marks
     → Flow a (heard_by m b cell.byte act.PeerAck) cells back sent heard late marks
 flow-acked m a b cell cells back sent heard late marks is f =
-    arrives-plain a b (heard_by m b cell.byte act.PeerAck) cell cells back sent heard late marks (λ good. let no = sym is ∙ good in cc, λ bad. let no = sym is ∙ bad in cc) refl refl (λ r. owed-dropped (is_waiting (phase_of b.sender) && not (is_waiting (phase_of (on_ack b.sender)))) b.mouth r) f
+    arrives-plain a b (heard_by m b cell.byte act.PeerAck) cell cells back sent heard late marks (λ good. let no = sym is ∙ good in cc, λ bad. let no = sym is ∙ bad in cc) refl (λ r. owed-dropped (is_waiting (phase_of b.sender) && not (is_waiting (phase_of (on_ack b.sender)))) b.mouth r) f
 
 pub flow-naked : {H : Type 0} (m : Ghosts H) (a b : EndState H) (cell : LaneCell) (cells back : List LaneCell) (sent heard : List (List ℕ)) (late : ℕ) (marks : Marks) → (next 250 b.receiver.decoding cell.byte).1 ≡ Some hears.Nak → Flow a b (cell ∷ cells) back sent heard late marks
     → Flow a (heard_by m b cell.byte act.PeerNak) cells back sent heard late marks
 flow-naked m a b cell cells back sent heard late marks is f =
-    arrives-plain a b (heard_by m b cell.byte act.PeerNak) cell cells back sent heard late marks (λ good. let no = sym is ∙ good in cc, λ bad. let no = sym is ∙ bad in cc) refl refl (λ r. owed-dropped (is_waiting (phase_of b.sender) && not (is_waiting (phase_of (on_nak b.sender)))) b.mouth r) f
+    arrives-plain a b (heard_by m b cell.byte act.PeerNak) cell cells back sent heard late marks (λ good. let no = sym is ∙ good in cc, λ bad. let no = sym is ∙ bad in cc) refl (λ r. owed-dropped (is_waiting (phase_of b.sender) && not (is_waiting (phase_of (on_nak b.sender)))) b.mouth r) f
 
 -- ---- a message is heard whole, and accepted
-
-last_key-push : (heard : List (List ℕ)) (body : List ℕ) → last_key (heard ++ body ∷ []) ≡ Some (key_of body)
-last_key-push heard body = let at : length (heard ++ body ∷ []) - 1 ≡ length heard = omega (arith, length-append heard (body ∷ [])) in rw (at, get-seam heard body []) refl
 
 -- what is so where a frame's end is heard: the frame is the only one on its way, and no response to it is
 pub record AtEnd {H : Type 0} (a b : EndState H) (cells back : List LaneCell) : Type 0 where
@@ -590,7 +574,6 @@ flow-accepted m a b cell cells back sent heard late marks end f =
       responses = omega (arith, at.waits, at.none, at.no_ack, at.no_nak, offered.0, offered.1);
       bodies = f.bodies.1;
       flight = arrived ∙ sym (append-nil (heard ++ lent ∷ [])) ∙ ap (λ (m : List (List ℕ)). (heard ++ lent ∷ []) ++ m) (sym flight);
-      kept = sym (last_key-push heard lent);
       patient = f.patient;
       spent = omega (arith, f.spent, at.no_nak, offered.1);
       struck = λ hit. inr (at.none, f.given at.waits);
@@ -610,7 +593,6 @@ flow-refused m a b cell cells back sent heard late marks body end may f =
       responses = omega (arith, at.waits, at.none, at.no_ack, at.no_nak, offered.0, offered.1);
       bodies = f.bodies.1;
       flight = f.flight ∙ ap (λ (n : ℕ). heard ++ in_flight a.sender.activity n) (sym same);
-      kept = f.kept;
       patient = f.patient;
       spent = omega (arith, may, at.no_nak, offered.1);
       struck = λ hit. inl may;
@@ -693,7 +675,6 @@ flow-ticks m a b lane back sent heard late later marks patient f =
       responses = ticked-awaits a.sender.activity ∙ f.responses;
       bodies = subst (λ (body : List ℕ). EndWith body lane) (sym (ticked-body a.sender.limits a.sender.activity)) f.bodies;
       flight = f.flight ∙ ap (λ (m : List (List ℕ)). heard ++ m) (sym (ticked-flight a.sender.activity (goods lane + due resp.Nak b a back)));
-      kept = f.kept;
       patient = patient;
       spent = rw naks f.spent;
       struck = rw naks f.struck;
@@ -701,18 +682,18 @@ flow-ticks m a b lane back sent heard late later marks patient f =
     }
 
 pub far-ticks : {H : Type 0} (m : Ghosts H) (a b : EndState H) (lane back : List LaneCell) (sent heard : List (List ℕ)) (late : ℕ) (marks : Marks) → Flow b a lane back sent heard late marks → Flow b (steadied m a) lane back sent heard late marks
-far-ticks m a b lane back sent heard late marks f = record { clear = f.clear; responses = f.responses; bodies = f.bodies; flight = f.flight; kept = f.kept; patient = f.patient; spent = f.spent; struck = f.struck; given = f.given }
+far-ticks m a b lane back sent heard late marks f = record { clear = f.clear; responses = f.responses; bodies = f.bodies; flight = f.flight; patient = f.patient; spent = f.spent; struck = f.struck; given = f.given }
 
 -- the ticks are counted anew
 pub flow-late : {H : Type 0} (a b : EndState H) (lane back : List LaneCell) (sent heard : List (List ℕ)) (late later : ℕ) (marks : Marks) → IsPatient a.sender.limits.ack_ticks later a.sender.activity → Flow a b lane back sent heard late marks → Flow a b lane back sent heard later marks
-flow-late a b lane back sent heard late later marks patient f = record { clear = f.clear; responses = f.responses; bodies = f.bodies; flight = f.flight; kept = f.kept; patient = patient; spent = f.spent; struck = f.struck; given = f.given }
+flow-late a b lane back sent heard late later marks patient f = record { clear = f.clear; responses = f.responses; bodies = f.bodies; flight = f.flight; patient = patient; spent = f.spent; struck = f.struck; given = f.given }
 
 -- another host changes nothing of it
 pub flow-host : {H : Type 0} (a b : EndState H) (host : H) (lane back : List LaneCell) (sent heard : List (List ℕ)) (late : ℕ) (marks : Marks) → Flow a b lane back sent heard late marks → Flow (with_host a host) b lane back sent heard late marks
-flow-host a b host lane back sent heard late marks f = record { clear = f.clear; responses = f.responses; bodies = f.bodies; flight = f.flight; kept = f.kept; patient = f.patient; spent = f.spent; struck = f.struck; given = f.given }
+flow-host a b host lane back sent heard late marks f = record { clear = f.clear; responses = f.responses; bodies = f.bodies; flight = f.flight; patient = f.patient; spent = f.spent; struck = f.struck; given = f.given }
 
 pub far-host : {H : Type 0} (a b : EndState H) (host : H) (lane back : List LaneCell) (sent heard : List (List ℕ)) (late : ℕ) (marks : Marks) → Flow b a lane back sent heard late marks → Flow b (with_host a host) lane back sent heard late marks
-far-host a b host lane back sent heard late marks f = record { clear = f.clear; responses = f.responses; bodies = f.bodies; flight = f.flight; kept = f.kept; patient = f.patient; spent = f.spent; struck = f.struck; given = f.given }
+far-host a b host lane back sent heard late marks f = record { clear = f.clear; responses = f.responses; bodies = f.bodies; flight = f.flight; patient = f.patient; spent = f.spent; struck = f.struck; given = f.given }
 
 -- ---- a byte is altered
 
@@ -727,7 +708,6 @@ flow-altered a b cell byte cells back sent heard late marks after more may withi
       responses = omega (arith, f.responses, same);
       bodies = (tt, f.bodies.1);
       flight = f.flight ∙ ap (λ (n : ℕ). heard ++ in_flight a.sender.activity (n + due resp.Nak b a back)) (sym same);
-      kept = f.kept;
       patient = f.patient;
       spent = omega (arith, f.spent, more);
       struck = λ hit. inl may;
@@ -746,7 +726,6 @@ far-altered P a b cell byte cells lane sent heard late marks same f =
       responses = omega (arith, f.responses, ack, nak);
       bodies = f.bodies;
       flight = f.flight ∙ ap (λ (n : ℕ). heard ++ in_flight b.sender.activity (goods lane + n)) (sym due_same);
-      kept = f.kept;
       patient = f.patient;
       spent = omega (arith, f.spent, due_same);
       struck = f.struck;

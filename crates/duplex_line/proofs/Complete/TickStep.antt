@@ -3,7 +3,6 @@ use Rattle.std.proofs.Common.{◌≡◌, ◌∙◌, ℕ, ◌+◌, ◌-◌, ◌<�
 use Rattle.std.specs.Prelude.{◌⊎◌, slice_get, ◌&&◌, if◌then◌else◌}
 use Rattle.std.specs.List.{filter}
 use Rattle.std.proofs.Common.{inl, inr}
-use Rattle.df1_node.specs.Answer.{StationState}
 use Rattle.df1_node.specs.Initiator.{InitiatorState, next_command}
 use Rattle.df1_base.specs.declared.host.Fate.{Fate}
 use Rattle.df1_base.specs.declared.host.Fate.TheVariants as fate
@@ -24,7 +23,7 @@ use Rattle.duplex_line.specs.Acts.{LineState, Tick, after_deed, lines_at}
 use Rattle.duplex_line.proofs.Once.IssueLimits.{tick-commands}
 use Rattle.each_once.proofs.Sublists.{none-is}
 use Rattle.duplex_line.proofs.Once.SentMessages.{Sends, sends-tick}
-use Rattle.each_once.proofs.HandedOut.{is_command, Hosts}
+use Rattle.each_once.proofs.HandedOut.{is_command}
 use Rattle.each_once.proofs.NodeSteps.{hosts-tick}
 use Rattle.each_once.proofs.CommandBodies.{bodies-after_tick}
 use Rattle.duplex_line.proofs.Once.LineSteps.{tick-silent}
@@ -32,11 +31,13 @@ use Rattle.duplex_line.specs.Prompt.{Late, none_late, is_idle, is_quiet, late_wi
 use Rattle.duplex_line.specs.Recoverable.{Damages}
 use Rattle.duplex_line.proofs.Complete.MessageUnderWay.{Flow, Marks, awaits, IsPatient, IsSteady, ticked, steadied, tick-steady, ticked-awaits, flow-ticks, far-ticks, flow-late}
 use Rattle.duplex_line.proofs.Complete.QuietEnd.{GivesNothing, gives-nothing, awaits-none, never-waits, all-heard}
-use Rattle.each_once.proofs.CommandsUnderWay.{AreUnderWay, each_body, under-way-tick, under-way-later, under-way-rests}
+use Rattle.each_once.proofs.CommandsUnderWay.{AreUnderWay, under-way-tick, under-way-later, under-way-rests}
+use Rattle.each_once.proofs.RepliesSince.{AreReplies}
 use Rattle.each_once.proofs.TwoNodes.{all-answered}
 use Rattle.each_once.proofs.MessageLengths.{AreBodies}
 use Rattle.duplex_line.proofs.Complete.ToldMessages.{TellsOf, tells-silent}
-use Rattle.duplex_line.proofs.Complete.Invariant.{Allowance, IsAhead, IsEnd, Flows}
+use Rattle.duplex_line.proofs.Once.Settings.{Allowance}
+use Rattle.duplex_line.proofs.Complete.Invariant.{Origin, station_from, is_later, IsAhead, IsEnd, Flows, replies-of}
 
 -- ---- nothing is under way
 
@@ -69,7 +70,7 @@ quiet-still s quiet =
     }
 
 -- a node that has nothing to hand out
-next-parts : (node : NodeState) → next_body node ≡ None → (node.replies ≡ []) × (next_command node.initiator ≡ None)
+pub next-parts : (node : NodeState) → next_body node ≡ None → (node.replies ≡ []) × (next_command node.initiator ≡ None)
 next-parts node none = by-replies node.replies refl
   where
     by-replies : (replies : List (List ℕ)) → node.replies ≡ replies → (node.replies ≡ []) × (next_command node.initiator ≡ None)
@@ -79,14 +80,10 @@ next-parts node none = by-replies node.replies refl
 replies-none : (node : NodeState) → next_body (node_ticked node) ≡ None → node.replies ≡ []
 replies-none node none = (next-parts (node_ticked node) none).0
 
--- all commands that were handed out are answered
-abbrev pub AreAnswered : (s : InitiatorState) (commands heard : List (List ℕ)) (late : ℕ) → IsAhead s commands heard late → Type 0
-AreAnswered s commands heard late a = a.done ≡ length commands
-
--- where all was heard and no reply waits
-pub none-out : (first other : StationState) (station initiator : NodeState) (sent heard commands told : List (List ℕ)) (late : ℕ) → Hosts first station sent heard → Hosts other initiator commands told → commands ≡ heard → sent ≡ told → station.replies ≡ []
-    → (a : IsAhead initiator.initiator (filter is_command commands) told late) → AreAnswered initiator.initiator (filter is_command commands) told late a
-none-out first other station initiator sent heard commands told late s i all_heard all_told none a = all-answered s i all_heard all_told none a.done a.answers
+-- where all was heard and no reply waits, all commands that were handed out are answered
+none-out : (first far_first : Origin) (station : NodeState) (s : InitiatorState) (sent heard commands told : List (List ℕ)) (late : ℕ) → AreReplies (station_from first) sent heard station.replies → commands ≡ heard → sent ≡ told → station.replies ≡ []
+    → (a : IsAhead far_first s (filter is_command commands) told late) → a.done ≡ length (filter is_command commands)
+none-out first far_first station s sent heard commands told late replied all_heard all_told none a = all-answered (station_from first) sent heard station.replies commands told replied all_heard all_told none a.done a.answers
 
 -- ---- the two ends at rest
 
@@ -101,7 +98,7 @@ awaits-steady (Sending body naks enqs) none = tt
 awaits-steady (Awaiting body naks enqs left) none = absurd (omega (arith, none))
 
 -- neither end awaits a response or has a message to send, all messages were heard, and no command is out
-pub record AreAtRest (near far : Who) (first far_first : StationState) (s : LineState) (late : Late) (dam : Damages) (lines : List Line) (h : Flows near far first far_first s late dam lines) : Type 0 where
+pub record AreAtRest (near far : Who) (first far_first : Origin) (s : LineState) (late : Late) (dam : Damages) (lines : List Line) (h : Flows near far first far_first s late dam lines) : Type 0 where
   pub awaits_none : awaits s.a.end.sender.activity ≡ 0
   pub far_awaits_none : awaits s.b.end.sender.activity ≡ 0
   pub none_out : h.end.ahead.done ≡ length (filter is_command h.sent)
@@ -115,7 +112,7 @@ pub record AreAtRest (near far : Who) (first far_first : StationState) (s : Line
 lanes-empty : (a b : EndState NodeState) (lane back : List LaneCell) (sent heard : List (List ℕ)) (late : ℕ) (marks : Marks) → lane ≡ [] → back ≡ [] → Flow a b lane back sent heard late marks → Flow a b [] [] sent heard late marks
 lanes-empty a b lane back sent heard late marks is is_back f = subst (λ (x : List LaneCell). Flow a b x [] sent heard late marks) is (subst (λ (x : List LaneCell). Flow a b lane x sent heard late marks) is_back f)
 
-pub at-rest : (near far : Who) (first far_first : StationState) (s : LineState) (late : Late) (dam : Damages) (lines : List Line) (h : Flows near far first far_first s late dam lines) → IsStill s → AreAtRest near far first far_first s late dam lines h
+pub at-rest : (near far : Who) (first far_first : Origin) (s : LineState) (late : Late) (dam : Damages) (lines : List Line) (h : Flows near far first far_first s late dam lines) → IsStill s → AreAtRest near far first far_first s late dam lines h
 at-rest near far first far_first s late dam lines h still =
     let a = s.a.end in
     let b = s.b.end in
@@ -130,8 +127,8 @@ at-rest near far first far_first s late dam lines h still =
     record {
       awaits_none = none;
       far_awaits_none = far_none;
-      none_out = none-out far_first first b.host a.host h.far_sent h.far_heard h.sent h.heard late.a h.far_end.hosts h.end.hosts all far_all (next-parts b.host far_idle.1).0 h.end.ahead;
-      far_none_out = none-out first far_first a.host b.host h.sent h.heard h.far_sent h.far_heard late.b h.end.hosts h.far_end.hosts far_all all (next-parts a.host idle.1).0 h.far_end.ahead;
+      none_out = none-out far_first first b.host a.host.initiator h.far_sent h.far_heard h.sent h.heard late.a (replies-of far_first b.host h.far_sent h.far_heard h.past.far_even h.far_end.hosts) all far_all (next-parts b.host far_idle.1).0 h.end.ahead;
+      far_none_out = none-out first far_first a.host b.host.initiator h.sent h.heard h.far_sent h.far_heard late.b (replies-of first a.host h.sent h.heard h.past.even h.end.hosts) far_all all (next-parts a.host idle.1).0 h.far_end.ahead;
       all_heard = all;
       far_all_heard = far_all;
       nothing_waits = next-parts a.host idle.1;
@@ -139,11 +136,11 @@ at-rest near far first far_first s late dam lines h still =
     }
 
 -- the ticks of an end are counted anew
-later-end : (first : StationState) (allowed : Allowance) (e : EndState NodeState) (sent heard : List (List ℕ)) (late later : ℕ) (h : IsEnd first allowed e sent heard late) → h.ahead.done ≡ length (filter is_command sent) → IsEnd first allowed e sent heard later
+later-end : (first : Origin) (allowed : Allowance) (e : EndState NodeState) (sent heard : List (List ℕ)) (late later : ℕ) (h : IsEnd first allowed e sent heard late) → h.ahead.done ≡ length (filter is_command sent) → IsEnd first allowed e sent heard later
 later-end first allowed e sent heard late later h all = record {
   hosts = h.hosts;
   sends = h.sends;
-  ahead = record { done = h.ahead.done; under_way = under-way-later each_body e.host.initiator (filter is_command sent) h.ahead.done _ _ all h.ahead.under_way; answers = h.ahead.answers };
+  ahead = record { done = h.ahead.done; under_way = under-way-later (is_later first) e.host.initiator (filter is_command sent) h.ahead.done _ _ all h.ahead.under_way; answers = h.ahead.answers };
   bodies = h.bodies;
   commands = h.commands;
   allowed = h.allowed;
@@ -152,7 +149,7 @@ later-end first allowed e sent heard late later h all = record {
 }
 
 -- where nothing is under way, any number of late ticks will do
-pub flows-late : (near far : Who) (first far_first : StationState) (s : LineState) (late later : Late) (dam : Damages) (lines : List Line) → IsStill s → Flows near far first far_first s late dam lines → Flows near far first far_first s later dam lines
+pub flows-late : (near far : Who) (first far_first : Origin) (s : LineState) (late later : Late) (dam : Damages) (lines : List Line) → IsStill s → Flows near far first far_first s late dam lines → Flows near far first far_first s later dam lines
 flows-late near far first far_first s late later dam lines still h =
     let rest = at-rest near far first far_first s late dam lines h still in
     record {
@@ -163,6 +160,7 @@ flows-late near far first far_first s late later dam lines still h =
       allowed = h.allowed;
       far_allowed = h.far_allowed;
       rooms = h.rooms;
+      past = h.past;
       end = later-end first h.allowed s.a.end h.sent h.heard late.a later.a h.end rest.none_out;
       far_end = later-end far_first h.far_allowed s.b.end h.far_sent h.far_heard late.b later.b h.far_end rest.far_none_out;
       marks = h.marks;
@@ -171,6 +169,8 @@ flows-late near far first far_first s late later dam lines still h =
       far_damage = h.far_damage;
       flow = flow-late s.a.end s.b.end s.a.lane s.b.lane h.sent h.far_heard late.a later.a h.marks (awaits-trivial s.a.end.sender.activity s.a.end.sender.limits.ack_ticks later.a rest.awaits_none) h.flow;
       far_flow = flow-late s.b.end s.a.end s.b.lane s.a.lane h.far_sent h.heard late.b later.b h.far_marks (awaits-trivial s.b.end.sender.activity s.b.end.sender.limits.ack_ticks later.b rest.far_awaits_none) h.far_flow;
+      kept = h.kept;
+      far_kept = h.far_kept;
       tells = h.tells;
       far_tells = h.far_tells;
       honest = h.honest;
@@ -189,7 +189,7 @@ ticked-idle limits (Sending body naks enqs) is = absurd cc
 ticked-idle limits (Awaiting body naks enqs left) is = absurd cc
 
 -- where nothing is under way after it, nothing was before
-ready-after : (near far : Who) (first far_first : StationState) (s : LineState) (late : Late) (dam : Damages) (lines : List Line) (h : Flows near far first far_first s late dam lines) → IsStill (after_deed s Tick) → IsReady s.a.end.sender.activity (length (filter is_command h.sent)) h.end.ahead.done late.a s.a.end.host.initiator.reply_ticks
+ready-after : (near far : Who) (first far_first : Origin) (s : LineState) (late : Late) (dam : Damages) (lines : List Line) (h : Flows near far first far_first s late dam lines) → IsStill (after_deed s Tick) → IsReady s.a.end.sender.activity (length (filter is_command h.sent)) h.end.ahead.done late.a s.a.end.host.initiator.reply_ticks
 ready-after near far first far_first s late dam lines h still =
     let a = s.a.end in
     let b = s.b.end in
@@ -205,7 +205,7 @@ ready-after near far first far_first s late dam lines h still =
     let far_all = all-heard b a [] [] h.far_sent h.heard late.b h.far_marks far_idle.0 g in
     record {
       steady = steady;
-      out_steady = inl (none-out far_first first b.host a.host h.far_sent h.far_heard h.sent h.heard late.a h.far_end.hosts h.end.hosts all far_all (next-parts b.host far_idle.1).0 h.end.ahead);
+      out_steady = inl (none-out far_first first b.host a.host.initiator h.far_sent h.far_heard h.sent h.heard late.a (replies-of far_first b.host h.far_sent h.far_heard h.past.far_even h.far_end.hosts) all far_all (next-parts b.host far_idle.1).0 h.end.ahead);
     }
 
 patient-steady : (a : Activity) (ticks late : ℕ) → IsPatient ticks late a → late + 1 < ticks → IsSteady a
@@ -224,7 +224,7 @@ told-ticks (Some fate.Undelivered) node = last-ticks node.last
     last-ticks handed.Reply = refl
     last-ticks (handed.Command place) = refl
 
-ready-few : (near far : Who) (first far_first : StationState) (s : LineState) (late : Late) (dam : Damages) (lines : List Line) (h : Flows near far first far_first s late dam lines) → late.a + 1 < patience (after_deed s Tick).a
+ready-few : (near far : Who) (first far_first : Origin) (s : LineState) (late : Late) (dam : Damages) (lines : List Line) (h : Flows near far first far_first s late dam lines) → late.a + 1 < patience (after_deed s Tick).a
     → IsReady s.a.end.sender.activity (length (filter is_command h.sent)) h.end.ahead.done late.a s.a.end.host.initiator.reply_ticks
 ready-few near far first far_first s late dam lines h few =
     let same = told-ticks (fate_of_tick (tick_turn s.a.end.sender)) s.a.end.host in
@@ -234,7 +234,7 @@ ready-few near far first far_first s late dam lines h few =
       out_steady = inr (omega (arith, fewer));
     }
 
-tick-ready : (near far : Who) (first far_first : StationState) (s : LineState) (late : Late) (dam : Damages) (lines : List Line) (h : Flows near far first far_first s late dam lines) → (quiet after : Bool) → is_quiet s ≡ quiet → is_quiet (after_deed s Tick) ≡ after
+tick-ready : (near far : Who) (first far_first : Origin) (s : LineState) (late : Late) (dam : Damages) (lines : List Line) (h : Flows near far first far_first s late dam lines) → (quiet after : Bool) → is_quiet s ≡ quiet → is_quiet (after_deed s Tick) ≡ after
     → AreFew (if after then none_late else late_with late quiet Tick) (after_deed s Tick) → IsReady s.a.end.sender.activity (length (filter is_command h.sent)) h.end.ahead.done late.a s.a.end.host.initiator.reply_ticks
 tick-ready near far first far_first s late dam lines h true after is is_after few =
     let rest = at-rest near far first far_first s late dam lines h (quiet-still s is) in
@@ -251,21 +251,21 @@ ticked-patient (Awaiting body naks enqs left) ticks late patient steady = omega 
 ticked-trivial : (a : Activity) (ticks late : ℕ) → awaits a ≡ 0 → IsPatient ticks late (ticked a)
 ticked-trivial a ticks late none = awaits-trivial (ticked a) ticks late (ticked-awaits a ∙ none)
 
-later-patient : (near far : Who) (first far_first : StationState) (s : LineState) (late : Late) (dam : Damages) (lines : List Line) (h : Flows near far first far_first s late dam lines) → (quiet : Bool) → is_quiet s ≡ quiet → IsSteady s.a.end.sender.activity
+later-patient : (near far : Who) (first far_first : Origin) (s : LineState) (late : Late) (dam : Damages) (lines : List Line) (h : Flows near far first far_first s late dam lines) → (quiet : Bool) → is_quiet s ≡ quiet → IsSteady s.a.end.sender.activity
     → IsPatient s.a.end.sender.limits.ack_ticks (late_with late quiet Tick).a (ticked s.a.end.sender.activity)
 later-patient near far first far_first s late dam lines h true is steady = ticked-trivial s.a.end.sender.activity s.a.end.sender.limits.ack_ticks late.a (at-rest near far first far_first s late dam lines h (quiet-still s is)).awaits_none
 later-patient near far first far_first s late dam lines h false is steady = ticked-patient s.a.end.sender.activity s.a.end.sender.limits.ack_ticks late.a h.flow.patient steady
 
-ticked-ahead : (node : NodeState) (commands heard : List (List ℕ)) (late later : ℕ) (a : IsAhead node.initiator commands heard late) → (a.done ≡ length commands) ⊎ ((late + 1 < node.initiator.reply_ticks) × (later ≡ late + 1)) → IsAhead (node_ticked node).initiator commands heard later
-ticked-ahead node commands heard late later a (inl all) = record { done = a.done; under_way = under-way-rests each_body node.initiator commands a.done _ _ all a.under_way; answers = a.answers }
-ticked-ahead node commands heard late later a (inr more) = record {
+ticked-ahead : (first : Origin) (node : NodeState) (commands heard : List (List ℕ)) (late later : ℕ) (a : IsAhead first node.initiator commands heard late) → (a.done ≡ length commands) ⊎ ((late + 1 < node.initiator.reply_ticks) × (later ≡ late + 1)) → IsAhead first (node_ticked node).initiator commands heard later
+ticked-ahead first node commands heard late later a (inl all) = record { done = a.done; under_way = under-way-rests (is_later first) node.initiator commands a.done _ _ all a.under_way; answers = a.answers }
+ticked-ahead first node commands heard late later a (inr more) = record {
   done = a.done;
-  under_way = subst (λ (n : ℕ). AreUnderWay each_body (node_ticked node).initiator commands a.done (λ j. node.initiator.reply_ticks - n)) (sym more.1)
-      (under-way-tick each_body node.initiator commands a.done _ _ (λ j. let few = more.0 in (omega (arith, few), omega (arith, few))) a.under_way);
+  under_way = subst (λ (n : ℕ). AreUnderWay (is_later first) (node_ticked node).initiator commands a.done (λ j. node.initiator.reply_ticks - n)) (sym more.1)
+      (under-way-tick (is_later first) node.initiator commands a.done _ _ (λ j. let few = more.0 in (omega (arith, few), omega (arith, few))) a.under_way);
   answers = a.answers;
 }
 
-later-ready : (near far : Who) (first far_first : StationState) (s : LineState) (late : Late) (dam : Damages) (lines : List Line) (h : Flows near far first far_first s late dam lines) → (quiet : Bool) → is_quiet s ≡ quiet
+later-ready : (near far : Who) (first far_first : Origin) (s : LineState) (late : Late) (dam : Damages) (lines : List Line) (h : Flows near far first far_first s late dam lines) → (quiet : Bool) → is_quiet s ≡ quiet
     → (h.end.ahead.done ≡ length (filter is_command h.sent)) ⊎ (late.a + 1 < s.a.end.host.initiator.reply_ticks)
     → (h.end.ahead.done ≡ length (filter is_command h.sent)) ⊎ ((late.a + 1 < s.a.end.host.initiator.reply_ticks) × ((late_with late quiet Tick).a ≡ late.a + 1))
 later-ready near far first far_first s late dam lines h quiet is (inl all) = inl all
@@ -278,7 +278,7 @@ tells-tick who near e heard lines t =
     let silent = tick-silent who who near e in
     rw (append-nil more) (tells-silent who heard lines more silent.executes t)
 
-pub flows-tick : (near far : Who) (first far_first : StationState) (s : LineState) (late : Late) (dam : Damages) (lines : List Line) → AreFew (late_after late s Tick) (after_deed s Tick) → Flows near far first far_first s late dam lines
+pub flows-tick : (near far : Who) (first far_first : Origin) (s : LineState) (late : Late) (dam : Damages) (lines : List Line) → AreFew (late_after late s Tick) (after_deed s Tick) → Flows near far first far_first s late dam lines
     → Flows near far first far_first (after_deed s Tick) (late_with late (is_quiet s) Tick) dam (lines ++ lines_at near far s Tick)
 flows-tick near far first far_first s late dam lines few h =
     let a = s.a.end in
@@ -293,10 +293,11 @@ flows-tick near far first far_first s late dam lines few h =
       allowed = h.allowed;
       far_allowed = h.far_allowed;
       rooms = h.rooms;
+      past = h.past;
       end = record {
         hosts = hosts-tick h.end.hosts;
         sends = subst (λ (e : EndState NodeState). Sends e h.sent) same (sends-tick node_host a h.end.sends);
-        ahead = ticked-ahead a.host (filter is_command h.sent) h.heard late.a later.a h.end.ahead (later-ready near far first far_first s late dam lines h (is_quiet s) refl ready.out_steady);
+        ahead = ticked-ahead first a.host (filter is_command h.sent) h.heard late.a later.a h.end.ahead (later-ready near far first far_first s late dam lines h (is_quiet s) refl ready.out_steady);
         bodies = h.end.bodies;
         commands = subst AreBodies (sym (bodies-after_tick a.host)) h.end.commands;
         allowed = record { room = h.end.allowed.room; window = h.end.allowed.window; per_source = h.end.allowed.per_source };
@@ -310,7 +311,9 @@ flows-tick near far first far_first s late dam lines few h =
       far_damage = h.far_damage;
       flow = flow-ticks node_host a s.b.end s.a.lane s.b.lane h.sent h.far_heard late.a later.a h.marks (later-patient near far first far_first s late dam lines h (is_quiet s) refl ready.steady) h.flow;
       far_flow = far-ticks node_host a s.b.end s.b.lane s.a.lane h.far_sent h.heard late.b h.far_marks h.far_flow;
-      tells = tells-tick near near a h.heard lines h.tells;
-      far_tells = tells-tick far near a h.far_heard lines h.far_tells;
+      kept = h.kept;
+      far_kept = h.far_kept;
+      tells = tells-tick near near a (first.heard ++ h.heard) lines h.tells;
+      far_tells = tells-tick far near a (far_first.heard ++ h.far_heard) lines h.far_tells;
       honest = h.honest;
     })

@@ -38,7 +38,7 @@ use Rattle.duplex_line.proofs.Once.SentMessages.{accept-heard, sends-byte}
 use Rattle.each_once.proofs.HandedOut.{is_command, Hosts}
 use Rattle.each_once.proofs.ToldLines.{IsTold, stays-both, told-stays, AreSilent, silent-none, told-silent, told-executes, told-answers, told-strays}
 use Rattle.each_once.proofs.AcceptedReplies.{found, is-answer, is-astray, handed-differ}
-use Rattle.duplex_line.proofs.Once.EndSteps.{stays-act, stays-fate, heard_after, hosts-act, hosts-fate}
+use Rattle.duplex_line.proofs.Once.EndSteps.{stays-act, stays-fate, heard_after, hosts-act, hosts-fate, others-act, others-told}
 use Rattle.duplex_line.proofs.Once.Invariant.{lane_of, AreTwo, Holds}
 
 -- ---- where there is no deception
@@ -214,4 +214,6 @@ holds-arrival near far two first far_first end cell cells b count after lines no
       told = executes-act near far two far_first end.host.initiator.issued h.far_heard lines what e.sender e.host body h.told;
       far_told = told-stays far near first e.host.initiator.issued _ (filter is_command h.heard) (lines ++ cell_lines far b cell) stays
           (replies-act near far two first (filter is_command h.heard) lines what e.sender e.host body replies h.far_told);
+      waits = h.waits;
+      far_waits = others-told fate now (filter is_command h.far_sent) (others-act what e.host body (filter is_command h.far_sent) h.far_waits);
     }

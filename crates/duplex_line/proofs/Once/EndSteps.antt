@@ -1,6 +1,7 @@
 -- What an act, a fate, a tick and a take leave of an end's node: its commands stay, and what it handed out and accepted goes on.
 use Rattle.std.proofs.Common.{◌≡◌, ◌∙◌, ℕ, suc, Bool, true, false, List, [], ◌∷◌, ◌++◌, map, Option, Some, None, refl, ap, append-nil}
 use Rattle.std.specs.Prelude.{slice_get, option_to_list}
+use Rattle.std.specs.List.{filter}
 use Rattle.std.specs.Option.{option_map, option_map_or}
 use Rattle.std.proofs.lemmas.Option.{slice_get-map}
 use Rattle.df1_base.specs.declared.host.Fate.{Fate}
@@ -16,9 +17,10 @@ use Rattle.each_once.specs.NodeHost.{node_host}
 use Rattle.each_once.proofs.KeptCommands.{is_given_up}
 use Rattle.each_once.proofs.Sublists.{from-map}
 use Rattle.each_once.proofs.CommandBodies.{bodies-accept, bodies-after_told, bodies-after_tick, bodies-next}
-use Rattle.each_once.proofs.HandedOut.{Hosts}
+use Rattle.each_once.proofs.HandedOut.{is_command, Hosts}
 use Rattle.each_once.proofs.NodeSteps.{hosts-accept, hosts-told, hosts-next}
 use Rattle.each_once.proofs.ToldLines.{Stays, stays-same}
+use Rattle.each_once.proofs.WaitingCommands.{OthersWait, others-accept, others-fate, others-next}
 
 -- ---- commands stay
 
@@ -90,3 +92,25 @@ pub hosts-handed : (o : Option (List ℕ)) (first : StationState) (node : NodeSt
     → Hosts first (option_map_or (λ (body : List ℕ). after_next node) o node) (messages ++ option_to_list o) heard
 hosts-handed None first node messages heard next h = rw (append-nil messages) h
 hosts-handed (Some body) first node messages heard next h = hosts-next body (next body refl) h
+
+-- ---- the commands that weren't handed out wait
+
+pub others-act : (what : Act) (node : NodeState) (body : List ℕ) (handed : List (List ℕ)) → OthersWait node.initiator handed → OthersWait (host_after node_host what node body).initiator handed
+others-act act.Accept node body handed o = others-accept node body handed o
+others-act act.Repeat node body handed o = o
+others-act act.Refuse node body handed o = o
+others-act act.Damaged node body handed o = o
+others-act act.Forgot node body handed o = o
+others-act act.PeerAck node body handed o = o
+others-act act.PeerNak node body handed o = o
+others-act act.PeerEnq node body handed o = o
+others-act act.Nothing node body handed o = o
+
+pub others-told : (what : Option Fate) (node : NodeState) (handed : List (List ℕ)) → OthersWait node.initiator handed → OthersWait (host_told node_host what node).initiator handed
+others-told None node handed o = o
+others-told (Some what) node handed o = others-fate node what handed o
+
+pub others-handed : (o : Option (List ℕ)) (first : StationState) (node : NodeState) (messages heard : List (List ℕ)) → ((body : List ℕ) → o ≡ Some body → next_body node ≡ Some body) → Hosts first node messages heard → OthersWait node.initiator (filter is_command messages)
+    → OthersWait (option_map_or (λ (body : List ℕ). after_next node) o node).initiator (filter is_command (messages ++ option_to_list o))
+others-handed None first node messages heard next h w = rw (append-nil messages) w
+others-handed (Some body) first node messages heard next h w = others-next h body (next body refl) w

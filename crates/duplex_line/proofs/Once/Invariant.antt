@@ -16,6 +16,7 @@ use Rattle.each_once.proofs.OneDirection.{Lane, Way}
 use Rattle.duplex_line.proofs.Once.SentMessages.{Sends}
 use Rattle.each_once.proofs.HandedOut.{is_command, Hosts}
 use Rattle.each_once.proofs.ToldLines.{IsTold}
+use Rattle.each_once.proofs.WaitingCommands.{OthersWait}
 
 -- the lane of these cells: the bodies of the transmissions that end in them
 abbrev pub lane_of : List LaneCell → Lane
@@ -56,6 +57,8 @@ pub record Holds (near far : Who) (first far_first : StationState) (s : LineStat
   pub far_few : issued_by s.b ≤ 65535
   pub told : IsTold near far far_first s.a.end.host.initiator.issued (filter is_command far_heard) lines
   pub far_told : IsTold far near first s.b.end.host.initiator.issued (filter is_command heard) lines
+  pub waits : OthersWait s.a.end.host.initiator (filter is_command sent)
+  pub far_waits : OthersWait s.b.end.host.initiator (filter is_command far_sent)
 
 -- the same, looked at from the other end
 pub holds-swapped : (near far : Who) (first far_first : StationState) (s : LineState) (lines : List Line) → Holds near far first far_first s lines → Holds far near far_first first (swapped s) lines
@@ -74,4 +77,6 @@ holds-swapped near far first far_first s lines h = record {
   far_few = h.few;
   told = h.far_told;
   far_told = h.told;
+  waits = h.far_waits;
+  far_waits = h.waits;
 }

@@ -31,7 +31,8 @@ use Rattle.duplex_end.proofs.Runs.{take-receiver}
 use Rattle.each_once.proofs.HandedOut.{is_command, Hosts}
 use Rattle.each_once.proofs.NodeSteps.{hosts-issue, hosts-tick}
 use Rattle.each_once.proofs.ToldLines.{IsTold, stays-more, stays-both, told-stays, AreSilent, silent-none, silent-both, told-silent}
-use Rattle.duplex_line.proofs.Once.EndSteps.{stays-fate, stays-tick, stays-handed, hosts-fate, hosts-handed}
+use Rattle.duplex_line.proofs.Once.EndSteps.{stays-fate, stays-tick, stays-handed, hosts-fate, hosts-handed, others-told, others-handed}
+use Rattle.each_once.proofs.WaitingCommands.{OthersWait, others-issue, others-tick}
 use Rattle.duplex_line.proofs.Once.Invariant.{lane_of, AreTwo, Holds}
 use Rattle.duplex_line.proofs.Once.ArrivingCell.{news-silent, holds-arrival}
 
@@ -71,6 +72,8 @@ holds-issue near far first far_first s src dst payload lines may few h =
       far_few = h.far_few;
       told = told-stays near far far_first issued (issued ++ new ∷ []) (filter is_command h.far_heard) lines (stays-more issued (new ∷ [])) h.told;
       far_told = h.far_told;
+      waits = others-issue s.a.end.host.initiator source dst payload (filter is_command h.sent) h.waits;
+      far_waits = h.far_waits;
     }
 
 -- ---- a byte is given
@@ -113,6 +116,8 @@ holds-take near far first far_first s lines h =
       told = subst (λ (node : NodeState). IsTold near far far_first node.initiator.issued (filter is_command h.far_heard) lines) is_host
           (told-stays near far far_first e.host.initiator.issued host.initiator.issued (filter is_command h.far_heard) lines (stays-handed o e.host) h.told);
       far_told = h.far_told;
+      waits = subst (λ (node : NodeState). OthersWait node.initiator (filter is_command sent)) is_host (others-handed o first e.host h.sent h.heard (λ body is. take-handed node_host e body is) h.hosts h.waits);
+      far_waits = h.far_waits;
     }
 
 -- ---- the head of the lane is lost or altered
@@ -135,6 +140,8 @@ with-lane near far first far_first s cells lines h way = record {
   far_few = h.far_few;
   told = h.told;
   far_told = h.far_told;
+  waits = h.waits;
+  far_waits = h.far_waits;
 }
 
 way-lost : (sent : List (List ℕ)) (cells : List LaneCell) → {kept : _} {heard : List (List ℕ)} → Way sent (lane_of cells) kept heard → Way sent (lane_of (drop 1 cells)) kept heard
@@ -189,6 +196,8 @@ holds-tick near far first far_first s lines h =
       told = rw same (told-silent near far far_first (node_ticked told).initiator.issued (filter is_command h.far_heard) lines more (tick-silent near far near e)
           (told-stays near far far_first e.host.initiator.issued (node_ticked told).initiator.issued (filter is_command h.far_heard) lines stays h.told));
       far_told = rw same (told-silent far near first s.b.end.host.initiator.issued (filter is_command h.heard) lines more (tick-silent far near near e) h.far_told);
+      waits = others-tick told.initiator (filter is_command h.sent) (others-told fate e.host (filter is_command h.sent) h.waits);
+      far_waits = h.far_waits;
     }
 
 -- ---- a byte arrives at the far end

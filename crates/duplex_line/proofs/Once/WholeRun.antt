@@ -33,6 +33,7 @@ use Rattle.duplex_line.proofs.Once.SentMessages.{sends-start}
 use Rattle.each_once.proofs.HandedOut.{is_command, waits_of}
 use Rattle.each_once.proofs.NodeSteps.{hosts-start}
 use Rattle.each_once.proofs.ToldLines.{told-start, AreSilent, silent-none, told-silent}
+use Rattle.each_once.proofs.WaitingCommands.{others-start}
 use Rattle.each_once.proofs.KeptCommands.{IsReplyOf, IsOfLost}
 use Rattle.each_once.proofs.ToldReplies.{reply-to, one-outcome, astray-told}
 use Rattle.each_once.proofs.RisingPlaces.{some-in-turn, are-apart}
@@ -117,6 +118,8 @@ holds-silent near far first far_first s lines more silent far_silent h = record 
   far_few = h.far_few;
   told = told-silent near far far_first s.a.end.host.initiator.issued (filter is_command h.far_heard) lines more silent h.told;
   far_told = told-silent far near first s.b.end.host.initiator.issued (filter is_command h.heard) lines more far_silent h.far_told;
+  waits = h.waits;
+  far_waits = h.far_waits;
 }
 
 -- the steps of an event at one of two ends, with its bytes
@@ -159,7 +162,7 @@ kept-events first_a first_b (e ∷ events) s lines possible few_a few_b k =
 
 -- ---- a run
 
-holds-start : (script : Script) → Holds A B (first_station (plan_of_a script)) (first_station (plan_of_b script)) (start script) []
+pub holds-start : (script : Script) → Holds A B (first_station (plan_of_a script)) (first_station (plan_of_b script)) (start script) []
 holds-start script =
     let a = plan_of_a script in
     let b = plan_of_b script in
@@ -178,6 +181,8 @@ holds-start script =
       far_few = omega arith;
       told = told-start A B (first_station b) [];
       far_told = told-start B A (first_station a) [];
+      waits = others-start (first_node a).initiator refl;
+      far_waits = others-start (first_node b).initiator refl;
     }
 
 -- ---- what holds shows each command once

@@ -39,9 +39,9 @@ use Rattle.duplex_line.proofs.Wire.OwnKeys.{own-keys, executed-differ}
 use Rattle.duplex_line.proofs.Wire.SilentLines.{steps-send-nothing, arrival-other, near-executes}
 
 -- both ends, and the bytes that they gave
-record BothGave (near far : Who) (check : Check) (first far_first : StationState) (s : LineState) (lines : List Line) (bytes far_bytes : List ℕ) : Type 0 where
-  of_near : Gave near check first s.a lines bytes
-  of_far : Gave far check far_first s.b lines far_bytes
+pub record BothGave (near far : Who) (check : Check) (first far_first : StationState) (s : LineState) (lines : List Line) (bytes far_bytes : List ℕ) : Type 0 where
+  pub of_near : Gave near check first s.a lines bytes
+  pub of_far : Gave far check far_first s.b lines far_bytes
 
 both-swapped : (near far : Who) (check : Check) (first far_first : StationState) (s : LineState) (lines : List Line) (bytes far_bytes : List ℕ) → BothGave near far check first far_first s lines bytes far_bytes
     → BothGave far near check far_first first (swapped s) lines far_bytes bytes
@@ -91,7 +91,7 @@ gave-deeds near far two check first far_first s (deed ∷ deeds) lines bytes far
 -- ---- events
 
 -- both ends, whose bytes are those that the lines tell
-abbrev BothSent : Who → Who → Check → StationState → StationState → LineState → List Line → Type 0
+abbrev pub BothSent : Who → Who → Check → StationState → StationState → LineState → List Line → Type 0
 BothSent near far check first far_first s lines = BothGave near far check first far_first s lines (sent_by near lines) (sent_by far lines)
 
 -- the steps of an event at one of two ends, with the line of its bytes
@@ -166,7 +166,7 @@ sent-start script playable =
       of_far = gave-start B script.check (first_station b) (setup_of script.check b) (first_node b) refl refl refl refl few.1;
     }
 
-run-sent : (script : Script) → IsPlayable script
+pub run-sent : (script : Script) → IsPlayable script
     → BothSent A B script.check (first_station (plan_of_a script)) (first_station (plan_of_b script)) (last_state script) (lines_after (start script) script.events)
 run-sent script playable =
     sent-events script.check (first_station (plan_of_a script)) (first_station (plan_of_b script)) script.events (start script) [] playable.events (omega (arith, playable.commands_of_a)) (omega (arith, playable.commands_of_b)) (sent-start script playable)
