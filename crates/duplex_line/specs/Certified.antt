@@ -6,7 +6,7 @@ use Rattle.script_parts.specs.declared.script.Event.{Event}
 use Rattle.script_parts.specs.declared.script.Script.{Script}
 use Rattle.each_once.specs.Tells.{answers_in}
 use Rattle.duplex_line.specs.Acts.{LineState, Deed, after_deed}
-use Rattle.duplex_line.specs.Prompt.{IsGentle, is_quiet}
+use Rattle.duplex_line.specs.Prompt.{none_late, IsGentle, is_quiet, IsPromptAfter, EndsQuiet, HasRooms}
 use Rattle.duplex_line.specs.Rest.{is_at_rest, is_to_come}
 use Rattle.duplex_line.specs.Run.{start, who_of, deeds_of, seen_from, after_event, state_after, lines_after}
 
@@ -39,3 +39,12 @@ are_senders_idle s = not (holds_message s.a.end) && not (holds_message s.b.end)
 -- where nothing is under way and no sender has a message, the line is at rest
 abbrev pub IsCertified : LineState → Type 0
 IsCertified s = IsTrue (is_quiet s) → IsTrue (are_senders_idle s) → IsTrue (is_at_rest s)
+
+-- After these events nothing is under way and no sender has a message; nothing disturbs the run from there on, and it ends with nothing
+-- under way; and each end has room for as many replies as the other may have commands out.
+pub record GoesOnCalmly (script : Script) (front rest : List Event) : Type 0 where
+  pub still : IsTrue (is_quiet (state_after (start script) front))
+  pub idle : IsTrue (are_senders_idle (state_after (start script) front))
+  pub prompt : IsPromptAfter none_late (state_after (start script) front) rest
+  pub quiet : EndsQuiet script
+  pub rooms : HasRooms script

@@ -10,7 +10,7 @@ ghost use Rattle.duplex_end.specs.Arrived.{HeardByGrammar, bytes_arrived};
 ghost use Rattle.duplex_receiver.specs.Hearing.{Stands};
 ghost use Rattle.duplex_line.specs.Arrivals.{arrivals_in, heard_in};
 ghost use Rattle.duplex_line.specs.Issues.{commands_of_a, commands_of_b, issued_of, bodies_of};
-ghost use Rattle.duplex_line.specs.Certified.{IsAnsweredAfter, IsCertified, are_senders_idle};
+ghost use Rattle.duplex_line.specs.Certified.{IsAnsweredAfter, IsCertified, GoesOnCalmly, are_senders_idle};
 ghost use Rattle.duplex_line.specs.Run.{start, last_state, state_after, lines_after, record_of};
 ghost use Rattle.duplex_line.specs.Once.{EachOnce};
 ghost use Rattle.duplex_line.specs.Transmissions.{AreCounted, begun_in, ended_in};
@@ -172,6 +172,15 @@ pub fn commands_of_two_sources_are_executed_and_answered()
 pub fn an_answer_certifies_the_line()
     ensures of_a { (script : Script) (front middle more rest : List Event) (n : ℕ) → IsPlayable script → IsAnsweredAfter A script front middle more rest n → IsCertified (state_after (start script) (front ++ (middle ++ more))) }
     ensures of_b { (script : Script) (front middle more rest : List Event) (n : ℕ) → IsPlayable script → IsAnsweredAfter B script front middle more rest n → IsCertified (state_after (start script) (front ++ (middle ++ more))) }
+{}
+
+/// A law: so from such a state on each command that an end hands out is executed and answered, each by its own reply, if nothing
+/// disturbs the line from there on, its ends have room for as many replies as the other may have commands out, and the run ends with
+/// nothing under way (manual topic: full-duplex protocol).
+#[tactic(auto, unfolding(crate::specs::Run::record_of))]
+pub fn after_an_answer_all_is_well()
+    ensures of_a { (script : Script) (front middle more rest : List Event) (n : ℕ) → IsPlayable script → IsAnsweredAfter A script front middle more rest n → GoesOnCalmly script (front ++ (middle ++ more)) rest → IsWellAfter script (front ++ (middle ++ more)) (record_of script) }
+    ensures of_b { (script : Script) (front middle more rest : List Event) (n : ℕ) → IsPlayable script → IsAnsweredAfter B script front middle more rest n → GoesOnCalmly script (front ++ (middle ++ more)) rest → IsWellAfter script (front ++ (middle ++ more)) (record_of script) }
 {}
 
 /// A law: the premises of `an_answer_certifies_the_line` are met, and its conclusion isn't empty, where a lone DLE came to an end:

@@ -19,11 +19,12 @@ use Rattle.each_once.specs.Commands.{Request, command_bodies}
 use Rattle.each_once.specs.Tells.{answer_at, answers_in}
 use Rattle.each_once.proofs.Sublists.{none-is, get-more}
 use Rattle.duplex_line.specs.Acts.{LineEndState, LineState, swapped, Deed, after_deeds, lines_over, given_over}
-use Rattle.duplex_line.specs.Certified.{AreGentle, AreGentleAfter, IsAnsweredAfter, IsCertified}
+use Rattle.duplex_line.specs.Certified.{AreGentle, AreGentleAfter, IsAnsweredAfter, IsCertified, GoesOnCalmly}
 use Rattle.duplex_line.specs.Issues.{requests_in, request_at, commands_of_a, commands_of_b, bodies_of}
 use Rattle.duplex_line.specs.Prompt.{is_quiet}
-use Rattle.duplex_line.specs.Rest.{is_between}
-use Rattle.duplex_line.specs.Run.{first_station, plan_of_a, plan_of_b, start, who_of, deeds_of, seen_from, after_event, deed_lines, lines_of, state_after, lines_after}
+use Rattle.duplex_line.specs.Rest.{is_between, IsCalmAfter, IsWellAfter}
+use Rattle.duplex_line.specs.Run.{first_station, plan_of_a, plan_of_b, start, who_of, deeds_of, seen_from, after_event, deed_lines, lines_of, state_after, lines_after, last_state, record_from}
+use Rattle.duplex_line.proofs.Complete.AfterRest.{goes-calmly}
 use Rattle.duplex_line.proofs.Complete.QuietEnd.{gives-nothing}
 use Rattle.duplex_line.proofs.Complete.TickStep.{both}
 use Rattle.duplex_line.proofs.Once.Arrivals.{end-of, run-hears}
@@ -211,3 +212,26 @@ certified-by-b script front middle more rest n playable h =
     (executed-since B A b a (swapped s) before lines (commands_of_b (record script { events = front ++ since })) n h.reply (holds-swapped A B a b s before cut.holds) cut.places_of_b cut.to_a h.to_come answered)
     (λ nothing. none-contained (answers_in B lines) (n, h.reply) answered nothing.answers)
     cut.ways
+
+-- ---- and what follows for the commands to come
+
+calm-after : (who : Who) (script : Script) (front middle more rest : List Event) (n : ℕ) → IsAnsweredAfter who script front middle more rest n → IsCertified (state_after (start script) (front ++ (middle ++ more)))
+    → GoesOnCalmly script (front ++ (middle ++ more)) rest → IsCalmAfter script (front ++ (middle ++ more)) rest
+calm-after who script front middle more rest n h certified on = record {
+  events = h.parts ∙ sym (append_assoc front (middle ++ more) rest);
+  undeceived = h.undeceived;
+  at_rest = certified on.still on.idle;
+  prompt = on.prompt;
+  quiet = on.quiet;
+  rooms = on.rooms;
+}
+
+pub well-after-a : (script : Script) (front middle more rest : List Event) (n : ℕ) → IsPlayable script → IsAnsweredAfter A script front middle more rest n → GoesOnCalmly script (front ++ (middle ++ more)) rest
+    → IsWellAfter script (front ++ (middle ++ more)) (record_from (last_state script) (lines_after (start script) script.events))
+well-after-a script front middle more rest n playable h on =
+    goes-calmly script (front ++ (middle ++ more)) rest playable (calm-after A script front middle more rest n h (certified-by-a script front middle more rest n playable h) on)
+
+pub well-after-b : (script : Script) (front middle more rest : List Event) (n : ℕ) → IsPlayable script → IsAnsweredAfter B script front middle more rest n → GoesOnCalmly script (front ++ (middle ++ more)) rest
+    → IsWellAfter script (front ++ (middle ++ more)) (record_from (last_state script) (lines_after (start script) script.events))
+well-after-b script front middle more rest n playable h on =
+    goes-calmly script (front ++ (middle ++ more)) rest playable (calm-after B script front middle more rest n h (certified-by-b script front middle more rest n playable h) on)
