@@ -10,7 +10,7 @@ use Rattle.replay_report.specs.Report.{report}
 use Rattle.line_world.specs.Complete.{IsUndisturbed, IsComplete}
 use Rattle.line_world.specs.Once.{EachCommandOnce}
 use Rattle.line_world.specs.Runs.{record_of}
-use Rattle.line_world.proofs.EitherMode.{all-complete, all-recover, all-wires, each-command-once}
+use Rattle.line_world.proofs.EitherMode.{all-complete, all-recover, all-rested, all-wires, each-command-once}
 use Rattle.late_laws.proofs.NothingLate.{nothing-comes-late}
 use Rattle.outcome_bounds.proofs.EitherMode.{outcomes-come}
 use Rattle.overtaking_laws.proofs.Cut.{nothing-is-overtaken}
@@ -45,6 +45,7 @@ replayed-well left left' held held' a =
       outcomes = outcomes-come read.0 (CanBePlayed-script_of a.input read.0 read.1);
       complete = record-complete read.0 (CanBePlayed-script_of a.input read.0 read.1);
       recovered = all-recover read.0 (CanBePlayed-script_of a.input read.0 read.1);
+      rested = all-rested read.0 (CanBePlayed-script_of a.input read.0 read.1);
       wires = all-wires read.0 (CanBePlayed-script_of a.input read.0 read.1);
     }
 

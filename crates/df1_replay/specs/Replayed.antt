@@ -10,6 +10,7 @@ use Rattle.late_laws.specs.GivenUp.{NothingComesLate}
 use Rattle.line_world.specs.Complete.{IsUndisturbed, IsComplete}
 use Rattle.line_world.specs.Once.{EachCommandOnce}
 use Rattle.line_world.specs.Recovery.{Recovers}
+use Rattle.line_world.specs.Rested.{GoesWellAfterRest}
 use Rattle.line_world.specs.Runs.{record_of}
 use Rattle.line_world.specs.Wire.{AreDf1Wires}
 use Rattle.outcome_bounds.specs.Bounds.{OutcomesCome}
@@ -22,7 +23,9 @@ use Rattle.overtaking_laws.specs.Overtaking.{NothingIsOvertaken}
 -- so far. Where nothing disturbs the line and nothing is under way in the end,
 -- where each end, or each station, has room for what the other end, or the master, may have out, and no reply is left at a
 -- station, no end was deceived, and all commands were executed and answered. They were too on a full-duplex line that altered
--- bytes of bodies alone, in few transmissions of each message, and deceived no end. Whatever was heard, and deceived or not: where
+-- bytes of bodies alone, in few transmissions of each message, and deceived no end. Where a full-duplex line is at rest again,
+-- whatever happened before, and no end was deceived, each command that an end hands out from there on was executed and answered, if
+-- nothing disturbs the line from there on, or it recovers so. Whatever was heard, and deceived or not: where
 -- enough ticks came at an end since its last command at which it had nothing to give, the outcome of each of its commands is told;
 -- and what each end sent is DF1, and carries its own commands and replies.
 pub record Replayed (left left' held held' : Option (List ℕ)) : Type 0 where
@@ -37,5 +40,6 @@ pub record Replayed (left left' held held' : Option (List ℕ)) : Type 0 where
   pub late : (record_of script).deceived ≡ 0 → NothingComesLate script (record_of script)
   pub complete : IsUndisturbed script → IsComplete script (record_of script)
   pub recovered : Recovers script (record_of script)
+  pub rested : GoesWellAfterRest script (record_of script)
   pub outcomes : OutcomesCome script (record_of script)
   pub wires : AreDf1Wires script (record_of script)

@@ -160,7 +160,8 @@ pub fn run<H: Shelf, S: Source, K: Sink, N: Sink>(
     // 0 of `replay`: the input is read to its end, and the report of its script's run is written; nothing has failed, and no
     // note is written. Unless an end was deceived, each station executed commands that were issued to it, each once, those of
     // each source in their order, and accepted replies are what it answered to that very command. Where nothing disturbs the
-    // line, or it recovers, all commands were executed and answered. Whatever was heard, what each end sent is DF1.
+    // line, or it recovers, all commands were executed and answered; and so were those that a full-duplex end hands out from a
+    // state at rest on, where that is so from there on. Whatever was heard, what each end sent is DF1.
     ensures done { the_form (map string_bytes words.now) ≡ Some Replay → result.status ≡ 0 → Answered replayed
         (S.left input) (S.left result.input) (K.held out) (K.held result.out) }
     ensures calm { the_form (map string_bytes words.now) ≡ Some Replay → result.status ≡ 0 → (S.faults result.input ≡ S.faults input) × (result.note ≡ note) }
