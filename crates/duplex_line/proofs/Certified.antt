@@ -1,5 +1,3 @@
--- A run that is cut after an event: its state, its lines, its commands, and that no end was deceived before the cut.
-pub mod CutRuns
 -- A command that was still to come, and that is told as answered since then, was executed since then.
 pub mod ExecutedSince
 -- A decoder that hears all that an end gives: in which part of an item it stands, by what the end has still to give.

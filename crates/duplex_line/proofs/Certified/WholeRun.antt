@@ -17,14 +17,14 @@ use Rattle.each_once.specs.NodeHost.{node_host}
 use Rattle.each_once.specs.Once.{Once}
 use Rattle.each_once.specs.Commands.{Request, command_bodies}
 use Rattle.each_once.specs.Tells.{answer_at, answers_in}
-use Rattle.each_once.proofs.Sublists.{none-is, get-more}
+use Rattle.each_once.proofs.Sublists.{none-is}
 use Rattle.duplex_line.specs.Acts.{LineEndState, LineState, swapped, Deed, after_deeds, lines_over, given_over}
 use Rattle.duplex_line.specs.Certified.{AreGentle, AreGentleAfter, IsAnsweredAfter, IsCertified, GoesOnCalmly}
 use Rattle.duplex_line.specs.Issues.{requests_in, request_at, commands_of_a, commands_of_b, bodies_of}
 use Rattle.duplex_line.specs.Prompt.{is_quiet}
 use Rattle.duplex_line.specs.Rest.{is_between, IsCalmAfter, IsWellAfter}
 use Rattle.duplex_line.specs.Run.{first_station, plan_of_a, plan_of_b, start, who_of, deeds_of, seen_from, after_event, deed_lines, lines_of, state_after, lines_after, last_state, record_from}
-use Rattle.duplex_line.proofs.Complete.AfterRest.{goes-calmly}
+use Rattle.duplex_line.proofs.Complete.AfterRest.{state-both, lines-both, all-back, deceived-before, bodies-more, goes-calmly}
 use Rattle.duplex_line.proofs.Complete.QuietEnd.{gives-nothing}
 use Rattle.duplex_line.proofs.Complete.TickStep.{both}
 use Rattle.duplex_line.proofs.Once.Arrivals.{end-of, run-hears}
@@ -34,7 +34,6 @@ use Rattle.duplex_line.proofs.Once.WholeRun.{sent-silent, holds-run, each-once}
 use Rattle.duplex_line.proofs.Wire.Fronts.{front-plays}
 use Rattle.duplex_line.proofs.Wire.WholeRun.{run-checks}
 use Rattle.duplex_line.proofs.Certified.ExecutedSince.{executed-since}
-use Rattle.duplex_line.proofs.Certified.CutRuns.{all-behind, state-behind, lines-behind, bodies-front, events-earlier}
 use Rattle.duplex_line.proofs.Certified.GivenBytes.{InStep, step-start, quiet-between}
 use Rattle.duplex_line.proofs.Certified.LaneInStep.{Leads, alike-between, AreAlike}
 use Rattle.duplex_line.proofs.Certified.LineSteps.{Direction, BothWays, ways-swapped, ways-silent, WaysUnless, ways-deeds}
@@ -136,9 +135,7 @@ none-contained (y ∷ xs) x c is = absurd cc
 keep-places : (tns : ℕ) (requests : List Event → List Request) (bodies : List (List ℕ)) (front rest : List Event) → requests (front ++ rest) ≡ requests front ++ requests rest → bodies ≡ command_bodies tns (requests front)
     → (place : ℕ) (body : List ℕ) → slice_get bodies place ≡ Some body → slice_get (command_bodies tns (requests (front ++ rest))) place ≡ Some body
 keep-places tns requests bodies front rest splits is place body at =
-    let more = bodies-front tns (requests front) (requests rest) in
-    subst (λ (all : List (List ℕ)). slice_get all place ≡ Some body) (sym (ap (command_bodies tns) splits ∙ more.1))
-    (get-more (command_bodies tns (requests front)) more.0 place body (subst (λ (all : List (List ℕ)). slice_get all place ≡ Some body) is at))
+    subst (λ (all : List Request). slice_get (command_bodies tns all) place ≡ Some body) (sym splits) (bodies-more tns (requests front) (requests rest) place body (subst (λ (all : List (List ℕ)). slice_get all place ≡ Some body) is at))
 
 -- A run that is cut twice: what holds at the first cut, what the report tells up to the second, and what holds there of the steps between.
 record IsCut (script : Script) (front since : List Event) : Type 0 where
@@ -156,8 +153,8 @@ cut-run script front since rest playable parts quiet gentle undeceived =
     let plays : IsPlayable whole = front-plays script (front ++ since) rest playable (parts ∙ sym (append_assoc front since rest)) in
     let cut_plays : IsPlayable cut = front-plays script front (since ++ rest) playable parts in
     let s = state_after (start script) front in
-    let lines = lines-behind (start script) front since in
-    let later : (state_after s since).deceived ≡ 0 = ap (λ (x : LineState). x.deceived) (sym (state-behind (start script) front since)) ∙ undeceived in
+    let lines = lines-both (start script) front since in
+    let later : (state_after s since).deceived ≡ 0 = ap (λ (x : LineState). x.deceived) (sym (state-both (start script) front since)) ∙ undeceived in
     let once = each-once whole plays undeceived in
     let recounts = recounts-run cut cut_plays in
     let a = plan_of_a script in
@@ -170,20 +167,20 @@ cut-run script front since rest playable parts quiet gentle undeceived =
       back = direction-start A s.b s.a.end.receiver.decoding (checks.1 ∙ sym (ap (λ (d : Decoding). d.check) hears.of_a.stands.is)) still.of_b;
     } in
     record {
-      holds = holds-run cut cut_plays (events-earlier s since later);
+      holds = holds-run cut cut_plays (deceived-before since s later);
       places_of_a = keep-places a.tns (requests_in A a.node) (bodies_of s.a) front since (filter_map-append (request_at A a.node) front since) recounts.recounts.issued.bodies;
       places_of_b = keep-places b.tns (requests_in B b.node) (bodies_of s.b) front since (filter_map-append (request_at B b.node) front since) recounts.far_recounts.issued.bodies;
       to_b = subst (Once A B (commands_of_a whole) (first_station b)) lines once.to_b;
       to_a = subst (Once B A (commands_of_b whole) (first_station a)) lines once.to_a;
-      ways = subst (λ (x : LineState). BothWays A B x (lines_after s since)) (sym (state-behind (start script) front since))
-          (ways-events since s [] (all-behind IsPossible front since plays.events) gentle (λ none. from) later);
+      ways = subst (λ (x : LineState). BothWays A B x (lines_after s since)) (sym (state-both (start script) front since))
+          (ways-events since s [] (all-back front since plays.events) gentle (λ none. from) later);
     }
 
 -- what is told over a part of the events is told over more of them
 answered-later : (who : Who) (s : LineState) (middle more : List Event) (answer : ℕ × List ℕ) → Contains (answers_in who (lines_after s middle)) answer → Contains (answers_in who (lines_after s (middle ++ more))) answer
 answered-later who s middle more answer answered =
     let behind = lines_after (state_after s middle) more in
-    subst (λ (answers : List (ℕ × List ℕ)). Contains answers answer) (sym (ap (answers_in who) (lines-behind s middle more) ∙ filter_map-append (answer_at who) (lines_after s middle) behind))
+    subst (λ (answers : List (ℕ × List ℕ)). Contains answers answer) (sym (ap (answers_in who) (lines-both s middle more) ∙ filter_map-append (answer_at who) (lines_after s middle) behind))
     (Contains-append_left (answers_in who (lines_after s middle)) (answers_in who behind) answer answered)
 
 pub certified-by-a : (script : Script) (front middle more rest : List Event) (n : ℕ) → IsPlayable script → IsAnsweredAfter A script front middle more rest n → IsCertified (state_after (start script) (front ++ (middle ++ more)))
