@@ -95,6 +95,7 @@ ARROWS = {
         *to_each("543", "ACK to 3", BB_REPLY, dead="4"), "5>m ACK",
     ],
     "deception-on-purpose": ["foreign>b write N7:0 = 1234"],
+    "echo-after-noise": [*exchange("echo", "done", 1), "foreign>b 10", named("echo", 2), "a>b ENQ", "b>a ACK", *exchange("echo", "done", 3)],
     "echo-first": [
         "foreign>b echo", "b>a ACK", "b>a reply, done, TNS 0001", "a>b ACK", named("echo 55"), "b>a ACK", *exchange("write N7:0 = 1234", "done", 2),
     ],

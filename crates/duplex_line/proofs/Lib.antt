@@ -1,3 +1,4 @@
+pub mod Certified
 pub mod Complete
 pub mod Once
 pub mod Steps

@@ -1,10 +1,10 @@
--- Scripts whose runs deceive no end: one command is issued, crosses the line, is executed and answered; the same where a byte of it is altered; three of two sources; and one after another was given up.
+-- Scripts whose runs deceive no end: one command is issued, crosses the line, is executed and answered; the same where a byte of it is altered; three of two sources; one after another was given up; and two echoes after a lone DLE.
 use Rattle.std.specs.Prelude.{ℕ, Bool, true, false, List, [], ◌∷◌, ◌++◌, Some, None}
 use Rattle.df1_base.specs.declared.file_type.FileType.TheVariants.{Integer}
 use Rattle.df1_check.specs.declared.Check.TheVariants.{Bcc}
 use Rattle.script_statement.specs.declared.who.Who.TheVariants.{A, B}
 use Rattle.script_parts.specs.declared.script.Event.{Event}
-use Rattle.script_parts.specs.declared.script.Event.TheVariants.{Issue, Take, Deliver, Lose, Alter}
+use Rattle.script_parts.specs.declared.script.Event.TheVariants.{Issue, Take, Deliver, Lose, Alter, Foreign, Tick}
 use Rattle.script_parts.specs.declared.script.Script.{Script}
 use Rattle.script_parts.specs.Plans.{first_plan}
 use Rattle.replay_report.specs.declared.record.Line.{Line}
@@ -110,3 +110,33 @@ after_a_lost_write = record {
   ends = record (first_plan A 0) { max_naks = 0 } ∷ record (first_plan B 1) { files = record { number = 7; kind = Integer; count = 16 } ∷ [] } ∷ [];
   events = lost_write ++ second_write;
 }
+
+-- A lone DLE comes to end b. Then end a, which gives a command up at the first tick, asks for an echo, which b's decoder takes apart,
+-- and for another, which is answered.
+abbrev pub lone_dle : List Event
+lone_dle = Foreign (record { from = A; to = B }) (0x10 ∷ []) ∷ []
+
+abbrev pub two_echoes : List Event
+two_echoes =
+    Issue A None 1 (0x06 ∷ 0x00 ∷ [])
+    ∷ Take A 12 ∷ Deliver (record { from = A; to = B }) 12
+    ∷ Tick A 1
+    ∷ Issue A None 1 (0x06 ∷ 0x00 ∷ [])
+    ∷ Take A 12 ∷ Deliver (record { from = A; to = B }) 12
+    ∷ Take B 13 ∷ Deliver (record { from = B; to = A }) 13
+    ∷ []
+
+abbrev pub last_ack : List Event
+last_ack = Take A 2 ∷ Deliver (record { from = A; to = B }) 2 ∷ []
+
+abbrev pub after_noise : Script
+after_noise = record {
+  half = false;
+  check = Bcc;
+  ends = record (first_plan A 0) { ack_ticks = 1; max_enqs = 0 } ∷ first_plan B 1 ∷ [];
+  events = lone_dle ++ ((two_echoes ++ last_ack) ++ []);
+}
+
+-- the body of the second echo's reply
+abbrev pub echo_reply : List ℕ
+echo_reply = 0x00 ∷ 0x01 ∷ 0x46 ∷ 0x00 ∷ 0x02 ∷ 0x00 ∷ []

@@ -1,5 +1,6 @@
 pub mod Acts
 pub mod Arrivals
+pub mod Certified
 pub mod Complete
 pub mod Example
 pub mod Issues

@@ -1,5 +1,5 @@
 //! Laws of the run of a script. The functions do nothing.
-ghost use Rattle.std.specs.Prelude.{◌≡◌, ◌∷◌, ◌++◌, [], List, true, IsTrue};
+ghost use Rattle.std.specs.Prelude.{◌≡◌, ◌∷◌, ◌++◌, [], List, ℕ, true, false, IsTrue};
 ghost use Rattle.std.specs.List.{list_any};
 ghost use Rattle.script_parts.specs.declared.script.Event.{Event};
 ghost use Rattle.script_parts.specs.declared.script.Script.{Script};
@@ -10,17 +10,18 @@ ghost use Rattle.duplex_end.specs.Arrived.{HeardByGrammar, bytes_arrived};
 ghost use Rattle.duplex_receiver.specs.Hearing.{Stands};
 ghost use Rattle.duplex_line.specs.Arrivals.{arrivals_in, heard_in};
 ghost use Rattle.duplex_line.specs.Issues.{commands_of_a, commands_of_b, issued_of, bodies_of};
-ghost use Rattle.duplex_line.specs.Run.{start, last_state, lines_after, record_of};
+ghost use Rattle.duplex_line.specs.Certified.{IsAnsweredAfter, IsCertified, GoesOnCalmly, are_senders_idle};
+ghost use Rattle.duplex_line.specs.Run.{start, last_state, state_after, lines_after, record_of};
 ghost use Rattle.duplex_line.specs.Once.{EachOnce};
 ghost use Rattle.duplex_line.specs.Transmissions.{AreCounted, begun_in, ended_in};
 ghost use Rattle.duplex_line.specs.Wire.{AreDf1Wires};
 ghost use Rattle.duplex_line.specs.Prompt.{IsPrompt, EndsQuiet, HasRooms, is_quiet};
 ghost use Rattle.duplex_line.specs.Recoverable.{IsRecoverable};
 ghost use Rattle.duplex_line.specs.Complete.{IsComplete};
-ghost use Rattle.duplex_line.specs.Rest.{IsCalmAfter, IsMildAfterRest, IsWellAfter};
+ghost use Rattle.duplex_line.specs.Rest.{IsCalmAfter, IsMildAfterRest, IsWellAfter, is_at_rest};
 ghost use Rattle.each_once.specs.Tells.{executed_in, answers_in, outcomes_in};
 ghost use Rattle.df1_node.specs.Initiator.{Undelivered};
-ghost use Rattle.duplex_line.specs.Example.{hit_write, is_damage, one_write, the_command, the_reply, two_sources, second_command, second_reply, third_command, third_reply, lost_write, second_write, after_a_lost_write};
+ghost use Rattle.duplex_line.specs.Example.{hit_write, is_damage, one_write, the_command, the_reply, two_sources, second_command, second_reply, third_command, third_reply, lost_write, second_write, after_a_lost_write, lone_dle, two_echoes, last_ack, after_noise};
 
 /// A law: at each byte that arrives at an end in a run, a whole frame is heard exactly where the grammar of the line, over
 /// all bytes that arrived at that end so far, hears one at its last: so a deception is a frame by the grammar, which
@@ -162,4 +163,35 @@ pub fn commands_of_two_sources_are_executed_and_answered()
     ensures honest { (record_of two_sources).deceived ≡ 0 }
     ensures executed { executed_in B (record_of two_sources).lines ≡ the_command ∷ third_command ∷ second_command ∷ [] }
     ensures answered { answers_in A (record_of two_sources).lines ≡ (1, the_reply) ∷ (3, third_reply) ∷ (2, second_reply) ∷ [] }
+{}
+
+/// A law: of a run that has deceived no end so far, and in which no byte is lost, altered or foreign from a state on at which nothing
+/// was under way, whatever came before and however many ticks come. Once one command of either end is answered that was not handed out
+/// before that state, the line is at rest wherever nothing is under way and no sender has a message: no decoder is inside an item any
+/// more (manual topic: full-duplex protocol).
+pub fn an_answer_certifies_the_line()
+    ensures of_a { (script : Script) (front middle more rest : List Event) (n : ℕ) → IsPlayable script → IsAnsweredAfter A script front middle more rest n → IsCertified (state_after (start script) (front ++ (middle ++ more))) }
+    ensures of_b { (script : Script) (front middle more rest : List Event) (n : ℕ) → IsPlayable script → IsAnsweredAfter B script front middle more rest n → IsCertified (state_after (start script) (front ++ (middle ++ more))) }
+{}
+
+/// A law: so from such a state on each command that an end hands out is executed and answered, each by its own reply, if nothing
+/// disturbs the line from there on, its ends have room for as many replies as the other may have commands out, and the run ends with
+/// nothing under way (manual topic: full-duplex protocol).
+#[tactic(auto, unfolding(crate::specs::Run::record_of))]
+pub fn after_an_answer_all_is_well()
+    ensures of_a { (script : Script) (front middle more rest : List Event) (n : ℕ) → IsPlayable script → IsAnsweredAfter A script front middle more rest n → GoesOnCalmly script (front ++ (middle ++ more)) rest → IsWellAfter script (front ++ (middle ++ more)) (record_of script) }
+    ensures of_b { (script : Script) (front middle more rest : List Event) (n : ℕ) → IsPlayable script → IsAnsweredAfter B script front middle more rest n → GoesOnCalmly script (front ++ (middle ++ more)) rest → IsWellAfter script (front ++ (middle ++ more)) (record_of script) }
+{}
+
+/// A law: the premises of `an_answer_certifies_the_line` are met, and its conclusion isn't empty, where a lone DLE came to an end:
+/// the line is quiet then and not at rest, a first echo is lost, a second one is answered, and then the line is at rest.
+#[tactic(auto, unfolding(crate::specs::Run::record_of))]
+pub fn an_echo_certifies_a_line_after_noise()
+    ensures playable { IsPlayable after_noise }
+    ensures answered { IsAnsweredAfter A after_noise lone_dle two_echoes last_ack [] 2 }
+    ensures disturbed { is_at_rest (state_after (start after_noise) lone_dle) ≡ false }
+    ensures lost { outcomes_in A 1 (record_of after_noise).lines ≡ Undelivered ∷ [] }
+    ensures quiet { EndsQuiet after_noise }
+    ensures idle { IsTrue (are_senders_idle (last_state after_noise)) }
+    ensures rests { IsTrue (is_at_rest (last_state after_noise)) }
 {}

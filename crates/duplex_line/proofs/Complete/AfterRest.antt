@@ -41,15 +41,15 @@ use Rattle.duplex_line.proofs.Complete.TickStep.{quiet-still, at-rest}
 
 -- ---- a run in two parts
 
-state-both : (s : LineState) (front rest : List Event) → state_after s (front ++ rest) ≡ state_after (state_after s front) rest
+pub state-both : (s : LineState) (front rest : List Event) → state_after s (front ++ rest) ≡ state_after (state_after s front) rest
 state-both s [] rest = refl
 state-both s (e ∷ front) rest = state-both (after_event s e) front rest
 
-lines-both : (s : LineState) (front rest : List Event) → lines_after s (front ++ rest) ≡ lines_after s front ++ lines_after (state_after s front) rest
+pub lines-both : (s : LineState) (front rest : List Event) → lines_after s (front ++ rest) ≡ lines_after s front ++ lines_after (state_after s front) rest
 lines-both s [] rest = refl
 lines-both s (e ∷ front) rest = ap (λ (lines : List Line). lines_of s e ++ lines) (lines-both (after_event s e) front rest) ∙ sym (append_assoc (lines_of s e) (lines_after (after_event s e) front) (lines_after (state_after (after_event s e) front) rest))
 
-all-back : (front rest : List Event) → All IsPossible (front ++ rest) → All IsPossible rest
+pub all-back : (front rest : List Event) → All IsPossible (front ++ rest) → All IsPossible rest
 all-back [] rest all = all
 all-back (e ∷ front) rest all = all-back front rest (All-tail IsPossible e (front ++ rest) all)
 
@@ -76,7 +76,7 @@ deceived-seen B s deeds none = deceived-deeds (swapped s) deeds none
 deceived-seen M s deeds none = deceived-deeds s deeds none
 deceived-seen (S station) s deeds none = deceived-deeds s deeds none
 
-deceived-before : (events : List Event) (s : LineState) → (state_after s events).deceived ≡ 0 → s.deceived ≡ 0
+pub deceived-before : (events : List Event) (s : LineState) → (state_after s events).deceived ≡ 0 → s.deceived ≡ 0
 deceived-before [] s none = none
 deceived-before (e ∷ events) s none = deceived-seen (who_of e) s (deeds_of e) (deceived-before events (after_event s e) none)
 
@@ -123,7 +123,7 @@ answered-of from to bodies first issued lines told once k c is done =
     answered-at from bodies answered issued lines told k c is done (λ reply by among. all-at (λ a. IsReplyTo bodies answered a.0 a.1) (answers_in from lines) among.0 (suc k, reply) once.answers among.1)
 
 -- the commands of the first requests are the first
-bodies-more : (number : ℕ) (requests more : List Request) (k : ℕ) (body : List ℕ) → slice_get (command_bodies number requests) k ≡ Some body → slice_get (command_bodies number (requests ++ more)) k ≡ Some body
+pub bodies-more : (number : ℕ) (requests more : List Request) (k : ℕ) (body : List ℕ) → slice_get (command_bodies number requests) k ≡ Some body → slice_get (command_bodies number (requests ++ more)) k ≡ Some body
 bodies-more number [] more k body at = absurd cc
 bodies-more number (request ∷ requests) more zero body at = at
 bodies-more number (request ∷ requests) more (suc k) body at = bodies-more (number + 1) requests more k body at

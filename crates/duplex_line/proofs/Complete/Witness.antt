@@ -79,7 +79,7 @@ abbrev pub prompt_after : Late → LineState → List Event → Bool
 prompt_after late s [] = true
 prompt_after late s (e ∷ events) = prompt_over (late_seen (who_of e) late) (seen_from (who_of e) s) (deeds_of e) && prompt_after (late_event late s e) (after_event s e) events
 
-gentle-is : (side : LineEndState) (deed : Deed) → is_gentle side deed ≡ true → IsGentle side deed
+pub gentle-is : (side : LineEndState) (deed : Deed) → is_gentle side deed ≡ true → IsGentle side deed
 unfolding is_gentle
 gentle-is side (Issue src dst payload) h = tt
 gentle-is side Take h = tt

@@ -171,6 +171,10 @@ pub run-sent : (script : Script) → IsPlayable script
 run-sent script playable =
     sent-events script.check (first_station (plan_of_a script)) (first_station (plan_of_b script)) script.events (start script) [] playable.events (omega (arith, playable.commands_of_a)) (omega (arith, playable.commands_of_b)) (sent-start script playable)
 
+-- each end gives frames with the check of the script
+pub run-checks : (script : Script) → IsPlayable script → ((last_state script).a.end.mouth.check ≡ script.check) × ((last_state script).b.end.mouth.check ≡ script.check)
+run-checks script playable = let sent = run-sent script playable in (sent.of_near.on_wire.at.1, sent.of_far.on_wire.at.1)
+
 -- what one end sent is DF1
 wire-of : (who : Who) (check : Check) (first : StationState) (side : LineEndState) (commands : List (List ℕ)) (r : Record) → bodies_of side ≡ commands
     → (r.deceived ≡ 0 → (issued_by side ≤ 65535) × Differ (map tns_of (executed_in who r.lines))) → Gave who check first side r.lines (sent_by who r.lines) → IsDf1Wire who check commands first r
