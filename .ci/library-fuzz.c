@@ -16,6 +16,22 @@
         }                                                            \
     } while (0)
 
+/* What a call answers or reports on a line. libFuzzer doesn't see into the library: it keeps the inputs that reach another answer. */
+#ifdef GENERATED
+#define TOLD(kind) (kind)
+#else
+__attribute__((section("__libfuzzer_extra_counters"))) static uint8_t reached[1024 * 64];
+
+static uint32_t noted(unsigned line, uint32_t kind)
+{
+    reached[line % 1024 * 64 + kind % 64] = 1;
+    return kind;
+}
+#define TOLD(kind) noted(__LINE__, kind)
+#endif
+
+/* ---- What bytes say ---- */
+
 struct said {
     const uint8_t *at;
     size_t left;
@@ -36,8 +52,16 @@ static uint32_t number_of(struct said *said)
     return high < 128 ? high : high << 8 | byte_of(said);
 }
 
+/* A file that an end may have, or any. */
+static uint16_t file_of(struct said *said)
+{
+    unsigned byte = byte_of(said);
+
+    return byte < 192 ? (uint16_t)(6 + byte % 4) : (uint16_t)number_of(said);
+}
+
 /* So many bytes, in a block of their own: null where there are none. */
-static uint8_t *block_of(struct said *said, size_t length)
+static void *block_of(struct said *said, size_t length)
 {
     uint8_t *block = length > 0 ? malloc(length) : NULL;
     size_t at;
@@ -54,6 +78,8 @@ static void look(uint32_t code, const size_t *length, size_t room, size_t most)
     MUST(code != DF1_DONE || (*length <= room && *length <= most));
     MUST(code != DF1_NO_ROOM || (*length > room && *length <= most));
 }
+
+/* ---- Ends, and bytes between them ---- */
 
 /* An end of a kind, whose parts are perhaps out of range. */
 static void make(struct said *said, unsigned kind, df1_end *end)
@@ -76,14 +102,16 @@ static void make(struct said *said, unsigned kind, df1_end *end)
     node.window = number_of(said) % 20;
     node.reply_ticks = 1 + byte_of(said);
     node.room = 2 + byte_of(said) % 70;
+    node.has_compat = byte_of(said) % 4 > 0;
+    node.compat = 7;
     files[1].number = (uint16_t)(6 + byte_of(said) % 4);
     words[0].index = number_of(said) % 20;
     if (kind % 3 == 0)
-        code = df1_duplex_make(&duplex, &node, files, 2, words, 1, block, block_length, end);
+        code = TOLD(df1_duplex_make(&duplex, &node, files, 2, words, 1, block, block_length, end));
     else if (kind % 3 == 1)
-        code = df1_master_make(&master, stations, byte_of(said) % 3, &node, files, 2, words, 1, block, block_length, end);
+        code = TOLD(df1_master_make(&master, stations, byte_of(said) % 3, &node, files, 2, words, 1, block, block_length, end));
     else
-        code = df1_slave_make(&slave, &node, files, 2, words, 1, block, block_length, end);
+        code = TOLD(df1_slave_make(&slave, &node, files, 2, words, 1, block, block_length, end));
     MUST(code <= DF1_NO_STATION);
     free(block);
 }
@@ -95,32 +123,94 @@ static void carry(df1_end *from, df1_end *to, unsigned count)
     df1_out out;
 
     for (; count > 0 && df1_end_take(from, &out) == DF1_DONE && out.there; count--)
-        MUST(df1_end_byte(to, out.byte, &step) <= DF1_NO_HANDLE);
+        MUST(TOLD(df1_end_byte(to, out.byte, &step)) <= DF1_NO_HANDLE);
 }
+
+static bool is_told(const df1_step *step)
+{
+    return TOLD(step->act) != 0 || TOLD(step->did) != 0 || step->did_command != 0 || TOLD(step->news) != 0 || step->news_command != 0 ||
+           step->whole || step->station != 0;
+}
+
+/* An end hears bytes run by run, each up to one after which there is something to do, or to the last. */
+static void hear_runs(df1_end *end, const uint8_t *bytes, size_t length)
+{
+    df1_step step;
+    bool quiet = true;
+    size_t used = 0;
+
+    for (; length > 0; bytes += used, length -= used) {
+        if (TOLD(df1_end_bytes(end, bytes, length, &used, &step)) != DF1_DONE)
+            return;
+        MUST(used > 0 && used <= length && df1_end_quiet(end, &quiet) == DF1_DONE);
+        MUST(is_told(&step) || !quiet || used == length);
+    }
+}
+
+/* Runs of bytes of an end go to another one, as far as it gives any. */
+static void carry_runs(df1_end *from, df1_end *to, size_t room)
+{
+    df1_given given = {0, false, false};
+    uint8_t *bytes = malloc(room);
+    unsigned runs;
+
+    for (runs = 0; runs < 8 && !given.quiet; runs++) {
+        if (bytes == NULL || TOLD(df1_end_take_bytes(from, bytes, room, &given)) != DF1_DONE)
+            break;
+        MUST(given.length <= room && given.length <= 512 && (given.length > 0 || !given.last));
+        MUST(given.length == room || given.length == 512 || given.last || given.quiet);
+        hear_runs(to, bytes, given.length);
+    }
+    free(bytes);
+}
+
+static void tick(df1_end *end)
+{
+    uint32_t gone[16];
+    df1_turn turn;
+
+    if (df1_end_tick(end, &turn, gone, 16) == DF1_DONE)
+        MUST(TOLD(turn.gone_count) <= 16 && TOLD(turn.turn) <= DF1_TURN_FAILED);
+}
+
+/* Two ends talk for some ticks of the first. */
+static void talk(struct said *said, df1_end *near, df1_end *far)
+{
+    size_t room = 1 + number_of(said) % 600;
+    unsigned count = byte_of(said) % 16;
+
+    for (; count > 0; count--) {
+        carry_runs(near, far, room);
+        carry_runs(far, near, room);
+        tick(near);
+    }
+}
+
+/* ---- Commands, payloads and replies ---- */
 
 static void command(struct said *said, df1_end *end, unsigned what)
 {
-    size_t length = number_of(said) % 260, told = 0;
+    size_t length = number_of(said) % 260, count = 0;
     uint8_t *bytes = block_of(said, length);
     uint32_t number = number_of(said), into = 0;
     df1_transfer came;
 
     if (what == 0)
-        MUST(df1_end_issue(end, (uint8_t)number, bytes, length, &into) <= DF1_NO_STATION);
+        MUST(TOLD(df1_end_issue(end, (uint8_t)number, bytes, length, &into)) <= DF1_NO_STATION);
     else if (what == 1)
-        MUST(df1_end_issue_from(end, byte_of(said), (uint8_t)number, bytes, length, &into) <= DF1_NO_STATION);
+        MUST(TOLD(df1_end_issue_from(end, byte_of(said), (uint8_t)number, bytes, length, &into)) <= DF1_NO_STATION);
     else if (what == 2)
-        MUST(df1_end_pull(end, (uint8_t)number, (uint16_t)(number_of(said) % 1100), number_of(said) % 3100, &into) <= DF1_NO_STATION);
+        MUST(TOLD(df1_end_pull(end, (uint8_t)number, (uint16_t)(number_of(said) % 1100), number_of(said) % 3100, &into)) <= DF1_NO_STATION);
     else if (what == 3)
-        MUST(df1_end_push(end, (uint8_t)number, (uint16_t)(number_of(said) % 1100), bytes, length, &into) <= DF1_NO_STATION);
+        MUST(TOLD(df1_end_push(end, (uint8_t)number, (uint16_t)(number_of(said) % 1100), bytes, length, &into)) <= DF1_NO_STATION);
     else if (what == 4)
-        MUST(df1_end_outcome(end, number, &into) <= DF1_NO_STATION);
+        MUST(TOLD(df1_end_outcome(end, number, &into)) <= DF1_NO_STATION && TOLD(into) <= DF1_UNANSWERED);
     else if (what == 5)
-        look(df1_end_reply(end, number, bytes, length, &told), &told, length, 250);
+        look(TOLD(df1_end_reply(end, number, bytes, length, &count)), &count, length, 250);
     else if (what == 6)
-        look(df1_end_pulled(end, number, 1 + length / 2, bytes, length, &told, &came), &told, length, 6000);
+        look(TOLD(df1_end_pulled(end, number, 1 + length / 2, bytes, length, &count, &came)), &count, length, 6000);
     else
-        MUST(df1_end_pushed(end, number, length, &came) <= DF1_NO_STATION);
+        MUST(TOLD(df1_end_pushed(end, number, length, &came)) <= DF1_NO_STATION);
     free(bytes);
 }
 
@@ -130,17 +220,17 @@ static void spell(struct said *said, const uint8_t *body, size_t length)
     unsigned what = byte_of(said);
     bool crc = what % 2;
     uint8_t station = byte_of(said);
-    size_t told = 0, room = number_of(said) % 512;
+    size_t count = 0, room = number_of(said) % 512;
     uint8_t *into = block_of(said, room);
 
     if (what / 2 % 4 == 0)
-        look(df1_spell(crc, body, length, into, room, &told), &told, room, 506);
+        look(TOLD(df1_spell(crc, body, length, into, room, &count)), &count, room, 506);
     else if (what / 2 % 4 == 1)
-        look(df1_spell_message(station, crc, body, length, into, room, &told), &told, room, 509);
+        look(TOLD(df1_spell_message(station, crc, body, length, into, room, &count)), &count, room, 509);
     else if (what / 2 % 4 == 2)
-        look(df1_spell_reply(crc, body, length, into, room, &told), &told, room, 506);
+        look(TOLD(df1_spell_reply(crc, body, length, into, room, &count)), &count, room, 506);
     else
-        look(df1_spell_poll(station, into, room, &told), &told, room, 4);
+        look(TOLD(df1_spell_poll(station, into, room, &count)), &count, room, 4);
     free(into);
 }
 
@@ -151,13 +241,13 @@ static df1_address address_of(struct said *said)
     static const char letters[] = "SBTCRNF:./0123456789";
     const char *like = texts[byte_of(said) % 6];
     df1_address address = {0, 0, 0, 0, false, 0};
-    size_t place = byte_of(said) % 24, length = strlen(like), told = 0;
-    char *text = (char *)block_of(said, length), again[25];
+    size_t place = byte_of(said) % 24, length = strlen(like), count = 0;
+    char *text = block_of(said, length), again[25];
 
     memcpy(text, like, length);
     if (place < length)
         text[place] = letters[byte_of(said) % (sizeof letters - 1)];
-    if (df1_address_read(text, length, &address) == DF1_DONE) {
+    if (TOLD(df1_address_read(text, length, &address)) == DF1_DONE) {
         MUST(address.file <= 999 && address.element <= 999 && address.sub <= 2 && address.bit <= 15);
     } else {
         address.type = (uint8_t)(DF1_STATUS + byte_of(said) % 8);
@@ -168,109 +258,159 @@ static df1_address address_of(struct said *said)
         address.bit = byte_of(said) % 20;
     }
     free(text);
-    look(df1_address_text(&address, again, sizeof again, &told), &told, sizeof again, sizeof again);
+    look(TOLD(df1_address_text(&address, again, sizeof again, &count)), &count, sizeof again, sizeof again);
     return address;
 }
 
-/* The payload of a command into a room of its own, which an end takes where it is done. */
-static void payload(struct said *said, df1_end *end, const uint8_t *bytes, size_t length)
-{
-    unsigned what = byte_of(said) % 7;
-    df1_address at = address_of(said);
-    size_t told = 0, room = number_of(said) % 256, count = number_of(said) % 130;
-    uint8_t *into = block_of(said, room);
-    uint16_t *words = (uint16_t *)(void *)block_of(said, 2 * count);
-    uint32_t number, code, command = byte_of(said) % 5;
-
-    if (what == 0)
-        code = df1_payload_read(command, &at, (uint16_t)count, into, room, &told);
-    else if (what == 1)
-        code = df1_payload_write(command, &at, words, count, into, room, &told);
-    else if (what == 2)
-        code = df1_payload_masked(&at, (uint16_t)number_of(said), words, count, into, room, &told);
-    else if (what == 3)
-        code = df1_payload_modify(&at, (uint16_t)number_of(said), (uint16_t)number_of(said), into, room, &told);
-    else if (what == 4)
-        code = df1_payload_bit(&at, byte_of(said) % 2, into, room, &told);
-    else if (what == 5)
-        code = df1_payload_echo(bytes, length, into, room, &told);
-    else
-        code = df1_payload_status(into, room, &told);
-    look(code, &told, room, 245);
-    if (code == DF1_DONE) {
-        code = df1_end_issue(end, byte_of(said) % 4, into, told, &number);
-        MUST(code <= DF1_NO_MEMORY || code == DF1_NO_STATION || code == DF1_SPENT);
-    }
-    free(words);
-    free(into);
-}
-
-/* What bytes tell as a reply and as typed data lies in them, and each status has a text. */
+/* What bytes tell as a reply lies in them, as typed data too, and each status has a text. */
 static void read_reply(const uint8_t *bytes, size_t length)
 {
     df1_answer answer;
     df1_typed typed;
     char text[80];
-    size_t told = 0;
+    size_t count = 0;
 
-    if (df1_reply_read(bytes, length, &answer) == DF1_DONE) {
+    if (TOLD(df1_reply_read(bytes, length, &answer)) == DF1_DONE) {
         MUST(answer.data + answer.data_length == length);
-        MUST(df1_status_text(answer.sts, answer.ext, text, sizeof text, &told) == DF1_DONE && told >= 2 && told <= sizeof text);
+        MUST(df1_status_text(TOLD(answer.sts), answer.ext, text, sizeof text, &count) == DF1_DONE && count >= 2 && count <= sizeof text);
+        if (TOLD(df1_typed_read(bytes + answer.data, answer.data_length, &typed)) == DF1_DONE)
+            MUST(TOLD(typed.data) + typed.data_length == answer.data_length);
     }
-    if (df1_typed_read(bytes, length, &typed) == DF1_DONE)
-        MUST(typed.data + typed.data_length == length);
+    if (TOLD(df1_typed_read(bytes, length, &typed)) == DF1_DONE)
+        MUST(TOLD(typed.data) + typed.data_length == length);
 }
 
-static void look_at(struct said *said, df1_end *end, unsigned what)
+/* A payload is issued to another end, the two talk, and the reply is read in a block of its own size. */
+static void ask(struct said *said, df1_end *end, df1_end *other, const uint8_t *bytes, size_t length)
 {
-    uint32_t gone[16], count = 0;
-    uint16_t value = 0;
-    df1_turn turn;
+    uint32_t number = 0, code = TOLD(df1_end_issue(end, byte_of(said) % 4, bytes, length, &number));
+    uint8_t reply[250], *block;
+    size_t count = 0;
+
+    MUST(code <= DF1_NO_MEMORY || code == DF1_NO_STATION || code == DF1_SPENT);
+    if (code != DF1_DONE)
+        return;
+    talk(said, end, other);
+    code = TOLD(df1_end_reply(end, number, reply, sizeof reply, &count));
+    look(code, &count, sizeof reply, sizeof reply);
+    if (code != DF1_DONE || (block = malloc(count)) == NULL)
+        return;
+    memcpy(block, reply, count);
+    read_reply(block, count);
+    free(block);
+}
+
+/* The payload of a command into a room of its own, which an end takes where it is done. */
+static void payload(struct said *said, df1_end *end, df1_end *other, const uint8_t *bytes, size_t length)
+{
+    unsigned what = byte_of(said) % 9;
+    df1_address at = address_of(said);
+    size_t told = 0, room = number_of(said) % 256, count = number_of(said) % 130;
+    uint8_t *into = block_of(said, room);
+    uint16_t *words = block_of(said, 2 * count);
+    uint32_t code, command = byte_of(said) % 5;
+
+    if (what == 0)
+        code = TOLD(df1_payload_read(command, &at, (uint32_t)count, into, room, &told));
+    else if (what == 1)
+        code = TOLD(df1_payload_write(command, &at, words, count, into, room, &told));
+    else if (what == 2)
+        code = TOLD(df1_payload_masked(&at, (uint16_t)number_of(said), words, count, into, room, &told));
+    else if (what == 3)
+        code = TOLD(df1_payload_modify(&at, (uint16_t)number_of(said), (uint16_t)number_of(said), into, room, &told));
+    else if (what == 4)
+        code = TOLD(df1_payload_bit(&at, byte_of(said) % 2, into, room, &told));
+    else if (what == 5)
+        code = TOLD(df1_payload_echo(bytes, length, into, room, &told));
+    else if (what == 6)
+        code = TOLD(df1_payload_unprotected_read((uint16_t)number_of(said), (uint32_t)count, into, room, &told));
+    else if (what == 7)
+        code = TOLD(df1_payload_unprotected_write((uint16_t)number_of(said), words, count, into, room, &told));
+    else
+        code = TOLD(df1_payload_status(into, room, &told));
+    look(code, &told, room, 245);
+    if (code == DF1_DONE)
+        ask(said, end, other, into, told);
+    free(words);
+    free(into);
+}
+
+/* ---- Words ---- */
+
+/* Calls until none differs tell each word that isn't what `seen` has for it, and leave the words there. */
+static void see_changes(df1_end *end, uint16_t file, uint32_t first, uint16_t *seen, uint16_t *words, size_t count)
+{
+    size_t place = 0, before;
+    uint32_t code = TOLD(df1_end_changed(end, file, first, seen, count, &place));
+
+    while (code == DF1_DONE && place < count) {
+        before = place;
+        code = df1_end_changed(end, file, first, seen, count, &place);
+        MUST(code == DF1_DONE && place > before && place <= count);
+    }
+    if (code == DF1_DONE)
+        MUST(df1_end_words(end, file, first, words, count) == DF1_DONE && (count == 0 || memcmp(words, seen, 2 * count) == 0));
+}
+
+/* Words are set, told, or looked at for changes, in blocks of just their size. */
+static void word_runs(struct said *said, df1_end *end)
+{
+    unsigned what = byte_of(said) % 4;
+    uint16_t file = file_of(said), value = 0;
+    uint32_t first = byte_of(said) % 8 > 0 ? byte_of(said) % 20 : 0xFFFFFFFF - byte_of(said);
+    size_t count = byte_of(said) % 20;
+    uint16_t *values = block_of(said, 2 * count), *again = block_of(said, 2 * count);
+
+    if (what == 0 && TOLD(df1_end_set_words(end, file, first, values, count)) == DF1_DONE) {
+        MUST(df1_end_words(end, file, first, again, count) == DF1_DONE);
+        MUST(count == 0 || memcmp(values, again, 2 * count) == 0);
+    } else if (what == 1 && TOLD(df1_end_set_word(end, file, first, (uint16_t)count)) == DF1_DONE) {
+        MUST(df1_end_word(end, file, first, &value) == DF1_DONE && value == count);
+    } else if (what == 2) {
+        MUST(TOLD(df1_end_words(end, file, first, values, count)) <= DF1_NO_WORD);
+    } else {
+        see_changes(end, file, first, values, again, count);
+    }
+    free(values);
+    free(again);
+}
+
+/* ---- All calls ---- */
+
+static void look_at(struct said *said, df1_end *end, df1_end *other, unsigned what)
+{
+    uint32_t count = 0;
     df1_file file;
     df1_given given;
     df1_state state;
-    df1_step step;
     size_t told = 0, room = number_of(said) % 260;
     uint8_t *into = block_of(said, room);
-    uint16_t *values;
     bool quiet;
 
     if (what == 0)
-        MUST(df1_end_tick(end, &turn, gone, 16) != DF1_DONE || turn.gone_count <= 16);
+        tick(end);
     else if (what == 1)
-        look(df1_end_body(end, into, room, &told), &told, room, 250);
+        look(TOLD(df1_end_body(end, into, room, &told)), &told, room, 250);
     else if (what == 2)
-        MUST(df1_end_quiet(end, &quiet) <= DF1_NO_HANDLE && df1_end_state(end, &state) <= DF1_NO_HANDLE);
+        MUST(df1_end_quiet(end, &quiet) == df1_end_state(end, &state) && (df1_end_quiet(end, &quiet) != DF1_DONE || quiet == state.quiet));
     else if (what == 3)
-        MUST(df1_end_set_word(end, (uint16_t)number_of(said), number_of(said), value) <= DF1_NO_STATION);
+        MUST(TOLD(df1_end_files(end, &count)) != DF1_DONE || count <= 256);
     else if (what == 4)
-        MUST(df1_end_word(end, (uint16_t)number_of(said), number_of(said), &value) <= DF1_NO_STATION);
+        MUST(TOLD(df1_end_file(end, number_of(said), &file)) <= DF1_NO_STATION);
     else if (what == 5)
-        MUST(df1_end_files(end, &count) != DF1_DONE || count <= 256);
+        hear_runs(end, into, room);
     else if (what == 6)
-        MUST(df1_end_file(end, number_of(said), &file) <= DF1_NO_STATION);
+        MUST(TOLD(df1_end_take_bytes(end, into, room, &given)) != DF1_DONE || given.length <= room);
     else if (what == 7)
-        MUST(df1_end_bytes(end, into, room, &told, &step) != DF1_DONE || told <= room);
-    else if (what == 8)
-        MUST(df1_end_take_bytes(end, into, room, &given) != DF1_DONE || given.length <= room);
-    else if (what >= 9 && what <= 11) {
-        values = malloc(2 * room);
-        if (values != NULL) {
-            memset(values, 0x5A, 2 * room);
-            if (what == 11)
-                MUST(df1_end_changed(end, (uint16_t)number_of(said), number_of(said), values, room, &told) != DF1_DONE || told <= room);
-            else if (what == 9)
-                MUST(df1_end_words(end, (uint16_t)number_of(said), number_of(said), values, room) <= DF1_NO_STATION);
-            else
-                MUST(df1_end_set_words(end, (uint16_t)number_of(said), number_of(said), values, room) <= DF1_NO_STATION);
-        }
-        free(values);
-    } else if (what == 12)
         spell(said, into, room);
-    else if (what == 13)
-        payload(said, end, into, room);
-    else
+    else if (what == 8)
         read_reply(into, room);
+    else if (what == 9)
+        talk(said, end, other);
+    else if (what < 12)
+        word_runs(said, end);
+    else
+        payload(said, end, other, into, room);
     free(into);
 }
 
@@ -285,8 +425,8 @@ static void hear(struct said *said, df1_decoder *decoder, df1_end *end)
     for (; count > 0; count--) {
         uint8_t byte = byte_of(said);
 
-        MUST(df1_decoder_byte(decoder, byte, &hearing) != DF1_DONE || hearing.heard <= DF1_HEARD_EOT);
-        MUST(df1_end_byte(end, byte, &step) != DF1_DONE || step.did <= DF1_ROUTED);
+        MUST(df1_decoder_byte(decoder, byte, &hearing) != DF1_DONE || TOLD(hearing.heard) <= DF1_HEARD_EOT);
+        MUST(df1_end_byte(end, byte, &step) != DF1_DONE || TOLD(step.did) <= DF1_ROUTED);
     }
     look(df1_decoder_body(decoder, body, sizeof body, &told), &told, sizeof body, 250);
 }
@@ -300,16 +440,16 @@ int LLVMFuzzerTestOneInput(const uint8_t *data, size_t size)
 
     for (at = 0; at < 3; at++)
         make(&said, at, &ends[at]);
-    MUST(df1_decoder_make_side(byte_of(&said) % 3, byte_of(&said) % 2, &decoder) == DF1_DONE);
+    MUST(TOLD(df1_decoder_make_side(byte_of(&said) % 4, byte_of(&said) % 2, &decoder)) == DF1_DONE || decoder.holds == false);
     while (said.left > 0) {
-        unsigned what = byte_of(&said), which = what / 32 % 3;
+        unsigned what = byte_of(&said), which = what / 32 % 3, other = (which + what % 2 + 1) % 3;
 
         if (what % 32 < 8)
             command(&said, &ends[which], what % 8);
-        else if (what % 32 < 16)
-            look_at(&said, &ends[which], byte_of(&said) % 15);
+        else if (what % 32 < 20)
+            look_at(&said, &ends[which], &ends[other], byte_of(&said) % 16);
         else if (what % 32 < 26)
-            carry(&ends[which], &ends[(which + what % 2 + 1) % 3], byte_of(&said));
+            carry(&ends[which], &ends[other], byte_of(&said));
         else if (what % 32 < 31)
             hear(&said, &decoder, &ends[which]);
         else if (df1_end_free(&ends[which]) != DF1_DONE || what < 224)
@@ -317,7 +457,7 @@ int LLVMFuzzerTestOneInput(const uint8_t *data, size_t size)
     }
     for (at = 0; at < 3; at++)
         MUST(df1_end_free(&ends[at]) <= DF1_NO_HANDLE);
-    MUST(df1_decoder_free(&decoder) == DF1_DONE);
+    MUST(df1_decoder_free(&decoder) <= DF1_NO_HANDLE);
     return 0;
 }
 

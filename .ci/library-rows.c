@@ -1125,6 +1125,36 @@ static int payloads_of_bits(void)
     return 0;
 }
 
+/* Words of a compatibility file, from a byte on. */
+static int payloads_of_bytes(void)
+{
+    static const uint16_t two[] = {0xABCD, 1};
+    static uint16_t many[123];
+    struct spelled got = nothing_spelled();
+
+    got.code = df1_payload_unprotected_read(0x0102, 122, got.bytes, 4, &got.length);
+    ROW(is_spelled(&got, "01 02 01 F4"));
+    got.code = df1_payload_unprotected_write(2, two, 2, got.bytes, 7, &got.length);
+    ROW(is_spelled(&got, "08 02 00 CD AB 01 00"));
+    got.code = df1_payload_unprotected_write(0xFFFF, many, 121, got.bytes, sizeof got.bytes, &got.length);
+    ROW(got.code == DF1_DONE && got.length == 245 && got.bytes[1] == 0xFF && got.bytes[2] == 0xFF && are_all(got.bytes + 245, 0xA5, 5));
+    ROW(df1_payload_unprotected_read(0, 1, NULL, 0, &got.length) == DF1_NO_ROOM && got.length == 4);
+    got = nothing_spelled();
+    got.code = df1_payload_unprotected_read(0, 0, got.bytes, sizeof got.bytes, &got.length);
+    ROW(is_refused(&got, DF1_NO_DATA));
+    got.code = df1_payload_unprotected_read(0, 123, got.bytes, sizeof got.bytes, &got.length);
+    ROW(is_refused(&got, DF1_TOO_MUCH_DATA));
+    got.code = df1_payload_unprotected_read(0, 0x10001, got.bytes, sizeof got.bytes, &got.length);
+    ROW(is_refused(&got, DF1_TOO_MUCH_DATA));
+    got.code = df1_payload_unprotected_write(0, NULL, 0, got.bytes, sizeof got.bytes, &got.length);
+    ROW(is_refused(&got, DF1_NO_DATA));
+    got.code = df1_payload_unprotected_write(0, many, 122, got.bytes, sizeof got.bytes, &got.length);
+    ROW(is_refused(&got, DF1_TOO_MUCH_DATA));
+    got.code = df1_payload_unprotected_write(0, many, 123, got.bytes, sizeof got.bytes, &got.length);
+    ROW(is_refused(&got, DF1_TOO_MUCH_DATA));
+    return 0;
+}
+
 /* The payloads without an address, and the room that one needs. */
 static int payloads_of_all(void)
 {
@@ -1256,7 +1286,7 @@ int main(void)
     static int (*const all[])(void) = {checks,         firsts_and_nulls, spelling,       texts,  hearing, longest_bodies,
                                        edges_of_links, edges_of_later_members, calls_without_memory, handles, transfers,
                                        routes, sides, talks, addresses, no_addresses, payloads_that_read, payloads_that_write,
-                                       payloads_of_bits, payloads_of_all, replies, texts_of_statuses, typed_data};
+                                       payloads_of_bits, payloads_of_bytes, payloads_of_all, replies, texts_of_statuses, typed_data};
     static int (*const each[])(enum kind) = {refused, edges_of_nodes, words, word_runs, locked_files, issuing, makes_without_memory};
     int failed = 0;
     size_t at;

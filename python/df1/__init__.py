@@ -166,6 +166,8 @@ parameters = {
     "df1_payload_modify": [POINTER(Address), u16, u16, c_char_p, c_size_t, length],
     "df1_payload_bit": [POINTER(Address), c_bool, c_char_p, c_size_t, length],
     "df1_payload_echo": [c_char_p, c_size_t, c_char_p, c_size_t, length],
+    "df1_payload_unprotected_read": [u16, u32, c_char_p, c_size_t, length],
+    "df1_payload_unprotected_write": [u16, POINTER(u16), c_size_t, c_char_p, c_size_t, length],
     "df1_payload_status": [c_char_p, c_size_t, length],
     "df1_reply_read": [c_char_p, c_size_t, POINTER(Answer)],
     "df1_status_text": [u8, u8, c_char_p, c_size_t, length],
@@ -298,6 +300,14 @@ class Library:
         """The payload that asks for bytes back."""
         data = octets(data)
         return self.bytes("df1_payload_echo", data, len(data))
+
+    def payload_unprotected_read(self, address: int, count: int) -> "bytes":
+        """The payload that reads words of a station's compatibility file from a byte on."""
+        return self.bytes("df1_payload_unprotected_read", address, count)
+
+    def payload_unprotected_write(self, address: int, words: Sequence[int]) -> "bytes":
+        """The payload that writes words to a station's compatibility file from a byte on."""
+        return self.bytes("df1_payload_unprotected_write", address, numbers(words, "words"), len(words))
 
     def payload_status(self) -> "bytes":
         """The payload that asks for the status of a station."""
