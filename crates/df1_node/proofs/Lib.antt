@@ -6,3 +6,4 @@ pub mod Steps
 pub mod Ticks
 pub mod Next
 pub mod Cleared
+pub mod Locked
