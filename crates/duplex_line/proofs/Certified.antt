@@ -10,5 +10,5 @@ pub mod LineSteps
 pub mod SilentLines
 -- Over a run: once a command is answered that was to come at a quiet state, a quiet line with idle senders is at rest.
 pub mod WholeRun
--- The run of two echoes after a lone DLE.
+-- The run of three echoes after a lone DLE.
 pub mod Witness

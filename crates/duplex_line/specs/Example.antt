@@ -1,4 +1,4 @@
--- Scripts whose runs deceive no end: one command is issued, crosses the line, is executed and answered; the same where a byte of it is altered; three of two sources; one after another was given up; and two echoes after a lone DLE.
+-- Scripts whose runs deceive no end: one command is issued, crosses the line, is executed and answered; the same where a byte of it is altered; three of two sources; one after another was given up; and three echoes after a lone DLE.
 use Rattle.std.specs.Prelude.{ℕ, Bool, true, false, List, [], ◌∷◌, ◌++◌, Some, None}
 use Rattle.df1_base.specs.declared.file_type.FileType.TheVariants.{Integer}
 use Rattle.df1_check.specs.declared.Check.TheVariants.{Bcc}
@@ -112,7 +112,7 @@ after_a_lost_write = record {
 }
 
 -- A lone DLE comes to end b. Then end a, which gives a command up at the first tick, asks for an echo, which b's decoder takes apart,
--- and for another, which is answered.
+-- and for another, which is answered; and then for a third.
 abbrev pub lone_dle : List Event
 lone_dle = Foreign (record { from = A; to = B }) (0x10 ∷ []) ∷ []
 
@@ -129,14 +129,25 @@ two_echoes =
 abbrev pub last_ack : List Event
 last_ack = Take A 2 ∷ Deliver (record { from = A; to = B }) 2 ∷ []
 
+abbrev pub third_echo : List Event
+third_echo =
+    Issue A None 1 (0x06 ∷ 0x00 ∷ [])
+    ∷ Take A 12 ∷ Deliver (record { from = A; to = B }) 12
+    ∷ Take B 13 ∷ Deliver (record { from = B; to = A }) 13
+    ∷ Take A 2 ∷ Deliver (record { from = A; to = B }) 2
+    ∷ []
+
 abbrev pub after_noise : Script
 after_noise = record {
   half = false;
   check = Bcc;
   ends = record (first_plan A 0) { ack_ticks = 1; max_enqs = 0 } ∷ first_plan B 1 ∷ [];
-  events = lone_dle ++ ((two_echoes ++ last_ack) ++ []);
+  events = lone_dle ++ ((two_echoes ++ last_ack) ++ third_echo);
 }
 
--- the body of the second echo's reply
-abbrev pub echo_reply : List ℕ
-echo_reply = 0x00 ∷ 0x01 ∷ 0x46 ∷ 0x00 ∷ 0x02 ∷ 0x00 ∷ []
+-- the bodies of the replies to the second and the third echo
+abbrev pub second_echoed : List ℕ
+second_echoed = 0x00 ∷ 0x01 ∷ 0x46 ∷ 0x00 ∷ 0x02 ∷ 0x00 ∷ []
+
+abbrev pub third_echoed : List ℕ
+third_echoed = 0x00 ∷ 0x01 ∷ 0x46 ∷ 0x00 ∷ 0x03 ∷ 0x00 ∷ []

@@ -10,7 +10,7 @@ ghost use Rattle.duplex_end.specs.Arrived.{HeardByGrammar, bytes_arrived};
 ghost use Rattle.duplex_receiver.specs.Hearing.{Stands};
 ghost use Rattle.duplex_line.specs.Arrivals.{arrivals_in, heard_in};
 ghost use Rattle.duplex_line.specs.Issues.{commands_of_a, commands_of_b, issued_of, bodies_of};
-ghost use Rattle.duplex_line.specs.Certified.{IsAnsweredAfter, IsCertified, GoesOnCalmly, are_senders_idle};
+ghost use Rattle.duplex_line.specs.Certified.{IsAnsweredAfter, IsCertified, GoesOnCalmly};
 ghost use Rattle.duplex_line.specs.Run.{start, last_state, state_after, lines_after, record_of};
 ghost use Rattle.duplex_line.specs.Once.{EachOnce};
 ghost use Rattle.duplex_line.specs.Transmissions.{AreCounted, begun_in, ended_in};
@@ -21,7 +21,7 @@ ghost use Rattle.duplex_line.specs.Complete.{IsComplete};
 ghost use Rattle.duplex_line.specs.Rest.{IsCalmAfter, IsMildAfterRest, IsWellAfter, is_at_rest};
 ghost use Rattle.each_once.specs.Tells.{executed_in, answers_in, outcomes_in};
 ghost use Rattle.df1_node.specs.Initiator.{Undelivered};
-ghost use Rattle.duplex_line.specs.Example.{hit_write, is_damage, one_write, the_command, the_reply, two_sources, second_command, second_reply, third_command, third_reply, lost_write, second_write, after_a_lost_write, lone_dle, two_echoes, last_ack, after_noise};
+ghost use Rattle.duplex_line.specs.Example.{hit_write, is_damage, one_write, the_command, the_reply, two_sources, second_command, second_reply, third_command, third_reply, lost_write, second_write, after_a_lost_write, lone_dle, two_echoes, last_ack, third_echo, after_noise, second_echoed, third_echoed};
 
 /// A law: at each byte that arrives at an end in a run, a whole frame is heard exactly where the grammar of the line, over
 /// all bytes that arrived at that end so far, hears one at its last: so a deception is a frame by the grammar, which
@@ -183,15 +183,16 @@ pub fn after_an_answer_all_is_well()
     ensures of_b { (script : Script) (front middle more rest : List Event) (n : ℕ) → IsPlayable script → IsAnsweredAfter B script front middle more rest n → GoesOnCalmly script (front ++ (middle ++ more)) rest → IsWellAfter script (front ++ (middle ++ more)) (record_of script) }
 {}
 
-/// A law: the premises of `an_answer_certifies_the_line` are met, and its conclusion isn't empty, where a lone DLE came to an end:
-/// the line is quiet then and not at rest, a first echo is lost, a second one is answered, and then the line is at rest.
+/// A law: the premises of `an_answer_certifies_the_line` and of `after_an_answer_all_is_well` are met, and their conclusions aren't
+/// empty, where a lone DLE came to an end: the line is quiet then and not at rest, a first echo is lost, a second one is answered,
+/// then the line is at rest, and a third one is answered.
 #[tactic(auto, unfolding(crate::specs::Run::record_of))]
 pub fn an_echo_certifies_a_line_after_noise()
     ensures playable { IsPlayable after_noise }
-    ensures answered { IsAnsweredAfter A after_noise lone_dle two_echoes last_ack [] 2 }
+    ensures answered { IsAnsweredAfter A after_noise lone_dle two_echoes last_ack third_echo 2 }
     ensures disturbed { is_at_rest (state_after (start after_noise) lone_dle) ≡ false }
     ensures lost { outcomes_in A 1 (record_of after_noise).lines ≡ Undelivered ∷ [] }
-    ensures quiet { EndsQuiet after_noise }
-    ensures idle { IsTrue (are_senders_idle (last_state after_noise)) }
-    ensures rests { IsTrue (is_at_rest (last_state after_noise)) }
+    ensures rests { is_at_rest (state_after (start after_noise) (lone_dle ++ (two_echoes ++ last_ack))) ≡ true }
+    ensures goes_on { GoesOnCalmly after_noise (lone_dle ++ (two_echoes ++ last_ack)) third_echo }
+    ensures answers { answers_in A (record_of after_noise).lines ≡ (2, second_echoed) ∷ (3, third_echoed) ∷ [] }
 {}

@@ -1,4 +1,4 @@
--- The run of two echoes after a lone DLE: the first is lost, the second is answered, and then the line is at rest.
+-- The run of three echoes after a lone DLE: the first is lost, the second is answered, and then the line is at rest; and the third is answered.
 use Rattle.std.proofs.Common.{◌≡◌, Bool, true, false, List, [], ◌∷◌, ◌++◌, refl, sym, subst, arith}
 use Rattle.std.specs.Prelude.{Contains, IsTrue, ◌&&◌}
 use Rattle.std.proofs.lemmas.List.Elements.{All-nil}
@@ -16,13 +16,13 @@ use Rattle.script_parts.proofs.PlanSettings.{Fits-first_plan}
 use Rattle.script_parts.specs.Playable.{IsPlayable}
 use Rattle.each_once.specs.Tells.{answers_in, outcomes_in}
 use Rattle.duplex_line.specs.Acts.{LineState, Deed, after_deed}
-use Rattle.duplex_line.specs.Certified.{AreGentle, AreGentleAfter, IsAnsweredAfter, are_senders_idle}
-use Rattle.duplex_line.specs.Example.{lone_dle, two_echoes, last_ack, after_noise, echo_reply}
-use Rattle.duplex_line.specs.Prompt.{EndsQuiet}
+use Rattle.duplex_line.specs.Certified.{AreGentle, AreGentleAfter, IsAnsweredAfter, are_senders_idle, GoesOnCalmly}
+use Rattle.duplex_line.specs.Example.{lone_dle, two_echoes, last_ack, third_echo, after_noise, second_echoed, third_echoed}
+use Rattle.duplex_line.specs.Prompt.{none_late, is_quiet, EndsQuiet}
 use Rattle.duplex_line.specs.Rest.{is_at_rest}
-use Rattle.duplex_line.specs.Run.{start, who_of, deeds_of, seen_from, after_event, state_after, lines_after, last_state}
+use Rattle.duplex_line.specs.Run.{start, who_of, deeds_of, seen_from, after_event, state_after, lines_after}
 use Rattle.duplex_line.proofs.Complete.TickStep.{both}
-use Rattle.duplex_line.proofs.Complete.Witness.{all-possible, is_gentle, gentle-is}
+use Rattle.duplex_line.proofs.Complete.Witness.{all-possible, is_gentle, gentle-is, prompt_after, prompt-after}
 
 noise-settings : (key : Key) → Fits (row_of key).values (setting_in (record (first_plan A 0) { ack_ticks = 1; max_enqs = 0 }) key)
 noise-settings AckTicks = (omega arith, omega arith)
@@ -46,7 +46,7 @@ noise-playable = record {
     record { end = refl; files = refl; words = All-nil _; settings = noise-settings; compat = refl; block = omega arith },
     record { end = refl; files = refl; words = All-nil _; settings = Fits-first_plan B 1 (omega arith); compat = refl; block = omega arith },
   );
-  events = all-possible after_noise.events ((refl, (omega arith, omega arith)), ((refl, refl), ((refl, (omega arith, omega arith)), ((refl, (omega arith, omega arith)), ((refl, (omega arith, omega arith)), ((refl, refl), ((refl, (omega arith, omega arith)), ((refl, (omega arith, omega arith)), ((refl, (omega arith, omega arith)), ((refl, (omega arith, omega arith)), ((refl, (omega arith, omega arith)), ((refl, (omega arith, omega arith)), tt))))))))))));
+  events = all-possible after_noise.events ((refl, (omega arith, omega arith)), ((refl, refl), ((refl, (omega arith, omega arith)), ((refl, (omega arith, omega arith)), ((refl, (omega arith, omega arith)), ((refl, refl), ((refl, (omega arith, omega arith)), ((refl, (omega arith, omega arith)), ((refl, (omega arith, omega arith)), ((refl, (omega arith, omega arith)), ((refl, (omega arith, omega arith)), ((refl, (omega arith, omega arith)), ((refl, refl), ((refl, (omega arith, omega arith)), ((refl, (omega arith, omega arith)), ((refl, (omega arith, omega arith)), ((refl, (omega arith, omega arith)), ((refl, (omega arith, omega arith)), ((refl, (omega arith, omega arith)), tt)))))))))))))))))));
   commands_of_a = omega arith;
   commands_of_b = omega arith;
   sum = omega arith;
@@ -78,7 +78,7 @@ noise-checked : gentle_after (state_after (start after_noise) lone_dle) (two_ech
 unfolding check_bytes with_byte is_gentle
 noise-checked = refl
 
-noise-told : answers_in A (lines_after (state_after (start after_noise) lone_dle) two_echoes) ≡ (2, echo_reply) ∷ []
+noise-told : answers_in A (lines_after (state_after (start after_noise) lone_dle) two_echoes) ≡ (2, second_echoed) ∷ []
 unfolding check_bytes with_byte
 noise-told = refl
 
@@ -89,14 +89,14 @@ noise-honest = refl
 one-of-one : {X : Type 0} (xs : List X) (x : X) → xs ≡ x ∷ [] → Contains xs x
 one-of-one xs x is = subst (λ (all : List _). Contains all x) (sym is) (0, omega arith, refl)
 
-pub noise-answered : IsAnsweredAfter A after_noise lone_dle two_echoes last_ack [] 2
+pub noise-answered : IsAnsweredAfter A after_noise lone_dle two_echoes last_ack third_echo 2
 noise-answered = record {
   parts = refl;
   quiet = refl;
   to_come = refl;
   gentle = gentle-after (state_after (start after_noise) lone_dle) (two_echoes ++ last_ack) noise-checked;
-  reply = echo_reply;
-  answered = one-of-one (answers_in A (lines_after (state_after (start after_noise) lone_dle) two_echoes)) (2, echo_reply) noise-told;
+  reply = second_echoed;
+  answered = one-of-one (answers_in A (lines_after (state_after (start after_noise) lone_dle) two_echoes)) (2, second_echoed) noise-told;
   undeceived = noise-honest;
 }
 
@@ -110,14 +110,37 @@ pub noise-lost : outcomes_in A 1 (lines_after (start after_noise) after_noise.ev
 unfolding check_bytes with_byte
 noise-lost = refl
 
-pub noise-quiet : EndsQuiet after_noise
-unfolding check_bytes with_byte
-noise-quiet = refl
+-- ---- and from there on all is well
 
-pub noise-idle : IsTrue (are_senders_idle (last_state after_noise))
+noise-prompt : prompt_after none_late (state_after (start after_noise) (lone_dle ++ (two_echoes ++ last_ack))) third_echo ≡ true
+unfolding check_bytes with_byte is_gentle
+noise-prompt = refl
+
+noise-still : IsTrue (is_quiet (state_after (start after_noise) (lone_dle ++ (two_echoes ++ last_ack))))
+unfolding check_bytes with_byte
+noise-still = refl
+
+noise-idle : IsTrue (are_senders_idle (state_after (start after_noise) (lone_dle ++ (two_echoes ++ last_ack))))
 unfolding check_bytes with_byte
 noise-idle = refl
 
-pub noise-rest : IsTrue (is_at_rest (last_state after_noise))
+noise-quiet : EndsQuiet after_noise
+unfolding check_bytes with_byte
+noise-quiet = refl
+
+pub noise-goes_on : GoesOnCalmly after_noise (lone_dle ++ (two_echoes ++ last_ack)) third_echo
+noise-goes_on = record {
+  still = noise-still;
+  idle = noise-idle;
+  prompt = prompt-after none_late (state_after (start after_noise) (lone_dle ++ (two_echoes ++ last_ack))) third_echo noise-prompt;
+  quiet = noise-quiet;
+  rooms = record { of_a = omega arith; of_b = omega arith };
+}
+
+pub noise-rest : is_at_rest (state_after (start after_noise) (lone_dle ++ (two_echoes ++ last_ack))) ≡ true
 unfolding check_bytes with_byte
 noise-rest = refl
+
+pub noise-answers : answers_in A (lines_after (start after_noise) after_noise.events) ≡ (2, second_echoed) ∷ (3, third_echoed) ∷ []
+unfolding check_bytes with_byte
+noise-answers = refl
