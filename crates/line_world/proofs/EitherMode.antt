@@ -32,7 +32,7 @@ use Rattle.duplex_line.specs.Run as duplex
 use Rattle.duplex_line.specs.Once.{EachOnce}
 use Rattle.duplex_line.specs.Prompt.{IsPrompt, EndsQuiet, HasRooms}
 use Rattle.duplex_line.specs.Recoverable.{IsRecoverable}
-use Rattle.duplex_line.specs.Rest.{IsSoundAfter, IsWellAfter}
+use Rattle.duplex_line.proofs.Certified.WholeRun.{well-after-a, well-after-b}
 use Rattle.duplex_line.proofs.Complete.AfterRest.{goes-soundly}
 use Rattle.duplex_line.specs.Complete.{IsComplete as DuplexComplete}
 use Rattle.duplex_line.proofs.Complete.WholeRun.{is-complete as duplex-is-complete, recovers}
@@ -44,7 +44,7 @@ use Rattle.line_world.specs.declared.world.World.TheVariants.{Duplex, Polled}
 use Rattle.line_world.specs.Complete.{IsUndisturbed, IsUndisturbedIn, IsComplete, IsCompleteIn}
 use Rattle.line_world.specs.Once.{EachCommandOnce, EachOnceIn}
 use Rattle.line_world.specs.Recovery.{Recovers, RecoversIn}
-use Rattle.line_world.specs.Rested.{GoesWellIn, GoesWellAfterRest}
+use Rattle.line_world.specs.Rested.{GoesWell, GoesWellIn, GoesWellAfterRest}
 use Rattle.line_world.specs.Wire.{AreDf1Wires, AreDf1WiresIn}
 use Rattle.line_world.specs.Runs.{after_event, after_events, all_lines, begun, begun_in, last_world, lines_in, lines_of, lines_after, played, printed, record_from, record_of, IsNext}
 
@@ -226,7 +226,11 @@ all-recover script h = recovers-in script.half script refl h
 rested-in : (half : Bool) (script : Script) → script.half ≡ half → CanBePlayed script → GoesWellIn half script (record_of script)
 unfolding duplex.record_of
 rested-in true script mode h = tt
-rested-in false script mode h = subst (λ (r : Record). (front rest : List Event) → IsSoundAfter script front rest → IsWellAfter script front r) (sym (duplex-record script mode)) (goes-soundly script (h.full mode))
+rested-in false script mode h = subst (GoesWell script) (sym (duplex-record script mode)) (record {
+  after_rest = goes-soundly script (h.full mode);
+  after_answer_of_a = λ front middle more rest n. well-after-a script front middle more rest n (h.full mode);
+  after_answer_of_b = λ front middle more rest n. well-after-b script front middle more rest n (h.full mode);
+})
 
 pub all-rested : (script : Script) → CanBePlayed script → GoesWellAfterRest script (record_of script)
 all-rested script h = rested-in script.half script refl h
