@@ -49,6 +49,7 @@ NOTHING_TO_GIVE = [*to_each("543", "poll 3"), "3>m EOT", *to_each("543", "poll 4
 
 ARROWS = {
     "ack-turned-into-nak": [WRITE, "b>a ACK; byte 2: 06 → 15", WRITE, *ACKS],
+    "after-a-lost-write": [f"{WRITE}; 1 of 19 bytes lost", "b>a NAK", *exchange("write N7:1 = 5678", "done", 2)],
     "askers-with-one-tns": [
         *to_each("543", "poll 3"), f"3>m {AA}", *to_each("543", "ACK to 3", AA), "5>m ACK",
         *to_each("543", "poll 4"), f"4>m {BB}", *to_each("543", "ACK to 4", BB), "5>m ACK",
@@ -95,6 +96,7 @@ ARROWS = {
         *to_each("543", "ACK to 3", BB_REPLY, dead="4"), "5>m ACK",
     ],
     "deception-on-purpose": ["foreign>b write N7:0 = 1234"],
+    "dle-left-over": [*exchange("echo", "done", 1), "foreign>b 10", named("echo", 2), "a>b ENQ", "b>a ACK"],
     "echo-after-noise": [*exchange("echo", "done", 1), "foreign>b 10", named("echo", 2), "a>b ENQ", "b>a ACK", *exchange("echo", "done", 3)],
     "echo-first": [
         "foreign>b echo", "b>a ACK", "b>a reply, done, TNS 0001", "a>b ACK", named("echo 55"), "b>a ACK", *exchange("write N7:0 = 1234", "done", 2),
@@ -111,6 +113,7 @@ ARROWS = {
     "foreign-frame": ["foreign>b write N7:0 = 1234", *ACKS],
     "foreign-reset": [f"m>3 {ECHO}", "3>m ACK", "foreign>3 NAK, a reset", "m>3 poll 3", "3>m EOT"],
     "held-after-unanswered": [f"{named('echo')}; 12 of 12 bytes lost", "foreign>a NAK", named("echo")],
+    "key-of-a-deception": ["foreign>b echo", *ACKS, named("echo 55"), "b>a ACK"],
     "late-before-its-retry": [
         WRITE, named("write N7:0 = 1234", 2), "b>a ACK", named("reply, done", 1, "b>a"), "a>b ACK", named("reply, done", 2, "b>a"), "a>b ACK",
     ],
@@ -185,6 +188,7 @@ ARROWS = {
     "restarted-end": [
         "foreign>b echo", "b>a ACK", "b>a reply, done, TNS 0001", "a>b ACK", named("echo 55"), "b>a ACK",
     ],
+    "sender-still-waits": [f"{named('echo', 1, 'b>a')}; 12 of 12 bytes lost", named("echo"), "b>a ACK"],
     "silent-station": [f"m>9 {ECHO}; 16 of 16 bytes lost"] * 4 + ["m>9 poll 9; 4 of 4 bytes lost"],
     "slow-line": [WRITE, *ACKS],
     "slow-poll": [f"m>3 {ECHO}", "3>m ACK", "m>3 poll 3", f"3>m {ECHOED}", "m>3 poll 3", "3>m EOT"],
