@@ -1,5 +1,6 @@
 -- What was taken of a capture so far, and what of its dissection is written.
-use Rattle.std.proofs.Common.{◌≡◌, ◌∙◌, ◌≤◌, ◌<◌, ℕ, ◌+◌, List, [], ◌∷◌, ◌++◌, Option, length, Result, Ok, Err, inl, inr, refl, sym, ap, subst, arith, append-nil, append_assoc, length-append}
+use Rattle.std.proofs.Common.{◌≡◌, ◌∙◌, ◌≤◌, ◌<◌, ℕ, ◌+◌, List, [], ◌∷◌, ◌++◌, Option, length, Result, Ok, Err, inl, inr, refl, sym, ap, subst, arith, append-nil, append_assoc, length-append, take, drop, take-append-drop}
+use Rattle.std.proofs.lemmas.List.{drop-take, take-take}
 use Rattle.std.specs.Prelude.{OnOk, OnErr}
 use Rattle.std.specs.Io.KnownBytes.{IsAtEnd, Keeps}
 use Rattle.std.proofs.KnownBytes.{Appends-nil, Appends-trans, Consumes-nil, Consumes-trans, Consumes-kept}
@@ -14,7 +15,7 @@ use Rattle.half_frame.specs.MasterGrammar.{Nothing as SlaveNothing}
 use Rattle.df1_dissect.specs.declared.ear.Side.{Side}
 use Rattle.df1_dissect.specs.declared.ear.Side.TheVariants as side
 use Rattle.df1_dissect.specs.Reading.{Reading, StandsFor}
-use Rattle.df1_dissect.specs.Dissection.{HasLines, Dissects, lines_at}
+use Rattle.df1_dissect.specs.Dissection.{HasLines, Dissects}
 use Rattle.df1_dissect.proofs.Sides.{fed-length}
 use Rattle.df1_capture.specs.declared.capture.CaptureFault.{CaptureFault}
 use Rattle.df1_capture.specs.declared.capture.CaptureFault.TheVariants as fault
@@ -56,22 +57,26 @@ none-waits of check bytes text d held waiting h none =
 regroup : (text written part left more : List ℕ) → (text ++ (written ++ (part ++ left))) ++ more ≡ text ++ ((written ++ part) ++ (left ++ more))
 regroup text written part left more = simp append_assoc
 
--- one byte more
-pub waits-more : (of : Side) (check : Check) (bytes bytes' text : List ℕ) (b : ℕ) (d d' : Reading) (held held' held'' : Option (List ℕ)) (waiting left waiting' : List ℕ)
-    → Waiting of check bytes text d held held' waiting → IsMoved held' held'' waiting left → bytes' ≡ bytes ++ b ∷ []
-    → (StandsFor of check bytes d → StandsFor of check (bytes ++ b ∷ []) d')
-    → ((so_far : List ℕ) → StandsFor of check bytes d → HasLines of check bytes so_far → HasLines of check (bytes ++ b ∷ []) (so_far ++ lines_at d b))
-    → waiting' ≡ left ++ lines_at d b → Waiting of check bytes' text d' held held'' waiting'
-waits-more of check bytes bytes' text b d d' held held' held'' waiting left waiting' w m is stands lines added =
+-- so many bytes more
+pub take-onward : (at n : ℕ) (all : List ℕ) → take (at + n) all ≡ take at all ++ take n (drop at all)
+take-onward at n all = sym (take-append-drop at (take (at + n) all)) ∙ rw (take-take at (at + n) all (omega arith), drop-take at n all) refl
+
+-- a run of bytes more, or one, with these lines
+pub waits-more : (of : Side) (check : Check) (bytes bytes' text run more : List ℕ) (d d' : Reading) (held held' held'' : Option (List ℕ)) (waiting left waiting' : List ℕ)
+    → Waiting of check bytes text d held held' waiting → IsMoved held' held'' waiting left → bytes' ≡ bytes ++ run
+    → (StandsFor of check bytes d → StandsFor of check (bytes ++ run) d')
+    → ((so_far : List ℕ) → StandsFor of check bytes d → HasLines of check bytes so_far → HasLines of check (bytes ++ run) (so_far ++ more))
+    → waiting' ≡ left ++ more → Waiting of check bytes' text d' held held'' waiting'
+waits-more of check bytes bytes' text run more d d' held held' held'' waiting left waiting' w m is stands lines added =
     let so_far = text ++ (w.written ++ waiting) in
-    let same : so_far ++ lines_at d b ≡ text ++ ((w.written ++ m.part) ++ waiting') =
-    ap (λ (l : List ℕ). (text ++ (w.written ++ l)) ++ lines_at d b) m.whole ∙ regroup text w.written m.part left (lines_at d b) ∙ ap (λ (l : List ℕ). text ++ ((w.written ++ m.part) ++ l)) (sym added) in
+    let same : so_far ++ more ≡ text ++ ((w.written ++ m.part) ++ waiting') =
+    ap (λ (l : List ℕ). (text ++ (w.written ++ l)) ++ more) m.whole ∙ regroup text w.written m.part left more ∙ ap (λ (l : List ℕ). text ++ ((w.written ++ m.part) ++ l)) (sym added) in
     record {
       written = w.written ++ m.part;
       put = Appends-trans held held' held'' w.written m.part w.put m.put;
       heard = record {
         stands = subst (λ (l : List ℕ). StandsFor of check l d') (sym is) (stands w.heard.stands);
-        lines = subst (λ (l : List ℕ). HasLines of check l (text ++ ((w.written ++ m.part) ++ waiting'))) (sym is) (subst (λ (l : List ℕ). HasLines of check (bytes ++ b ∷ []) l) same (lines so_far w.heard.stands w.heard.lines));
+        lines = subst (λ (l : List ℕ). HasLines of check l (text ++ ((w.written ++ m.part) ++ waiting'))) (sym is) (subst (λ (l : List ℕ). HasLines of check (bytes ++ run) l) same (lines so_far w.heard.stands w.heard.lines));
       };
     }
 

@@ -104,9 +104,10 @@ fn put_lines<K: Sink>(
     ensures calm { OnOk result (K.faults out.new ≡ K.faults out.old) }
     ensures fed { OnOk result (dissector.new.fed ≡ dissector.old.fed + length heard.now) }
 {
-    for byte in heard {
+    let mut at = 0;
+    while at < heard.len() {
         match make_room(lines, out) {
-            Ok(()) => dissector.collect(*byte, lines),
+            Ok(()) => at += dissector.collect_some(&heard[at..], lines),
             Err(failed) => return Err(failed),
         }
     }

@@ -1,5 +1,5 @@
 -- What comes of a run of bytes before a DLE, on each side.
-use Rattle.std.proofs.Common.{◌≡◌, ◌≢◌, ◌∙◌, ◌<◌, ℕ, ◌+◌, true, false, List, [], ◌∷◌, ◌++◌, length, take, refl, ap, arith, append_assoc, add-zero}
+use Rattle.std.proofs.Common.{◌≡◌, ◌≢◌, ◌∙◌, ◌<◌, ℕ, ◌+◌, true, false, List, [], ◌∷◌, ◌++◌, length, take, refl, sym, ap, arith, append_assoc, add-zero}
 use Rattle.std.proofs.lemmas.List.{append-nil}
 use Rattle.std.proofs.lemmas.Bool.{ne_eqb}
 use Rattle.df1_check.specs.declared.Check.{Check}
@@ -22,9 +22,11 @@ use Rattle.df1_dissect.specs.declared.ear.Turn.TheVariants as turn
 use Rattle.df1_dissect.specs.declared.kind.Kind.TheVariants as kind
 use Rattle.df1_dissect.specs.Hearing.{ear_next}
 use Rattle.df1_dissect.specs.Reading.{Reading, StandsFor}
+use Rattle.df1_dissect.specs.Lines.{kind_text}
+use Rattle.df1_dissect.specs.Dissection.{HasLines, lines_at, lines_in, stray_line, stray_lines}
 use Rattle.df1_dissect.specs.Step.{next}
 use Rattle.df1_dissect.specs.Runs.{after, turns_in_run}
-use Rattle.df1_dissect.proofs.Sides.{stands-next}
+use Rattle.df1_dissect.proofs.Sides.{lines-next, stands-next}
 
 -- ---- the ear after the bytes
 
@@ -157,6 +159,33 @@ pub after-outside : (e : Ear) (start fed heard bad : ℕ) (run : List ℕ) → 0
 after-outside e start fed heard bad [] some turns = absurd (omega arith)
 after-outside e start fed heard bad (b ∷ run) some turns = after-strays e start fed heard bad b run turns
 
+-- ---- the lines of a run
+
+no-line : (e : Ear) (start fed heard bad b : ℕ) → (ear_next e b).1 ≡ turn.Goes → lines_at (reading e start fed heard bad) b ≡ []
+no-line e start fed heard bad b turn = rw turn refl
+
+pub lines-goes : (e : Ear) (start fed heard bad : ℕ) (run : List ℕ) → (steps ear_next e run).1 ≡ turns_in_run true run → lines_in (reading e start fed heard bad) run ≡ []
+lines-goes e start fed heard bad [] turns = refl
+lines-goes e start fed heard bad (b ∷ run) turns =
+    let first : (ear_next e b).1 ≡ turn.Goes = cc in
+    let others : (steps ear_next (ear_next e b).0 run).1 ≡ turns_in_run true run = cc in
+    ap (λ (l : List ℕ). l ++ lines_in (next (reading e start fed heard bad) b).0 run) (no-line e start fed heard bad b first)
+    ∙ ap (λ (r : Reading). lines_in r run) (goes-on e start fed heard bad b first)
+    ∙ lines-goes (ear_next e b).0 start (fed + 1) heard bad run others
+
+one-stray : (e : Ear) (start fed heard bad b : ℕ) → start ≡ fed → (ear_next e b).1 ≡ turn.Ends (kind.Stray b) → lines_at (reading e start fed heard bad) b ≡ stray_line fed b
+unfolding kind_text
+one-stray e start fed heard bad b same turn = rw (turn, same) (append-nil (stray_line fed b))
+
+pub lines-strays : (e : Ear) (start fed heard bad : ℕ) (run : List ℕ) → start ≡ fed → (steps ear_next e run).1 ≡ turns_in_run false run → lines_in (reading e start fed heard bad) run ≡ stray_lines fed run
+lines-strays e start fed heard bad [] same turns = refl
+lines-strays e start fed heard bad (b ∷ run) same turns =
+    let first : (ear_next e b).1 ≡ turn.Ends (kind.Stray b) = cc in
+    let others : (steps ear_next (ear_next e b).0 run).1 ≡ turns_in_run false run = cc in
+    ap (λ (l : List ℕ). l ++ lines_in (next (reading e start fed heard bad) b).0 run) (one-stray e start fed heard bad b same first)
+    ∙ ap (λ (r : Reading). stray_line fed b ++ lines_in r run) (strays-on e start fed heard bad b first)
+    ∙ ap (λ (l : List ℕ). stray_line fed b ++ l) (lines-strays (ear_next e b).0 (fed + 1) (fed + 1) (heard + 1) (bad + 1) run refl others)
+
 -- ---- many bytes
 
 pub after-fed : (bytes : List ℕ) (r : Reading) → (after r bytes).fed ≡ r.fed + length bytes
@@ -166,3 +195,18 @@ after-fed (b ∷ bytes) r = omega (arith, after-fed bytes (next r b).0)
 pub stands-after : (of : Side) (check : Check) (bytes before : List ℕ) (r : Reading) → StandsFor of check before r → StandsFor of check (before ++ bytes) (after r bytes)
 stands-after of check [] before r stands = rw (append-nil before) stands
 stands-after of check (b ∷ bytes) before r stands = rw (append_assoc before (b ∷ []) bytes) at (stands-after of check bytes (before ++ b ∷ []) (next r b).0 (stands-next of check b before r stands))
+
+pub lines-after : (of : Side) (check : Check) (bytes before : List ℕ) (r : Reading) (so_far : List ℕ) → StandsFor of check before r → HasLines of check before so_far
+    → HasLines of check (before ++ bytes) (so_far ++ lines_in r bytes)
+lines-after of check [] before r so_far stands lines = rw (append-nil before, append-nil so_far) lines
+lines-after of check (b ∷ bytes) before r so_far stands lines =
+    rw (append_assoc before (b ∷ []) bytes, append_assoc so_far (lines_at r b) (lines_in (next r b).0 bytes))
+    at (lines-after of check bytes (before ++ b ∷ []) (next r b).0 (so_far ++ lines_at r b) (stands-next of check b before r stands) (lines-next of check b before r so_far stands lines))
+
+-- one stray byte more
+pub strays-more : (bytes : List ℕ) (b at : ℕ) → stray_lines at (bytes ++ b ∷ []) ≡ stray_lines at bytes ++ stray_line (at + length bytes) b
+strays-more [] b at = rw (add-zero at) (append-nil (stray_line at b))
+strays-more (c ∷ bytes) b at =
+    let same : at + 1 + length bytes ≡ at + length (c ∷ bytes) = omega arith in
+    ap (λ (l : List ℕ). stray_line at c ++ l) (strays-more bytes b (at + 1) ∙ ap (λ n. stray_lines (at + 1) bytes ++ stray_line n b) same)
+    ∙ sym (append_assoc (stray_line at c) (stray_lines (at + 1) bytes) (stray_line (at + length (c ∷ bytes)) b))

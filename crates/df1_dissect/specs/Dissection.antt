@@ -1,13 +1,14 @@
 -- The text of a dissection: a line for each thing, in the order of the bytes, and one for an unfinished item.
-use Rattle.std.specs.Prelude.{ℕ, ◌-◌, List, [], ◌++◌, length, nat_lt, if◌then◌else◌}
+use Rattle.std.specs.Prelude.{ℕ, ◌+◌, ◌-◌, List, [], ◌∷◌, ◌++◌, length, nat_lt, if◌then◌else◌}
 use Rattle.std.specs.List.{flat_map}
 use Rattle.df1_check.specs.declared.Check.{Check}
 use Rattle.df1_frame.specs.Line.{ReadOff, spelling}
 use Rattle.df1_dissect.specs.declared.ear.Side.{Side}
+use Rattle.df1_dissect.specs.declared.kind.Kind.TheVariants as kind
 use Rattle.df1_dissect.specs.Telling.{bytes_of}
 use Rattle.df1_dissect.specs.Lines.{line_text, open_line}
 use Rattle.df1_dissect.specs.Reading.{Reading, grammar_of, told}
-use Rattle.df1_dissect.specs.Step.{told_at}
+use Rattle.df1_dissect.specs.Step.{next, told_at}
 
 -- the lines of the things that are told
 abbrev pub lines : (of : Side) (check : Check) → List (grammar_of of check).Item → (grammar_of of check).Front → List ℕ
@@ -34,3 +35,17 @@ Dissects of check bytes text = ReadOff (grammar_of of check) bytes (dissection o
 -- the lines that a byte completes
 abbrev pub lines_at : Reading → ℕ → List ℕ
 lines_at r b = flat_map line_text (told_at r b)
+
+-- the lines that bytes complete, one after another
+abbrev pub lines_in : Reading → List ℕ → List ℕ
+lines_in r [] = []
+lines_in r (b ∷ bytes) = lines_at r b ++ lines_in (next r b).0 bytes
+
+-- the line of a byte outside, at the offset
+abbrev pub stray_line : ℕ → ℕ → List ℕ
+stray_line at b = line_text (record { first = at; last = at; kind = kind.Stray b; body = [] })
+
+-- the lines of bytes outside, the first of them at the offset
+abbrev pub stray_lines : ℕ → List ℕ → List ℕ
+stray_lines at [] = []
+stray_lines at (b ∷ bytes) = stray_line at b ++ stray_lines (at + 1) bytes

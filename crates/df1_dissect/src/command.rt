@@ -87,5 +87,5 @@ fn is_spelled(cmd: u8, payload: &[u8]) -> bool
     requires { length payload.now ≤ 244 }
     ensures { result ≡ is_spelled cmd payload.now }
 {
-    read_plc(cmd, payload).is_ok() || cmd == EXTENDED && read_slc(payload).is_ok()
+    cmd == EXTENDED && read_slc(payload).is_ok() || read_plc(cmd, payload).is_ok()
 }

@@ -1,5 +1,5 @@
 //! The dissector: bytes of a capture go in one by one, and the lines that they complete go to a sink.
-ghost use Rattle.std.specs.Prelude.{◌≡◌, ◌≤◌, ◌<◌, ◌+◌, ◌-◌, ◌++◌, ◌∷◌, [], ℕ, List, length, OnOk, OnErr};
+ghost use Rattle.std.specs.Prelude.{◌≡◌, ◌≤◌, ◌<◌, ◌+◌, ◌-◌, ◌%◌, ◌++◌, ◌∷◌, [], ℕ, List, length, take, OnOk, OnErr};
 ghost use Rattle.std.specs.List.{flat_map};
 ghost use Rattle.arrayvec.specs.ArrayVec.{array_vec_len};
 ghost use Rattle.df1_base.specs.Outside.{Rose, Put, WroteLess, WrotePart, Later};
@@ -9,14 +9,15 @@ ghost use Rattle.df1_dissect.specs.declared.ear.Side.{Side as Captured};
 ghost use Rattle.df1_dissect.specs.Reading.{StandsFor, Tells, bad_among, grammar_of, unfinished};
 ghost use Rattle.df1_dissect.specs.Telling.{Told};
 ghost use Rattle.df1_dissect.specs.Lines.{line_text, open_line};
-ghost use Rattle.df1_dissect.specs.Dissection.{Dissects, HasLines, lines_at, open_text};
-ghost use Rattle.df1_dissect.specs.Step.{with_body};
+ghost use Rattle.df1_dissect.specs.Dissection.{Dissects, HasLines, lines_at, lines_in, open_text};
+ghost use Rattle.df1_dissect.specs.Runs.{after};
+ghost use Rattle.df1_dissect.specs.Step.{next, with_body};
 
 use crate::ear::Side;
-use crate::line::{ROOM, append_line, append_open_line};
+use crate::line::{ROOM, append_line, append_open_line, append_strays};
 use crate::reader::{Reader, Thing};
 use arrayvec::ArrayVec;
-use df1_base::{Failed, MAX_BODY, Sink, write_all};
+use df1_base::{DLE, Failed, MAX_BODY, Sink, write_all};
 use df1_check::Check;
 use std::marker::Model;
 
@@ -82,6 +83,7 @@ impl Dissector {
     pub fn collect(&mut self, b: u8, lines: &mut CollectedLines)
         requires few { self.old.fed < 268435456 }
         requires room { array_vec_len lines.old + 700 ≤ 8192 }
+        ensures value { self.new ≡ (next self.old b).0 }
         ensures stands { (side : Captured) (check : CheckKind) (bytes : List ℕ) → StandsFor side check bytes self.old
             → StandsFor side check (bytes ++ b ∷ []) self.new }
         ensures lines { (side : Captured) (check : CheckKind) (bytes so_far : List ℕ) → StandsFor side check bytes self.old
@@ -93,6 +95,57 @@ impl Dissector {
             None => {}
             Some(thing) => append_line(lines, thing, self.reader.body()),
         }
+    }
+
+    /// Takes a run of bytes, or the first byte where there is none, of bytes of which there is at least one, all among the
+    /// first 268,435,456, and adds the lines that they complete to lines that have room for one of any form; says how many it
+    /// took. A run is the bytes before a DLE: in a body all, and outside those whose lines fit.
+    pub fn collect_some(&mut self, bytes: &[u8], lines: &mut CollectedLines) -> usize
+        requires some { 0 < length bytes.now }
+        requires few { self.old.fed + length bytes.now ≤ 268435456 }
+        requires room { array_vec_len lines.old + 700 ≤ 8192 }
+        ensures some { 0 < result }
+        ensures most { result ≤ length bytes.now }
+        ensures value { self.new ≡ after self.old (take result bytes.now) }
+        ensures stands { (side : Captured) (check : CheckKind) (before : List ℕ) → StandsFor side check before self.old
+            → StandsFor side check (before ++ take result bytes.now) self.new }
+        ensures lines { (side : Captured) (check : CheckKind) (before so_far : List ℕ) → StandsFor side check before self.old
+            → HasLines side check before so_far → HasLines side check (before ++ take result bytes.now) (so_far ++ lines_in self.old (take result bytes.now)) }
+        ensures fed { self.new.fed ≡ self.old.fed + result }
+        ensures added { lines.new.items ≡ lines.old.items ++ lines_in self.old (take result bytes.now) }
+    {
+        let count = self.collect_run(bytes, lines);
+        if count > 0 {
+            return count;
+        }
+        self.collect(bytes[0], lines);
+        1
+    }
+
+    /// Takes the bytes before the first DLE in a body, or outside, there at most those that end a ten of offsets, and none
+    /// elsewhere; adds the lines that they complete.
+    fn collect_run(&mut self, bytes: &[u8], lines: &mut CollectedLines) -> usize
+        requires some { 0 < length bytes.now }
+        requires few { self.old.fed + length bytes.now ≤ 268435456 }
+        requires room { array_vec_len lines.old + 700 ≤ 8192 }
+        ensures most { result ≤ length bytes.now }
+        ensures value { self.new ≡ after self.old (take result bytes.now) }
+        ensures added { lines.new.items ≡ lines.old.items ++ lines_in self.old (take result bytes.now) }
+    {
+        if bytes[0] == DLE {
+            return 0;
+        }
+        if self.reader.left() > 0 {
+            return self.reader.hear_body(bytes);
+        }
+        let at = self.reader.fed();
+        if at < 10 {
+            return 0;
+        }
+        let front = within_ten(at, bytes);
+        let count = self.reader.hear_strays(front);
+        append_strays(lines, at, &front[..count]);
+        count
     }
 
     /// Writes the line of the unfinished item, if there is one. `Failed` comes where the sink failed; then it holds a first
@@ -149,6 +202,18 @@ impl Dissector {
         ensures fed { (side : Captured) (check : CheckKind) (bytes : List ℕ) → StandsFor side check bytes self.now → result ≡ length bytes }
     {
         self.reader.fed()
+    }
+}
+
+/// The bytes, the first of which is at this offset, up to the last offset of its ten.
+fn within_ten(at: u64, bytes: &[u8]) -> &[u8]
+    ensures { result.now ≡ take (10 - at % 10) bytes.now }
+{
+    let most = (10 - at % 10) as usize;
+    if bytes.len() < most {
+        bytes
+    } else {
+        &bytes[..most]
     }
 }
 

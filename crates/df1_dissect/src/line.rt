@@ -13,10 +13,11 @@
 //! | an item that is unfinished in the end | `open` |
 //!
 //! SS, CC and BB are two hexadecimal digits, BODY is hexadecimal, or `-` where it is empty.
-ghost use Rattle.std.specs.Prelude.{◌≡◌, ◌≤◌, ◌<◌, ◌+◌, ◌*◌, ◌++◌, ◌∷◌, [], length};
+ghost use Rattle.std.specs.Prelude.{◌≡◌, ◌≤◌, ◌<◌, ◌+◌, ◌*◌, ◌%◌, ◌++◌, ◌∷◌, [], ℕ, decimal, length};
 ghost use Rattle.arrayvec.specs.ArrayVec.{array_vec_len};
 ghost use Rattle.hex.specs.Hex.{encode_upper};
 ghost use Rattle.df1_dissect.specs.Lines.{bytes_text, byte_digits, kind_text, line_text, offsets_text, open_line};
+ghost use Rattle.df1_dissect.specs.Dissection.{stray_line, stray_lines};
 ghost use Rattle.df1_dissect.specs.Step.{with_body};
 
 use crate::fields::append_fields;
@@ -40,6 +41,43 @@ pub(crate) fn append_line<const N: usize>(text: &mut ArrayVec<u8, N>, thing: Thi
     append_offsets(text, thing.first, thing.last);
     append_kind(text, thing.kind, body);
     append(text, b"\n");
+}
+
+/// Adds the lines of bytes outside, of which the first is at this offset. Their offsets differ in the last digit alone, so the
+/// digits before it are made once.
+pub(crate) fn append_strays<const N: usize>(text: &mut ArrayVec<u8, N>, at: u64, bytes: &[u8])
+    requires room { array_vec_len text.old + 700 ≤ N }
+    requires two { 10 ≤ at }
+    requires few { at + length bytes.now ≤ 268435456 }
+    requires ten { at % 10 + length bytes.now ≤ 10 }
+    ensures { text.new.items ≡ text.old.items ++ stray_lines at bytes.now }
+{
+    let mut buffer = itoa::Buffer::new();
+    let tens = buffer.format(at / 10).as_bytes();
+    let mut one = b'0' + (at % 10) as u8;
+    for byte in bytes {
+        append_stray(text, tens, one, *byte);
+        one += 1;
+    }
+}
+
+/// Adds the line of a byte outside, at an offset with these digits before its last one.
+fn append_stray<const N: usize>(text: &mut ArrayVec<u8, N>, tens: &[u8], one: u8, byte: u8)
+    requires { array_vec_len text.old + 2 * length tens.now + 13 ≤ N }
+    ensures text { (at : ℕ) → decimal at ≡ tens.now ++ one ∷ [] → text.new.items ≡ text.old.items ++ stray_line at byte }
+    ensures size { array_vec_len text.new ≡ array_vec_len text.old + 2 * length tens.now + 13 }
+{
+    let high = DIGITS[usize::from(byte / 16)];
+    let low = DIGITS[usize::from(byte % 16)];
+    append(text, tens);
+    append(text, &[one, b' ']);
+    append(text, tens);
+    append(
+        text,
+        &[
+            one, b' ', b's', b't', b'r', b'a', b'y', b' ', high, low, b'\n',
+        ],
+    );
 }
 
 /// Adds the line of an item that is unfinished.

@@ -8,6 +8,7 @@ ghost use Rattle.df1_dissect.specs.Telling.{Told};
 ghost use Rattle.df1_dissect.specs.Reading.{StandsFor, Tells, bad_among, grammar_of, unfinished};
 ghost use Rattle.df1_dissect.specs.Step.{bad_with, heard_with, next, start_after, telling_at, thing_of};
 ghost use Rattle.df1_dissect.specs.Runs.{after};
+ghost use Rattle.df1_dissect.specs.Dissection.{lines_in, stray_lines};
 
 use crate::ear::{Ear, Side, Turn};
 use crate::kind::Kind;
@@ -108,19 +109,65 @@ impl Reader {
         ensures most { result ≤ length bytes.now }
         ensures value { self.new ≡ after self.old (take result bytes.now) }
     {
-        let inside = self.ear.inside();
-        let count = self.ear.hear_run(bytes);
+        let count = self.hear_run(bytes);
         if count == 0 {
             self.hear(bytes[0]);
             return 1;
         }
+        count
+    }
+
+    /// Takes the bytes before the first DLE where it stands in a body or outside, and none elsewhere, and says how many.
+    fn hear_run(&mut self, bytes: &[u8]) -> usize
+        requires { self.old.fed + length bytes.now ≤ 268435456 }
+        ensures most { result ≤ length bytes.now }
+        ensures value { self.new ≡ after self.old (take result bytes.now) }
+    {
+        if self.ear.inside() {
+            self.hear_body(bytes)
+        } else {
+            self.hear_strays(bytes)
+        }
+    }
+
+    /// Takes the bytes before the first DLE where it stands in a body, and none elsewhere, and says how many. Nothing is told
+    /// at them.
+    pub(crate) fn hear_body(&mut self, bytes: &[u8]) -> usize
+        requires { self.old.fed + length bytes.now ≤ 268435456 }
+        ensures most { result ≤ length bytes.now }
+        ensures value { self.new ≡ after self.old (take result bytes.now) }
+        ensures lines { lines_in self.old (take result bytes.now) ≡ [] }
+    {
+        let inside = self.ear.inside();
+        if !inside {
+            return 0;
+        }
+        let count = self.ear.hear_run(bytes);
+        self.fed += count as u64;
+        count
+    }
+
+    /// Takes the bytes before the first DLE where no item is under way, and none elsewhere, and says how many. Each is told
+    /// as a stray one.
+    pub(crate) fn hear_strays(&mut self, bytes: &[u8]) -> usize
+        requires { self.old.fed + length bytes.now ≤ 268435456 }
+        ensures most { result ≤ length bytes.now }
+        ensures value { self.new ≡ after self.old (take result bytes.now) }
+        ensures lines { lines_in self.old (take result bytes.now) ≡ stray_lines self.old.fed (take result bytes.now) }
+    {
+        let inside = self.ear.inside();
+        if inside || self.start != self.fed {
+            return 0;
+        }
+        let count = self.ear.hear_run(bytes);
+        if count == 0 {
+            return 0;
+        }
         let more = count as u64;
         self.fed += more;
-        if !inside {
-            self.start = self.fed;
-            self.heard += more;
-            self.bad += more;
-        }
+        self.start = self.fed;
+        self.heard += more;
+        self.bad += more;
         count
     }
 
