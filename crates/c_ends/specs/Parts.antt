@@ -106,7 +106,7 @@ first_tables files words = with_all (fresh (specs_of files)) words
 abbrev pub first_node : NodeParts → List FileParts → List WordParts → List ℕ → NodeState
 first_node node files words block = record {
   room = node.room;
-  station = record { tables = first_tables files words; compat = compat_of node; block = block };
+  station = record { tables = first_tables files words; compat = compat_of node; block = block; locked = [] };
   replies = [];
   initiator = record { node = node.address; tns = node.tns; reply_ticks = node.reply_ticks; window = given_or_first Window node.window; per_source = given_or_first PerSource node.per_source; issued = [] };
   last = handed.Nothing;
