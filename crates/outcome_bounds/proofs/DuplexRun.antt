@@ -57,7 +57,7 @@ act-count act.PeerNak body = refl
 act-count act.PeerEnq body = refl
 act-count act.Nothing body = refl
 
-cell-count : (who : Who) → is_who who who ≡ true → (side : LineEndState) (cell : LaneCell) → length (executed_in who (cell_lines who side cell)) ≡ executes (act_of_byte node_host side.end cell.byte) (body_heard side cell)
+pub cell-count : (who : Who) → is_who who who ≡ true → (side : LineEndState) (cell : LaneCell) → length (executed_in who (cell_lines who side cell)) ≡ executes (act_of_byte node_host side.end cell.byte) (body_heard side cell)
 cell-count who itself side cell =
     let what = act_of_byte node_host side.end cell.byte in
     let body = body_heard side cell in
@@ -66,12 +66,12 @@ cell-count who itself side cell =
 -- ---- one end
 
 -- what all commands that were issued so far, and all that were executed, may take
-abbrev whole : Figures → ℕ → ℕ → ℕ
+abbrev pub whole : Figures → ℕ → ℕ → ℕ
 whole f issued executed = issued * f.command + executed * f.message
 
 -- an end, with what it has to wait for, by its commands, the lines so far, and the drained ticks since its last command
-record Stands (who : Who) (f : Figures) (side : LineEndState) (drained : ℕ) (lines : List Line) : Type 0 where
-  account : Account f side.end (whole f (length (bodies_of side)) (length (executed_in who lines))) drained
+pub record Stands (who : Who) (f : Figures) (side : LineEndState) (drained : ℕ) (lines : List Line) : Type 0 where
+  pub account : Account f side.end (whole f (length (bodies_of side)) (length (executed_in who lines))) drained
 
 stands-silent : (who : Who) (f : Figures) (side : LineEndState) (drained : ℕ) (lines more : List Line) → ExecuteNothing who more → Stands who f side drained lines → Stands who f side drained (lines ++ more)
 stands-silent who f side drained lines more none s = record {
@@ -135,9 +135,9 @@ stands-issue who f side src dst payload drained lines s =
 
 -- ---- both ends
 
-record BothStand (near far : Who) (f far_f : Figures) (s : LineState) (drained far_drained : ℕ) (lines : List Line) : Type 0 where
-  stands : Stands near f s.a drained lines
-  far_stands : Stands far far_f s.b far_drained lines
+pub record BothStand (near far : Who) (f far_f : Figures) (s : LineState) (drained far_drained : ℕ) (lines : List Line) : Type 0 where
+  pub stands : Stands near f s.a drained lines
+  pub far_stands : Stands far far_f s.b far_drained lines
 
 both-swapped : (near far : Who) (f far_f : Figures) (s : LineState) (drained far_drained : ℕ) (lines : List Line) → BothStand near far f far_f s drained far_drained lines → BothStand far near far_f f (swapped s) far_drained drained lines
 both-swapped near far f far_f s drained far_drained lines b = record { stands = b.far_stands; far_stands = b.stands }
@@ -192,7 +192,7 @@ both-issue near far two f far_f far_are s src dst payload drained far_drained li
 -- ---- events
 
 -- the drained ticks of steps at an end, where it is this one
-abbrev own : Who → Who → ℕ → ℕ
+abbrev pub own : Who → Who → ℕ → ℕ
 own who by n = cond (is_same_end who by) n 0
 
 seen-plain : (who : Who) → IsTrue (is_end who) → (f far_f : Figures) → AreFigures f → AreFigures far_f → (s : LineState) (deeds : List Deed) (drained far_drained : ℕ) (lines : List Line) → ArePlain deeds → BothStand A B f far_f s drained far_drained lines
@@ -215,7 +215,7 @@ seen-issue B end f far_f are far_are s src dst payload drained far_drained lines
 seen-issue M end f far_f are far_are s src dst payload drained far_drained lines b = absurd cc
 seen-issue (S station) end f far_f are far_are s src dst payload drained far_drained lines b = absurd cc
 
-stand-event : (f far_f : Figures) → AreFigures f → AreFigures far_f → (e : Event) (s : LineState) (drained far_drained : ℕ) (lines : List Line) → IsPossible e → BothStand A B f far_f s drained far_drained lines
+pub stand-event : (f far_f : Figures) → AreFigures f → AreFigures far_f → (e : Event) (s : LineState) (drained far_drained : ℕ) (lines : List Line) → IsPossible e → BothStand A B f far_f s drained far_drained lines
     → BothStand A B f far_f (after_event s e) (drained_with A drained s e) (drained_with B far_drained s e) (lines ++ lines_of s e)
 stand-event f far_f are far_are (event.Issue who src dst payload) s drained far_drained lines possible b = seen-issue who possible.0 f far_f are far_are s src dst payload drained far_drained lines b
 stand-event f far_f are far_are (event.Take who n) s drained far_drained lines possible b = seen-plain who possible.0 f far_f are far_are s (replicate n Take) drained far_drained lines (plain-again Take tt n) b
@@ -253,7 +253,7 @@ are-figures who plan p =
       of_reply = le-max_right (message_ticks plan) plan.reply_ticks;
     }
 
-stands-first : (who by : Who) (check : Check) (plan : EndPlan) → IsPlanOf by plan → Stands who (figures_of plan) (first_side check plan) 0 []
+pub stands-first : (who by : Who) (check : Check) (plan : EndPlan) → IsPlanOf by plan → Stands who (figures_of plan) (first_side check plan) 0 []
 stands-first who by check plan p =
     let none = whole (figures_of plan) 0 0 in
     let due : Due (figures_of plan) (first_side check plan).end.sender (first_side check plan).end.host none = record { most = 0; sender = omega arith; left = tt; out = tt; all = omega arith } in

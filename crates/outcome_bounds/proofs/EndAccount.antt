@@ -135,7 +135,7 @@ pub record Due (f : Figures) (s : SenderState) (host : NodeState) (ticks : ℕ) 
   pub out : AreWithin most host.initiator.issued
   pub all : most + queued f.message f.command host ≤ ticks
 
-due-more : (f : Figures) (s : SenderState) (host : NodeState) (ticks more : ℕ) → ticks ≤ more → Due f s host ticks → Due f s host more
+pub due-more : (f : Figures) (s : SenderState) (host : NodeState) (ticks more : ℕ) → ticks ≤ more → Due f s host ticks → Due f s host more
 due-more f s host ticks more few d = record { most = d.most; sender = d.sender; left = d.left; out = d.out; all = (let all = d.all in omega (arith, all, few)) }
 
 -- the sender goes on
@@ -287,7 +287,7 @@ account-issue f e src dst payload total drained a =
 -- ---- a tick
 
 -- the tick leaves at most so many ticks
-due-ticked : (f : Figures) (s t : SenderState) (host : NodeState) (what : Option Fate) (ticks most rest : ℕ) (d : Due f s host ticks) → d.most - 1 ≤ most → sender_ticks t ≤ most → HasLeft t.activity → most + queued f.message f.command host ≤ rest
+pub due-ticked : (f : Figures) (s t : SenderState) (host : NodeState) (what : Option Fate) (ticks most rest : ℕ) (d : Due f s host ticks) → d.most - 1 ≤ most → sender_ticks t ≤ most → HasLeft t.activity → most + queued f.message f.command host ≤ rest
     → Due f t (after_tick (host_told node_host what host)) rest
 due-ticked f s t host what ticks most rest d enough few left all =
     let told = host_told node_host what host in
@@ -305,7 +305,7 @@ ticked-over : (host : NodeState) (what : Option Fate) → IsOver host.initiator.
 ticked-over host what over = let told = host_told node_host what host in tick-over told (keeps-over host.initiator.issued told.initiator.issued (fate-keeps what host) over)
 
 -- what a sender that doesn't wait has to give: nothing
-abbrev Rests : SenderState → NodeState → Type 0
+abbrev pub Rests : SenderState → NodeState → Type 0
 Rests s host = (phase_of s ≡ phase.Waiting → ⊥) → (phase_of s ≡ phase.Idle) × (next_body host ≡ None)
 
 -- a drained tick takes one from what is under way, if anything is

@@ -12,3 +12,9 @@ pub mod HalfRun
 pub mod EitherMode
 -- Runs at whose end hardly a drained tick is missing.
 pub mod Witness
+-- An end of a full-duplex line: how many drained ticks are left to it at most.
+pub mod IdleAccount
+-- A full-duplex run whose ends come to idle.
+pub mod IdleRun
+-- A run at whose end a full-duplex line is at rest.
+pub mod IdleWitness

@@ -1,3 +1,4 @@
 pub mod Drained
 pub mod Bounds
+pub mod Idle
 pub mod Reached

@@ -8,13 +8,14 @@ use Rattle.half_line.specs.Issues.{commands_of_m}
 use Rattle.half_line.specs.Run.{plan_of_m}
 use Rattle.line_world.specs.Runs.{record_of}
 use Rattle.script_parts.specs.declared.script.Event.{Event}
-use Rattle.script_parts.specs.declared.script.Event.TheVariants.{Issue, Take, Deliver, Foreign, Tick}
+use Rattle.script_parts.specs.declared.script.Event.TheVariants.{Issue, Take, Deliver, Lose, Foreign, Tick}
 use Rattle.script_parts.specs.declared.script.Script.{Script}
 use Rattle.script_parts.specs.HalfPlayable.{CanBePlayed}
 use Rattle.script_parts.specs.Plans.{first_plan}
 use Rattle.script_statement.specs.declared.who.Who.TheVariants.{A, B, M, S}
 use Rattle.outcome_bounds.specs.Bounds.{command_ticks, message_ticks, polled_command_ticks}
 use Rattle.outcome_bounds.specs.Drained.{drained_ticks, drained_ticks_of_master}
+use Rattle.outcome_bounds.specs.Idle.{IsLeftAlone}
 
 -- ---- on a full-duplex line
 
@@ -49,6 +50,36 @@ pub record IsOneTickShort (script : Script) : Type 0 where
   pub playable : CanBePlayed script
   pub short : drained_ticks A script + 1 ≡ length (commands_of_a script) * command_ticks (plan_of_a script) + length (executed_in A (record_of script).lines) * message_ticks (plan_of_a script)
   pub untold : outcomes_in A 2 (record_of script).lines ≡ []
+
+-- ---- an end at idle
+
+-- the same wait of the other end
+abbrev pub asked_by_b : List Event
+asked_by_b = Tick B 10 ∷ Take B 9 ∷ []
+
+-- a command that is lost, and a command of the other end, whose ACK is lost and whose reply waits until the first is given up; then the
+-- reply is lost as well, and so are all ENQs. At both ends as many ticks come as are enough since the last command was issued or executed
+abbrev pub lost_both_ways : Script
+lost_both_ways = record {
+  half = false;
+  check = Bcc;
+  ends = first_plan A 0 ∷ first_plan B 1 ∷ [];
+  events =
+      Issue A None 1 (0x06 ∷ 0x00 ∷ []) ∷ Take A 99 ∷ Issue B None 0 (0x06 ∷ 0x00 ∷ []) ∷ Take B 99 ∷ Deliver (record { from = B; to = A }) 99
+      ∷ Take A 99
+      ∷ asked ++ asked ++ asked ++ Tick A 10 ∷ Take A 99
+      ∷ asked ++ asked ++ asked ++ Tick A 97
+      ∷ asked_by_b ++ asked_by_b ++ asked_by_b ++ Tick B 70
+      ∷ Lose (record { from = A; to = B }) 999
+      ∷ Lose (record { from = B; to = A }) 99
+      ∷ [];
+}
+
+-- a script that can be played, whose reply waits for a time, and at both of whose ends enough drained ticks came in the end
+pub record ComesToRest (script : Script) : Type 0 where
+  pub playable : CanBePlayed script
+  pub executes : length (executed_in A (record_of script).lines) ≡ 1
+  pub alone : IsLeftAlone script (record_of script)
 
 -- ---- on a half-duplex line
 

@@ -1,10 +1,13 @@
 //! The laws of how long a command may stand without an outcome. Their functions do nothing.
-ghost use Rattle.std.specs.Prelude.{◌≡◌};
+ghost use Rattle.std.specs.Prelude.{◌≡◌, true};
 ghost use Rattle.script_parts.specs.declared.script.Script.{Script};
 ghost use Rattle.script_parts.specs.HalfPlayable.{CanBePlayed};
+ghost use Rattle.duplex_line.specs.Rest.{is_at_rest};
+ghost use Rattle.duplex_line.specs.Run.{last_state};
 ghost use Rattle.line_world.specs.Runs.{record_of};
 ghost use Rattle.outcome_bounds.specs.Bounds.{OutcomesCome};
-ghost use Rattle.outcome_bounds.specs.Reached.{IsOneTickShort, IsTwoTicksShort, no_poll_answered, two_waits};
+ghost use Rattle.outcome_bounds.specs.Idle.{EndsComeToIdle, IsLeftAlone};
+ghost use Rattle.outcome_bounds.specs.Reached.{ComesToRest, IsOneTickShort, IsTwoTicksShort, lost_both_ways, no_poll_answered, two_waits};
 
 /// A law: of each run, whatever is lost, altered or foreign on the line, and deceived or not: where at least so many ticks came at an
 /// end since it issued its last command, at each of which it had nothing to give, as all its commands and the replies of its station
@@ -26,4 +29,23 @@ pub fn the_bound_is_reached()
 /// (manual topic: half-duplex protocol).
 pub fn the_bound_of_a_master_is_near()
     ensures { IsTwoTicksShort no_poll_answered }
+{}
+
+/// A law: of each full-duplex run, whatever is lost, altered or foreign on the line, and deceived or not: where at least so many
+/// drained ticks came at an end since it issued its last command and since its station executed its last, each command of the end
+/// has its outcome, its sender holds no message, and no reply of its station waits to be handed out (manual topic: full-duplex
+/// protocol).
+pub fn ends_come_to_idle()
+    ensures { (script : Script) → CanBePlayed script → EndsComeToIdle script (record_of script) }
+{}
+
+/// A law: a full-duplex line, at both of whose ends so many drained ticks came, is at rest, if nothing is under way and no decoder
+/// is inside an item (manual topic: full-duplex protocol).
+pub fn a_line_comes_to_rest()
+    ensures { (script : Script) → CanBePlayed script → IsLeftAlone script (record_of script) → is_at_rest (last_state script) ≡ true }
+{}
+
+/// A law: there is such a run, in which a reply waits for a time (manual topic: full-duplex protocol).
+pub fn a_lossy_line_comes_to_rest()
+    ensures { ComesToRest lost_both_ways }
 {}

@@ -3,4 +3,7 @@
 
 mod laws;
 
-pub use laws::{outcomes_come, the_bound_is_reached, the_bound_of_a_master_is_near};
+pub use laws::{
+    a_line_comes_to_rest, a_lossy_line_comes_to_rest, ends_come_to_idle, outcomes_come,
+    the_bound_is_reached, the_bound_of_a_master_is_near,
+};
