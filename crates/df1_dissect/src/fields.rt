@@ -1,10 +1,10 @@
 //! The fields of a message in a line: `dst=HH src=HH cmd=HH sts=HH tns=HHHH NAME REST` (manual topic: message packets).
-ghost use Rattle.std.specs.Prelude.{◌≡◌, ◌≤◌, ◌+◌, ◌++◌, length};
+ghost use Rattle.std.specs.Prelude.{◌≡◌, ◌≤◌, ◌+◌, ◌++◌, ◌∷◌, [], length};
 ghost use Rattle.arrayvec.specs.ArrayVec.{array_vec_len};
-ghost use Rattle.df1_dissect.specs.Lines.{envelope_text, fields_text, message_text};
+ghost use Rattle.df1_dissect.specs.Lines.{byte_digits, envelope_text, fields_text, message_text};
 
 use crate::command::message_name;
-use crate::line::{append, append_bytes, append_code};
+use crate::line::{append, append_bytes, append_code, high_digit, low_digit};
 use arrayvec::ArrayVec;
 use df1_base::{MAX_BODY, MAX_DATA, MIN_BODY};
 use pccc_envelope::{Envelope, read_envelope};
@@ -42,11 +42,23 @@ fn append_envelope<const N: usize>(text: &mut ArrayVec<u8, N>, envelope: Envelop
     ensures text { text.new.items ≡ text.old.items ++ envelope_text envelope }
     ensures size { array_vec_len text.new ≤ array_vec_len text.old + 40 }
 {
-    append_code(text, b"dst=", envelope.dst);
-    append_code(text, b" src=", envelope.src);
-    append_code(text, b" cmd=", envelope.cmd);
-    append_code(text, b" sts=", envelope.sts);
-    append_code(text, b" tns=", (envelope.tns / 256) as u8);
+    append_field(text, b"dst=", envelope.dst);
+    append_field(text, b"src=", envelope.src);
+    append_field(text, b"cmd=", envelope.cmd);
+    append_field(text, b"sts=", envelope.sts);
+    append_code(text, b"tns=", (envelope.tns / 256) as u8);
     append_code(text, b"", (envelope.tns % 256) as u8);
     append(text, b" ");
+}
+
+/// Adds a field of one byte, with a name of three letters and its sign, and a space. It is added at once, since each adding looks
+/// at how long the text is.
+fn append_field<const N: usize>(text: &mut ArrayVec<u8, N>, name: &[u8], byte: u8)
+    requires name { length name.now ≡ 4 }
+    requires room { array_vec_len text.old + 7 ≤ N }
+    ensures text { text.new.items ≡ text.old.items ++ name.now ++ byte_digits byte ++ 32 ∷ [] }
+    ensures size { array_vec_len text.new ≡ array_vec_len text.old + 7 }
+{
+    let (high, low) = (high_digit(byte), low_digit(byte));
+    append(text, &[name[0], name[1], name[2], name[3], high, low, b' ']);
 }

@@ -13,9 +13,9 @@
 //! | an item that is unfinished in the end | `open` |
 //!
 //! SS, CC and BB are two hexadecimal digits, BODY is hexadecimal, or `-` where it is empty.
-ghost use Rattle.std.specs.Prelude.{◌≡◌, ◌≤◌, ◌<◌, ◌+◌, ◌*◌, ◌%◌, ◌++◌, ◌∷◌, [], ℕ, decimal, length};
+ghost use Rattle.std.specs.Prelude.{◌≡◌, ◌≤◌, ◌<◌, ◌+◌, ◌*◌, ◌/◌, ◌%◌, ◌++◌, ◌∷◌, [], ℕ, decimal, length, slice_index};
 ghost use Rattle.arrayvec.specs.ArrayVec.{array_vec_len};
-ghost use Rattle.hex.specs.Hex.{encode_upper};
+ghost use Rattle.hex.specs.Hex.{encode_upper, upper_digits};
 ghost use Rattle.df1_dissect.specs.Lines.{bytes_text, byte_digits, kind_text, line_text, offsets_text, open_line};
 ghost use Rattle.df1_dissect.specs.Dissection.{stray_line, stray_lines};
 ghost use Rattle.df1_dissect.specs.Step.{with_body};
@@ -25,9 +25,13 @@ use crate::kind::Kind;
 use crate::reader::Thing;
 use arrayvec::ArrayVec;
 use df1_base::MAX_BODY;
+use itoa::write_digits;
 
 /// Room for a line, in bytes: two digits for each byte of a body, the offsets and the fields' names.
 pub(crate) const ROOM: usize = 700;
+
+/// Room for two offsets, each with a space behind it.
+const OFFSETS: usize = 42;
 
 /// The digits, by their values.
 static DIGITS: [u8; 16] = *b"0123456789ABCDEF";
@@ -67,8 +71,8 @@ fn append_stray<const N: usize>(text: &mut ArrayVec<u8, N>, tens: &[u8], one: u8
     ensures text { (at : ℕ) → decimal at ≡ tens.now ++ one ∷ [] → text.new.items ≡ text.old.items ++ stray_line at byte }
     ensures size { array_vec_len text.new ≡ array_vec_len text.old + 2 * length tens.now + 13 }
 {
-    let high = DIGITS[usize::from(byte / 16)];
-    let low = DIGITS[usize::from(byte % 16)];
+    let high = high_digit(byte);
+    let low = low_digit(byte);
     append(text, tens);
     append(text, &[one, b' ']);
     append(text, tens);
@@ -89,17 +93,16 @@ pub(crate) fn append_open_line<const N: usize>(text: &mut ArrayVec<u8, N>, first
     append(text, b"open\n");
 }
 
-/// Adds the beginning of a line.
+/// Adds the beginning of a line. It is put together in an array of spaces, from its end, and added at once.
 fn append_offsets<const N: usize>(text: &mut ArrayVec<u8, N>, first: u64, last: u64)
     requires { array_vec_len text.old + 42 ≤ N }
     ensures text { text.new.items ≡ text.old.items ++ offsets_text first last }
     ensures size { array_vec_len text.new ≤ array_vec_len text.old + 42 }
 {
-    let mut digits = itoa::Buffer::new();
-    append(text, digits.format(first).as_bytes());
-    append(text, b" ");
-    append(text, digits.format(last).as_bytes());
-    append(text, b" ");
+    let mut both = [b' '; OFFSETS];
+    let second = write_digits(last, &mut both, OFFSETS - 1);
+    let start = write_digits(first, &mut both, second - 1);
+    append(text, &both[start..]);
 }
 
 /// Adds what is told of a thing of this kind.
@@ -146,8 +149,7 @@ pub(crate) fn append_code<const N: usize>(text: &mut ArrayVec<u8, N>, word: &[u8
     ensures size { array_vec_len text.new ≡ array_vec_len text.old + length word.now + 2 }
 {
     append(text, word);
-    text.push(DIGITS[usize::from(byte / 16)]);
-    text.push(DIGITS[usize::from(byte % 16)]);
+    append(text, &[high_digit(byte), low_digit(byte)]);
 }
 
 /// Adds a word and a body.
@@ -181,8 +183,22 @@ fn append_hex<const N: usize>(text: &mut ArrayVec<u8, N>, bytes: &[u8])
     ensures size { array_vec_len text.new ≡ array_vec_len text.old + 2 * length bytes.now }
 {
     for byte in bytes {
-        append_code(text, b"", *byte);
+        append(text, &[high_digit(*byte), low_digit(*byte)]);
     }
+}
+
+/// The first digit of a byte.
+pub(crate) fn high_digit(byte: u8) -> u8
+    ensures { result ≡ slice_index upper_digits (byte / 16) }
+{
+    DIGITS[usize::from(byte / 16)]
+}
+
+/// The second digit of a byte.
+pub(crate) fn low_digit(byte: u8) -> u8
+    ensures { result ≡ slice_index upper_digits (byte % 16) }
+{
+    DIGITS[usize::from(byte % 16)]
 }
 
 /// Adds bytes.

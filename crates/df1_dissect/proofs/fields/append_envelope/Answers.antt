@@ -4,5 +4,5 @@ use Rattle.df1_dissect.proofs.fields.append_envelope.Goals as goal
 
 pub returns-clause-text : goal.returns-clause-text
 returns-clause-text g c =
-    rw (c.append.ensures, c.append_code-6.ensures.text, c.append_code-5.ensures.text, c.append_code-4.ensures.text, c.append_code-3.ensures.text, c.append_code-2.ensures.text, c.append_code.ensures.text)
+    rw (c.append.ensures, c.append_code-2.ensures.text, c.append_code.ensures.text, c.append_field-4.ensures.text, c.append_field-3.ensures.text, c.append_field-2.ensures.text, c.append_field.ensures.text)
     (simp append_assoc)

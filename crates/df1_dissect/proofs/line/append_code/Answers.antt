@@ -5,4 +5,4 @@ use Rattle.df1_dissect.proofs.line.append_code.Goals as goal
 
 pub returns-clause-text : goal.returns-clause-text
 unfolding encode_with
-returns-clause-text g c = rw (c.push-2.ensures.items, c.push.ensures.items, c.append.ensures, c.from.ensures, c.from-2.ensures) (simp append_assoc)
+returns-clause-text g c = rw (c.append-2.ensures, c.append.ensures, c.high_digit.ensures, c.low_digit.ensures) (simp append_assoc)

@@ -6,4 +6,4 @@ use Rattle.df1_dissect.proofs.line.append_stray.Goals as goal
 
 pub returns-clause-text : goal.returns-clause-text
 unfolding encode_with kind_text
-returns-clause-text g c = λ at is. rw (c.append-4.ensures, c.append-3.ensures, c.append-2.ensures, c.append.ensures, c.from.ensures, c.from-2.ensures, is) (simp append_assoc)
+returns-clause-text g c = λ at is. rw (c.append-4.ensures, c.append-3.ensures, c.append-2.ensures, c.append.ensures, c.high_digit-high.ensures, c.low_digit-low.ensures, is) (simp append_assoc)
