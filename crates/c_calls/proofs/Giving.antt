@@ -1,10 +1,10 @@
 -- Where a run of bytes that are given ends. Assumes nothing.
-use Rattle.std.proofs.Common.{◌≡◌, ◌∙◌, ◌⊎◌, inl, inr, ℕ, zero, suc, ◌+◌, Bool, true, false, not, List, [], ◌∷◌, ◌++◌, length, refl, sym, ap, subst, arith, append-nil, append_assoc}
+use Rattle.std.proofs.Common.{◌≡◌, ◌∙◌, ◌⊎◌, inl, inr, ℕ, zero, suc, Bool, true, false, not, List, [], ◌∷◌, ◌++◌, length, refl, sym, ap, subst, arith, append-nil, append_assoc}
 use Rattle.std.specs.Prelude.{if◌then◌else◌}
 use Rattle.c_ends.specs.declared.held.Held.{Held}
 use Rattle.c_ends.specs.declared.told.OutTold.{OutTold}
 use Rattle.c_calls.specs.Ends.{after_take}
-use Rattle.c_calls.specs.Runs.{AreGiven, Given, GivenFull, GivenMessage, GivenShort, after_takes, given_behind, given_of, out_at}
+use Rattle.c_calls.specs.Runs.{Given, GivenFull, GivenMessage, GivenShort, given_behind, given_of, out_at}
 
 abbrev given : List ℕ → Bool → Held → Given
 given bytes last after = record { bytes = bytes; last = last; after = after }

@@ -1,5 +1,5 @@
 -- Words that are set. Assumes nothing.
-use Rattle.std.proofs.Common.{◌≡◌, ◌∙◌, ℕ, suc, ◌+◌, ◌-◌, Bool, true, false, ◌&&◌, nat_le, nat_lt, List, [], ◌∷◌, length, slice_get, Option, Some, None, refl, sym, ap, arith}
+use Rattle.std.proofs.Common.{◌≡◌, ◌∙◌, ℕ, suc, ◌+◌, ◌-◌, Bool, true, false, ◌&&◌, nat_le, nat_lt, List, [], ◌∷◌, length, slice_get, Option, Some, None, refl, sym, ap, subst, arith}
 use Rattle.std.specs.Prelude.{◌==◌, if◌then◌else◌}
 use Rattle.std.specs.Option.{option_map_or, unwrap_or}
 use Rattle.std.proofs.lemmas.Bool.Decides.{nat_tests}
@@ -10,13 +10,11 @@ use Rattle.data_files.proofs.Words.{word_at-with_word, word_at-with_words}
 use Rattle.df1_node.specs.Node.{NodeState, with_node_word}
 use Rattle.c_calls.specs.Words.{is_range, is_word, node_words_set, range_told, with_tables, word_set, word_told, words_set}
 
-chosen : {A : Type 0} (test : Bool) (yes no : A) → test ≡ true → (if test then yes else no) ≡ yes
-chosen true yes no is = refl
-chosen false yes no is = absurd cc
+chosen : {A : Type 0} (test : Bool) (one other : A) → test ≡ true → (if test then one else other) ≡ one
+chosen test one other is = subst (λ (t : Bool). (if t then one else other) ≡ one) (sym is) refl
 
-passed : {A : Type 0} (test : Bool) (yes no : A) → test ≡ false → (if test then yes else no) ≡ no
-passed true yes no is = absurd cc
-passed false yes no is = refl
+passed : {A : Type 0} (test : Bool) (one other : A) → test ≡ false → (if test then one else other) ≡ other
+passed test one other is = subst (λ (t : Bool). (if t then one else other) ≡ other) (sym is) refl
 
 -- ---- of a run that a file has, it has the first word, and the others
 
@@ -43,8 +41,8 @@ node-words : (values : List ℕ) (node : NodeState) (file first : ℕ) → is_ra
 node-words [] node file first all = refl
 node-words (value ∷ values) node file first all =
     let found = file_of node.station.tables.specs file in
-    let set : word_set file first value node ≡ with_node_word node file first value = chosen (is_word node file first) (with_node_word node file first value) node (has-first found first (length values) all) in
-    ap (node_words_set file (first + 1) values) set ∙ node-words values (with_node_word node file first value) file (first + 1) (has-others found first (length values) all)
+    let one : word_set file first value node ≡ with_node_word node file first value = chosen (is_word node file first) (with_node_word node file first value) node (has-first found first (length values) all) in
+    ap (node_words_set file (first + 1) values) one ∙ node-words values (with_node_word node file first value) file (first + 1) (has-others found first (length values) all)
 
 pub tables : (node : NodeState) (file first : ℕ) (values : List ℕ) → is_range node file first (length values) ≡ true
     → words_set file first values node ≡ with_tables node (with_words node.station.tables file first values)
@@ -85,7 +83,7 @@ pub run : (node : NodeState) (file first : ℕ) (values : List ℕ) → is_range
     → range_told (words_set file first values node) file first (length values) ≡ Some values
 run node file first values all =
     let after = with_words node.station.tables file first values in
-    ap (λ (set : NodeState). range_told set file first (length values)) (tables node file first values all)
+    ap (λ (held : NodeState). range_told held file first (length values)) (tables node file first values all)
     ∙ chosen (has_words after.specs file first (length values)) (Some (words_at after file first (length values))) None (ap (λ (specs : List FileSpec). has_words specs file first (length values)) (specs-with_words node.station.tables file first values) ∙ all)
     ∙ ap (λ (xs : List ℕ). Some xs) (words-are values node.station.tables file first)
 
