@@ -13,6 +13,7 @@ use Rattle.line_world.specs.Runs.{record_of}
 use Rattle.line_world.proofs.EitherMode.{all-complete, all-recover, all-rested, all-wires, each-command-once}
 use Rattle.late_laws.proofs.NothingLate.{nothing-comes-late}
 use Rattle.outcome_bounds.proofs.EitherMode.{outcomes-come}
+use Rattle.outcome_bounds.proofs.IdleRun.{ends-come-to-idle}
 use Rattle.overtaking_laws.proofs.Cut.{nothing-is-overtaken}
 use Rattle.df1_replay.specs.declared.fault.ReplayFault.{ReplayFault}
 use Rattle.df1_replay.specs.Outcome.{Answered, replayed, report_of}
@@ -43,6 +44,7 @@ replayed-well left left' held held' a =
       settled = nothing-is-overtaken read.0 (CanBePlayed-script_of a.input read.0 read.1);
       late = nothing-comes-late read.0 (CanBePlayed-script_of a.input read.0 read.1);
       outcomes = outcomes-come read.0 (CanBePlayed-script_of a.input read.0 read.1);
+      idle = ends-come-to-idle read.0 (CanBePlayed-script_of a.input read.0 read.1);
       complete = record-complete read.0 (CanBePlayed-script_of a.input read.0 read.1);
       recovered = all-recover read.0 (CanBePlayed-script_of a.input read.0 read.1);
       rested = all-rested read.0 (CanBePlayed-script_of a.input read.0 read.1);

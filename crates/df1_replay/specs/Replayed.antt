@@ -14,6 +14,7 @@ use Rattle.line_world.specs.Rested.{GoesWellAfterRest}
 use Rattle.line_world.specs.Runs.{record_of}
 use Rattle.line_world.specs.Wire.{AreDf1Wires}
 use Rattle.outcome_bounds.specs.Bounds.{OutcomesCome}
+use Rattle.outcome_bounds.specs.Idle.{EndsComeToIdle}
 use Rattle.overtaking_laws.specs.Overtaking.{NothingIsOvertaken}
 
 -- The input was read to its end and is a script. The report of its run is written, and nothing else. Where no end was
@@ -27,7 +28,8 @@ use Rattle.overtaking_laws.specs.Overtaking.{NothingIsOvertaken}
 -- whatever happened before, and no end was deceived, each command that an end hands out from there on was executed and answered, if
 -- nothing disturbs the line from there on, or it recovers so. Whatever was heard, and deceived or not: where
 -- enough ticks came at an end since its last command at which it had nothing to give, the outcome of each of its commands is told;
--- and what each end sent is DF1, and carries its own commands and replies.
+-- where so many came since its last command and the last that its station executed, an end of a full-duplex line has no message and
+-- no reply left to send; and what each end sent is DF1, and carries its own commands and replies.
 pub record Replayed (left left' held held' : Option (List ℕ)) : Type 0 where
   pub input : List ℕ
   pub script : Script
@@ -42,4 +44,5 @@ pub record Replayed (left left' held held' : Option (List ℕ)) : Type 0 where
   pub recovered : Recovers script (record_of script)
   pub rested : GoesWellAfterRest script (record_of script)
   pub outcomes : OutcomesCome script (record_of script)
+  pub idle : EndsComeToIdle script (record_of script)
   pub wires : AreDf1Wires script (record_of script)

@@ -10,6 +10,7 @@ ghost use Rattle.line_world.specs.Rested.{GoesWellAfterRest};
 ghost use Rattle.line_world.specs.Runs.{record_of};
 ghost use Rattle.line_world.specs.Wire.{AreDf1Wires};
 ghost use Rattle.outcome_bounds.specs.Bounds.{OutcomesCome};
+ghost use Rattle.outcome_bounds.specs.Idle.{EndsComeToIdle};
 ghost use Rattle.overtaking_laws.specs.Overtaking.{NothingIsOvertaken};
 
 use df1_base::NoMemory;
@@ -24,8 +25,9 @@ use std::alloc::Global;
 /// disturbed the line, no end was deceived, and all commands were executed and answered; and so they were where a full-duplex line
 /// recovers from what the script does to the bytes. Where a full-duplex line is at rest again, and no end was deceived, each command
 /// that an end hands out from there on was executed and answered, if nothing disturbs the line from there on, or it recovers.
-/// After enough ticks at which an end had nothing to give each of its commands has its outcome. Whatever was heard, what each end sent is DF1, and carries its own commands and replies. `NoMemory` comes where
-/// memory is wanting.
+/// After enough ticks at which an end had nothing to give each of its commands has its outcome; and where so many came since its
+/// last command and the last that its station executed, an end of a full-duplex line has no message and no reply left to send.
+/// Whatever was heard, what each end sent is DF1, and carries its own commands and replies. `NoMemory` comes where memory is wanting.
 pub fn replay(alloc: Global, script: &Script) -> Result<Record, NoMemory>
     requires { CanBePlayed script.now }
     ensures record { IfOk result (λ r. r ≡ record_of script.now) }
@@ -36,6 +38,7 @@ pub fn replay(alloc: Global, script: &Script) -> Result<Record, NoMemory>
     ensures recovered { IfOk result (λ r. Recovers script.now r) }
     ensures rested { IfOk result (λ r. GoesWellAfterRest script.now r) }
     ensures outcomes { IfOk result (λ r. OutcomesCome script.now r) }
+    ensures idle { IfOk result (λ r. EndsComeToIdle script.now r) }
     ensures wires { IfOk result (λ r. AreDf1Wires script.now r) }
 {
     line_world::replay(alloc, script)

@@ -3,7 +3,9 @@ use Rattle.late_laws.specs.GivenUp.{NothingComesLate}
 use Rattle.line_replay.proofs.OfRun.{of-run}
 use Rattle.line_replay.proofs.whole.replay.Goals as goal
 use Rattle.outcome_bounds.proofs.EitherMode.{outcomes-come}
+use Rattle.outcome_bounds.proofs.IdleRun.{ends-come-to-idle}
 use Rattle.outcome_bounds.specs.Bounds.{OutcomesCome}
+use Rattle.outcome_bounds.specs.Idle.{EndsComeToIdle}
 use Rattle.overtaking_laws.proofs.Cut.{nothing-is-overtaken}
 use Rattle.overtaking_laws.specs.Overtaking.{NothingIsOvertaken}
 use Rattle.replay_report.specs.declared.record.Record.{Record}
@@ -23,3 +25,8 @@ pub returns-clause-outcomes : goal.returns-clause-outcomes
 returns-clause-outcomes c =
     let script = c.args.script.now in
     of-run script (OutcomesCome script) c.replay.result c.replay.ensures.record (outcomes-come script c.requires)
+
+pub returns-clause-idle : goal.returns-clause-idle
+returns-clause-idle c =
+    let script = c.args.script.now in
+    of-run script (EndsComeToIdle script) c.replay.result c.replay.ensures.record (ends-come-to-idle script c.requires)
