@@ -12,7 +12,9 @@ ghost use Rattle.df1_c.specs.Arrived.{IsEndFor};
 ghost use Rattle.df1_c.specs.Held.{holding};
 
 use crate::seat::Seat;
-use c_calls::{lock, set_word, set_words, tell_change, tell_file, tell_files, tell_word, tell_words};
+use c_calls::{
+    lock, set_word, set_words, tell_change, tell_file, tell_files, tell_word, tell_words,
+};
 use c_ends::{Code, FileParts};
 use std::alloc::Global;
 

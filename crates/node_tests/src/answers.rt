@@ -259,7 +259,13 @@ fn no_command_writes_a_locked_file(rt: HostRuntime) -> Result<(), Fail> {
         (0x0F, b"\xA2\x02\x07\x89\x00\x00", 0x00, b"\x34\x12", &[]),
         (0x01, b"\x00\x00\x02", 0x00, b"\x34\x12", &[]),
         (0x0F, b"\xA9\x02\x07\x89\x00\xCD\xAB", 0xF0, b"\x0B", &[]),
-        (0x0F, b"\xAA\x02\x07\x89\x00\x00\xCD\xAB", 0xF0, b"\x0B", &[]),
+        (
+            0x0F,
+            b"\xAA\x02\x07\x89\x00\x00\xCD\xAB",
+            0xF0,
+            b"\x0B",
+            &[],
+        ),
         (
             0x0F,
             b"\xAB\x02\x07\x89\x00\x00\xFF\x00\xCD\xAB",
@@ -267,7 +273,13 @@ fn no_command_writes_a_locked_file(rt: HostRuntime) -> Result<(), Fail> {
             b"\x0B",
             &[],
         ),
-        (0x0F, b"\xAA\x02\x09\x89\x00\x00\xCD\xAB", 0xF0, b"\x0B", &[]),
+        (
+            0x0F,
+            b"\xAA\x02\x09\x89\x00\x00\xCD\xAB",
+            0xF0,
+            b"\x0B",
+            &[],
+        ),
         (
             0x0F,
             b"\x00\x00\x00\x01\x00\x06\x07\x00\xCD\xAB",
