@@ -12,7 +12,7 @@ ghost use Rattle.df1_dissect.specs.Dissection.{lines_in, stray_lines};
 
 use crate::ear::{Ear, Side, Turn};
 use crate::kind::Kind;
-use df1_base::MAX_BODY;
+use df1_base::{DLE, MAX_BODY};
 use df1_check::Check;
 use std::marker::Model;
 
@@ -101,7 +101,8 @@ impl Reader {
         }
     }
 
-    /// Takes a run, or the first byte where there is none, of bytes of which there is at least one; says how many it took.
+    /// Takes a run, or a DLE and the byte after it, or the first byte, of bytes of which there is at least one; says how many it
+    /// took.
     fn hear_some(&mut self, bytes: &[u8]) -> usize
         requires some { 0 < length bytes.now }
         requires few { self.old.fed + length bytes.now ≤ 268435456 }
@@ -109,15 +110,37 @@ impl Reader {
         ensures most { result ≤ length bytes.now }
         ensures value { self.new ≡ after self.old (take result bytes.now) }
     {
+        if bytes[0] == DLE {
+            return self.hear_pair(bytes);
+        }
         let count = self.hear_run(bytes);
-        if count == 0 {
-            self.hear(bytes[0]);
+        if count > 0 {
+            return count;
+        }
+        self.hear(bytes[0]);
+        1
+    }
+
+    /// Takes the first byte, and the second one where there is one, of bytes of which there is at least one; says how many it
+    /// took. No run begins with a DLE or directly after one, so none is looked for there.
+    #[inline(always)]
+    fn hear_pair(&mut self, bytes: &[u8]) -> usize
+        requires some { 0 < length bytes.now }
+        requires few { self.old.fed + length bytes.now ≤ 268435456 }
+        ensures some { 0 < result }
+        ensures most { result ≤ length bytes.now }
+        ensures value { self.new ≡ after self.old (take result bytes.now) }
+    {
+        self.hear(bytes[0]);
+        if bytes.len() == 1 {
             return 1;
         }
-        count
+        self.hear(bytes[1]);
+        2
     }
 
     /// Takes the bytes before the first DLE where it stands in a body or outside, and none elsewhere, and says how many.
+    #[inline(always)]
     fn hear_run(&mut self, bytes: &[u8]) -> usize
         requires { self.old.fed + length bytes.now ≤ 268435456 }
         ensures most { result ≤ length bytes.now }
@@ -132,6 +155,7 @@ impl Reader {
 
     /// Takes the bytes before the first DLE where it stands in a body, and none elsewhere, and says how many. Nothing is told
     /// at them.
+    #[inline(always)]
     pub(crate) fn hear_body(&mut self, bytes: &[u8]) -> usize
         requires { self.old.fed + length bytes.now ≤ 268435456 }
         ensures most { result ≤ length bytes.now }
@@ -149,6 +173,7 @@ impl Reader {
 
     /// Takes the bytes before the first DLE where no item is under way, and none elsewhere, and says how many. Each is told
     /// as a stray one.
+    #[inline(always)]
     pub(crate) fn hear_strays(&mut self, bytes: &[u8]) -> usize
         requires { self.old.fed + length bytes.now ≤ 268435456 }
         ensures most { result ≤ length bytes.now }
