@@ -1,6 +1,7 @@
 -- The payload of each call: its bytes, or the code of the first fault, in the order that lib.rt has.
 use Rattle.std.specs.Prelude.{IfSome, ℕ, Bool, List, None, Result, Err}
 use Rattle.std.specs.Option.{option_map_or}
+use Rattle.command_payloads.specs.Faults.{count_fault}
 use Rattle.command_payloads.specs.Orders as order
 use Rattle.command_payloads.specs.Payloads as payload
 use Rattle.c_ends.specs.declared.code.Code.{Code}
@@ -35,6 +36,13 @@ bit_told parts on = at_address parts (λ at. told (payload.bit_fault at.bit) (pa
 
 abbrev pub echo_told : List ℕ → Result (List ℕ) Code
 echo_told bytes = told (payload.echo_fault bytes) (payload.echo_payload bytes)
+
+-- of the compatibility file, by the number of a byte
+abbrev pub unprotected_read_told : (address count : ℕ) → Result (List ℕ) Code
+unprotected_read_told address count = told (count_fault count) (payload.unprotected_read_payload address count)
+
+abbrev pub unprotected_write_told : ℕ → List ℕ → Result (List ℕ) Code
+unprotected_write_told address words = told (payload.unprotected_write_fault address words) (payload.unprotected_write_payload address words)
 
 -- ---- the order that a station reads in it, of a number that is a command's and an address that is one
 

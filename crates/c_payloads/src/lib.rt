@@ -24,6 +24,6 @@ pub use commands::Command;
 pub use parts::{AddressParts, AnswerParts, TypedParts};
 pub use payloads::{
     bit_payload, echo_payload, masked_payload, modify_payload, read_payload, status_payload,
-    write_payload,
+    unprotected_read_payload, unprotected_write_payload, write_payload,
 };
 pub use replies::{read_reply, read_typed, status_text};

@@ -1,18 +1,22 @@
 //! The payload of each call, or the code of the first fault.
 
-ghost use Rattle.std.specs.Prelude.{◌≡◌, IfOk};
+ghost use Rattle.std.specs.Prelude.{◌≡◌, ◌*◌, IfOk};
 ghost use Rattle.std.specs.Result.{result_map_both};
-ghost use Rattle.plc_commands.specs.Order.{Echo, Status};
+ghost use Rattle.data_files.specs.WordBytes.{bytes_of};
+ghost use Rattle.plc_commands.specs.Order.{Echo, Peek, Poke, Status};
 ghost use Rattle.command_payloads.specs.Orders.{SpellsPlc};
 ghost use Rattle.command_payloads.specs.Payloads as bytes;
-ghost use Rattle.c_payloads.specs.Payloads.{IsBit, IsMasked, IsModify, IsRead, IsWrite, bit_told, echo_told, masked_told, modify_told, read_told, write_told};
+ghost use Rattle.c_payloads.specs.Payloads.{IsBit, IsMasked, IsModify, IsRead, IsWrite, bit_told, echo_told, masked_told, modify_told, read_told, unprotected_read_told, unprotected_write_told, write_told};
 
 use crate::commands::{add_read, add_write, command_of};
 use crate::faults::payload_code;
 use crate::parts::{AddressParts, address_in};
 use arrayvec::ArrayVec;
 use c_ends::Code;
-use command_payloads::{bit_write, echo, masked_write, read_modify_write, station_status};
+use command_payloads::{
+    bit_write, echo, masked_write, read_modify_write, station_status, unprotected_read,
+    unprotected_write,
+};
 
 /// The payload that reads so many words from an address on, 1 to 122, or so many elements by a typed command (manual topic:
 /// commands). Else the first of these comes: `BadCommand`, `BadType`, what stands against the payload.
@@ -113,6 +117,32 @@ pub fn echo_payload(bytes: &[u8]) -> Result<ArrayVec<u8, 245>, Code>
 {
     let mut payload = ArrayVec::new();
     match echo(bytes, &mut payload) {
+        Ok(()) => Ok(payload),
+        Err(fault) => Err(payload_code(fault)),
+    }
+}
+
+/// The payload that reads so many words, 1 to 122, of the compatibility file of a station from a byte on, whose number the station
+/// wants even (manual topic: commands, unprotected read). Else `NoData` or `TooMuchData`.
+pub fn unprotected_read_payload(address: u16, count: u16) -> Result<ArrayVec<u8, 245>, Code>
+    ensures told { result_map_both (λ payload. payload.items) (λ code. code) result ≡ unprotected_read_told address count }
+    ensures spelled { IfOk result (λ payload. SpellsPlc (Peek address (2 * count)) payload.items) }
+{
+    let mut payload = ArrayVec::new();
+    match unprotected_read(address, count, &mut payload) {
+        Ok(()) => Ok(payload),
+        Err(fault) => Err(payload_code(fault)),
+    }
+}
+
+/// The payload that writes words, 1 to 121, to the compatibility file of a station from a byte on, whose number the station wants
+/// even (manual topic: commands, unprotected write). Else `NoData` or `TooMuchData`.
+pub fn unprotected_write_payload(address: u16, words: &[u16]) -> Result<ArrayVec<u8, 245>, Code>
+    ensures told { result_map_both (λ payload. payload.items) (λ code. code) result ≡ unprotected_write_told address words.now }
+    ensures spelled { IfOk result (λ payload. SpellsPlc (Poke address (bytes_of words.now)) payload.items) }
+{
+    let mut payload = ArrayVec::new();
+    match unprotected_write(address, words, &mut payload) {
         Ok(()) => Ok(payload),
         Err(fault) => Err(payload_code(fault)),
     }
