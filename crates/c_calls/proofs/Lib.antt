@@ -1,2 +1,4 @@
 mod Changes
+mod Giving
 mod Hearing
+mod Setting

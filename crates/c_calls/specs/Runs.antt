@@ -1,6 +1,6 @@
 -- Runs of bytes: those that an end hears up to the first after which there is something to do, and those that it gives up to the
 -- first that ends a message. Each byte is one as of the calls for a byte.
-use Rattle.std.specs.Prelude.{◌≡◌, ℕ, zero, suc, ◌+◌, length, Bool, true, false, not, ◌||◌, List, [], ◌∷◌, ◌++◌, ◌==◌, if◌then◌else◌}
+use Rattle.std.specs.Prelude.{◌≡◌, ◌<◌, ◌≤◌, ℕ, zero, suc, ◌+◌, length, Bool, true, false, not, ◌||◌, List, [], ◌∷◌, ◌++◌, ◌==◌, if◌then◌else◌}
 use Rattle.std.specs.declared.option.Option.{Option}
 use Rattle.std.specs.declared.option.Option.TheVariants.{Some, None}
 use Rattle.std.specs.Option.{unwrap_or}
@@ -117,6 +117,42 @@ given_behind bytes (suc room) held =
 -- those of a run
 abbrev pub given_of : ℕ → Held → Given
 given_of room held = given_behind [] room held
+
+-- after so many takes
+abbrev pub after_takes : ℕ → Held → Held
+after_takes zero held = held
+after_takes (suc count) held = after_takes count (after_take held)
+
+-- takes give these bytes one after another, and none of them ends a message
+abbrev pub AreGiven : Held → List ℕ → Type 0
+AreGiven held [] = Unit {0}
+AreGiven held (byte ∷ bytes) = (out_at held ≡ record { there = true; byte = byte; last = false }) × AreGiven (after_take held) bytes
+
+-- as many bytes were given as there is room for, and none of them ends a message
+pub record GivenFull (room : ℕ) (held : Held) (run : Given) : Type 0 where
+  pub count : length run.bytes ≡ room
+  pub are : AreGiven held run.bytes
+  pub last : run.last ≡ false
+  pub after : run.after ≡ after_takes (length run.bytes) held
+
+-- fewer were given, none of which ends a message, and the take behind them gives nothing
+pub record GivenShort (room : ℕ) (held : Held) (run : Given) : Type 0 where
+  pub count : length run.bytes < room
+  pub are : AreGiven held run.bytes
+  pub none : (out_at (after_takes (length run.bytes) held)).there ≡ false
+  pub last : run.last ≡ false
+  pub after : run.after ≡ after_takes (suc (length run.bytes)) held
+
+-- they were given up to the first that ends a message
+pub record GivenMessage (room : ℕ) (held : Held) (run : Given) : Type 0 where
+  pub front : List ℕ
+  pub end : ℕ
+  pub bytes : run.bytes ≡ front ++ end ∷ []
+  pub count : length run.bytes ≤ room
+  pub are : AreGiven held front
+  pub ends : out_at (after_takes (length front) held) ≡ record { there = true; byte = end; last = true }
+  pub last : run.last ≡ true
+  pub after : run.after ≡ after_takes (length run.bytes) held
 
 -- what an end tells of a run; a decoder tells nothing
 abbrev pub given_told : ℕ → Held → Option Given

@@ -5,7 +5,7 @@ use Rattle.std.specs.declared.option.Option.TheVariants.{Some, None}
 use Rattle.std.specs.Option.{option_map}
 use Rattle.data_files.specs.declared.file_spec.FileSpec.{FileSpec}
 use Rattle.data_files.specs.Place.{type_byte}
-use Rattle.data_files.specs.Tables.{has_word, has_words, word_at, words_at}
+use Rattle.data_files.specs.Tables.{DataTables, has_word, has_words, word_at, words_at}
 use Rattle.df1_node.specs.Node.{NodeState, with_node_word}
 use Rattle.c_ends.specs.declared.code.Code.{Code}
 use Rattle.c_ends.specs.declared.code.Code.TheVariants as code
@@ -61,6 +61,10 @@ node_words_set file first (value ∷ values) node = node_words_set file (first +
 -- where there are so many, else none
 abbrev pub words_set : (file first : ℕ) → List ℕ → NodeState → NodeState
 words_set file first values node = if is_range node file first (length values) then node_words_set file first values node else node
+
+-- a node with other tables
+abbrev pub with_tables : NodeState → DataTables → NodeState
+with_tables node tables = record node { station = record node.station { tables = tables } }
 
 -- how many files there are
 abbrev pub file_count : NodeState → ℕ

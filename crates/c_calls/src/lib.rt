@@ -14,7 +14,10 @@ mod words;
 pub use commands::{copy_reply, issue, tell_outcome};
 pub use copying::copy;
 pub use ends::{copy_body, give, hear, tell_quiet, tick};
-pub use laws::{a_run_ends_where_there_is_something_to_do, each_change_is_told};
+pub use laws::{
+    a_run_ends_where_there_is_something_to_do, a_run_is_given_up_to_the_end_of_a_message,
+    a_run_of_words_is_set, each_change_is_told,
+};
 pub use runs::{GivenTold, give_run, hear_run};
 pub use state::{StateTold, tell_state};
 pub use transfers::{copy_pulled, pull, push, tell_pushed};
