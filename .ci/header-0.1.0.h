@@ -7,8 +7,8 @@
  * through a copy among it; an empty handle, and one of another kind, is answered DF1_NO_HANDLE.
  * Codes: each call that can be refused answers a df1_code, DF1_DONE where it did what it is for. With another one neither the
  * handle nor what pointers lead to is changed, but that `*length` says how many bytes are there with DF1_NO_ROOM.
- * Threads: a call keeps no state besides the handle, so calls on two handles may run at a time. A handle belongs to one thread,
- * the one that filled it.
+ * Threads: a call keeps no state besides the handle, so calls on two handles may run at a time. A handle may go from thread to
+ * thread; two calls on one handle never run at a time, and each sees what the one before it did, as under a lock of yours.
  * Memory: what a call is handed it reads and writes only while it runs; it keeps no pointer. A handle takes its memory from
  * malloc: the calls with _make in their names, df1_end_issue, df1_end_issue_from, df1_end_pull and df1_end_push take some, and say
  * where there is none.
@@ -604,6 +604,16 @@ uint32_t df1_payload_bit(const df1_address *address, bool on, uint8_t *into, siz
 /* The payload that asks for the `count` bytes at `bytes` back (06 00), at most 243. DF1_TOO_MUCH_DATA, DF1_NO_ROOM. */
 uint32_t df1_payload_echo(const uint8_t *bytes, size_t count, uint8_t *into, size_t room, size_t *length);
 
+/* The payload that reads `count` words of a station's compatibility file from the byte `address` of that file on (01). Word w is the
+ * bytes 2w and 2w + 1; a station of this library refuses an odd address. 122 can be read. DF1_NO_DATA, DF1_TOO_MUCH_DATA,
+ * DF1_NO_ROOM. */
+uint32_t df1_payload_unprotected_read(uint16_t address, uint32_t count, uint8_t *into, size_t room, size_t *length);
+
+/* The payload that writes the `count` words at `words` to a station's compatibility file, from the byte `address` of that file on
+ * (08). 121 can be written. DF1_NO_DATA, DF1_TOO_MUCH_DATA, DF1_NO_ROOM. */
+uint32_t df1_payload_unprotected_write(uint16_t address, const uint16_t *words, size_t count, uint8_t *into, size_t room,
+                                       size_t *length);
+
 /* The payload that asks for the status of a station (06 03): 2 bytes. DF1_NO_ROOM. */
 uint32_t df1_payload_status(uint8_t *into, size_t room, size_t *length);
 
@@ -754,6 +764,10 @@ DF1_NOT_NULL(df1_write_values, uint16_t)
 #define df1_payload_bit(address, on, into, room, length) df1_payload_bit(address, on, df1_write_bytes(into), room, length)
 #define df1_payload_echo(bytes, count, into, room, length) \
     df1_payload_echo(df1_read_bytes(bytes), count, df1_write_bytes(into), room, length)
+#define df1_payload_unprotected_read(address, count, into, room, length) \
+    df1_payload_unprotected_read(address, count, df1_write_bytes(into), room, length)
+#define df1_payload_unprotected_write(address, words, count, into, room, length) \
+    df1_payload_unprotected_write(address, df1_read_values(words), count, df1_write_bytes(into), room, length)
 #define df1_payload_status(into, room, length) df1_payload_status(df1_write_bytes(into), room, length)
 #define df1_reply_read(reply, length, answer) df1_reply_read(df1_read_bytes(reply), length, answer)
 #define df1_status_text(sts, ext, into, room, length) df1_status_text(sts, ext, df1_write_text(into), room, length)

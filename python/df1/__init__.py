@@ -1,6 +1,6 @@
 """The library of df1 in Python, by ctypes: a Library is libdf1.so with its df1.h, an End and a Decoder are handles of it. df1.h says
 what each call does. A code other than DF1_DONE is raised as Refused, and a number that doesn't fit its C type as OverflowError.
-Bytes may be `bytes`, or whatever a memoryview takes. An End and a Decoder stay on the thread that made them."""
+Bytes may be `bytes`, or whatever a memoryview takes. An End and a Decoder may be used by one thread after another."""
 import ctypes
 import operator
 import os
@@ -165,6 +165,8 @@ parameters = {
     "df1_payload_modify": [POINTER(Address), u16, u16, c_char_p, c_size_t, length],
     "df1_payload_bit": [POINTER(Address), c_bool, c_char_p, c_size_t, length],
     "df1_payload_echo": [c_char_p, c_size_t, c_char_p, c_size_t, length],
+    "df1_payload_unprotected_read": [u16, u32, c_char_p, c_size_t, length],
+    "df1_payload_unprotected_write": [u16, POINTER(u16), c_size_t, c_char_p, c_size_t, length],
     "df1_payload_status": [c_char_p, c_size_t, length],
     "df1_reply_read": [c_char_p, c_size_t, POINTER(Answer)],
     "df1_status_text": [u8, u8, c_char_p, c_size_t, length],
@@ -297,6 +299,14 @@ class Library:
         """The payload that asks for bytes back."""
         data = octets(data)
         return self.bytes("df1_payload_echo", data, len(data))
+
+    def payload_unprotected_read(self, address: int, count: int) -> "bytes":
+        """The payload that reads words of a station's compatibility file from a byte on."""
+        return self.bytes("df1_payload_unprotected_read", address, count)
+
+    def payload_unprotected_write(self, address: int, words: Sequence[int]) -> "bytes":
+        """The payload that writes words to a station's compatibility file from a byte on."""
+        return self.bytes("df1_payload_unprotected_write", address, numbers(words, "words"), len(words))
 
     def payload_status(self) -> "bytes":
         """The payload that asks for the status of a station."""

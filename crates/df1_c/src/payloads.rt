@@ -1,13 +1,14 @@
 //! The payloads of commands, as an end issues them: CMD and what follows TNS.
 
-ghost use Rattle.std.specs.Prelude.{◌≡◌, ◌≤◌, length, take, IfOk, min};
+ghost use Rattle.std.specs.Prelude.{◌≡◌, ◌≤◌, ◌*◌, length, take, IfOk, min};
 ghost use Rattle.std.specs.Result.{result_map_both};
-ghost use Rattle.plc_commands.specs.Order.{Echo, Status};
+ghost use Rattle.data_files.specs.WordBytes.{bytes_of};
+ghost use Rattle.plc_commands.specs.Order.{Echo, Peek, Poke, Status};
 ghost use Rattle.command_payloads.specs.Orders.{SpellsPlc};
 ghost use Rattle.command_payloads.specs.Payloads.{status_payload};
 ghost use Rattle.c_ends.specs.Code.{code_number};
 ghost use Rattle.c_calls.specs.Copied.{copied, room_code};
-ghost use Rattle.c_payloads.specs.Payloads.{IsBit, IsMasked, IsModify, IsRead, IsWrite, bit_told, echo_told, masked_told, modify_told, read_told, write_told};
+ghost use Rattle.c_payloads.specs.Payloads.{IsBit, IsMasked, IsModify, IsRead, IsWrite, bit_told, echo_told, masked_told, modify_told, read_told, unprotected_read_told, unprotected_write_told, write_told};
 ghost use Rattle.df1_c.specs.Payloads.{given_code, given_count, given_into};
 
 use arrayvec::ArrayVec;
@@ -15,7 +16,7 @@ use c_calls::copy;
 use c_ends::Code;
 use c_payloads::{
     AddressParts, bit_payload, echo_payload, masked_payload, modify_payload, read_payload,
-    status_payload, write_payload,
+    status_payload, unprotected_read_payload, unprotected_write_payload, write_payload,
 };
 
 /// As many words as any more are told as: no message has room for them.
@@ -122,6 +123,41 @@ pub extern "C" fn df1_payload_echo(bytes: &[u8], into: &mut [u8], count: &mut us
     ensures spelled { IfOk (echo_told bytes.now) (λ given. length given ≤ length into.old → SpellsPlc (Echo bytes.now) (take count.new into.new)) }
 {
     give(echo_payload(bytes), into, count)
+}
+
+/// Gives the payload that reads words of the compatibility file of a station into a buffer. `count` is how many bytes it has.
+#[unsafe(no_mangle)]
+pub extern "C" fn df1_payload_unprotected_read(
+    address: u16,
+    words: u32,
+    into: &mut [u8],
+    count: &mut usize,
+) -> u32
+    ensures code { result ≡ code_number (given_code (unprotected_read_told address (min words 65535)) (length into.old)) }
+    ensures bytes { into.new ≡ given_into into.old (unprotected_read_told address (min words 65535)) }
+    ensures count { count.new ≡ given_count count.old (unprotected_read_told address (min words 65535)) }
+    ensures most { IfOk (unprotected_read_told address (min words 65535)) (λ _. count.new ≤ 245) }
+    ensures spelled { IfOk (unprotected_read_told address (min words 65535)) (λ given. length given ≤ length into.old → SpellsPlc (Peek address (2 * min words 65535)) (take count.new into.new)) }
+{
+    let words = words.min(MANY_WORDS) as u16;
+    give(unprotected_read_payload(address, words), into, count)
+}
+
+/// Gives the payload that writes words to the compatibility file of a station into a buffer. `count` is how many bytes it has.
+#[unsafe(no_mangle)]
+pub extern "C" fn df1_payload_unprotected_write(
+    address: u16,
+    words: &[u16],
+    into: &mut [u8],
+    count: &mut usize,
+) -> u32
+    ensures code { result ≡ code_number (given_code (unprotected_write_told address words.now) (length into.old)) }
+    ensures bytes { into.new ≡ given_into into.old (unprotected_write_told address words.now) }
+    ensures count { count.new ≡ given_count count.old (unprotected_write_told address words.now) }
+    ensures most { IfOk (unprotected_write_told address words.now) (λ _. count.new ≤ 245) }
+    ensures spelled { IfOk (unprotected_write_told address words.now) (λ given. length given ≤ length into.old → SpellsPlc (Poke address (bytes_of words.now)) (take count.new into.new)) }
+{
+    give(unprotected_write_payload(address, words), into, count)
 }
 
 /// Gives the payload that asks for the status of a station into a buffer. `count` is how many bytes it has.
