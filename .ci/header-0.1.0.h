@@ -7,8 +7,8 @@
  * through a copy among it; an empty handle, and one of another kind, is answered DF1_NO_HANDLE.
  * Codes: each call that can be refused answers a df1_code, DF1_DONE where it did what it is for. With another one neither the
  * handle nor what pointers lead to is changed, but that `*length` says how many bytes are there with DF1_NO_ROOM.
- * Threads: a call keeps no state besides the handle, so calls on two handles may run at a time. A handle belongs to one thread,
- * the one that filled it.
+ * Threads: a call keeps no state besides the handle, so calls on two handles may run at a time. A handle may go from thread to
+ * thread; two calls on one handle never run at a time, and each sees what the one before it did, as under a lock of yours.
  * Memory: what a call is handed it reads and writes only while it runs; it keeps no pointer. A handle takes its memory from
  * malloc: the calls with _make in their names, df1_end_issue, df1_end_issue_from, df1_end_pull and df1_end_push take some, and say
  * where there is none.

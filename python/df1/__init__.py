@@ -1,6 +1,6 @@
 """The library of df1 in Python, by ctypes: a Library is libdf1.so with its df1.h, an End and a Decoder are handles of it. df1.h says
 what each call does. A code other than DF1_DONE is raised as Refused, and a number that doesn't fit its C type as OverflowError.
-Bytes may be `bytes`, or whatever a memoryview takes. An End and a Decoder stay on the thread that made them."""
+Bytes may be `bytes`, or whatever a memoryview takes. An End and a Decoder may be used by one thread after another."""
 import ctypes
 import operator
 import os

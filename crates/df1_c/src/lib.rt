@@ -14,6 +14,7 @@ mod runs;
 mod seat;
 mod spelling;
 mod texts;
+mod threads;
 mod transfers;
 mod version;
 mod words;

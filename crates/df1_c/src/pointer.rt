@@ -26,6 +26,8 @@ impl Model for Pointer {
     ghost also_owns = { λ p. pointer_owns p.at p.held };
 }
 
+unsafe impl Send for Pointer {}
+
 impl Pointer {
     /// A pointer of nothing.
     pub(crate) fn empty() -> Pointer
