@@ -1,7 +1,7 @@
 /* Calls of the library by whatever bytes say: three ends, one of each kind, and a decoder of any side, with buffers of just the size that is told.
  * By libFuzzer: clang -fsanitize=fuzzer,address -Iinclude .ci/library-fuzz.c libdf1.a. By bytes of a generator, as under valgrind, which
  * sees each access of the library too: cc -DGENERATED -pthread -Iinclude .ci/library-fuzz.c libdf1.a; its word is how many rounds each of
- * two threads makes, on handles of its own. */
+ * two threads makes, on handles of its own. Before that the two use one handle under a lock. */
 #include <stdio.h>
 #include <stdlib.h>
 #include <string.h>
@@ -361,6 +361,8 @@ static void word_runs(struct said *said, df1_end *end)
     size_t count = byte_of(said) % 20;
     uint16_t *values = block_of(said, 2 * count), *again = block_of(said, 2 * count);
 
+    if (byte_of(said) % 8 == 0)
+        TOLD(df1_end_lock(end, values, count));
     if (what == 0 && TOLD(df1_end_set_words(end, file, first, values, count)) == DF1_DONE) {
         MUST(df1_end_words(end, file, first, again, count) == DF1_DONE);
         MUST(count == 0 || memcmp(values, again, 2 * count) == 0);
@@ -492,17 +494,50 @@ static void *play(void *given)
     return NULL;
 }
 
+/* An end of two threads, each of which takes the lock for its calls. */
+struct shared {
+    pthread_mutex_t lock;
+    df1_end end;
+};
+
+static void *use(void *given)
+{
+    static const uint8_t echo[] = {0x06, 0x00, 0x55};
+    struct shared *shared = given;
+    unsigned round;
+    uint32_t number;
+
+    for (round = 0; round < 50; round++) {
+        MUST(pthread_mutex_lock(&shared->lock) == 0);
+        MUST(df1_end_issue(&shared->end, 2, echo, sizeof echo, &number) == DF1_DONE);
+        carry_runs(&shared->end, &shared->end, 64);
+        tick(&shared->end);
+        MUST(pthread_mutex_unlock(&shared->lock) == 0);
+    }
+    return NULL;
+}
+
+/* Two threads, and the end of both. */
+static void run_two(void *(*of)(void *), void *first, void *second)
+{
+    pthread_t threads[2];
+
+    MUST(pthread_create(&threads[0], NULL, of, first) == 0 && pthread_create(&threads[1], NULL, of, second) == 0);
+    MUST(pthread_join(threads[0], NULL) == 0 && pthread_join(threads[1], NULL) == 0);
+}
+
 int main(int argc, char **argv)
 {
     unsigned long runs = argc > 1 ? strtoul(argv[1], NULL, 10) : 100;
     struct rounds rounds[2] = {{runs, 1770}, {runs, 1771}};
-    pthread_t threads[2];
-    int at;
+    struct shared shared = {PTHREAD_MUTEX_INITIALIZER, DF1_NOTHING};
+    df1_duplex link = DF1_DUPLEX_INIT;
+    df1_node node = DF1_NODE_INIT(1);
 
-    for (at = 0; at < 2; at++)
-        MUST(pthread_create(&threads[at], NULL, play, &rounds[at]) == 0);
-    for (at = 0; at < 2; at++)
-        MUST(pthread_join(threads[at], NULL) == 0);
+    MUST(df1_duplex_make(&link, &node, NULL, 0, NULL, 0, NULL, 0, &shared.end) == DF1_DONE);
+    run_two(use, &shared, &shared);
+    MUST(df1_end_free(&shared.end) == DF1_DONE);
+    run_two(play, &rounds[0], &rounds[1]);
     printf("%lu rounds: ok\n", runs);
     return 0;
 }
