@@ -1,6 +1,7 @@
 """The library's end of examples/c/serve.c, which SERVE names, with CRCs, read and written by df1-port over a line that loses and damages bytes."""
 import os
 import pathlib
+import signal
 import subprocess
 import sys
 import tempfile
@@ -20,9 +21,9 @@ class ServedByTheLibrary(unittest.TestCase):
         (self.folder / "asking.toml").write_text(ASKING)
         self.relay = Relay(lost=0.002, damaged=0.002)
         self.addCleanup(self.relay.close)
-        server = subprocess.Popen([SERVE, self.relay.names[1], "crc"], stderr=subprocess.DEVNULL)
-        self.addCleanup(server.wait)
-        self.addCleanup(server.kill)
+        self.server = subprocess.Popen([SERVE, self.relay.names[1], "crc"], stderr=subprocess.DEVNULL)
+        self.addCleanup(self.server.wait)
+        self.addCleanup(self.server.kill)
 
     def done(self, *given):
         """What a command prints that is asked again where no reply came."""
@@ -45,6 +46,12 @@ class ServedByTheLibrary(unittest.TestCase):
             self.assertEqual(self.done("write", f"{word}={value}"), f"{word} written\n")
             self.assertEqual(self.done("read", word), f"{word} {value}\n")
         self.assertGreater(value, 2)
+
+    def test_it_serves_on_after_a_stop(self):
+        self.server.send_signal(signal.SIGSTOP)
+        time.sleep(2.5)
+        self.server.send_signal(signal.SIGCONT)
+        self.assertEqual(self.done("read", "N7:0"), "N7:0 4660\n")
 
 
 if __name__ == "__main__":
