@@ -3,7 +3,7 @@
 //! with F0/0B, or 50 where it is an unprotected write.
 ghost use Rattle.std.specs.List.{list_any};
 ghost use Rattle.std.specs.Prelude.{◌≡◌, ◌+◌, ◌≤◌, None, length, option_map, IfSome};
-ghost use Rattle.slc_commands.specs.Order.{IsOrder, seen, writes};
+ghost use Rattle.slc_commands.specs.Order.{IsOrder, seen};
 ghost use Rattle.plc_commands.specs.Order.{seen as seen_plc};
 ghost use Rattle.plc_commands.specs.Reading.{order_of};
 ghost use Rattle.df1_node.specs.Answer.{asked_by, asked_of, effect_of, extension_of, is_locked, logical_order, plc_denial, plc_writes, slc_effect, station_with};
@@ -12,7 +12,7 @@ use crate::Tables;
 use arrayvec::ArrayVec;
 use df1_base::Code;
 use plc_commands::{PlcOrder, Set, do_plc, read_plc};
-use slc_commands::{SlcFnc, SlcOrder, do_slc, read_slc};
+use slc_commands::{SlcOrder, do_slc, read_slc};
 
 /// CMD of the logical commands.
 const LOGICAL: u8 = 0x0F;
@@ -77,21 +77,11 @@ fn execute_logical(
     ensures files { tables.new.specs ≡ tables.old.specs }
     ensures fits { length (extension_of result) + length out.new.items ≤ 244 }
 {
-    if writes(order.fnc) && is_locked(locked, order.at.file) {
+    if order.fnc.writes() && is_locked(locked, order.at.file) {
         out.clear();
         return ACCESS_DENIED;
     }
     do_slc(tables, order, out)
-}
-
-/// Whether a logical function writes.
-fn writes(fnc: SlcFnc) -> bool
-    ensures { result ≡ writes fnc }
-{
-    match fnc {
-        SlcFnc::Read2 | SlcFnc::Read3 => false,
-        SlcFnc::Write2 | SlcFnc::Write3 | SlcFnc::Masked => true,
-    }
 }
 
 /// Executes a command that is none of the logical ones, and replaces `out` by the data of its reply.

@@ -5,7 +5,7 @@ ghost use Rattle.data_files.specs.Tables.{has_words, with_words};
 ghost use Rattle.slc_commands.specs.Order.{IsOrder, seen};
 ghost use Rattle.slc_commands.specs.Meaning.{first_word, meaning, tests, words_after, words_before};
 
-use crate::order::{SlcOrder, writes};
+use crate::order::SlcOrder;
 use crate::words::masked_words;
 use arrayvec::ArrayVec;
 use data_files::{Place, Tables, locate, push_words};
@@ -34,7 +34,7 @@ pub fn do_slc(tables: &mut Tables, order: &SlcOrder<'_>, out: &mut ArrayVec<u8, 
     out.clear();
     match first_word(tables, order) {
         Err(code) => code,
-        Ok(first) if writes(order.fnc) => {
+        Ok(first) if order.fnc.writes() => {
             write_words(tables, order, first);
             Code::Done
         }
@@ -67,7 +67,7 @@ fn first_word(tables: &Tables, order: &SlcOrder<'_>) -> Result<u32, Code>
             sub: order.at.sub,
             offset: 0,
             count: u16::from(order.size / 2),
-            writes: writes(order.fnc),
+            writes: order.fnc.writes(),
         },
     )
 }

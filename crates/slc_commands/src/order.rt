@@ -28,6 +28,18 @@ pub enum SlcFnc {
     Masked,
 }
 
+impl SlcFnc {
+    /// Whether the function writes.
+    pub fn writes(self) -> bool
+        ensures { result ≡ writes self }
+    {
+        match self {
+            SlcFnc::Read2 | SlcFnc::Read3 => false,
+            SlcFnc::Write2 | SlcFnc::Write3 | SlcFnc::Masked => true,
+        }
+    }
+}
+
 /// An order of one of these functions.
 #[derive(Clone, Copy, Debug)]
 pub struct SlcOrder<'a> {
@@ -128,19 +140,9 @@ fn has_sub(fnc: SlcFnc) -> bool
     }
 }
 
-/// Whether a function writes.
-pub(crate) fn writes(fnc: SlcFnc) -> bool
-    ensures { result ≡ writes fnc }
-{
-    match fnc {
-        SlcFnc::Read2 | SlcFnc::Read3 => false,
-        SlcFnc::Write2 | SlcFnc::Write3 | SlcFnc::Masked => true,
-    }
-}
-
 /// How many bytes of data an order has.
 fn data_len(fnc: SlcFnc, size: u8) -> usize
     ensures { result ≡ data_len fnc size }
 {
-    if writes(fnc) { usize::from(size) } else { 0 }
+    if fnc.writes() { usize::from(size) } else { 0 }
 }
