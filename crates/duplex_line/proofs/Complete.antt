@@ -24,7 +24,7 @@ pub mod Invariant
 pub mod MessageUnderWay
 -- An end that gives nothing, on a line on which nothing is on its way.
 pub mod QuietEnd
--- The run of a write that is given up, and of another from the state at rest on that follows.
+-- The runs of a write that is given up, and of another from the state at rest on that follows.
 pub mod RestWitness
 -- Two ends at rest, where no end was deceived so far: what holds from there on, whatever happened before.
 pub mod RestingEnds

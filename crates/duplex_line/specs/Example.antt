@@ -1,4 +1,4 @@
--- Scripts whose runs deceive no end: one command is issued, crosses the line, is executed and answered; the same where a byte of it is altered; three of two sources; one after another was given up; and three echoes after a lone DLE.
+-- Scripts whose runs deceive no end: one command is issued, crosses the line, is executed and answered; the same where a byte of it is altered; three of two sources; one after another was given up, over a line that loses nothing more, and over one that damages a byte; and three echoes after a lone DLE.
 use Rattle.std.specs.Prelude.{ℕ, Bool, true, false, List, [], ◌∷◌, ◌++◌, Some, None}
 use Rattle.df1_base.specs.declared.file_type.FileType.TheVariants.{Integer}
 use Rattle.df1_check.specs.declared.Check.TheVariants.{Bcc}
@@ -151,3 +151,28 @@ second_echoed = 0x00 ∷ 0x01 ∷ 0x46 ∷ 0x00 ∷ 0x02 ∷ 0x00 ∷ []
 
 abbrev pub third_echoed : List ℕ
 third_echoed = 0x00 ∷ 0x01 ∷ 0x46 ∷ 0x00 ∷ 0x03 ∷ 0x00 ∷ []
+
+-- end a takes one NAK: the write loses a byte again when it is sent again, and is given up; then a byte of the second write is altered once
+abbrev pub lost_again : List Event
+lost_again =
+    Take A 19 ∷ Deliver (record { from = A; to = B }) 4 ∷ Lose (record { from = A; to = B }) 1 ∷ Deliver (record { from = A; to = B }) 14
+    ∷ Take B 2 ∷ Deliver (record { from = B; to = A }) 2
+    ∷ []
+
+abbrev pub second_hit_write : List Event
+second_hit_write =
+    Issue A None 1 (0x0F ∷ 0xAA ∷ 0x02 ∷ 0x07 ∷ 0x89 ∷ 0x01 ∷ 0x00 ∷ 0x78 ∷ 0x56 ∷ [])
+    ∷ Take A 19 ∷ Deliver (record { from = A; to = B }) 2 ∷ Alter (record { from = A; to = B }) 0x01 ∷ Deliver (record { from = A; to = B }) 17
+    ∷ Take B 2 ∷ Deliver (record { from = B; to = A }) 2
+    ∷ Take A 19 ∷ Deliver (record { from = A; to = B }) 19
+    ∷ Take B 15 ∷ Deliver (record { from = B; to = A }) 15
+    ∷ Take A 2 ∷ Deliver (record { from = A; to = B }) 2
+    ∷ []
+
+abbrev pub hit_after_a_lost_write : Script
+hit_after_a_lost_write = record {
+  half = false;
+  check = Bcc;
+  ends = record (first_plan A 0) { max_naks = 1 } ∷ record (first_plan B 1) { files = record { number = 7; kind = Integer; count = 16 } ∷ [] } ∷ [];
+  events = (lost_write ++ lost_again) ++ second_hit_write;
+}

@@ -50,8 +50,8 @@ pub record IsCalmAfter (script : Script) (front rest : List Event) : Type 0 wher
   pub quiet : EndsQuiet script
   pub rooms : HasRooms script
 
--- a run that deceives no end, that is at rest after the events `front`, and that recovers of what is done from there on: bytes of bodies alone
--- are altered, in few transmissions of each message
+-- a run that deceives no end, that is at rest after the events `front`, and of which the line recovers from there on: bytes of bodies alone are
+-- altered, in few transmissions of each message
 pub record IsMildAfterRest (script : Script) (front rest : List Event) : Type 0 where
   pub events : script.events ≡ front ++ rest
   pub undeceived : (last_state script).deceived ≡ 0
@@ -61,7 +61,7 @@ pub record IsMildAfterRest (script : Script) (front rest : List Event) : Type 0 
   pub quiet : EndsQuiet script
   pub rooms : HasRooms script
 
--- nothing disturbs the line from a state at rest on, or it recovers of what does
+-- nothing disturbs the line from a state at rest on, or it recovers from what does
 abbrev pub IsSoundAfter : Script → (front rest : List Event) → Type 0
 IsSoundAfter script front rest = IsCalmAfter script front rest ⊎ IsMildAfterRest script front rest
 

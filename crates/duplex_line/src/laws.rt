@@ -21,7 +21,7 @@ ghost use Rattle.duplex_line.specs.Complete.{IsComplete};
 ghost use Rattle.duplex_line.specs.Rest.{IsCalmAfter, IsMildAfterRest, IsWellAfter, is_at_rest};
 ghost use Rattle.each_once.specs.Tells.{executed_in, answers_in, outcomes_in};
 ghost use Rattle.df1_node.specs.Initiator.{Undelivered};
-ghost use Rattle.duplex_line.specs.Example.{hit_write, is_damage, one_write, the_command, the_reply, two_sources, second_command, second_reply, third_command, third_reply, lost_write, second_write, after_a_lost_write, lone_dle, two_echoes, last_ack, third_echo, after_noise, second_echoed, third_echoed};
+ghost use Rattle.duplex_line.specs.Example.{hit_write, is_damage, one_write, the_command, the_reply, two_sources, second_command, second_reply, third_command, third_reply, lost_write, second_write, after_a_lost_write, lone_dle, two_echoes, last_ack, third_echo, after_noise, second_echoed, third_echoed, lost_again, second_hit_write, hit_after_a_lost_write};
 
 /// A law: at each byte that arrives at an end in a run, a whole frame is heard exactly where the grammar of the line, over
 /// all bytes that arrived at that end so far, hears one at its last: so a deception is a frame by the grammar, which
@@ -126,6 +126,22 @@ pub fn a_write_after_a_lost_one_is_executed_and_answered()
     ensures given_up { outcomes_in A 1 (record_of after_a_lost_write).lines ≡ Undelivered ∷ [] }
     ensures executed { executed_in B (record_of after_a_lost_write).lines ≡ second_command ∷ [] }
     ensures answered { answers_in A (record_of after_a_lost_write).lines ≡ (2, second_reply) ∷ [] }
+{}
+
+/// A law: so they are met where a byte of the second write is altered, which is refused by a NAK and sent again, after the first
+/// one lost a byte twice.
+#[tactic(auto, unfolding(crate::specs::Run::record_of))]
+pub fn a_hit_write_after_a_lost_one_is_executed_and_answered()
+    ensures playable { IsPlayable hit_after_a_lost_write }
+    ensures mild { IsMildAfterRest hit_after_a_lost_write (lost_write ++ lost_again) second_hit_write }
+    ensures given_up { outcomes_in A 1 (record_of hit_after_a_lost_write).lines ≡ Undelivered ∷ [] }
+    ensures executed { executed_in B (record_of hit_after_a_lost_write).lines ≡ second_command ∷ [] }
+    ensures answered { answers_in A (record_of hit_after_a_lost_write).lines ≡ (2, second_reply) ∷ [] }
+{}
+
+/// A law: before the first event of a script the line is at rest.
+pub fn the_first_state_is_at_rest()
+    ensures { (script : Script) → is_at_rest (start script) ≡ true }
 {}
 
 /// A law: the premises of `a_damaged_run_recovers` are met, and its conclusion isn't empty, by a write of which a byte of the body

@@ -1,4 +1,4 @@
--- Scripts whose last command has no outcome yet, though hardly a drained tick is left of those that are enough.
+-- Scripts whose last command has no outcome yet, though hardly a drained tick is left of those that are enough; and one whose line comes to rest.
 use Rattle.std.specs.Prelude.{◌≡◌, ◌+◌, ◌*◌, ℕ, zero, suc, true, false, List, [], ◌∷◌, ◌++◌, length, None}
 use Rattle.df1_check.specs.declared.Check.TheVariants.{Bcc}
 use Rattle.duplex_line.specs.Issues.{commands_of_a}

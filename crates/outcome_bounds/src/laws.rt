@@ -1,4 +1,4 @@
-//! The laws of how long a command may stand without an outcome. Their functions do nothing.
+//! The laws of how long a command may stand without an outcome, and of when an end is idle. Their functions do nothing.
 ghost use Rattle.std.specs.Prelude.{◌≡◌, true};
 ghost use Rattle.script_parts.specs.declared.script.Script.{Script};
 ghost use Rattle.script_parts.specs.HalfPlayable.{CanBePlayed};

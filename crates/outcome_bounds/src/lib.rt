@@ -1,4 +1,5 @@
 //! How long a command may stand without an outcome: so many ticks at which its end had nothing to give, whatever the line does.
+//! After as many a full-duplex end that has nothing new to do is idle.
 #![tactic(auto)]
 
 mod laws;

@@ -52,11 +52,11 @@ hit_write-answered = refl
 
 -- ---- its damage is such as a line recovers from
 
-pub body_hit : Bool → Option LaneCell → ℕ → Bool
+unfoldable pub body_hit : Bool → Option LaneCell → ℕ → Bool
 body_hit touched None mask = true
 body_hit touched (Some cell) mask = (touched || is_some cell.body_of) && not (bit_xor cell.byte mask == 16)
 
-pub is_mild : LineEndState → Damage → Deed → Bool
+unfoldable pub is_mild : LineEndState → Damage → Deed → Bool
 is_mild side d (Issue src dst payload) = true
 is_mild side d Take = true
 is_mild side d Deliver = true
@@ -132,7 +132,7 @@ mild-over d s (deed ∷ deeds) h =
     let more = both few rest parts.1 in
     (mild-is s.a d.a deed parts.0, few-hits (after_deed s deed).a (damage_after d s deed).a more.0, mild-over (damage_after d s deed) (after_deed s deed) deeds more.1)
 
-mild-after : (d : Damages) (s : LineState) (events : List Event) → mild_after d s events ≡ true → IsMildAfter d s events
+pub mild-after : (d : Damages) (s : LineState) (events : List Event) → mild_after d s events ≡ true → IsMildAfter d s events
 mild-after d s [] h = tt
 mild-after d s (e ∷ events) h =
     let parts = both (mild_over (damage_seen (who_of e) d) (seen_from (who_of e) s) (deeds_of e)) (mild_after (damage_event d s e) (after_event s e) events) h in
@@ -144,7 +144,7 @@ few-over late s (deed ∷ deeds) h =
     let parts = both (are_few (late_after late s deed) (after_deed s deed)) (few_over (late_after late s deed) (after_deed s deed) deeds) h in
     (few-are (late_after late s deed) (after_deed s deed) parts.0, few-over (late_after late s deed) (after_deed s deed) deeds parts.1)
 
-few-after : (late : Late) (s : LineState) (events : List Event) → few_after late s events ≡ true → HasFewTicksAfter late s events
+pub few-after : (late : Late) (s : LineState) (events : List Event) → few_after late s events ≡ true → HasFewTicksAfter late s events
 few-after late s [] h = tt
 few-after late s (e ∷ events) h =
     let parts = both (few_over (late_seen (who_of e) late) (seen_from (who_of e) s) (deeds_of e)) (few_after (late_event late s e) (after_event s e) events) h in

@@ -41,7 +41,7 @@ use Rattle.duplex_line.proofs.Complete.ToldMessages.{TellsOf}
 -- ---- the first state
 
 -- before the first event the line is at rest
-first-rests : (script : Script) → is_at_rest (start script) ≡ true
+pub first-rests : (script : Script) → is_at_rest (start script) ≡ true
 first-rests script = by-quiet (is_quiet (start script)) (first-quiet script)
   where
     by-quiet : (quiet : Bool) → quiet ≡ true → (quiet && (is_resting (start script).a && is_resting (start script).b)) ≡ true
