@@ -1,8 +1,9 @@
-//! Whole files by word range commands: the orders that move a run of words from the beginning of a data file or to it, what their
-//! replies come to, and the line that tells it (manual topics: commands, word range read and write).
+//! Transfers of whole files by word range commands (manual topics: commands, word range read and write): the orders
+//! that read or write words from the beginning of a data file on, the result of their replies, and the line that
+//! reports it.
 //!
-//! A transfer of 1 to 3,000 words has an order for each 100 words and one for what is left. All of them have the words of the
-//! whole transfer as total, and their own first word as offset.
+//! A transfer of 1 to 3,000 words has an order for each 100 words and one for the rest. Each order has the number of
+//! words of the whole transfer as its total, and its own first word as its offset.
 #![tactic(auto)]
 
 pub mod laws;

@@ -1,11 +1,11 @@
 //! The orders of a transfer, each a payload: CMD, and what follows TNS.
 //!
-//! | Bytes | What they are |
+//! | Bytes | Meaning |
 //! |---|---|
 //! | `0F`, then `01` or `00` | CMD and FNC: a word range read, or a word range write |
 //! | offset, total | the first word of the order and the words of the transfer, 2 bytes each, low first |
 //! | level address | the file with element 0 |
-//! | size, or data | how many bytes a read asks for, or the bytes that are written |
+//! | size, or data | how many bytes are read, or the bytes that are written |
 ghost use Rattle.std.specs.Prelude.{◌≡◌, ◌+◌, ◌-◌, ◌*◌, ◌/◌, ◌≤◌, ◌∷◌, ◌++◌, [], All, length, map, if◌then◌else◌, min};
 ghost use Rattle.arrayvec.specs.ArrayVec.{array_vec_len};
 ghost use Rattle.df1_node.specs.Together.{IsPayload};
@@ -23,10 +23,10 @@ const RANGE_WRITE: u8 = 0x00;
 /// The function of a word range read.
 const RANGE_READ: u8 = 0x01;
 
-/// How many words an order moves at most.
+/// The maximum number of words of an order.
 const ORDER_WORDS: u16 = 100;
 
-/// How many orders a transfer of so many words has, 1 to 3,000: at most 30.
+/// Returns how many orders a transfer of so many words, 1 to 3,000, has: at most 30.
 pub fn order_count(words: u16) -> u16
     requires { words ≤ 3000 }
     ensures count { result ≡ orders_of words }
@@ -35,8 +35,8 @@ pub fn order_count(words: u16) -> u16
     (words + (ORDER_WORDS - 1)) / ORDER_WORDS
 }
 
-/// Replaces `into` by order `j`, from 1, of a transfer that reads so many words, 1 to 3,000, of a file, 0 to 999. False, with
-/// `into` empty, comes exactly where `j` is 0 or over the number of orders.
+/// Replaces `into` by order `j`, from 1, of a transfer that reads so many words, 1 to 3,000, of a file, 0 to 999.
+/// Returns false, with `into` empty, exactly if `j` is 0 or over the number of orders.
 pub fn pull_order(file: u16, words: u16, j: u16, into: &mut ArrayVec<u8, 245>) -> bool
     requires file { file ≤ 999 }
     requires words { (1 ≤ words) × (words ≤ 3000) }
@@ -52,8 +52,8 @@ pub fn pull_order(file: u16, words: u16, j: u16, into: &mut ArrayVec<u8, 245>) -
     true
 }
 
-/// Replaces `into` by order `j`, from 1, of a transfer that writes these data, 1 to 3,000 words with their low bytes first, to a
-/// file, 0 to 999. False, with `into` empty, comes exactly where `j` is 0 or over the number of orders.
+/// Replaces `into` by order `j`, from 1, of a transfer that writes these data, 1 to 3,000 words with their low bytes
+/// first, to a file, 0 to 999. Returns false, with `into` empty, exactly if `j` is 0 or over the number of orders.
 pub fn push_order(file: u16, bytes: &[u8], j: u16, into: &mut ArrayVec<u8, 245>) -> bool
     requires file { file ≤ 999 }
     requires words { (2 ≤ length bytes.now) × (length bytes.now ≤ 6000) }
@@ -74,7 +74,7 @@ pub fn push_order(file: u16, bytes: &[u8], j: u16, into: &mut ArrayVec<u8, 245>)
     true
 }
 
-/// The orders of a transfer that reads so many words, 1 to 3,000, of a file, 0 to 999, in order.
+/// Returns the orders of a transfer that reads so many words, 1 to 3,000, of a file, 0 to 999, in order.
 pub fn pull_orders(file: u16, words: u16) -> ArrayVec<ArrayVec<u8, 245>, 30>
     requires file { file ≤ 999 }
     requires words { (1 ≤ words) × (words ≤ 3000) }
@@ -91,7 +91,8 @@ pub fn pull_orders(file: u16, words: u16) -> ArrayVec<ArrayVec<u8, 245>, 30>
     orders
 }
 
-/// The orders of a transfer that writes these data, 1 to 3,000 words with their low bytes first, to a file, 0 to 999, in order.
+/// Returns the orders of a transfer that writes these data to a file, 0 to 999, in order. The data are 1 to 3,000 words
+/// with their low bytes first.
 pub fn push_orders(file: u16, bytes: &[u8]) -> ArrayVec<ArrayVec<u8, 245>, 30>
     requires file { file ≤ 999 }
     requires words { (2 ≤ length bytes.now) × (length bytes.now ≤ 6000) }
@@ -109,7 +110,7 @@ pub fn push_orders(file: u16, bytes: &[u8]) -> ArrayVec<ArrayVec<u8, 245>, 30>
     orders
 }
 
-/// Whether a transfer of so many words has an order of this number.
+/// Returns whether a transfer of so many words has an order of this number.
 fn is_order(words: u16, j: u16) -> bool
     requires { words ≤ 3000 }
     ensures { result ≡ is_order words j }
@@ -117,7 +118,7 @@ fn is_order(words: u16, j: u16) -> bool
     1 <= j && j <= order_count(words)
 }
 
-/// How many words an order of this number moves.
+/// Returns how many words an order of this number moves.
 pub(crate) fn word_count(words: u16, j: u16) -> u16
     requires some { 1 ≤ j }
     requires within { j ≤ orders_of words }
@@ -128,7 +129,7 @@ pub(crate) fn word_count(words: u16, j: u16) -> u16
     (words - ORDER_WORDS * (j - 1)).min(ORDER_WORDS)
 }
 
-/// Writes what stands before the size or the data of an order into an empty `into`.
+/// Writes the part of an order before its size or data into an empty `into`.
 fn begin(function: u8, file: u16, words: u16, j: u16, into: &mut ArrayVec<u8, 245>)
     requires none { into.old.items ≡ [] }
     requires some { 1 ≤ j }

@@ -1,14 +1,14 @@
-//! The line that tells what a transfer came to.
+//! The line that reports the result of a transfer.
 //!
 //! | Line | When |
 //! |---|---|
-//! | `pulled HEX` | all words were read: they, low bytes first |
+//! | `pulled HEX` | all words were read: HEX, low bytes first |
 //! | `pushed K` | all words were written, by K orders |
-//! | `missing N` | command N isn't answered |
+//! | `missing N` | command N wasn't answered |
 //! | `refused N SS EE` | command N was refused, with STS SS and EXT STS EE |
 //! | `odd N` | the reply to command N has other data than its order asks for |
 //!
-//! Numbers are decimal. SS, EE and HEX are pairs of hexadecimal digits, letters in upper case.
+//! Numbers are decimal. SS, EE and HEX are pairs of hexadecimal digits in upper case.
 ghost use Rattle.std.specs.Prelude.{◌≡◌, ◌≤◌, ◌+◌, ◌++◌, [], ◌∷◌, Option, Some, None, MatchOption, OnOk, OnErr, codes, decimal, length};
 ghost use Rattle.arrayvec.specs.ArrayVec.{array_vec_len};
 ghost use Rattle.df1_base.specs.Outside.{Rose, Put, WroteLess, Later};
@@ -20,14 +20,14 @@ use arrayvec::ArrayVec;
 use df1_base::{Failed, Sink, write_all};
 use replay_report::pair;
 
-/// Room for a line without words, in bytes: `refused`, a number of at most 10 digits, and two bytes.
+/// The buffer size for a line without words, in bytes: `refused`, a number of at most 10 digits, and two bytes.
 const LINE: usize = 25;
 
-/// Room for a line with words, in bytes: two digits for each byte of 3,000 words, and `pulled`.
+/// The buffer size for a line with words, in bytes: two digits for each byte of 3,000 words, and `pulled`.
 const WORDS_LINE: usize = 12_008;
 
-/// Writes the line of a transfer that reads: where it is whole, these are its words, at most 3,000. `Failed` comes where the sink
-/// failed; then it holds a first part of the line.
+/// Writes the line of a transfer that reads: if it is whole, these are its words, at most 3,000. Returns `Failed` if
+/// the sink failed; then it holds a first part of the line.
 pub fn put_pull_result<K: Sink>(sink: &mut K, bulk: Bulk, words: &[u8]) -> Result<(), Failed>
     requires { length words.now ≤ 6000 }
     ensures ok { OnOk result (Put (K.held sink.old) (K.held sink.new) (pull_line bulk words.now)) }
@@ -42,8 +42,8 @@ pub fn put_pull_result<K: Sink>(sink: &mut K, bulk: Bulk, words: &[u8]) -> Resul
     }
 }
 
-/// Writes the line of a transfer that writes, which has so many orders. `Failed` comes where the sink failed; then it holds a
-/// first part of the line.
+/// Writes the line of a transfer that writes, which has so many orders. Returns `Failed` if the sink failed; then it
+/// holds a first part of the line.
 pub fn put_push_result<K: Sink>(sink: &mut K, bulk: Bulk, orders: u16) -> Result<(), Failed>
     ensures ok { OnOk result (Put (K.held sink.old) (K.held sink.new) (push_line bulk orders)) }
     ensures missing { OnErr result (WroteLess (K.held sink.old) (K.held sink.new) (push_line bulk orders)) }
@@ -57,7 +57,7 @@ pub fn put_push_result<K: Sink>(sink: &mut K, bulk: Bulk, orders: u16) -> Result
     }
 }
 
-/// The line of a transfer that isn't whole; None exactly for one that is.
+/// Returns the line of a transfer that isn't whole; None exactly for one that is.
 fn fault_line(bulk: Bulk) -> Option<ArrayVec<u8, LINE>>
     ensures { MatchOption result (the_fault_line bulk ≡ None) (λ line. the_fault_line bulk ≡ Some line.items) }
 {
@@ -69,7 +69,7 @@ fn fault_line(bulk: Bulk) -> Option<ArrayVec<u8, LINE>>
     }
 }
 
-/// The line of a word and a number.
+/// Returns the line of a word and a number.
 fn number_line(what: &[u8], number: u32) -> ArrayVec<u8, LINE>
     requires { length what.now ≤ 8 }
     ensures { result.items ≡ what.now ++ decimal number ++ codes "\n" }
@@ -80,7 +80,7 @@ fn number_line(what: &[u8], number: u32) -> ArrayVec<u8, LINE>
     line
 }
 
-/// The line of a command that was refused.
+/// Returns the line of a command that was refused.
 fn refused_line(number: u32, sts: u8, ext: u8) -> ArrayVec<u8, LINE>
     ensures { result.items ≡ codes "refused " ++ decimal number ++ codes " " ++ encode_upper (sts ∷ []) ++ codes " " ++ encode_upper (ext ∷ []) ++ codes "\n" }
 {
@@ -94,7 +94,7 @@ fn refused_line(number: u32, sts: u8, ext: u8) -> ArrayVec<u8, LINE>
     line
 }
 
-/// The line of the words of a transfer that reads, at most 3,000.
+/// Returns the line of the words of a transfer that reads, at most 3,000.
 fn words_line(words: &[u8]) -> ArrayVec<u8, WORDS_LINE>
     requires { length words.now ≤ 6000 }
     ensures { result.items ≡ codes "pulled " ++ encode_upper words.now ++ codes "\n" }
@@ -108,7 +108,7 @@ fn words_line(words: &[u8]) -> ArrayVec<u8, WORDS_LINE>
     line
 }
 
-/// Adds a word and a number to an empty line.
+/// Appends a word and a number to an empty line.
 fn append_number(line: &mut ArrayVec<u8, LINE>, what: &[u8], number: u32)
     requires none { line.old.items ≡ [] }
     requires room { length what.now ≤ 8 }
@@ -119,7 +119,7 @@ fn append_number(line: &mut ArrayVec<u8, LINE>, what: &[u8], number: u32)
     append(line, itoa::Buffer::new().format(number).as_bytes());
 }
 
-/// Adds bytes to a line that has room for them.
+/// Appends bytes to a line that has room for them.
 fn append(line: &mut ArrayVec<u8, LINE>, bytes: &[u8])
     requires { array_vec_len line.old + length bytes.now ≤ LINE }
     ensures { line.new.items ≡ line.old.items ++ bytes.now }

@@ -10,10 +10,10 @@ ghost use Rattle.bulk_transfer.specs.Example.{other_words, two_words};
 ghost use Rattle.bulk_transfer.specs.Moved.{HasFile, IsPulled, IsPushed, IsSound, IsWritable};
 ghost use Rattle.bulk_transfer.specs.Rehearsal.{IsRehearsable, initiator_after, pull_script, push_script};
 
-/// A law: of a rehearsed transfer of 1 to 3,000 words that reads, where no end is deceived, no reply has other data than its
-/// order asks for; and where the transfer is whole, its words are those of end b's file by the script's first values, from word 0
-/// on, and the file has so many. It is whole where nothing disturbs the line, or the line recovers from what does, and the file
-/// has so many words (manual topic: word range read).
+/// A law: in a rehearsed transfer of 1 to 3,000 words that reads, if no end is deceived, no reply has other data than
+/// its order asks for. If such a transfer is whole, its words are those of end b's file by the script's first values,
+/// from word 0 on, and the file has so many. A transfer is whole if the file has so many words and the line is
+/// undisturbed or recovers (manual topic: word range read).
 pub fn pulled_words_are_those_of_the_file()
     ensures moved { (script : Script) (file words : ℕ) → IsRehearsable script → 1 ≤ words → words ≤ 3000 → (record_of (pull_script script file words)).deceived ≡ 0 →
         IsPulled script file words (pull_result (initiator_after (pull_script script file words)) words) (words_pulled (initiator_after (pull_script script file words)) words) }
@@ -21,10 +21,10 @@ pub fn pulled_words_are_those_of_the_file()
         pull_result (initiator_after (pull_script script file words)) words ≡ Whole }
 {}
 
-/// A law: of a rehearsed transfer of 1 to 3,000 words that writes, where no end is deceived, no reply has data; and where the
-/// transfer is whole, the data are in end b's file from word 0 on, every other word of end b is as the script gave it, and the file
-/// has so many words and isn't of the status type. It is whole where nothing disturbs the line, or the line recovers from what
-/// does, and the file has so many words and isn't of the status type (manual topic: word range write).
+/// A law: in a rehearsed transfer of 1 to 3,000 words that writes, if no end is deceived, no reply has data. If such a
+/// transfer is whole, the data are in end b's file from word 0 on, every other word of end b is as in the script, and
+/// the file has so many words and isn't of the status type. A transfer is whole if the file has so many words and isn't
+/// of the status type, and the line is undisturbed or recovers (manual topic: word range write).
 pub fn pushed_data_are_in_the_file()
     ensures moved { (script : Script) (file : ℕ) (bytes : List ℕ) → IsRehearsable script → length bytes ≡ 2 * (length bytes / 2) → 2 ≤ length bytes → length bytes ≤ 6000 → (record_of (push_script script file bytes)).deceived ≡ 0 →
         IsPushed script file bytes (push_result (initiator_after (push_script script file bytes)) (length bytes / 2)) (record_of (push_script script file bytes)) }
@@ -32,8 +32,9 @@ pub fn pushed_data_are_in_the_file()
         push_result (initiator_after (push_script script file bytes)) (length bytes / 2) ≡ Whole }
 {}
 
-/// A law: the premises of both are met, and their conclusions aren't empty, by transfers of two words over a line that loses
-/// nothing: those that are pulled are the words of the file, and those that are pushed are told in their place.
+/// A law: transfers of two words over a line that loses nothing meet the premises of both laws, and their conclusions
+/// aren't empty. The words that are pulled are those of the file, and the words that are pushed are reported in their
+/// place.
 pub fn two_words_are_pulled_and_pushed()
     ensures rehearsable { IsRehearsable two_words }
     ensures file { HasFile two_words 7 2 }

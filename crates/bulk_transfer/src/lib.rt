@@ -1,6 +1,6 @@
-//! Transfers of whole files, rehearsed on a full-duplex line: end a issues the orders of a transfer, and then the events of a script
-//! happen; what is told as pulled are the words of the file, and what is told as pushed is in it (manual topics: commands, word
-//! range read and write).
+//! Transfers of whole files, rehearsed on a full-duplex line: end a issues the orders of a transfer, and then the
+//! events of a script happen. The words that are reported as pulled are those of the file, and the words that are
+//! reported as pushed are in it (manual topics: commands, word range read and write).
 #![tactic(auto)]
 
 pub mod laws;

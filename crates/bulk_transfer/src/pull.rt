@@ -19,11 +19,13 @@ use line_world::World;
 use script_parts::{Items, Script};
 use std::alloc::Global;
 
-/// Rehearses the transfer of so many words, 1 to 3,000, from a file of end b, 0 to 999: end a issues its orders, and then the
-/// script's events happen. What the transfer came to is told by the outcomes of end a's commands and their replies. Of the report
-/// is true what is true of that of every replay. Where no end was deceived, no reply has other data than its order asks for, and
-/// where the transfer is whole, its words are those of end b's file as the script gave it, from word 0 on. It is whole where nothing
-/// disturbs the line, or it recovers, and the file has so many words. An error is want of memory.
+/// Rehearses the transfer of so many words, 1 to 3,000, from a file of end b, 0 to 999: end a issues its orders, and
+/// then the script's events happen. The result of the transfer is determined by the outcomes of end a's commands and
+/// their replies. An error is want of memory.
+///
+/// What is true of the report of every replay is true of this report. If no end was deceived, no reply has other data
+/// than its order asks for; and if the transfer is whole, its words are those of end b's file as in the script, from
+/// word 0 on. It is whole if the file has so many words and the line is undisturbed or recovers.
 pub fn rehearse_pull(
     alloc: Global,
     script: &Script,
@@ -54,7 +56,7 @@ pub fn rehearse_pull(
     })
 }
 
-/// The world after the orders and the events of the script.
+/// Returns the world after the orders and the events of the script.
 fn play(alloc: Global, script: &Script, file: u16, words: u16) -> Result<World, NoMemory>
     requires script { IsRehearsable script.now }
     requires file { file ≤ 999 }

@@ -19,10 +19,12 @@ use line_world::World;
 use script_parts::{Items, Script};
 use std::alloc::Global;
 
-/// Rehearses the transfer of words, 1 to 3,000 with their low bytes first, to a file of end b, 0 to 999, as `rehearse_pull` does
-/// one that reads. There are no words then. Where no end was deceived, no reply has data, and where the transfer is whole, end b's
-/// file has the data from word 0 on, and each other word of end b is as the script gave it. It is whole where nothing disturbs the
-/// line, or it recovers, and the file has so many words and isn't of the status type. An error is want of memory.
+/// Rehearses the transfer of words, 1 to 3,000 with their low bytes first, to a file of end b, 0 to 999, as
+/// `rehearse_pull` does one that reads. The result has no words. An error is want of memory.
+///
+/// If no end was deceived, no reply has data; and if the transfer is whole, end b's file has the data from word 0 on,
+/// and each other word of end b is as in the script. It is whole if the file has so many words and isn't of the status
+/// type, and the line is undisturbed or recovers.
 pub fn rehearse_push(
     alloc: Global,
     script: &Script,
@@ -53,7 +55,7 @@ pub fn rehearse_push(
     })
 }
 
-/// The world after the orders and the events of the script.
+/// Returns the world after the orders and the events of the script.
 fn play(alloc: Global, script: &Script, file: u16, bytes: &[u8]) -> Result<World, NoMemory>
     requires script { IsRehearsable script.now }
     requires file { file ≤ 999 }

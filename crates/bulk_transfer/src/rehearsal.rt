@@ -1,4 +1,5 @@
-//! What a rehearsal came to, and what both kinds of transfer need of the line: end a issues an order, and tells what became of it.
+//! The result of a rehearsal, and what both kinds of transfer need of the line: end a issues orders and has their
+//! outcomes.
 
 ghost use Rattle.std.specs.Prelude.{◌≡◌, Some, IsSome, OnOk};
 ghost use Rattle.script_parts.specs.Playable.{AreEnds};
@@ -14,18 +15,18 @@ use replay_report::Record;
 use script_parts::{Bytes, Event, Items, Script, Who};
 use std::alloc::Global;
 
-/// What a rehearsal came to.
+/// The result of a rehearsal.
 #[derive(Drop)]
 pub struct Rehearsal {
-    /// What happened on the line.
+    /// The record of what happened on the line.
     pub report: Record,
-    /// What the transfer came to.
+    /// The result of the transfer.
     pub bulk: Bulk,
-    /// The words of a transfer that reads, low bytes first, where it is whole; else none.
+    /// The words of a transfer that reads, low bytes first, if it is whole; otherwise none.
     pub words: Bytes,
 }
 
-/// End a issues an order to the end of this address.
+/// Issues an order at end a to the end of this address.
 pub(crate) fn issue(
     alloc: Global,
     world: &mut World,
@@ -43,7 +44,7 @@ pub(crate) fn issue(
     })
 }
 
-/// The address of end b.
+/// Returns the address of end b.
 pub(crate) fn node_of_b(script: &Script) -> u8
     requires { AreEnds script.now.ends }
     ensures { result ≡ (plan_of_b script.now).node }
@@ -54,7 +55,7 @@ pub(crate) fn node_of_b(script: &Script) -> u8
     b.node
 }
 
-/// The initiator of end a, which a full-duplex line has.
+/// Returns the initiator of end a, which a full-duplex line has.
 pub(crate) fn initiator_of_a(world: &World) -> &Initiator
     requires { IsSome (initiator_of world.now Who.A) }
     ensures { initiator_of world.now Who.A ≡ Some result.now }

@@ -7,7 +7,7 @@ ghost use Rattle.c_calls.specs.Behind.{node_in};
 use c_ends::Held;
 use df1_node::Node;
 
-/// The node behind an end; a decoder has none.
+/// Returns the node behind an end; a decoder has none.
 pub(crate) fn node_of(held: &Held) -> Option<&Node>
     ensures { option_copied result ≡ node_in held.now }
 {

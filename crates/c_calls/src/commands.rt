@@ -1,11 +1,11 @@
-//! What the calls on an end's commands do: issuing one, what became of it, and its reply.
+//! The calls on an end's commands: issuing a command, its outcome, and its reply.
 //!
-//! | Number | What became of a command |
+//! | Number | Outcome of a command |
 //! |---|---|
 //! | 1 | it waits to be handed out |
 //! | 2 | it was handed out |
 //! | 3 | its reply was accepted |
-//! | 4 | it was given up on its way |
+//! | 4 | it was given up on its way, or dropped before it was handed out |
 //! | 5 | no reply came in time |
 
 ghost use Rattle.std.specs.Prelude.{◌≡◌, length, unwrap_or, Some};
@@ -22,7 +22,7 @@ use c_ends::{Code, Held};
 use c_transfers::fault_code;
 use df1_node::{Node, Outcome};
 
-/// Issues a command of an end in the name of a source, or else in that of the end's own node. `number` is its number.
+/// Issues a command of an end with `src` as its SRC, or else with the end's own node. `number` becomes its number.
 pub fn issue(held: &mut Held, src: Option<u8>, dst: u8, payload: &[u8], number: &mut u32) -> u32
     ensures { IsIssue (refusal (Some held.old) dst payload.now) (with_change (λ node. after_node_issue node (unwrap_or src node.initiator.node) dst payload.now) held.old) (told_at (Some held.old) (λ node. Some (next_number node)) number.old) result held.old held.new number.old number.new }
 {
@@ -37,7 +37,7 @@ pub fn issue(held: &mut Held, src: Option<u8>, dst: u8, payload: &[u8], number: 
     }
 }
 
-/// What stands against a message to a node: a master gives messages to its stations alone.
+/// Returns the refusal of a message to a node: a master sends messages only to its stations.
 pub(crate) fn station_refusal(held: &Held, dst: u8) -> Option<Code>
     ensures { result ≡ station_refusal held.now dst }
 {
@@ -63,7 +63,7 @@ fn issue_at(node: &mut Node, src: Option<u8>, dst: u8, payload: &[u8], number: &
     }
 }
 
-/// What became of a command: its number as the table of the module says.
+/// Reports the outcome of a command by the number in the module's table.
 pub fn tell_outcome(held: &Held, number: u32, outcome: &mut u32) -> Code
     ensures code { result ≡ code_at (Some held.now) (λ node. outcome_code (outcome_of node.initiator number)) }
     ensures told { outcome.new ≡ told_at (Some held.now) (λ node. outcome_told node number) outcome.old }
@@ -90,7 +90,7 @@ fn outcome_number(outcome: Outcome) -> u32
     }
 }
 
-/// Copies the accepted reply to a command. `count` is how many bytes it has.
+/// Copies the accepted reply to a command. `count` becomes its number of bytes.
 pub fn copy_reply(held: &Held, number: u32, into: &mut [u8], count: &mut usize) -> Code
     ensures code { result ≡ code_at (Some held.now) (λ node. reply_code node number (length into.old)) }
     ensures bytes { into.new ≡ told_at (Some held.now) (λ node. option_map (copied into.old) (reply_told node number)) into.old }

@@ -1,4 +1,4 @@
-//! What the calls on an end do: bytes that it hears, the body that it lends, ticks, and bytes that it gives.
+//! The calls on an end: bytes that it receives, the body that it lends, ticks, and bytes that it sends.
 
 ghost use Rattle.std.specs.Prelude.{◌≡◌, length, nat_lt, if◌then◌else◌, Some, None};
 ghost use Rattle.std.specs.Option.{option_map, unwrap_or};
@@ -20,7 +20,7 @@ use station_router::Router;
 /// Room for all commands that one tick may leave unanswered.
 const MAX_GONE: usize = 16;
 
-/// Hears a byte, and tells what the end made of it.
+/// Receives a byte, and reports what the end made of it.
 pub fn hear(held: &mut Held, byte: u8, step: &mut StepTold) -> Code
     ensures code { result ≡ end_code (Some held.old) }
     ensures after { held.new ≡ after_byte held.old byte }
@@ -33,7 +33,7 @@ pub fn hear(held: &mut Held, byte: u8, step: &mut StepTold) -> Code
     Code::Done
 }
 
-/// What an end made of a byte.
+/// Feeds a byte to an end, and returns what it made of it.
 pub(crate) fn made_of(held: &mut Held, byte: u8) -> Option<StepTold>
     ensures code { result ≡ None → end_code (Some held.old) ≡ Code.NoHandle }
     ensures after { held.new ≡ after_byte held.old byte }
@@ -47,7 +47,7 @@ pub(crate) fn made_of(held: &mut Held, byte: u8) -> Option<StepTold>
     }
 }
 
-/// What a master made of a byte, and whether it carries the message that it heard.
+/// Feeds a byte to a master, and returns what it made of it and whether it carries the message that it received.
 fn routed_step(end: &mut Master<Router<Node>>, byte: u8) -> StepTold
     ensures after { end.new ≡ master_after_byte routed_host end.old byte }
     ensures told { result ≡ routed_told (is_carrying (master_after_byte routed_host end.old byte)) (step_told (step_at_byte routed_host end.old byte)) }
@@ -57,7 +57,7 @@ fn routed_step(end: &mut Master<Router<Node>>, byte: u8) -> StepTold
     routed(carried, told)
 }
 
-/// Copies the body of the frame that ended at the latest byte. `count` is how many bytes it has.
+/// Copies the body of the frame that ended at the latest byte. `count` becomes its number of bytes.
 pub fn copy_body(held: &Held, into: &mut [u8], count: &mut usize) -> Code
     ensures code { result ≡ body_code (Some held.now) (length into.old) }
     ensures bytes { into.new ≡ unwrap_or (option_map (copied into.old) (body_of held.now)) into.old }
@@ -80,7 +80,8 @@ fn body(held: &Held) -> Option<&[u8]>
     }
 }
 
-/// A unit of time has passed: what it did, and the commands that it left unanswered, at the front of `gone`, which has room for 16.
+/// Performs a tick and reports what it did. The commands that it left unanswered are put at the front of `gone`, which
+/// must have room for 16.
 pub fn tick(held: &mut Held, turn: &mut TurnTold, gone: &mut [u32]) -> Code
     ensures code { result ≡ tick_code (Some held.old) (length gone.old) }
     ensures after { held.new ≡ (if nat_lt (length gone.old) 16 then held.old else after_tick held.old) }
@@ -101,7 +102,7 @@ pub fn tick(held: &mut Held, turn: &mut TurnTold, gone: &mut [u32]) -> Code
     Code::Done
 }
 
-/// What an end made of a tick, and the commands that it left unanswered.
+/// Performs a tick of an end, and returns what it did. Puts the commands that it left unanswered into `gone`.
 fn turned(held: &mut Held, gone: &mut ArrayVec<u32, 16>) -> Option<Turn>
     ensures after { held.new ≡ after_tick held.old }
     ensures told { option_map (λ turn. turn_told turn (length gone.new.items)) result ≡ turn_in held.old }
@@ -118,7 +119,7 @@ fn turned(held: &mut Held, gone: &mut ArrayVec<u32, 16>) -> Option<Turn>
     }
 }
 
-/// Gives the next byte, if there is one.
+/// Puts the next byte to transmit, if there is one, into `out`.
 pub fn give(held: &mut Held, out: &mut OutTold) -> Code
     ensures code { result ≡ end_code (Some held.old) }
     ensures after { held.new ≡ after_take held.old }
@@ -131,7 +132,7 @@ pub fn give(held: &mut Held, out: &mut OutTold) -> Code
     Code::Done
 }
 
-/// What an end gave.
+/// Takes the next byte of an end.
 pub(crate) fn given_of(held: &mut Held) -> Option<Option<Out>>
     ensures code { result ≡ None → end_code (Some held.old) ≡ Code.NoHandle }
     ensures after { held.new ≡ after_take held.old }
@@ -145,7 +146,7 @@ pub(crate) fn given_of(held: &mut Held) -> Option<Option<Out>>
     }
 }
 
-/// Whether the end has nothing to give.
+/// Reports whether the end has nothing to transmit.
 pub fn tell_quiet(held: &Held, quiet: &mut bool) -> Code
     ensures code { result ≡ end_code (Some held.now) }
     ensures told { quiet.new ≡ unwrap_or (quiet_of held.now) quiet.old }
@@ -157,7 +158,7 @@ pub fn tell_quiet(held: &Held, quiet: &mut bool) -> Code
     Code::Done
 }
 
-/// Whether an end has nothing to give.
+/// Returns whether an end has nothing to transmit.
 pub(crate) fn quiet_of(held: &Held) -> Option<bool>
     ensures code { result ≡ None → end_code (Some held.now) ≡ Code.NoHandle }
     ensures told { result ≡ quiet_of held.now }

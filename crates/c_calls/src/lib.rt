@@ -1,4 +1,5 @@
-//! What each call of the library for C does to what a handle holds: the answers, what is told, and what is held then.
+//! The calls of the C library as functions on what a handle holds: the code returned, the values reported, and the
+//! state afterwards.
 #![tactic(auto)]
 
 mod behind;

@@ -1,4 +1,4 @@
-//! What the call does that says which data files of an end no command of the line may write.
+//! The call that locks data files of an end against commands of the line.
 
 ghost use Rattle.std.specs.Prelude.{◌≡◌, Some};
 ghost use Rattle.c_calls.specs.Behind.{code_at, with_change};
@@ -7,10 +7,11 @@ ghost use Rattle.c_calls.specs.Locks.{files_locked, lacks_file, lock_code};
 use c_ends::{Code, Held};
 use df1_node::Node;
 
-/// The most data files of an end.
+/// The maximum number of data files of an end.
 const FILES: usize = 256;
 
-/// Locks these data files, and unlocks all others: from now on a command of the line that would write one of them is refused.
+/// Locks these data files, and unlocks all others: from now on a command of the line that would write a locked file is
+/// refused.
 pub fn lock(held: &mut Held, files: &[u16]) -> Code
     ensures code { result ≡ code_at (Some held.old) (λ node. lock_code node files.now) }
     ensures after { held.new ≡ with_change (files_locked files.now) held.old }
@@ -37,7 +38,7 @@ fn lock_at(node: &mut Node, files: &[u16]) -> Code
     Code::Done
 }
 
-/// Whether one of the numbers is no file's.
+/// Returns whether one of the numbers is not that of a file.
 fn lacks_file(node: &Node, files: &[u16]) -> bool
     ensures { result ≡ lacks_file node.now files.now }
 {

@@ -1,5 +1,5 @@
-//! Runs of bytes, as by the calls for one byte: those that an end hears up to the first after which there is something to do, and
-//! those that it gives up to the first that ends a message.
+//! Runs of bytes, as by the calls for one byte: those that an end receives up to the first after which there is
+//! something to do, and those that it sends up to the first that ends a message.
 
 ghost use Rattle.std.specs.Prelude.{◌≡◌, ◌≤◌, [], length, min, Some};
 ghost use Rattle.std.specs.Option.{option_map, unwrap_or};
@@ -13,10 +13,10 @@ use crate::ends::{given_of, made_of, quiet_of};
 use arrayvec::ArrayVec;
 use c_ends::{Code, Held, OutTold, StepTold, out_of};
 
-/// The most bytes of one run that is given: those of any frame, and some more.
+/// The maximum number of bytes of one transmitted run: those of any frame, and some more.
 const MOST_GIVEN: usize = 512;
 
-/// A step of which nothing is told.
+/// A step with nothing to report.
 const STILL: StepTold = StepTold {
     act: 0,
     did: 0,
@@ -27,20 +27,21 @@ const STILL: StepTold = StepTold {
     station: 0,
 };
 
-/// What a run that was given has besides its bytes.
+/// The description of a transmitted run, besides its bytes.
 #[repr(C)]
 #[derive(Clone, Copy)]
 pub struct GivenTold {
-    /// How many bytes it has.
+    /// The number of bytes.
     pub length: usize,
-    /// The last of them ends a message.
+    /// Whether the last byte ends a message.
     pub last: bool,
-    /// Nothing more is to be given.
+    /// Whether there is nothing more to transmit.
     pub quiet: bool,
 }
 
-/// Hears the first of these bytes, up to one after which there is something to do: of which something is told, or after which
-/// there is something to give; or all, where there is no such one. `used` is how many they are, `step` what the last of them did.
+/// Receives the first of these bytes, up to one after which there is something to do: something to report, or something
+/// to transmit. Receives all of them if there is no such byte. `used` becomes the number of bytes received, `step` what
+/// the last of them did.
 pub fn hear_run(held: &mut Held, bytes: &[u8], used: &mut usize, step: &mut StepTold) -> Code
     ensures code { result ≡ end_code (Some held.old) }
     ensures after { held.new ≡ after_heard held.old bytes.now }
@@ -56,7 +57,7 @@ pub fn hear_run(held: &mut Held, bytes: &[u8], used: &mut usize, step: &mut Step
     Code::Done
 }
 
-/// How many bytes are heard, and what the last of them did.
+/// Receives bytes of a run, and returns how many were received and what the last of them did.
 fn heard_run(held: &mut Held, bytes: &[u8]) -> (usize, StepTold)
     ensures after { held.new ≡ (heard_of held.old bytes.now).after }
     ensures used { result.0 ≡ (heard_of held.old bytes.now).used }
@@ -72,7 +73,7 @@ fn heard_run(held: &mut Held, bytes: &[u8]) -> (usize, StepTold)
     (bytes.len(), step)
 }
 
-/// Whether something is told of a step.
+/// Returns whether a step has something to report.
 fn is_told(step: StepTold) -> bool
     ensures { result ≡ is_told step }
 {
@@ -85,15 +86,16 @@ fn is_told(step: StepTold) -> bool
         || step.station != 0
 }
 
-/// Whether nothing is to be given.
+/// Returns whether there is nothing to transmit.
 fn is_quiet(held: &Held) -> bool
     ensures { result ≡ is_quiet held.now }
 {
     quiet_of(held).unwrap_or(true)
 }
 
-/// Gives the next bytes into the front of a buffer: as many as it has room for, and 512 at most, up to the first that ends a
-/// message. `given` is how many they are, whether the last of them ends a message, and whether nothing more is to be given.
+/// Puts the next bytes to transmit at the front of a buffer: as many as it has room for, at most 512, up to the first
+/// that ends a message. `given` becomes their number, whether the last of them ends a message, and whether there is
+/// nothing more to transmit.
 pub fn give_run(held: &mut Held, into: &mut [u8], given: &mut GivenTold) -> Code
     ensures code { result ≡ end_code (Some held.old) }
     ensures after { held.new ≡ after_given (min (length into.old) most_given) held.old }
@@ -115,7 +117,7 @@ pub fn give_run(held: &mut Held, into: &mut [u8], given: &mut GivenTold) -> Code
     Code::Done
 }
 
-/// The bytes of a run, at most `room` of them, and whether the last of them ends a message.
+/// Takes the bytes of a run, at most `room` of them. Returns whether the last of them ends a message.
 fn given_run(held: &mut Held, room: usize, bytes: &mut ArrayVec<u8, 512>) -> bool
     requires empty { bytes.old.items ≡ [] }
     requires room { room ≤ 512 }
@@ -137,7 +139,7 @@ fn given_run(held: &mut Held, room: usize, bytes: &mut ArrayVec<u8, 512>) -> boo
     false
 }
 
-/// What is given next.
+/// Takes the next byte to transmit, if there is one.
 fn out_at(held: &mut Held) -> OutTold
     ensures after { held.new ≡ after_take held.old }
     ensures told { result ≡ out_at held.old }

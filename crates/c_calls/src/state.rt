@@ -1,4 +1,5 @@
-//! What state an end is in: whether it has something to give, whether a message of its host is under way, and which station it polls.
+//! The state of an end: whether it has something to transmit, whether a message of its host is under way, and which
+//! station it polls.
 
 ghost use Rattle.std.specs.Prelude.{◌≡◌, Some, None};
 ghost use Rattle.std.specs.Option.{unwrap_or};
@@ -11,17 +12,17 @@ use c_ends::{Code, Held};
 #[repr(C)]
 #[derive(Clone, Copy)]
 pub struct StateTold {
-    /// Nothing is to be given.
+    /// Whether there is nothing to transmit.
     pub quiet: bool,
-    /// A message of its host was neither acknowledged nor given up.
+    /// Whether a message of its host is neither acknowledged nor given up.
     pub holds: bool,
-    /// It is a master that gives a poll, or waits for the answer to one.
+    /// Whether it is a master that sends a poll, or waits for the answer to one.
     pub polls: bool,
     /// The station that it polls, or 0.
     pub station: u8,
 }
 
-/// The state of an end.
+/// Reports the state of an end.
 pub fn tell_state(held: &Held, state: &mut StateTold) -> Code
     ensures code { result ≡ end_code (Some held.now) }
     ensures told { state.new ≡ unwrap_or (state_of held.now) state.old }
@@ -33,7 +34,7 @@ pub fn tell_state(held: &Held, state: &mut StateTold) -> Code
     Code::Done
 }
 
-/// The state of what is held; a decoder has none.
+/// Returns the state of what is held; a decoder has none.
 fn state_of(held: &Held) -> Option<StateTold>
     ensures code { result ≡ None → end_code (Some held.now) ≡ Code.NoHandle }
     ensures told { result ≡ state_of held.now }
@@ -46,7 +47,7 @@ fn state_of(held: &Held) -> Option<StateTold>
     }
 }
 
-/// A state in which this station is polled, or none.
+/// Returns a state in which this station is polled, or none.
 fn polling(quiet: bool, holds: bool, station: Option<u8>) -> StateTold
     ensures { result ≡ polling quiet holds station }
 {

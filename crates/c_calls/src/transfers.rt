@@ -1,4 +1,4 @@
-//! What the calls on an end's transfers do: whole files by orders that are issued together, and what each came to so far.
+//! The calls on an end's transfers: whole files, by orders that are issued together, and the result so far of each.
 
 ghost use Rattle.std.specs.Prelude.{◌≡◌, length, Some};
 ghost use Rattle.std.specs.Option.{option_map};
@@ -16,7 +16,8 @@ use c_ends::{Code, Held};
 use c_transfers::{TransferTold, issue_pull, issue_push, pulled, pushed};
 use df1_node::Node;
 
-/// Issues the orders of a transfer that reads the first words of a file of a node, all of them or none. `first` is the number of the first.
+/// Issues the orders of a transfer that reads the first words of a file of a node, all of them or none. `first` becomes
+/// the number of the first.
 pub fn pull(held: &mut Held, dst: u8, file: u16, words: u32, first: &mut u32) -> u32
     ensures { IsIssue (pull_refusal (Some held.old) dst file words) (with_change (after_pull dst file words) held.old) (told_at (Some held.old) (λ node. Some (next_number node)) first.old) result held.old held.new first.old first.new }
 {
@@ -43,8 +44,8 @@ fn pull_at(node: &mut Node, dst: u8, file: u16, words: u32, first: &mut u32) -> 
     }
 }
 
-/// Issues the orders of a transfer that writes words to the beginning of a file of a node, all of them or none. `first` is the number
-/// of the first.
+/// Issues the orders of a transfer that writes words to the beginning of a file of a node, all of them or none. `first`
+/// becomes the number of the first.
 pub fn push(held: &mut Held, dst: u8, file: u16, bytes: &[u8], first: &mut u32) -> u32
     ensures { IsIssue (push_refusal (Some held.old) dst file (length bytes.now)) (with_change (after_push dst file bytes.now) held.old) (told_at (Some held.old) (λ node. Some (next_number node)) first.old) result held.old held.new first.old first.new }
 {
@@ -71,7 +72,8 @@ fn push_at(node: &mut Node, dst: u8, file: u16, bytes: &[u8], first: &mut u32) -
     }
 }
 
-/// What a transfer that reads came to so far, and its words where it is whole. `count` is how many bytes they have.
+/// Reports the result so far of a transfer that reads, and copies its words if it is whole. `count` becomes their
+/// number of bytes.
 pub fn copy_pulled(
     held: &Held,
     first: u32,
@@ -100,7 +102,7 @@ pub fn copy_pulled(
     }
 }
 
-/// What a transfer that writes came to so far.
+/// Reports the result so far of a transfer that writes.
 pub fn tell_pushed(held: &Held, first: u32, words: u32, came: &mut TransferTold) -> Code
     ensures code { result ≡ code_at (Some held.now) (λ node. pushed_code words) }
     ensures told { came.new ≡ told_at (Some held.now) (λ node. pushed_told node first words) came.old }

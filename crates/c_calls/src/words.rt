@@ -1,4 +1,4 @@
-//! What the calls on an end's data files do: its files, their words, and runs of words.
+//! The calls on an end's data files: its files, their words, and runs of words.
 
 ghost use Rattle.std.specs.Prelude.{◌≡◌, ◌+◌, ◌≤◌, IsTrue, length, Some};
 ghost use Rattle.c_calls.specs.Answers.{end_code};
@@ -10,7 +10,7 @@ use c_ends::{Code, FileParts, Held};
 use data_files::{FileSpec, type_byte};
 use df1_node::Node;
 
-/// The value of a word.
+/// Reports the value of a word.
 pub fn tell_word(held: &Held, file: u16, index: u32, value: &mut u16) -> Code
     ensures code { result ≡ code_at (Some held.now) (λ node. word_code node file index) }
     ensures told { value.new ≡ told_at (Some held.now) (λ node. word_told node file index) value.old }
@@ -39,7 +39,7 @@ pub fn set_word(held: &mut Held, file: u16, index: u32, value: u16) -> Code
     if is_set { Code::Done } else { Code::NoWord }
 }
 
-/// How many data files the end has.
+/// Reports the number of data files of the end.
 pub fn tell_files(held: &Held, count: &mut u32) -> Code
     ensures code { result ≡ end_code (Some held.now) }
     ensures told { count.new ≡ told_at (Some held.now) (λ node. Some (file_count node)) count.old }
@@ -51,7 +51,7 @@ pub fn tell_files(held: &Held, count: &mut u32) -> Code
     Code::Done
 }
 
-/// The data file at a place, from 0, in the order in which they were given.
+/// Reports the data file at a place, from 0, in the order in which they were given.
 pub fn tell_file(held: &Held, place: u32, file: &mut FileParts) -> Code
     ensures code { result ≡ code_at (Some held.now) (λ node. file_code node place) }
     ensures told { file.new ≡ told_at (Some held.now) (λ node. file_at node place) file.old }
@@ -66,7 +66,7 @@ pub fn tell_file(held: &Held, place: u32, file: &mut FileParts) -> Code
     Code::Done
 }
 
-/// A data file as C sees it.
+/// Returns a data file as a C struct.
 fn file_of(spec: FileSpec) -> FileParts
     ensures { result ≡ file_parts spec }
 {
@@ -77,7 +77,7 @@ fn file_of(spec: FileSpec) -> FileParts
     }
 }
 
-/// The values of a run of words, from the index `first` of a file on: one for each place of `values`.
+/// Reports the values of a run of words, from the index `first` of a file on: one for each place of `values`.
 pub fn tell_words(held: &Held, file: u16, first: u32, values: &mut [u16]) -> Code
     ensures code { result ≡ code_at (Some held.now) (λ node. range_code node file first (length values.old)) }
     ensures told { values.new ≡ told_at (Some held.now) (λ node. range_told node file first (length values.old)) values.old }
@@ -95,8 +95,8 @@ pub fn tell_words(held: &Held, file: u16, first: u32, values: &mut [u16]) -> Cod
     Code::Done
 }
 
-/// Finds the first word, from the index `first` of a file on, that isn't what was seen of it: `place` is its place among those of
-/// `seen`, where its value is put, or how many they are where none differs.
+/// Finds the first word, from the index `first` of a file on, that differs from the one in `seen`, and puts its value
+/// there. `place` becomes its place in `seen`, or the length of `seen` if none differs.
 pub fn tell_change(held: &Held, file: u16, first: u32, seen: &mut [u16], place: &mut usize) -> Code
     ensures code { result ≡ code_at (Some held.now) (λ node. range_code node file first (length seen.old)) }
     ensures place { place.new ≡ told_at (Some held.now) (λ node. change_told node file first seen.old) place.old }
@@ -115,7 +115,7 @@ pub fn tell_change(held: &Held, file: u16, first: u32, seen: &mut [u16], place: 
     Code::Done
 }
 
-/// Puts the first word that isn't what was seen there to its place, and tells that.
+/// Puts the first word that differs from the one in `seen` there, and returns its place.
 fn see_change(words: &[u16], seen: &mut [u16]) -> usize
     requires { length words.now ≡ length seen.old }
     ensures place { result ≡ first_change words.now seen.old }
@@ -128,7 +128,7 @@ fn see_change(words: &[u16], seen: &mut [u16]) -> usize
     place
 }
 
-/// The first place at which a word isn't what was seen there, and how many words there are where none is.
+/// Returns the first place at which a word differs from the one in `seen`, or the number of words if none does.
 fn first_change(words: &[u16], seen: &[u16]) -> usize
     requires { length words.now ≡ length seen.now }
     ensures { result ≡ first_change words.now seen.now }
@@ -141,7 +141,7 @@ fn first_change(words: &[u16], seen: &[u16]) -> usize
     words.len()
 }
 
-/// Whether a file has so many words from an index on.
+/// Returns whether a file has `count` words from an index on.
 fn has_words(node: &Node, file: u16, first: u32, count: usize) -> bool
     ensures all { result ≡ is_range node.now file first count }
     ensures few { IsTrue result → first + count ≤ 4294967295 }

@@ -3,14 +3,14 @@
 ghost use Rattle.std.specs.Prelude.{◌≡◌, ◌≤◌, length};
 ghost use Rattle.c_ends.specs.Code.{code_number, code_of, code_text};
 
-/// What a call answers.
+/// The answer of a call.
 #[derive(Clone, Copy, Debug, PartialEq, Eq)]
 pub enum Code {
     /// The call did what it is for.
     Done = 0,
     /// The handle holds nothing that the call is for.
     NoHandle = 1,
-    /// `malloc` gave none.
+    /// `malloc` returned no memory.
     NoMemory = 2,
     /// The buffer is too small.
     NoRoom = 3,
@@ -178,21 +178,21 @@ const CODES: [Code; 55] = [
 ];
 
 impl Code {
-    /// The number of a code.
+    /// Returns the number of a code.
     pub fn number(self) -> u32
         ensures { result ≡ code_number self }
     {
         self as u32
     }
 
-    /// The code of a number, and None exactly where it is no code's.
+    /// Returns the code of a number, and None exactly if it is no code's.
     pub fn of_number(number: u32) -> Option<Code>
         ensures { result ≡ code_of number }
     {
         CODES.iter().copied().find(|code| code.number() == number)
     }
 
-    /// The text of a code, at most 79 bytes.
+    /// Returns the text of a code, at most 79 bytes.
     pub fn text(self) -> &'static str
         ensures text { result.now ≡ code_text self }
         ensures short { length result.now ≤ 79 }

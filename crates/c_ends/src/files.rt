@@ -1,4 +1,4 @@
-//! Data files as C gives them.
+//! Data files as C passes them.
 
 ghost use Rattle.std.specs.Prelude.{◌≡◌, ◌==◌, None, find, is_none, not, IfOk};
 ghost use Rattle.std.specs.List.{list_any};
@@ -25,7 +25,7 @@ const KINDS: [FileType; 7] = [
     FileType::Float,
 ];
 
-/// The type of a type byte, and None exactly where it is no type's (manual topic: addressing).
+/// Returns the type of a type byte, and None exactly if it is no type's (manual topic: addressing).
 #[tactic(auto, unfolding(crate::specs::Parts::kind_of))]
 pub fn kind_of(byte: u8) -> Option<FileType>
     ensures { result ≡ kind_of byte }
@@ -33,7 +33,7 @@ pub fn kind_of(byte: u8) -> Option<FileType>
     KINDS.iter().copied().find(|kind| type_byte(*kind) == byte)
 }
 
-/// A data file, Status where its byte is no type's.
+/// Returns a data file, Status if its byte is no type's.
 fn spec_of(file: FileParts) -> FileSpec
     ensures { result ≡ spec_of file }
 {
@@ -44,7 +44,7 @@ fn spec_of(file: FileParts) -> FileSpec
     }
 }
 
-/// Too many files.
+/// Returns a code if there are too many files.
 pub(crate) fn count_fault(files: &[FileParts]) -> Option<Code>
     ensures { result ≡ count_fault files.now }
 {
@@ -55,7 +55,7 @@ pub(crate) fn count_fault(files: &[FileParts]) -> Option<Code>
     }
 }
 
-/// A file with a byte that is no type's.
+/// Returns a code if a file has a byte that is no type's.
 pub(crate) fn type_fault(files: &[FileParts]) -> Option<Code>
     ensures { result ≡ type_fault files.now }
 {
@@ -66,21 +66,21 @@ pub(crate) fn type_fault(files: &[FileParts]) -> Option<Code>
     }
 }
 
-/// Whether the byte of one of the files is no type's.
+/// Returns whether the byte of one of the files is no type's.
 fn has_other_type(files: &[FileParts]) -> bool
     ensures { result ≡ list_any (λ file. is_none (kind_of file.kind)) files.now }
 {
     files.iter().any(|file| kind_of(file.kind).is_none())
 }
 
-/// The first file that is empty, large, or there twice.
+/// Returns the code of the first file that is empty, large, or there twice.
 pub(crate) fn each_fault(files: &[FileParts]) -> Option<Code>
     ensures { result ≡ each_fault files.now }
 {
     first_fault(files).map(code_of)
 }
 
-/// The first fault of these files.
+/// Returns the first fault of these files.
 fn first_fault(files: &[FileParts]) -> Option<MakeFault>
     ensures { result ≡ faults (specs_of files.now) }
 {
@@ -96,7 +96,7 @@ fn first_fault(files: &[FileParts]) -> Option<MakeFault>
     None
 }
 
-/// What is wrong with a file that follows others.
+/// Returns what is wrong with a file that follows others.
 fn fault_after(before: &[FileParts], file: FileParts) -> Option<MakeFault>
     ensures { result ≡ fault_of (specs_of before.now) (spec_of file) }
 {
@@ -111,14 +111,14 @@ fn fault_after(before: &[FileParts], file: FileParts) -> Option<MakeFault>
     }
 }
 
-/// Whether one of the files has this number.
+/// Returns whether one of the files has this number.
 fn has_number(files: &[FileParts], number: u16) -> bool
     ensures { result ≡ list_any (λ other. other.number == number) files.now }
 {
     files.iter().any(|other| other.number == number)
 }
 
-/// The code of a fault.
+/// Returns the code of a fault.
 fn code_of(fault: MakeFault) -> Code
     ensures { result ≡ make_code fault }
 {
@@ -131,7 +131,7 @@ fn code_of(fault: MakeFault) -> Code
     }
 }
 
-/// The file of this number.
+/// Returns the file of this number.
 #[tactic(auto, using(crate::proofs::FileLemmas::find_specs))]
 pub(crate) fn file_in(files: &[FileParts], number: u16) -> Option<FileSpec>
     ensures { result ≡ file_of (specs_of files.now) number }
@@ -142,14 +142,14 @@ pub(crate) fn file_in(files: &[FileParts], number: u16) -> Option<FileSpec>
     }
 }
 
-/// What C gave of the file of this number.
+/// Returns what C passed of the file of this number.
 fn parts_of(files: &[FileParts], number: u16) -> Option<FileParts>
     ensures { result ≡ find (λ file. file.number == number) files.now }
 {
     files.iter().copied().find(|file| file.number == number)
 }
 
-/// A word that no file has.
+/// Returns a code if one of the words is in no file.
 pub(crate) fn word_fault(files: &[FileParts], words: &[WordParts]) -> Option<Code>
     ensures { result ≡ word_fault files.now words.now }
 {
@@ -160,14 +160,14 @@ pub(crate) fn word_fault(files: &[FileParts], words: &[WordParts]) -> Option<Cod
     }
 }
 
-/// Whether no file has one of the words.
+/// Returns whether one of the words is in no file.
 fn lacks_word(files: &[FileParts], words: &[WordParts]) -> bool
     ensures { result ≡ list_any (λ word. not (has_word (specs_of files.now) word.file word.index)) words.now }
 {
     words.iter().any(|word| !has_word(files, *word))
 }
 
-/// Whether there is such a word.
+/// Returns whether there is such a word.
 fn has_word(files: &[FileParts], word: WordParts) -> bool
     ensures { result ≡ has_word (specs_of files.now) word.file word.index }
 {
@@ -177,7 +177,7 @@ fn has_word(files: &[FileParts], word: WordParts) -> bool
     }
 }
 
-/// The data tables of these files, with the first values of their words. An error is want of memory.
+/// Returns the data tables of these files, with the first values of their words. An error is a lack of memory.
 pub(crate) fn tables_of(
     alloc: Global,
     files: &[FileParts],
@@ -192,7 +192,7 @@ pub(crate) fn tables_of(
     Ok(tables)
 }
 
-/// The files of an end, in a vector.
+/// Returns the files of an end, in a vector.
 fn specs_in(alloc: Global, files: &[FileParts]) -> Result<Vec<FileSpec>, NoMemory>
     ensures { IfOk result (λ specs. specs.items ≡ specs_of files.now) }
 {
@@ -203,7 +203,7 @@ fn specs_in(alloc: Global, files: &[FileParts]) -> Result<Vec<FileSpec>, NoMemor
     Ok(specs)
 }
 
-/// Data tables of these files, all words 0.
+/// Returns data tables of these files, all words 0.
 fn zero_tables(alloc: Global, files: &[FileSpec]) -> Result<Tables, NoMemory>
     requires { faults files.now ≡ None }
     ensures { IfOk result (λ tables. tables ≡ fresh files.now) }
@@ -215,7 +215,7 @@ fn zero_tables(alloc: Global, files: &[FileSpec]) -> Result<Tables, NoMemory>
     }
 }
 
-/// Gives words their first values.
+/// Sets words to their first values.
 fn set_words(tables: &mut Tables, words: &[WordParts])
     ensures { tables.new ≡ with_all tables.old words.now }
 {

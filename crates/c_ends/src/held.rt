@@ -24,7 +24,7 @@ impl Held {
     ghost use Rattle.std.specs.Prelude.{◌≡◌};
     ghost use Rattle.c_ends.specs.Held.{is_end};
 
-    /// Whether it is an end of a link.
+    /// Returns whether it is an end of a link.
     pub fn is_end(&self) -> bool
         ensures { result ≡ is_end self.now }
     {

@@ -1,5 +1,5 @@
-//! The ends that C can have: what a handle may hold, how it is made of plain structs, the code of each refusal, and what is told of
-//! what an end did.
+//! The ends that C can have: what a handle may hold, how it is made of plain structs, the code of each refusal, and
+//! what is reported of what an end did.
 #![tactic(auto)]
 
 mod code;

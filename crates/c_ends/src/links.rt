@@ -1,6 +1,6 @@
-//! The links of ends, as C gives them, and the ends that are made of them. Where several parts are out of range, the first
-//! of them counts: the link's members in their order, a master's stations, the number of a slave, then what stands behind
-//! the end.
+//! The links of ends, as C passes them, and the ends that are made of them. If several parts are out of range, the
+//! first of them counts: the link's members in their order, a master's stations, the number of a slave, then the node
+//! behind the end.
 
 ghost use Rattle.std.specs.Prelude.{◌≡◌, ◌≢◌, ◌≤◌, ◌==◌, [], length, Err, IfErr, IfOk, MatchOption};
 ghost use Rattle.std.specs.Option.{option_or};
@@ -24,9 +24,9 @@ use std::alloc::Global;
 /// The most stations of a master.
 const MAX_STATIONS: usize = 32;
 
-/// A full-duplex end to which nothing happened yet, of its link, what stands behind it, its data files, the first values of
-/// their words, and the block of a diagnostic status. An error is the code of the first part that is out of range; with all
-/// of them in range it is `NoMemory`.
+/// Returns a new full-duplex end of its link, the node behind it, its data files, the first values of their words, and
+/// the block of a diagnostic status. An error is the code of the first part that is out of range; if all of them are in
+/// range, it is `NoMemory`.
 pub fn duplex_of(
     alloc: Global,
     link: &DuplexLink,
@@ -47,8 +47,8 @@ pub fn duplex_of(
     }
 }
 
-/// A master to which nothing happened yet, of its link, the numbers of its stations, and what a full-duplex end is made of.
-/// An error is the code of the first part that is out of range; with all of them in range it is `NoMemory`.
+/// Returns a new master, made of its link, the numbers of its stations, and the parts of its node. An error is the
+/// code of the first part that is out of range; if all of them are in range, it is `NoMemory`.
 pub fn master_of(
     alloc: Global,
     link: &MasterLink,
@@ -73,8 +73,8 @@ pub fn master_of(
     }
 }
 
-/// A slave to which nothing happened yet, of its link and what a full-duplex end is made of. Its number is the address of
-/// its node. An error is the code of the first part that is out of range; with all of them in range it is `NoMemory`.
+/// Returns a new slave, made of its link and the parts of its node. Its number is the address of its node. An error is
+/// the code of the first part that is out of range; if all of them are in range, it is `NoMemory`.
 pub fn slave_of(
     alloc: Global,
     link: &SlaveLink,
@@ -96,7 +96,7 @@ pub fn slave_of(
     }
 }
 
-/// What is out of range of a full-duplex end.
+/// Returns what is out of range of a full-duplex end.
 fn duplex_fault(
     link: &DuplexLink,
     node: &NodeParts,
@@ -113,7 +113,7 @@ fn duplex_fault(
         .or_else(|| node_fault(node, files, words, block))
 }
 
-/// What is out of range of a master.
+/// Returns what is out of range of a master.
 fn master_fault(
     link: &MasterLink,
     stations: &[u8],
@@ -134,7 +134,7 @@ fn master_fault(
         .or_else(|| node_fault(node, files, words, block))
 }
 
-/// What is out of range of a slave.
+/// Returns what is out of range of a slave.
 fn slave_fault(
     link: &SlaveLink,
     node: &NodeParts,
@@ -150,14 +150,14 @@ fn slave_fault(
         .or_else(|| node_fault(node, files, words, block))
 }
 
-/// The check of a link: the CRC where it is wanted, else the BCC.
+/// Returns the check of a link: the CRC if it is wanted, and the BCC otherwise.
 pub fn check_of(crc: bool) -> Check
     ensures { result ≡ check_of crc }
 {
     if crc { Check::Crc } else { Check::Bcc }
 }
 
-/// How a full-duplex end is set up.
+/// Returns the setup of a full-duplex end.
 fn duplex_setup(link: &DuplexLink) -> Setup
     ensures { result ≡ duplex_setup link.now }
 {
@@ -172,7 +172,7 @@ fn duplex_setup(link: &DuplexLink) -> Setup
     }
 }
 
-/// How a master is set up.
+/// Returns the setup of a master.
 fn master_setup(link: &MasterLink) -> MasterSetup
     ensures { result ≡ master_setup link.now }
 {
@@ -184,7 +184,7 @@ fn master_setup(link: &MasterLink) -> MasterSetup
     }
 }
 
-/// The stations between which a master carries messages.
+/// Returns the stations between which a master carries messages.
 fn carried_by<'a>(link: &MasterLink, stations: &'a [u8]) -> &'a [u8]
     ensures stations { result.now ≡ carried_by link.now stations.now }
     ensures few { length result.now ≤ length stations.now }
@@ -192,7 +192,7 @@ fn carried_by<'a>(link: &MasterLink, stations: &'a [u8]) -> &'a [u8]
     if link.routes == 1 { stations } else { &[] }
 }
 
-/// How a slave is set up.
+/// Returns the setup of a slave.
 fn slave_setup(link: &SlaveLink, node: &NodeParts) -> SlaveSetup
     ensures { result ≡ slave_setup link.now node.now }
 {
@@ -203,7 +203,7 @@ fn slave_setup(link: &SlaveLink, node: &NodeParts) -> SlaveSetup
     }
 }
 
-/// A number that says neither that a master carries messages nor that it doesn't.
+/// Returns a code if a number says neither that a master carries messages nor that it doesn't.
 fn routes_fault(routes: u32) -> Option<Code>
     ensures { result ≡ routes_fault routes }
 {
@@ -214,7 +214,7 @@ fn routes_fault(routes: u32) -> Option<Code>
     }
 }
 
-/// The code of a number that no station may have, 16 or 255.
+/// Returns a code if the number is 16 or 255, which no station may have.
 pub fn number_fault(number: u8) -> Option<Code>
     ensures fault { result ≡ number_fault number }
     ensures none { result ≡ None → (number ≢ 16) × (number ≢ 255) }
@@ -226,7 +226,7 @@ pub fn number_fault(number: u8) -> Option<Code>
     }
 }
 
-/// A station that is among those before it.
+/// Returns a code if a station is among those before it.
 fn twice_fault(before: &[u8], number: u8) -> Option<Code>
     ensures { result ≡ twice_fault before.now number }
 {
@@ -237,14 +237,14 @@ fn twice_fault(before: &[u8], number: u8) -> Option<Code>
     }
 }
 
-/// Whether it is one of these numbers.
+/// Returns whether it is one of these numbers.
 fn is_among(numbers: &[u8], number: u8) -> bool
     ensures { result ≡ list_any (λ other. number == other) numbers.now }
 {
     numbers.iter().any(|other| number == *other)
 }
 
-/// More stations than a master may have.
+/// Returns a code if there are more stations than a master may have.
 fn many_fault(stations: &[u8]) -> Option<Code>
     ensures { result ≡ many_fault stations.now }
 {
@@ -255,7 +255,7 @@ fn many_fault(stations: &[u8]) -> Option<Code>
     }
 }
 
-/// The first station that is bad or listed twice.
+/// Returns the code of the first station that is bad or listed twice.
 fn station_fault(stations: &[u8]) -> Option<Code>
     ensures { result ≡ station_fault [] stations.now }
 {
@@ -268,7 +268,7 @@ fn station_fault(stations: &[u8]) -> Option<Code>
     None
 }
 
-/// What is wrong with a station that follows others.
+/// Returns what is wrong with a station that follows others.
 fn fault_after(before: &[u8], number: u8) -> Option<Code>
     ensures { result ≡ option_or (number_fault number) (twice_fault before.now number) }
 {

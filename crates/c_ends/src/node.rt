@@ -1,4 +1,4 @@
-//! What stands behind an end, as C gives it.
+//! The node behind an end, as C passes it.
 
 ghost use Rattle.std.specs.Prelude.{◌≡◌, None, Some, IfOk};
 ghost use Rattle.data_files.specs.Tables.{fits_compat};
@@ -15,7 +15,7 @@ use df1_node::{Node, NodeSetup, Station};
 use end_settings::Key;
 use std::alloc::Global;
 
-/// What is out of range of what stands behind an end.
+/// Returns what is out of range of the node behind an end.
 pub(crate) fn node_fault(
     node: &NodeParts,
     files: &[FileParts],
@@ -32,7 +32,7 @@ pub(crate) fn node_fault(
         .or_else(|| files_fault(node, files, words, block))
 }
 
-/// What is out of range of the files, of the compatibility file, of the first words and of the block.
+/// Returns what is out of range of the files, of the compatibility file, of the first words and of the block.
 fn files_fault(
     node: &NodeParts,
     files: &[FileParts],
@@ -49,21 +49,21 @@ fn files_fault(
         .or_else(|| block_fault(block))
 }
 
-/// How many commands may be out.
+/// Returns how many commands may be outstanding.
 fn window_of(node: &NodeParts) -> u32
     ensures { result ≡ given_or_first Window node.now.window }
 {
     given_or_first(Key::Window, node.window)
 }
 
-/// How many commands of one source may be out.
+/// Returns how many commands of one source may be outstanding.
 fn per_source_of(node: &NodeParts) -> u32
     ensures { result ≡ given_or_first PerSource node.now.per_source }
 {
     given_or_first(Key::PerSource, node.per_source)
 }
 
-/// A compatibility file that is no Bit or Integer file.
+/// Returns a code if the compatibility file is no Bit or Integer file.
 fn compat_fault(node: &NodeParts, files: &[FileParts]) -> Option<Code>
     ensures { result ≡ compat_fault node.now files.now }
 {
@@ -73,7 +73,7 @@ fn compat_fault(node: &NodeParts, files: &[FileParts]) -> Option<Code>
     }
 }
 
-/// Whether there is such a file, and it holds bits or integers.
+/// Returns whether there is such a file, and it holds bits or integers.
 fn holds_words(files: &[FileParts], number: u16) -> bool
     ensures { result ≡ fits_compat (specs_of files.now) (Some number) }
 {
@@ -83,7 +83,7 @@ fn holds_words(files: &[FileParts], number: u16) -> bool
     }
 }
 
-/// The number of the compatibility file.
+/// Returns the number of the compatibility file.
 fn compat_of(node: &NodeParts) -> Option<u16>
     ensures { result ≡ compat_of node.now }
 {
@@ -94,7 +94,7 @@ fn compat_of(node: &NodeParts) -> Option<u16>
     }
 }
 
-/// A block that is too long.
+/// Returns a code if a block is too long.
 fn block_fault(block: &[u8]) -> Option<Code>
     ensures { result ≡ block_fault block.now }
 {
@@ -105,7 +105,7 @@ fn block_fault(block: &[u8]) -> Option<Code>
     }
 }
 
-/// The node of an end, with no command issued. An error is want of memory.
+/// Returns the node of an end, with no command issued. An error is a lack of memory.
 pub(crate) fn node_of(
     alloc: Global,
     node: &NodeParts,

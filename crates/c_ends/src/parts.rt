@@ -1,5 +1,5 @@
-//! What an end is made of, as C gives it. A member that is a key of an end may have the values that `values.rt` says. Members
-//! that come later take the places of reserved ones, so 0 then stands for the value at first.
+//! The parts that an end is made of, as C passes them. A member that is a key of an end may have the values that
+//! `values.rt` says. Members that come later take the places of reserved ones, so 0 then stands for the default value.
 
 /// How many reserved members a part has.
 pub(crate) const RESERVED: usize = 4;
@@ -14,9 +14,9 @@ pub type Reserved = [u32; RESERVED];
 #[repr(C)]
 #[derive(Clone, Copy)]
 pub struct DuplexLink {
-    /// CRC, and not BCC, ends its frames.
+    /// Whether CRC, and not BCC, ends its frames.
     pub crc: bool,
-    /// Whether responses may stand inside the frames that the end gives.
+    /// Whether responses may stand inside the frames that the end sends.
     pub embed: bool,
     /// The ticks without a response until it asks with an ENQ.
     pub ack_ticks: u32,
@@ -31,15 +31,15 @@ pub struct DuplexLink {
 #[repr(C)]
 #[derive(Clone, Copy)]
 pub struct MasterLink {
-    /// CRC, and not BCC, ends its messages.
+    /// Whether CRC, and not BCC, ends its messages.
     pub crc: bool,
     /// The ticks of a wait for ACK.
     pub ack_ticks: u32,
-    /// How often a message is given again.
+    /// How often a message is sent again.
     pub max_resends: u32,
     /// The ticks of a wait after a poll.
     pub poll_ticks: u32,
-    /// 1 where the master carries messages between its stations, and else 0.
+    /// 1 if the master carries messages between its stations, and 0 otherwise.
     pub routes: u32,
     pub reserved: [u32; RESERVED_OF_MASTER],
 }
@@ -48,14 +48,14 @@ pub struct MasterLink {
 #[repr(C)]
 #[derive(Clone, Copy)]
 pub struct SlaveLink {
-    /// CRC, and not BCC, ends its messages.
+    /// Whether CRC, and not BCC, ends its messages.
     pub crc: bool,
-    /// How often a message is given.
+    /// How often a message is sent.
     pub max_sends: u32,
     pub reserved: Reserved,
 }
 
-/// What stands behind an end.
+/// The node behind an end.
 #[repr(C)]
 #[derive(Clone, Copy)]
 pub struct NodeParts {
@@ -71,9 +71,9 @@ pub struct NodeParts {
     pub has_compat: bool,
     /// Its number.
     pub compat: u16,
-    /// How many commands may be out, and 0 for the value at first.
+    /// How many commands may be outstanding, and 0 for the default value.
     pub window: u32,
-    /// How many commands of one source may be out, and 0 for the value at first.
+    /// How many commands of one source may be outstanding, and 0 for the default value.
     pub per_source: u32,
     pub reserved: Reserved,
 }

@@ -1,11 +1,11 @@
-//! What a call tells C of an end. Numbers stand for the cases; the header names them.
+//! What a call reports to C of an end. Numbers stand for the cases; the header names them.
 
 ghost use Rattle.std.specs.Prelude.{◌≡◌};
 ghost use Rattle.c_ends.specs.Told.{act_told, did_told, news_told, out_told, routed_told, step_told, turn_told};
 
 use df1_base::{Act, Did, News, Out, Step, Turn};
 
-/// What a byte did to an end.
+/// The effect of a byte on an end.
 #[repr(C)]
 #[derive(Clone, Copy)]
 pub struct StepTold {
@@ -17,11 +17,11 @@ pub struct StepTold {
     /// The command that `news` names, or 0.
     pub news_command: u32,
     pub whole: bool,
-    /// The station that a whole half-duplex message names, heard by a slave, or 0.
+    /// The station that a whole half-duplex message names, received by a slave, or 0.
     pub station: u8,
 }
 
-/// What a tick did to an end.
+/// The effect of a tick on an end.
 #[repr(C)]
 #[derive(Clone, Copy)]
 pub struct TurnTold {
@@ -33,17 +33,17 @@ pub struct TurnTold {
     pub gone_count: u32,
 }
 
-/// A byte that goes out, if there is one.
+/// A byte to transmit, if there is one.
 #[repr(C)]
 #[derive(Clone, Copy)]
 pub struct OutTold {
     pub there: bool,
     pub byte: u8,
-    /// The byte is the last of a message.
+    /// Whether the byte is the last of a message.
     pub last: bool,
 }
 
-/// The number of an act.
+/// Returns the number of an act.
 fn act_number(act: Act) -> u32
     ensures { result ≡ act_told act }
 {
@@ -60,7 +60,7 @@ fn act_number(act: Act) -> u32
     }
 }
 
-/// What a host did, and the command that it names.
+/// Returns what a host did, and the command that it names.
 fn did_numbers(did: Option<Did>) -> (u32, u32)
     ensures { result ≡ did_told did }
 {
@@ -72,7 +72,7 @@ fn did_numbers(did: Option<Did>) -> (u32, u32)
     }
 }
 
-/// What became known at a fate, and the command that it names.
+/// Returns what became known at a fate, and the command that it names.
 fn news_numbers(news: News) -> (u32, u32)
     ensures { result ≡ news_told news }
 {
@@ -83,7 +83,7 @@ fn news_numbers(news: News) -> (u32, u32)
     }
 }
 
-/// A step as C sees it.
+/// Returns a step as C sees it.
 pub fn step_of(step: Step) -> StepTold
     ensures { result ≡ step_told step }
 {
@@ -100,12 +100,12 @@ pub fn step_of(step: Step) -> StepTold
     }
 }
 
-/// The number by which an accepted message is told that is astray, and by which one that is carried to a station.
+/// The numbers by which an accepted message is reported: one that is stray, and one that is carried to a station.
 const STRAY: u32 = 3;
 
 const ROUTED: u32 = 4;
 
-/// A step, which may be one at which a message was heard that is carried.
+/// Returns a step, which may be one at which a message was received that is carried.
 pub fn routed(carried: bool, told: StepTold) -> StepTold
     ensures { result ≡ routed_told carried told }
 {
@@ -117,7 +117,7 @@ pub fn routed(carried: bool, told: StepTold) -> StepTold
     StepTold { did, ..told }
 }
 
-/// A turn as C sees it, with the number of commands that it left unanswered.
+/// Returns a turn as C sees it, with the number of commands that it left unanswered.
 pub fn turn_of(turn: Turn, gone_count: u32) -> TurnTold
     ensures { result ≡ turn_told turn gone_count }
 {
@@ -146,7 +146,7 @@ pub fn turn_of(turn: Turn, gone_count: u32) -> TurnTold
     }
 }
 
-/// What goes out as C sees it.
+/// Returns a byte to transmit as C sees it.
 pub fn out_of(out: Option<Out>) -> OutTold
     ensures { result ≡ out_told out }
 {

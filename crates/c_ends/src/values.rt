@@ -7,8 +7,8 @@ ghost use Rattle.c_ends.specs.Values.{from_one, given_or_first, reserved_fault, 
 use crate::code::Code;
 use end_settings::{Key, Values};
 
-/// The values of a key: those of its row, but that a reply may take as few ticks as one, since a tick of the caller's may be as
-/// long as he likes.
+/// Returns the values of a key: those of its row, except that a reply may take as few ticks as one, since the caller
+/// chooses the tick period.
 fn values_of(key: Key) -> Values
     ensures { result ≡ the_values key }
 {
@@ -18,7 +18,7 @@ fn values_of(key: Key) -> Values
     }
 }
 
-/// These numbers, and those from 1 on below them.
+/// Returns these numbers, and those from 1 on below them.
 fn from_one(values: Values) -> Values
     ensures { result ≡ from_one values }
 {
@@ -28,7 +28,7 @@ fn from_one(values: Values) -> Values
     }
 }
 
-/// What a number that a key may not have is told by.
+/// Returns `fault` if a key may not have this number.
 pub(crate) fn value_fault(key: Key, fault: Code, number: u32) -> Option<Code>
     ensures { result ≡ value_fault key fault number }
 {
@@ -38,7 +38,7 @@ pub(crate) fn value_fault(key: Key, fault: Code, number: u32) -> Option<Code>
     }
 }
 
-/// The value of a key that is told by this number: that at first where it is 0.
+/// Returns the value of a key that is passed as this number: the default value if it is 0.
 pub(crate) fn given_or_first(key: Key, number: u32) -> u32
     ensures { result ≡ given_or_first key number }
 {
@@ -49,7 +49,7 @@ pub(crate) fn given_or_first(key: Key, number: u32) -> u32
     }
 }
 
-/// A reserved member that isn't 0.
+/// Returns a code if a reserved member isn't 0.
 pub(crate) fn reserved_fault(reserved: &[u32]) -> Option<Code>
     ensures { result ≡ reserved_fault reserved.now }
 {
@@ -60,7 +60,7 @@ pub(crate) fn reserved_fault(reserved: &[u32]) -> Option<Code>
     }
 }
 
-/// Whether one of these members isn't 0.
+/// Returns whether one of these members isn't 0.
 fn has_other(reserved: &[u32]) -> bool
     ensures { result ≡ list_any (λ member. not (member == 0)) reserved.now }
 {

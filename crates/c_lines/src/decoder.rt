@@ -1,4 +1,4 @@
-//! A decoder of one side of a line: that of full-duplex frames, or an ear of a half-duplex line.
+//! A decoder of one side of a line: that of full-duplex frames, or a receiver of a half-duplex line.
 
 ghost use Rattle.std.specs.Prelude.{◌≡◌, ◌≤◌, ◌∷◌, ◌++◌, [], ℕ, List, length};
 ghost use Rattle.df1_check.specs.declared.Check.{Check as CheckKind};
@@ -15,16 +15,16 @@ use half_frame::{MasterEar, SlaveEar};
 /// A decoder of one side of a line, with room for a body of 250 bytes.
 #[derive(Drop)]
 pub enum LineDecoder {
-    /// Of a full-duplex line.
+    /// That of a full-duplex line.
     Full(Decoder<250>),
-    /// Of what the master of a half-duplex line gives.
+    /// That of the bytes that the master of a half-duplex line sends.
     OfMaster(SlaveEar<250>),
-    /// Of what the slaves of a half-duplex line give.
+    /// That of the bytes that the slaves of a half-duplex line send.
     OfSlaves(MasterEar<250>),
 }
 
 impl LineDecoder {
-    /// A decoder of this side that has heard nothing, of a line with this check.
+    /// Creates a decoder of this side, of a line with this check, that has received nothing.
     pub fn new(side: Side, check: Check) -> LineDecoder
         ensures stands { StandsFor side check [] result }
         ensures value { result ≡ new_decoder side check }
@@ -36,7 +36,7 @@ impl LineDecoder {
         }
     }
 
-    /// Hears a byte, and tells what is heard at it.
+    /// Receives a byte, and returns what is decoded at it.
     pub fn feed(&mut self, byte: u8) -> Hearing
         ensures stands { (side : LineSide) (check : CheckKind) (bytes : List ℕ) → StandsFor side check bytes self.old → StandsFor side check (bytes ++ byte ∷ []) self.new }
         ensures heard { (side : LineSide) (check : CheckKind) (bytes : List ℕ) → StandsFor side check bytes self.old → IsHearing side check (bytes ++ byte ∷ []) result }
@@ -57,8 +57,8 @@ impl LineDecoder {
         }
     }
 
-    /// The body of the frame or message that ended at the latest byte, at most 250 bytes: of a full-duplex frame be it good, too
-    /// short or with a wrong check, of a half-duplex message where it is good. It is empty after every other byte.
+    /// Returns the body, at most 250 bytes, of the frame or message that ended at the latest byte: a full-duplex frame
+    /// that is good, too short or has a wrong check, or a good half-duplex message. Otherwise it is empty.
     pub fn body(&self) -> &[u8]
         ensures lent { (side : LineSide) (check : CheckKind) (bytes : List ℕ) → StandsFor side check bytes self.now → IsBody side check bytes result.now }
         ensures value { result.now ≡ lent_by self.now }

@@ -1,23 +1,23 @@
-//! What is heard at a byte, as C sees it. A number stands for a thing that is heard at any side.
+//! What is decoded at a byte, as C sees it. A number stands for one item, whichever side it is decoded at.
 //!
-//! | Number | What is heard | It names | Full duplex | Of a master | Of slaves |
+//! | Number | Item | It names | Full duplex | Of a master | Of slaves |
 //! |---|---|---|---|---|---|
 //! | 0 | nothing | | yes | yes | yes |
-//! | 1 | a good frame or message | of a master's its station | yes | yes | yes |
+//! | 1 | a good frame or message | of a master's, its station | yes | yes | yes |
 //! | 2 | a frame with the right check and a body that is too short | | yes | | |
 //! | 3 | a frame with a wrong check | | yes | | |
 //! | 4 | a frame with a body that is too long | | yes | | |
 //! | 5 | a frame that was broken off by a pair | the pair's byte | yes | | |
 //! | 6 | a frame that was cut off by the next | | yes | | |
 //! | 7 | DLE ACK | | yes | yes | yes |
-//! | 8 | DLE NAK, which of a master is a reset | | yes | yes | yes |
+//! | 8 | DLE NAK, which from a master is a reset | | yes | yes | yes |
 //! | 9 | DLE ENQ | | yes | | |
 //! | 10 | a byte outside | the byte | yes | yes | yes |
 //! | 11 | a pair outside | its second byte | yes | yes | yes |
 //! | 12 | the header of a message | its station | | yes | |
 //! | 13 | a poll | its station | | yes | |
 //! | 14 | a poll with a wrong check | | | yes | |
-//! | 15 | a message that didn't end as one, or that isn't good | of a master's its station | | yes | yes |
+//! | 15 | a message that didn't end as one, or that isn't good | of a master's, its station | | yes | yes |
 //! | 16 | DLE EOT | | | | yes |
 
 ghost use Rattle.std.specs.Prelude.{◌≡◌};
@@ -26,19 +26,19 @@ ghost use Rattle.c_lines.specs.Hearings.{full_told, master_told, naming_byte, na
 use df1_frame::Heard;
 use half_frame::{MasterHeard, SlaveHeard};
 
-/// What is heard at a byte.
+/// The item that is decoded at a byte.
 #[repr(C)]
 #[derive(Clone, Copy)]
 pub struct Hearing {
-    /// What is heard, by its number.
+    /// The number of the item.
     pub heard: u32,
-    /// The byte that `heard` names, or 0.
+    /// The byte that the item names, or 0.
     pub byte: u8,
-    /// The station that `heard` names, or 0.
+    /// The station that the item names, or 0.
     pub station: u8,
 }
 
-/// What is heard of a full-duplex line.
+/// Returns the item decoded on a full-duplex line.
 pub(crate) fn of_full(heard: Option<Heard>) -> Hearing
     ensures { result ≡ full_told heard }
 {
@@ -58,7 +58,7 @@ pub(crate) fn of_full(heard: Option<Heard>) -> Hearing
     }
 }
 
-/// What a slave hears of a master.
+/// Returns the item that a slave decodes from a master.
 pub(crate) fn of_master(heard: Option<SlaveHeard>) -> Hearing
     ensures { result ≡ master_told heard }
 {
@@ -76,7 +76,7 @@ pub(crate) fn of_master(heard: Option<SlaveHeard>) -> Hearing
     }
 }
 
-/// What the master hears of slaves.
+/// Returns the item that the master decodes from slaves.
 pub(crate) fn of_slaves(heard: Option<MasterHeard>) -> Hearing
     ensures { result ≡ slave_told heard }
 {

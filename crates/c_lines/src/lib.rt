@@ -1,5 +1,5 @@
-//! What C hears and spells on a line: a decoder of each of its sides, the numbers by which it tells what is heard, and the bytes
-//! of frames, messages and polls.
+//! Decoding and encoding of lines for the C library: a decoder of each side of a line, the numbers of the decoded
+//! items, and the bytes of frames, messages and polls.
 #![tactic(auto)]
 
 mod decoder;

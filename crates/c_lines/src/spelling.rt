@@ -9,13 +9,13 @@ use df1_check::Check;
 use df1_frame::Framer;
 use half_frame::HalfFramer;
 
-/// The most bytes of a frame of a body of 250 bytes: each of them doubled, two pairs and a CRC.
+/// The maximum size of a frame with a body of 250 bytes: each of them doubled, two pairs and a CRC.
 const MAX_FRAME: usize = 506;
 
-/// The most bytes of a master's message: DLE SOH and a station before those of a frame.
+/// The maximum size of a master's message: DLE SOH and a station before the bytes of a frame.
 const MAX_MESSAGE: usize = 509;
 
-/// The full-duplex frame of a body of at most 250 bytes.
+/// Returns the full-duplex frame of a body of at most 250 bytes.
 pub fn frame_of(check: Check, body: &[u8]) -> ArrayVec<u8, MAX_FRAME>
     requires { length body.now ≤ 250 }
     ensures frame { result.items ≡ frame_of check body.now }
@@ -34,7 +34,8 @@ pub fn frame_of(check: Check, body: &[u8]) -> ArrayVec<u8, MAX_FRAME>
     frame
 }
 
-/// A slave's message with a body of at most 250 bytes. Since no station stands in it, it is the full-duplex frame of its body.
+/// Returns a slave's message with a body of at most 250 bytes. It contains no station, so it is the full-duplex frame
+/// of its body.
 pub fn reply_of(check: Check, body: &[u8]) -> ArrayVec<u8, MAX_FRAME>
     requires { length body.now ≤ 250 }
     ensures reply { result.items ≡ reply_bytes check body.now }
@@ -43,7 +44,7 @@ pub fn reply_of(check: Check, body: &[u8]) -> ArrayVec<u8, MAX_FRAME>
     frame_of(check, body)
 }
 
-/// A master's message to a station, which is neither 16 nor 255, with a body of at most 250 bytes.
+/// Returns a master's message to a station, which is neither 16 nor 255, with a body of at most 250 bytes.
 pub fn message_of(check: Check, station: u8, body: &[u8]) -> ArrayVec<u8, MAX_MESSAGE>
     requires not_dle { station ≢ 16 }
     requires not_all { station ≢ 255 }
@@ -54,7 +55,7 @@ pub fn message_of(check: Check, station: u8, body: &[u8]) -> ArrayVec<u8, MAX_ME
     given_by(HalfFramer::message(station, body, check))
 }
 
-/// A master's poll of a station, which is neither 16 nor 255.
+/// Returns a master's poll of a station, which is neither 16 nor 255.
 pub fn poll_of(station: u8) -> ArrayVec<u8, MAX_MESSAGE>
     requires not_dle { station ≢ 16 }
     requires not_all { station ≢ 255 }
@@ -63,7 +64,7 @@ pub fn poll_of(station: u8) -> ArrayVec<u8, MAX_MESSAGE>
     given_by(HalfFramer::poll(station))
 }
 
-/// The bytes that a framer gives.
+/// Returns the bytes that a framer sends.
 fn given_by(mut framer: HalfFramer) -> ArrayVec<u8, MAX_MESSAGE>
     ensures bytes { result.items ≡ bytes_of framer }
     ensures most { length result.items ≤ 509 }

@@ -13,8 +13,8 @@ use arrayvec::ArrayVec;
 use c_ends::Code;
 use data_addresses::write_address;
 
-/// Reads the text of an address (manual topic: addressing). The code is that of the first part that isn't as it should be, and
-/// `address` is as before then.
+/// Reads the text of an address (manual topic: addressing). If a part is invalid, returns the code of the first such
+/// part and leaves `address` unchanged.
 pub fn read_address(text: &[u8], address: &mut AddressParts) -> Code
     ensures code { result ≡ reading_code (address_of text.now) }
     ensures told { address.new ≡ parts_after (address_of text.now) address.old }
@@ -29,7 +29,7 @@ pub fn read_address(text: &[u8], address: &mut AddressParts) -> Code
     }
 }
 
-/// The text of an address, without zeros in front of a number, with a zero byte at its end (manual topic: addressing), or
+/// Returns the text of an address, without leading zeros and with a zero byte at its end (manual topic: addressing), or
 /// `BadType`.
 pub fn address_text(at: &AddressParts) -> Result<ArrayVec<u8, 25>, Code>
     ensures { result_map_both (λ text. text.items) (λ code. code) result ≡ text_told at.now }

@@ -24,7 +24,7 @@ pub enum Command {
     Logical3,
 }
 
-/// The command of a number, and None exactly where it is no command's.
+/// Returns the command of a number, and None exactly if there is no such command.
 pub(crate) fn command_of(number: u32) -> Option<Command>
     ensures { result ≡ command_of number }
 {
@@ -37,8 +37,8 @@ pub(crate) fn command_of(number: u32) -> Option<Command>
     }
 }
 
-/// Replaces `into` by the payload that reads so many words from an address on, or so many elements by a typed command. After a
-/// fault it is empty.
+/// Replaces `into` by the payload that reads `count` words from an address on, or `count` elements by a typed command.
+/// After a fault `into` is empty.
 pub(crate) fn add_read(
     command: Command,
     at: &Address,
@@ -57,7 +57,7 @@ pub(crate) fn add_read(
     }
 }
 
-/// Replaces `into` by the payload that writes words from an address on. After a fault it is empty.
+/// Replaces `into` by the payload that writes words from an address on. After a fault `into` is empty.
 pub(crate) fn add_write(
     command: Command,
     at: &Address,

@@ -7,7 +7,7 @@ use c_ends::Code;
 use command_payloads::PayloadFault;
 use data_addresses::AddressFault;
 
-/// The code of a text that is no address.
+/// Returns the code of a text that is not an address.
 pub(crate) fn address_code(fault: AddressFault) -> Code
     ensures { result ≡ address_code fault }
 {
@@ -22,7 +22,7 @@ pub(crate) fn address_code(fault: AddressFault) -> Code
     }
 }
 
-/// The code of what stands against a payload.
+/// Returns the code of the fault of a payload.
 pub(crate) fn payload_code(fault: PayloadFault) -> Code
     ensures { result ≡ payload_code fault }
 {

@@ -1,4 +1,4 @@
-//! What the library for C makes of addresses, payloads and replies: plain structs become addresses, and each refusal is a code
+//! Addresses, payloads and replies for the C library: plain structs become addresses, and each refusal is a code
 //! (manual topics: addressing, commands, status codes).
 //!
 //! | Number | Command | Read | Write |
@@ -8,8 +8,8 @@
 //! | 2 | logical with two fields | `0F A1` | `0F A9` |
 //! | 3 | logical with three fields | `0F A2` | `0F AA` |
 //!
-//! Of several faults the first of these is told: the number is no command's; the type byte of the address is no type's; what
-//! stands against the payload.
+//! Of several faults the first of these is returned: the number is not that of a command; the type byte of the address
+//! is not that of a type; the fault of the payload.
 #![tactic(auto)]
 
 mod addresses;

@@ -1,4 +1,4 @@
-//! Addresses and what replies tell, as C has them.
+//! Addresses and the contents of replies, as C structs.
 
 ghost use Rattle.std.specs.Prelude.{◌≡◌, Some};
 ghost use Rattle.c_payloads.specs.Parts.{address_in, bit_in, parts_told};
@@ -7,55 +7,55 @@ use c_ends::kind_of;
 use data_addresses::Address;
 use data_files::type_byte;
 
-/// The place of a word in the data files of a controller, or of one of its bits.
+/// The address of a word in the data files of a controller, or of one of its bits.
 #[repr(C)]
 #[derive(Clone, Copy)]
 pub struct AddressParts {
     /// The type byte of the file.
     pub kind: u8,
-    /// The number of the file, at most 999 of an address that was read.
+    /// The number of the file; at most 999 in an address that was read.
     pub file: u16,
-    /// The element, from 0, at most 999 of an address that was read.
+    /// The element, from 0; at most 999 in an address that was read.
     pub element: u16,
     /// The sub-element, from 0: the word in its element.
     pub sub: u16,
     /// Whether it names a bit.
     pub has_bit: bool,
-    /// The bit, 0 to 15 of an address that was read, and 0 where none is named.
+    /// The bit, 0 to 15 in an address that was read; 0 if it names none.
     pub bit: u8,
 }
 
-/// What a reply tells.
+/// The contents of a reply.
 #[repr(C)]
 #[derive(Clone, Copy)]
 pub struct AnswerParts {
-    /// STS: 0 where the command was executed.
+    /// STS: 0 if the command was executed.
     pub sts: u8,
-    /// EXT STS where STS is F0, and else 0.
+    /// EXT STS if STS is F0, otherwise 0.
     pub ext: u8,
-    /// Where the data begins in the reply: byte 6, or 7 where STS is F0.
+    /// Where the data begins in the reply: byte 6, or 7 if STS is F0.
     pub start: usize,
-    /// How many bytes the data has.
+    /// The number of bytes of the data.
     pub count: usize,
 }
 
-/// What the data of a typed read is.
+/// The description of the data of a typed read.
 #[repr(C)]
 #[derive(Clone, Copy)]
 pub struct TypedParts {
     /// The kind of an element: 2 bit string, 4 integer, 8 floating point.
     pub kind: u16,
-    /// The bytes of an element.
+    /// The size of an element in bytes.
     pub size: u16,
     /// Whether it is an array of elements.
     pub is_array: bool,
     /// Where the words of the elements begin in the data.
     pub start: usize,
-    /// How many bytes they have.
+    /// The number of their bytes.
     pub count: usize,
 }
 
-/// The address that C gives. None exactly where its type byte is no type's.
+/// Returns the address in a C struct, and None exactly if its type byte is not that of a type.
 pub(crate) fn address_in(parts: &AddressParts) -> Option<Address>
     ensures { result ≡ address_in parts.now }
 {
@@ -69,14 +69,14 @@ pub(crate) fn address_in(parts: &AddressParts) -> Option<Address>
     })
 }
 
-/// The bit that C gives.
+/// Returns the bit in a C struct.
 fn bit_in(parts: &AddressParts) -> Option<u8>
     ensures { result ≡ bit_in parts.now }
 {
     if parts.has_bit { Some(parts.bit) } else { None }
 }
 
-/// An address as C sees it, which C gives again as the same.
+/// Returns an address as a C struct, from which `address_in` returns the same address.
 pub(crate) fn parts_of(at: Address) -> AddressParts
     ensures parts { result ≡ parts_told at }
     ensures again { address_in result ≡ Some at }

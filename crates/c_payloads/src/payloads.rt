@@ -18,8 +18,9 @@ use command_payloads::{
     unprotected_write,
 };
 
-/// The payload that reads so many words from an address on, 1 to 122, or so many elements by a typed command (manual topic:
-/// commands). Else the first of these comes: `BadCommand`, `BadType`, what stands against the payload.
+/// Returns the payload that reads `count` words, 1 to 122, from an address on, or `count` elements by a typed command
+/// (manual topic: commands). Otherwise returns the first of these that applies: `BadCommand`, `BadType`, the fault of
+/// the payload.
 pub fn read_payload(command: u32, at: &AddressParts, count: u16) -> Result<ArrayVec<u8, 245>, Code>
     ensures told { result_map_both (λ payload. payload.items) (λ code. code) result ≡ read_told command at.now count }
     ensures spelled { IfOk result (λ payload. IsRead command at.now count payload.items) }
@@ -37,8 +38,8 @@ pub fn read_payload(command: u32, at: &AddressParts, count: u16) -> Result<Array
     }
 }
 
-/// The payload that writes words from an address on, as many as a message has room for (manual topic: commands). Else the first
-/// of these comes: `BadCommand`, `BadType`, what stands against the payload.
+/// Returns the payload that writes words from an address on, as many as fit in a message (manual topic: commands).
+/// Otherwise returns the first of these that applies: `BadCommand`, `BadType`, the fault of the payload.
 pub fn write_payload(
     command: u32,
     at: &AddressParts,
@@ -60,8 +61,9 @@ pub fn write_payload(
     }
 }
 
-/// The payload that writes the bits of a mask of words from an address on (manual topic: commands, protected typed logical write
-/// with mask). Else the first of these comes: `BadType`, `NoData`, `TooMuchData`.
+/// Returns the payload that writes the bits of a mask of words from an address on (manual topic: commands, protected
+/// typed logical write with mask). Otherwise returns the first of these that applies: `BadType`, `NoData`,
+/// `TooMuchData`.
 pub fn masked_payload(
     at: &AddressParts,
     mask: u16,
@@ -80,8 +82,8 @@ pub fn masked_payload(
     }
 }
 
-/// The payload that makes a word its old value AND one mask, OR the other (manual topic: commands, read-modify-write), or
-/// `BadType`. The bit of the address makes no difference.
+/// Returns the payload that makes a word its old value AND one mask, OR the other (manual topic: commands,
+/// read-modify-write), or `BadType`. The bit of the address is ignored.
 pub fn modify_payload(at: &AddressParts, and: u16, or: u16) -> Result<ArrayVec<u8, 245>, Code>
     ensures told { result_map_both (λ payload. payload.items) (λ code. code) result ≡ modify_told at.now and or }
     ensures spelled { IfOk result (λ payload. IsModify at.now and or payload.items) }
@@ -94,8 +96,9 @@ pub fn modify_payload(at: &AddressParts, and: u16, or: u16) -> Result<ArrayVec<u
     Ok(payload)
 }
 
-/// The payload that sets the bit of an address, or clears it, and leaves the other bits of the word as they are (manual topic:
-/// commands, read-modify-write). Else the first of these comes: `BadType`; `NoBit` where the address has none, or one over 15.
+/// Returns the payload that sets or clears the bit of an address and leaves the other bits of the word unchanged
+/// (manual topic: commands, read-modify-write). Otherwise returns the first of these that applies: `BadType`; `NoBit`
+/// if the address has no bit, or one over 15.
 pub fn bit_payload(at: &AddressParts, on: bool) -> Result<ArrayVec<u8, 245>, Code>
     ensures told { result_map_both (λ payload. payload.items) (λ code. code) result ≡ bit_told at.now on }
     ensures spelled { IfOk result (λ payload. IsBit at.now on payload.items) }
@@ -110,7 +113,7 @@ pub fn bit_payload(at: &AddressParts, on: bool) -> Result<ArrayVec<u8, 245>, Cod
     }
 }
 
-/// The payload that asks for bytes back, at most 243 (manual topic: commands, echo). Else `TooMuchData`.
+/// Returns the payload of an echo of these bytes, at most 243 (manual topic: commands, echo), otherwise `TooMuchData`.
 pub fn echo_payload(bytes: &[u8]) -> Result<ArrayVec<u8, 245>, Code>
     ensures told { result_map_both (λ payload. payload.items) (λ code. code) result ≡ echo_told bytes.now }
     ensures spelled { IfOk result (λ payload. SpellsPlc (Echo bytes.now) payload.items) }
@@ -122,8 +125,9 @@ pub fn echo_payload(bytes: &[u8]) -> Result<ArrayVec<u8, 245>, Code>
     }
 }
 
-/// The payload that reads so many words, 1 to 122, of the compatibility file of a station from a byte on, whose number the station
-/// wants even (manual topic: commands, unprotected read). Else `NoData` or `TooMuchData`.
+/// Returns the payload that reads `count` words, 1 to 122, of a station's compatibility file from a byte address on,
+/// which the station requires to be even (manual topic: commands, unprotected read). Otherwise returns `NoData` or
+/// `TooMuchData`.
 pub fn unprotected_read_payload(address: u16, count: u16) -> Result<ArrayVec<u8, 245>, Code>
     ensures told { result_map_both (λ payload. payload.items) (λ code. code) result ≡ unprotected_read_told address count }
     ensures spelled { IfOk result (λ payload. SpellsPlc (Peek address (2 * count)) payload.items) }
@@ -135,8 +139,9 @@ pub fn unprotected_read_payload(address: u16, count: u16) -> Result<ArrayVec<u8,
     }
 }
 
-/// The payload that writes words, 1 to 121, to the compatibility file of a station from a byte on, whose number the station wants
-/// even (manual topic: commands, unprotected write). Else `NoData` or `TooMuchData`.
+/// Returns the payload that writes words, 1 to 121, to a station's compatibility file from a byte address on, which the
+/// station requires to be even (manual topic: commands, unprotected write). Otherwise returns `NoData` or
+/// `TooMuchData`.
 pub fn unprotected_write_payload(address: u16, words: &[u16]) -> Result<ArrayVec<u8, 245>, Code>
     ensures told { result_map_both (λ payload. payload.items) (λ code. code) result ≡ unprotected_write_told address words.now }
     ensures spelled { IfOk result (λ payload. SpellsPlc (Poke address (bytes_of words.now)) payload.items) }
@@ -148,7 +153,7 @@ pub fn unprotected_write_payload(address: u16, words: &[u16]) -> Result<ArrayVec
     }
 }
 
-/// The payload that asks for the status of a station (manual topic: commands, diagnostic status).
+/// Returns the payload that requests the status of a station (manual topic: commands, diagnostic status).
 pub fn status_payload() -> ArrayVec<u8, 245>
     ensures bytes { result.items ≡ bytes.status_payload }
     ensures spelled { SpellsPlc Status result.items }

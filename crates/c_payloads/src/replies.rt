@@ -1,4 +1,4 @@
-//! What replies tell.
+//! The contents of replies.
 
 ghost use Rattle.std.specs.Prelude.{◌≡◌, ◌≤◌, ◌-◌, IfSome, drop, length};
 ghost use Rattle.reply_values.specs.Reply.{reply_of};
@@ -9,11 +9,11 @@ use crate::parts::{AnswerParts, TypedParts};
 use arrayvec::ArrayVec;
 use c_ends::Code;
 
-/// STS: the code is in EXT STS, a byte behind TNS.
+/// STS: the code is in EXT STS, the byte after TNS.
 const EXTENDED: u8 = 0xF0;
 
-/// Tells what a reply says, and where its data is (manual topics: message packets, status codes). The code is `NoReply`, and
-/// `answer` as before, where it is cut off.
+/// Reports the status of a reply, and where its data is (manual topics: message packets, status codes). Returns
+/// `NoReply`, with `answer` unchanged, if the reply is cut off.
 pub fn read_reply(reply: &[u8], answer: &mut AnswerParts) -> Code
     ensures code { result ≡ reply_code (reply_of reply.now) }
     ensures told { answer.new ≡ answer_after (reply_of reply.now) answer.old }
@@ -31,7 +31,7 @@ pub fn read_reply(reply: &[u8], answer: &mut AnswerParts) -> Code
     Code::Done
 }
 
-/// The text of STS and EXT STS, with a zero byte at its end (manual topic: status codes).
+/// Returns the text of STS and EXT STS, with a zero byte at its end (manual topic: status codes).
 pub fn status_text(sts: u8, ext: u8) -> ArrayVec<u8, 80>
     ensures text { result.items ≡ ended_text sts ext }
     ensures most { length result.items ≤ 80 }
@@ -44,8 +44,8 @@ pub fn status_text(sts: u8, ext: u8) -> ArrayVec<u8, 80>
     ended
 }
 
-/// Tells what the data of a reply to a typed read is, and where its words are (manual topics: addressing, typed read). The code
-/// is `NoTypedData`, and `typed` as before, where it is none.
+/// Reports the type of the data of a reply to a typed read, and where its words are (manual topics: addressing, typed
+/// read). Returns `NoTypedData`, with `typed` unchanged, if it is no such data.
 pub fn read_typed(bytes: &[u8], typed: &mut TypedParts) -> Code
     ensures code { result ≡ typed_code (typed_of bytes.now) }
     ensures told { typed.new ≡ typed_after (length bytes.now) (typed_of bytes.now) typed.old }

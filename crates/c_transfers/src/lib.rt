@@ -1,9 +1,9 @@
-//! The transfers of a node as C has them: whole files that are read or written by orders which are issued together, and what
-//! they came to so far (manual topics: commands, word range read and write).
+//! The transfers of a node for the C library: whole files that are read or written by orders which are issued together,
+//! and their results so far (manual topics: commands, word range read and write).
 //!
 //! | State | When |
 //! |---|---|
-//! | 0 | under way: the command `number` waits or is out, and each order before it was done |
+//! | 0 | under way: the command `number` waits or is outstanding, and each order before it was done |
 //! | 1 | whole: each order was done |
 //! | 2 | missing: the command `number` isn't answered, and won't be |
 //! | 3 | refused: the command `number` was refused, with `sts` and `ext` |
@@ -21,17 +21,17 @@ use bulk_orders::{Bulk, confirm_from, gather_from, is_under_way, pull_orders, pu
 use c_ends::Code;
 use df1_node::{Initiator, IssueFault, Node};
 
-/// The highest number of a file that a transfer moves.
+/// The highest number of a file in a transfer.
 const MAX_FILE: u16 = 999;
 
-/// The most words of a transfer.
+/// The maximum number of words of a transfer.
 const MAX_WORDS: u32 = 3000;
 
-/// What a transfer came to so far.
+/// The result so far of a transfer.
 #[repr(C)]
 #[derive(Clone, Copy)]
 pub struct TransferTold {
-    /// The state, as the table of the module says.
+    /// The state, as in the module's table.
     pub state: u32,
     /// The command that it names, or 0.
     pub number: u32,
@@ -41,9 +41,10 @@ pub struct TransferTold {
     pub ext: u8,
 }
 
-/// Issues the orders of a transfer that reads the first words of a file to a node, in the own name of the one that issues: all of
-/// them or none. The answer is the number of the first. After a refusal nothing has changed: `BadFile` for a file over 999,
-/// `BadWords` for other than 1 to 3,000 words, `Spent` where fewer numbers are left than orders, and else maybe `NoMemory`.
+/// Issues the orders of a transfer that reads the first words of a file to a node, with the node's own address as SRC:
+/// all of them or none. Returns the number of the first. After a refusal nothing has changed: `BadFile` for a file over
+/// 999, `BadWords` for other than 1 to 3,000 words, `Spent` if fewer numbers are left than orders; otherwise `NoMemory`
+/// may be returned.
 pub fn issue_pull(node: &mut Node, dst: u8, file: u16, words: u32) -> Result<u32, Code>
     ensures number { IfOk result (λ number. number ≡ length node.old.initiator.issued + 1) }
     ensures ok { OnOk result (node.new ≡ after_pull dst file words node.old) }
@@ -60,8 +61,8 @@ pub fn issue_pull(node: &mut Node, dst: u8, file: u16, words: u32) -> Result<u32
     issue_orders(node, dst, &orders)
 }
 
-/// Issues the orders of a transfer that writes these words, each low byte first, to the beginning of a file, as `issue_pull` does.
-/// `BadWords` also comes for half a word.
+/// Issues the orders of a transfer that writes these words, each low byte first, to the beginning of a file, as
+/// `issue_pull` does. `BadWords` is also returned for half a word.
 pub fn issue_push(node: &mut Node, dst: u8, file: u16, bytes: &[u8]) -> Result<u32, Code>
     ensures number { IfOk result (λ number. number ≡ length node.old.initiator.issued + 1) }
     ensures ok { OnOk result (node.new ≡ after_push dst file bytes.now node.old) }
@@ -78,9 +79,9 @@ pub fn issue_push(node: &mut Node, dst: u8, file: u16, bytes: &[u8]) -> Result<u
     issue_orders(node, dst, &orders)
 }
 
-/// What the transfer came to so far that reads so many words by the commands from number `first` on. Where it is whole, `into` is
-/// replaced by the words, each low byte first; else it is empty. `BadWords`, with `into` unchanged, comes exactly for other than 1
-/// to 3,000 words.
+/// Returns the result so far of the transfer that reads `words` words by the commands from number `first` on. If it is
+/// whole, `into` is replaced by the words, each low byte first; otherwise `into` is empty. Returns `BadWords`, with
+/// `into` unchanged, exactly for other than 1 to 3,000 words.
 pub fn pulled(
     from: &Initiator,
     first: u32,
@@ -98,8 +99,8 @@ pub fn pulled(
     Ok(told_of(from, came))
 }
 
-/// What the transfer came to so far that writes so many words by the commands from number `first` on. `BadWords` comes exactly for
-/// other than 1 to 3,000 words.
+/// Returns the result so far of the transfer that writes `words` words by the commands from number `first` on. Returns
+/// `BadWords` exactly for other than 1 to 3,000 words.
 pub fn pushed(from: &Initiator, first: u32, words: u32) -> Result<TransferTold, Code>
     ensures { MatchOption (words_fault words) (result ≡ Ok (transfer_told from.now (push_result_from from.now first words))) (λ fault. result ≡ Err fault) }
 {
@@ -124,7 +125,7 @@ fn issue_orders(node: &mut Node, dst: u8, orders: &[ArrayVec<u8, 245>]) -> Resul
     }
 }
 
-/// The code of a fault.
+/// Returns the code of a fault.
 pub fn fault_code(fault: IssueFault) -> Code
     ensures { result ≡ fault_code fault }
 {
@@ -137,7 +138,7 @@ pub fn fault_code(fault: IssueFault) -> Code
     }
 }
 
-/// A file that no transfer moves.
+/// Returns the fault of a file number that no transfer may have.
 fn file_fault(file: u16) -> Option<Code>
     ensures { result ≡ file_fault file }
 {
@@ -148,7 +149,7 @@ fn file_fault(file: u16) -> Option<Code>
     }
 }
 
-/// A number of words that no transfer moves.
+/// Returns the fault of a number of words that no transfer may have.
 fn words_fault(words: u32) -> Option<Code>
     ensures { result ≡ words_fault words }
 {
@@ -159,7 +160,7 @@ fn words_fault(words: u32) -> Option<Code>
     }
 }
 
-/// A number of bytes that aren't the words of a transfer.
+/// Returns the fault of a number of bytes that aren't the words of a transfer.
 fn bytes_fault(bytes: usize) -> Option<Code>
     ensures { result ≡ bytes_fault bytes }
 {
@@ -171,7 +172,7 @@ fn bytes_fault(bytes: usize) -> Option<Code>
     }
 }
 
-/// What a transfer came to so far as C sees it.
+/// Returns the result so far of a transfer as a C struct.
 fn told_of(from: &Initiator, came: Bulk) -> TransferTold
     ensures { result ≡ transfer_told from.now came }
 {

@@ -1,4 +1,4 @@
-//! The commands that every station knows, and unprotected reads and writes of the compatibility file.
+//! The commands that every station executes, and unprotected reads and writes of the compatibility file.
 ghost use Rattle.std.specs.Prelude.{◌≡◌, ◌*◌, OnOk};
 ghost use Rattle.plc_commands.specs.Order.{Echo, Peek, Poke, Status};
 ghost use Rattle.data_files.specs.WordBytes.{bytes_of};
@@ -26,11 +26,11 @@ const READ: u8 = 0x01;
 /// CMD of an unprotected write.
 const WRITE: u8 = 0x08;
 
-/// The most bytes of an echo.
+/// The maximum number of bytes of an echo.
 const MOST_ECHO: usize = 243;
 
-/// Replaces `into` by the payload that asks for these bytes back, at most 243 (manual topic: commands, echo). `TooMuchData`, with
-/// `into` empty, comes exactly for more.
+/// Replaces `into` by the payload of an echo of these bytes, at most 243 (manual topic: commands, echo). Returns
+/// `TooMuchData`, with `into` empty, exactly for more.
 pub fn echo(bytes: &[u8], into: &mut ArrayVec<u8, 245>) -> Result<(), PayloadFault>
     ensures answer { result ≡ answer_of (echo_fault bytes.now) }
     ensures bytes { into.new.items ≡ unless (echo_fault bytes.now) (echo_payload bytes.now) }
@@ -46,7 +46,7 @@ pub fn echo(bytes: &[u8], into: &mut ArrayVec<u8, 245>) -> Result<(), PayloadFau
     Ok(())
 }
 
-/// Replaces `into` by the payload that asks for the status of a station (manual topic: commands, diagnostic status).
+/// Replaces `into` by the payload that requests the status of a station (manual topic: commands, diagnostic status).
 pub fn station_status(into: &mut ArrayVec<u8, 245>)
     ensures bytes { into.new.items ≡ status_payload }
     ensures spelled { SpellsPlc Status into.new.items }
@@ -56,9 +56,9 @@ pub fn station_status(into: &mut ArrayVec<u8, 245>)
     into.push(STATUS);
 }
 
-/// Replaces `into` by the payload that reads so many words, 1 to 122, of the compatibility file from a byte on, whose number a
-/// station wants even (manual topic: commands, unprotected read). With `into` empty `NoData` comes exactly for no word, and
-/// `TooMuchData` exactly for over 122.
+/// Replaces `into` by the payload that reads `count` words, 1 to 122, of the compatibility file from a byte address on,
+/// which a station requires to be even (manual topic: commands, unprotected read). With `into` empty, returns `NoData`
+/// exactly for no word, and `TooMuchData` exactly for over 122.
 pub fn unprotected_read(
     address: u16,
     count: u16,
@@ -78,9 +78,9 @@ pub fn unprotected_read(
     Ok(())
 }
 
-/// Replaces `into` by the payload that writes words to the compatibility file from a byte on, whose number a station wants even
-/// (manual topic: commands, unprotected write). With `into` empty `NoData` comes exactly for no word, and `TooMuchData` exactly
-/// for over 121.
+/// Replaces `into` by the payload that writes words to the compatibility file from a byte address on, which a station
+/// requires to be even (manual topic: commands, unprotected write). With `into` empty, returns `NoData` exactly for no
+/// word, and `TooMuchData` exactly for over 121.
 pub fn unprotected_write(
     address: u16,
     words: &[u16],

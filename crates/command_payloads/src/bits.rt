@@ -1,4 +1,4 @@
-//! Read-modify-writes of one word, whose address is by levels.
+//! Read-modify-writes of one word, with a level address.
 ghost use Rattle.std.specs.Prelude.{◌≡◌, IfSome, OnOk};
 ghost use Rattle.command_payloads.specs.Faults.{answer_of, unless};
 ghost use Rattle.command_payloads.specs.Payloads.{bit_fault, bit_write_payload, read_modify_write_payload};
@@ -16,7 +16,7 @@ const FNC: u8 = 0x26;
 const MOST_BIT: u8 = 15;
 
 /// Replaces `into` by the payload that makes a word its old value AND one mask, OR the other (manual topic: commands,
-/// read-modify-write). The bit of the address makes no difference.
+/// read-modify-write). The bit of the address is ignored.
 pub fn read_modify_write(at: &Address, and: u16, or: u16, into: &mut ArrayVec<u8, 245>)
     ensures bytes { into.new.items ≡ read_modify_write_payload at.now and or }
     ensures spelled { SpellsPlc (read_modify_write_order at.now and or) into.new.items }
@@ -29,9 +29,9 @@ pub fn read_modify_write(at: &Address, and: u16, or: u16, into: &mut ArrayVec<u8
     add_number(or, into);
 }
 
-/// Replaces `into` by the payload that sets the bit of an address, or clears it, and leaves the other bits of the word as they
-/// are (manual topic: commands, read-modify-write). `NoBit`, with `into` empty, comes exactly where the address has no bit, or
-/// one over 15.
+/// Replaces `into` by the payload that sets or clears the bit of an address and leaves the other bits of the word
+/// unchanged (manual topic: commands, read-modify-write). Returns `NoBit`, with `into` empty, exactly if the address
+/// has no bit, or one over 15.
 pub fn bit_write(at: &Address, on: bool, into: &mut ArrayVec<u8, 245>) -> Result<(), PayloadFault>
     ensures answer { result ≡ answer_of (bit_fault at.now.bit) }
     ensures bytes { into.new.items ≡ unless (bit_fault at.now.bit) (bit_write_payload at.now at.now.bit on) }

@@ -1,4 +1,4 @@
-//! Why there is no payload.
+//! The reasons why there is no payload.
 ghost use Rattle.std.specs.Prelude.{◌≡◌, ◌≤◌, ⊤, MatchOption};
 ghost use Rattle.command_payloads.specs.Faults.{count_fault, element_fault, sub_fault};
 
@@ -6,25 +6,25 @@ use data_addresses::Address;
 use df1_base::FileType;
 use thiserror::Error;
 
-/// The most words of a command: 244 bytes of data.
+/// The maximum number of words of a command: 244 bytes of data.
 pub(crate) const MOST_WORDS: usize = 122;
 
-/// Why there is no payload for what was asked.
+/// The reason why there is no payload for what was requested.
 #[derive(Clone, Copy, Debug, PartialEq, Eq, Error)]
 pub enum PayloadFault {
     /// No word or element is read or written.
     #[error("no word is read or written")]
     NoData,
-    /// The payload, or the data of its reply, is more than a message has room for.
+    /// The payload, or the data of its reply, doesn't fit in a message.
     #[error("the data is more than a message has room for")]
     TooMuchData,
-    /// A typed command is about elements of a Timer, Counter or Control file, whose data has no type.
+    /// A typed command addresses elements of a Timer, Counter or Control file, whose data has no type.
     #[error("elements of the file have no type for a typed command")]
     NoType,
-    /// A typed command or an address of two fields is about a sub-element.
+    /// A typed command or an address of two fields names a sub-element.
     #[error("the command has no room for a sub-element")]
     NoSub,
-    /// Half a float is written by a typed command.
+    /// A typed command writes half a float.
     #[error("the words are no whole elements")]
     HalfElement,
     /// The address has no bit, or one over 15.
@@ -32,7 +32,7 @@ pub enum PayloadFault {
     NoBit,
 }
 
-/// What is wrong with a number of words: there is none, or they are over 244 bytes.
+/// Returns the fault of a number of words: there is none, or they exceed 244 bytes.
 pub(crate) fn count_fault(words: usize) -> Option<PayloadFault>
     ensures fault { result ≡ count_fault words }
     ensures fits { MatchOption result ((1 ≤ words) × (words ≤ 122)) (λ _. ⊤) }
@@ -46,7 +46,7 @@ pub(crate) fn count_fault(words: usize) -> Option<PayloadFault>
     }
 }
 
-/// Why elements from an address on have no typed commands.
+/// Returns the reason why elements from an address on have no typed commands.
 pub(crate) fn element_fault(at: &Address) -> Option<PayloadFault>
     ensures { result ≡ element_fault at.now }
 {
@@ -56,7 +56,7 @@ pub(crate) fn element_fault(at: &Address) -> Option<PayloadFault>
     }
 }
 
-/// A sub-element that has no room.
+/// Returns the fault of an address whose sub-element can't be encoded.
 pub(crate) fn sub_fault(at: &Address) -> Option<PayloadFault>
     ensures { result ≡ sub_fault at.now }
 {

@@ -17,20 +17,20 @@ ghost use Rattle.command_payloads.specs.Orders.{SpellsPlc, SpellsSlc, bit_set, l
 ghost use Rattle.command_payloads.specs.Words.{index_of};
 ghost use Rattle.command_payloads.specs.Payloads.{bit_payload, logical_read_payload, logical_write_payload, masked_write_payload, typed_read_payload, typed_write_payload, unprotected_write_payload, word_range_read_payload, word_range_write_payload};
 
-/// A station reads a payload as the order that it spells, and so as no other.
+/// A station reads a payload as the order that it encodes, and so as no other.
 pub fn payloads_are_read()
     ensures plc { (order : plc.Order) (payload : List ℕ) → SpellsPlc order payload → plc_reading.order_of (cmd_byte order) (drop 1 payload) ≡ Ok order }
     ensures slc { (order : slc.Order) (payload : List ℕ) → SpellsSlc order payload → slc.order_of (drop 1 payload) ≡ Ok order }
 {}
 
-/// A payload begins with a CMD whose bit 6 is clear, so it is one of a command and not of a reply.
+/// A payload begins with a CMD whose bit 6 is clear, so it is that of a command and not of a reply.
 pub fn payloads_are_commands()
     ensures plc { (order : plc.Order) (payload : List ℕ) → SpellsPlc order payload → (1 ≤ length payload) × ((bit_at (slice_index payload 0) 6 == 1) ≡ false) }
     ensures slc { (order : slc.Order) (payload : List ℕ) → SpellsSlc order payload → (1 ≤ length payload) × ((bit_at (slice_index payload 0) 6 == 1) ≡ false) }
 {}
 
-/// What a station gives that executes the order of a read is the words at its address, and what one does that executes that of a
-/// write of words is that these words become those that were given.
+/// A station that executes the order of a read returns the words at its address. One that executes the order of a write
+/// of words makes these words the ones written.
 pub fn words_at_an_address_are_read_and_written()
     ensures word_range_read { (tables : DataTables) (compat : Option ℕ) (block : List ℕ) (at : Place) (count : ℕ) → (plc_meaning.meaning tables compat block (word_range_read_order at count)).code ≡ Done →
         words_of (plc_meaning.meaning tables compat block (word_range_read_order at count)).reply ≡ words_at tables at.file (index_of tables.specs at) count }
@@ -42,7 +42,7 @@ pub fn words_at_an_address_are_read_and_written()
         (slc_meaning.meaning tables (logical_write_order with_sub at words)).tables ≡ with_words tables at.file (index_of tables.specs at) words }
 {}
 
-/// The order that sets a bit of a word, or clears it, makes this bit what is asked, and leaves the others as they are.
+/// The order that sets or clears a bit of a word makes this bit what was requested, and leaves the others unchanged.
 pub fn one_bit_is_written()
     ensures { (at : Place) (bit old i : ℕ) (on : Bool) → bit ≤ 15 → i ≤ 15 → bit_at (changed_word (bit_set at bit on) old) i ≡ (if i == bit then (if on then 1 else 0) else bit_at old i) }
 {}

@@ -1,5 +1,5 @@
-//! Payloads of commands that read or write data files: what an initiator issues, CMD and what follows TNS (manual topics:
-//! commands, addressing).
+//! Payloads of commands that read or write data files, as an initiator issues them: CMD and what follows TNS (manual
+//! topics: commands, addressing).
 //!
 //! | Command | Payload | Its data |
 //! |---|---|---|
@@ -16,9 +16,10 @@
 //! | logical write | `0F A9` or `0F AA`, size, address of two or three fields, data | words |
 //! | masked write | `0F AB`, size, address of three fields, mask, data | bits of words |
 //!
-//! The address of an unprotected command is the number of a byte, in 2 bytes, low first. A range is an offset of 0 and a total
-//! of 2 bytes each, low first, and a level address: the whole range is read or written. A size is a byte that counts bytes.
-//! Addresses have their shortest spelling. Data are words, each low byte first; a float is two of them, the low one first.
+//! The address of an unprotected command is the number of a byte, in 2 bytes, low byte first. A range is an offset of 0
+//! and a total, of 2 bytes each, low byte first, and a level address: the whole range is read or written. A size is one
+//! byte, in bytes. Addresses have their shortest encoding. Data are words, each low byte first; a float is two words,
+//! the low one first.
 #![tactic(auto)]
 
 mod basic;

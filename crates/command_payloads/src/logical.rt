@@ -1,4 +1,4 @@
-//! Logical reads and writes, whose addresses have two fields or three beside the type of the file.
+//! Logical reads and writes, with an address of two or three fields and the type of the file.
 ghost use Rattle.std.specs.Prelude.{◌≡◌, OnOk, MatchOption, ⊤, false};
 ghost use Rattle.command_payloads.specs.Faults.{answer_of, unless};
 ghost use Rattle.command_payloads.specs.Payloads.{fields_fault, logical_read_fault, logical_read_payload, logical_write_fault, logical_write_payload, masked_write_fault, masked_write_payload, read_function, write_function};
@@ -13,9 +13,10 @@ use data_addresses::Address;
 /// FNC of a masked write.
 const MASKED: u8 = 0xAB;
 
-/// Replaces `into` by the payload that reads so many words, 1 to 122, from an address on, of three fields where `with_sub` says
-/// so and else of two (manual topic: commands, protected typed logical read). Else, with `into` empty, the first of these
-/// comes: two fields and a sub-element, `NoSub`; no word, `NoData`; over 122, `TooMuchData`.
+/// Replaces `into` by the payload that reads `count` words, 1 to 122, from an address on (manual topic: commands,
+/// protected typed logical read). The address has three fields if `with_sub`, and two if not. Otherwise, with `into`
+/// empty, returns the first of these that applies: two fields and a sub-element, `NoSub`; no word, `NoData`; over 122,
+/// `TooMuchData`.
 pub fn logical_read(
     with_sub: bool,
     at: &Address,
@@ -37,9 +38,10 @@ pub fn logical_read(
     Ok(())
 }
 
-/// Replaces `into` by the payload that writes words from an address on, of three fields where `with_sub` says so and else of two
-/// (manual topic: commands, protected typed logical write). Else, with `into` empty, the first of these comes: two fields and a
-/// sub-element, `NoSub`; no word, `NoData`; over 122, or a payload of over 245 bytes, `TooMuchData`.
+/// Replaces `into` by the payload that writes words from an address on (manual topic: commands, protected typed logical
+/// write). The address has three fields if `with_sub`, and two if not. Otherwise, with `into` empty, returns the first
+/// of these that applies: two fields and a sub-element, `NoSub`; no word, `NoData`; over 122, or a payload of over 245
+/// bytes, `TooMuchData`.
 pub fn logical_write(
     with_sub: bool,
     at: &Address,
@@ -62,10 +64,10 @@ pub fn logical_write(
     add_words(words, into)
 }
 
-/// Replaces `into` by the payload that writes the bits of a mask of words from an address on, of three fields: a word becomes
-/// its old value where a bit of the mask is clear, and the new one where it is set (manual topic: commands, protected typed
-/// logical write with mask). With `into` empty `NoData` comes exactly for no word, and `TooMuchData` exactly for over 122, or
-/// for a payload of over 245 bytes.
+/// Replaces `into` by the payload that writes the bits of a mask of words from an address of three fields on (manual
+/// topic: commands, protected typed logical write with mask). Each bit of a word becomes the new one if the bit of the
+/// mask is set, and keeps its old value if it is clear. With `into` empty, returns `NoData` exactly for no word, and
+/// `TooMuchData` exactly for over 122, or for a payload of over 245 bytes.
 pub fn masked_write(
     at: &Address,
     mask: u16,
@@ -85,7 +87,7 @@ pub fn masked_write(
     add_words(words, into)
 }
 
-/// A sub-element that an address of two fields has no room for.
+/// Returns the fault of a sub-element that an address of two fields can't encode.
 fn fields_fault(with_sub: bool, at: &Address) -> Option<PayloadFault>
     ensures fault { result ≡ fields_fault with_sub at.now }
     ensures fits { MatchOption result (with_sub ≡ false → at.now.sub ≡ 0) (λ _. ⊤) }
@@ -93,14 +95,14 @@ fn fields_fault(with_sub: bool, at: &Address) -> Option<PayloadFault>
     if with_sub { None } else { sub_fault(at) }
 }
 
-/// FNC of a read.
+/// Returns FNC of a read.
 fn read_function(with_sub: bool) -> u8
     ensures { result ≡ read_function with_sub }
 {
     if with_sub { 0xA2 } else { 0xA1 }
 }
 
-/// FNC of a write.
+/// Returns FNC of a write.
 fn write_function(with_sub: bool) -> u8
     ensures { result ≡ write_function with_sub }
 {

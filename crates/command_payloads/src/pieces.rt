@@ -1,4 +1,4 @@
-//! The pieces of payloads, each added at the end of what was written before.
+//! The pieces of payloads, each appended to what was written before.
 ghost use Rattle.std.specs.Prelude.{◌≡◌, ◌≤◌, ◌+◌, ◌*◌, ◌++◌, ◌∷◌, [], false, length, nat_le};
 ghost use Rattle.arrayvec.specs.ArrayVec.{array_vec_len};
 ghost use Rattle.logical_address.specs.Shortest.{shortest_levels, shortest_three};
@@ -40,7 +40,7 @@ pub(crate) fn add_levels(at: &Address, into: &mut ArrayVec<u8, 245>)
     into.try_extend_from_slice(&address).unwrap();
 }
 
-/// Writes CMD, FNC, the size of so many words, at most 122, and an address of two or three fields into an empty `into`.
+/// Writes CMD, FNC, the size of `count` words, at most 122, and an address of two or three fields into an empty `into`.
 pub(crate) fn begin_logical(
     fnc: u8,
     with_sub: bool,
@@ -61,7 +61,7 @@ pub(crate) fn begin_logical(
     into.try_extend_from_slice(&address).unwrap();
 }
 
-/// Adds a number in two bytes, low first.
+/// Adds a number in two bytes, low byte first.
 pub(crate) fn add_number(number: u16, into: &mut ArrayVec<u8, 245>)
     requires { array_vec_len into.old ≤ 200 }
     ensures bytes { into.new.items ≡ into.old.items ++ two_bytes number }
@@ -70,7 +70,7 @@ pub(crate) fn add_number(number: u16, into: &mut ArrayVec<u8, 245>)
     into.try_extend_from_slice(&number.to_le_bytes()).unwrap();
 }
 
-/// Adds words, each low byte first. `TooMuchData`, with `into` emptied, comes exactly where there is no room for them.
+/// Adds words, each low byte first. Returns `TooMuchData`, with `into` emptied, exactly if they don't fit.
 pub(crate) fn add_words(words: &[u16], into: &mut ArrayVec<u8, 245>) -> Result<(), PayloadFault>
     ensures answer { result ≡ answer_of (room_fault into.old.items words.now) }
     ensures bytes { into.new.items ≡ unless (room_fault into.old.items words.now) (into.old.items ++ bytes_of words.now) }
@@ -83,7 +83,7 @@ pub(crate) fn add_words(words: &[u16], into: &mut ArrayVec<u8, 245>) -> Result<(
     Ok(())
 }
 
-/// Whether words after so many bytes have room.
+/// Returns whether words fit after `front` bytes.
 fn has_room(front: usize, words: &[u16]) -> bool
     requires { front ≤ 245 }
     ensures { result ≡ nat_le (front + 2 * length words.now) 245 }
@@ -91,7 +91,7 @@ fn has_room(front: usize, words: &[u16]) -> bool
     words.len() <= MOST_WORDS && front + 2 * words.len() <= MAX_PAYLOAD
 }
 
-/// Adds words that have room.
+/// Adds words that fit.
 fn push_words(words: &[u16], into: &mut ArrayVec<u8, 245>)
     requires { array_vec_len into.old + 2 * length words.now ≤ 245 }
     ensures { into.new.items ≡ into.old.items ++ bytes_of words.now }

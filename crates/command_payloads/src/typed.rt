@@ -1,4 +1,4 @@
-//! Typed reads and writes of elements, whose addresses are by levels.
+//! Typed reads and writes of elements, with level addresses.
 ghost use Rattle.std.specs.Prelude.{◌≡◌, ◌≤◌, ◌<◌, ◌++◌, [], length, unwrap_or, OnOk};
 ghost use Rattle.arrayvec.specs.ArrayVec.{array_vec_len};
 ghost use Rattle.logical_address.specs.Parameter.{written_array, written_element};
@@ -21,10 +21,10 @@ const READ: u8 = 0x68;
 /// FNC of a typed write.
 const WRITE: u8 = 0x67;
 
-/// Replaces `into` by the payload that reads so many elements, at most 120 of one word or 59 floats, from an address on (manual
-/// topic: commands, typed read). Else, with `into` empty, the first of these comes: the file is a Timer, Counter or Control
-/// file, `NoType`; the address has a sub-element, `NoSub`; there is no element, `NoData`; the reply has over 244 bytes of data,
-/// `TooMuchData`.
+/// Replaces `into` by the payload that reads `count` elements, at most 120 of one word or 59 floats, from an address on
+/// (manual topic: commands, typed read). Otherwise, with `into` empty, returns the first of these that applies: the
+/// file is a Timer, Counter or Control file, `NoType`; the address has a sub-element, `NoSub`; there is no element,
+/// `NoData`; the reply has over 244 bytes of data, `TooMuchData`.
 pub fn typed_read(
     at: &Address,
     count: u16,
@@ -46,10 +46,10 @@ pub fn typed_read(
     Ok(())
 }
 
-/// Replaces `into` by the payload that writes elements from an address on, as an array, whose words these are (manual topic:
-/// commands, typed write). Else, with `into` empty, the first of these comes: the file is a Timer, Counter or Control file,
-/// `NoType`; the address has a sub-element, `NoSub`; there is no word, `NoData`, or over 122, `TooMuchData`; a float has one
-/// word alone, `HalfElement`; the payload has over 245 bytes, `TooMuchData`.
+/// Replaces `into` by the payload that writes elements with these words from an address on, as an array (manual topic:
+/// commands, typed write). Otherwise, with `into` empty, returns the first of these that applies: the file is a Timer,
+/// Counter or Control file, `NoType`; the address has a sub-element, `NoSub`; there is no word, `NoData`, or over 122,
+/// `TooMuchData`; a float has only one word, `HalfElement`; the payload has over 245 bytes, `TooMuchData`.
 pub fn typed_write(
     at: &Address,
     words: &[u16],
@@ -76,7 +76,7 @@ pub fn typed_write(
     add_words(words, into)
 }
 
-/// What is wrong with a read of so many elements: there is none, or the reply is too long.
+/// Returns the fault of a read of `count` elements: there is none, or the reply is too long.
 fn reply_fault(kind: FileType, count: u16) -> Option<PayloadFault>
     ensures { result ≡ reply_fault kind count }
 {
@@ -89,7 +89,7 @@ fn reply_fault(kind: FileType, count: u16) -> Option<PayloadFault>
     }
 }
 
-/// How many bytes the parameter of an element has.
+/// Returns the number of bytes of the parameter of an element.
 fn parameter_len(kind: FileType) -> usize
     ensures { result ≡ length (written_element kind) }
 {
@@ -100,7 +100,7 @@ fn parameter_len(kind: FileType) -> usize
     }
 }
 
-/// How many words an element has.
+/// Returns the number of words of an element.
 fn width(kind: FileType) -> usize
     ensures words { result ≡ words_per_element kind }
     ensures some { 0 < result }
@@ -113,7 +113,7 @@ fn width(kind: FileType) -> usize
     }
 }
 
-/// Adds the parameter of an array of so many elements.
+/// Adds the parameter of an array of `count` elements.
 fn add_parameter(kind: FileType, count: u16, into: &mut ArrayVec<u8, 245>)
     requires { array_vec_len into.old ≤ 22 }
     ensures { into.new.items ≡ into.old.items ++ unwrap_or (written_array kind count) [] }

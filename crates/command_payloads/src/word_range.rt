@@ -1,4 +1,4 @@
-//! Word range reads and writes, whose addresses are by levels.
+//! Word range reads and writes, with level addresses.
 ghost use Rattle.std.specs.Prelude.{◌≡◌, OnOk};
 ghost use Rattle.command_payloads.specs.Faults.{answer_of, count_fault, unless};
 ghost use Rattle.command_payloads.specs.Payloads.{word_range_read_payload, word_range_write_fault, word_range_write_payload};
@@ -16,8 +16,8 @@ const READ: u8 = 0x01;
 /// FNC of a word range write.
 const WRITE: u8 = 0x00;
 
-/// Replaces `into` by the payload that reads so many words, 1 to 122, from an address on (manual topic: commands, word range
-/// read). With `into` empty `NoData` comes exactly for no word, and `TooMuchData` exactly for over 122.
+/// Replaces `into` by the payload that reads `count` words, 1 to 122, from an address on (manual topic: commands, word
+/// range read). With `into` empty, returns `NoData` exactly for no word, and `TooMuchData` exactly for over 122.
 pub fn word_range_read(
     at: &Address,
     count: u16,
@@ -36,8 +36,9 @@ pub fn word_range_read(
     Ok(())
 }
 
-/// Replaces `into` by the payload that writes words from an address on (manual topic: commands, word range write). With `into`
-/// empty `NoData` comes exactly for no word, and `TooMuchData` exactly for over 122, or for a payload of over 245 bytes.
+/// Replaces `into` by the payload that writes words from an address on (manual topic: commands, word range write). With
+/// `into` empty, returns `NoData` exactly for no word, and `TooMuchData` exactly for over 122, or for a payload of over
+/// 245 bytes.
 pub fn word_range_write(
     at: &Address,
     words: &[u16],

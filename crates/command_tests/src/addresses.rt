@@ -1,4 +1,4 @@
-//! Addresses and parameters of known bytes.
+//! Tests of addresses and parameters of known bytes.
 use arrayvec::ArrayVec;
 use df1_base::FileType;
 use logical_address::{

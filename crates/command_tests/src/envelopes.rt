@@ -1,4 +1,4 @@
-//! The worked bodies: a logical write to station 1 and its reply.
+//! Tests of worked bodies: a logical write to station 1 and its reply.
 use arrayvec::ArrayVec;
 use pccc_envelope::duplicate_filter::Filter;
 use pccc_envelope::{Envelope, Key, is_reply, key_of, read_envelope, reply_of, write_envelope};

@@ -1,4 +1,4 @@
-//! Tests of commands: their envelopes and addresses, the orders that they spell, and what these do to tables.
+//! Tests of commands: their envelopes and addresses, the orders that they encode, and their effect on tables.
 #![tactic(auto)]
 
 #[cfg(test)]

@@ -1,4 +1,4 @@
-//! Orders of known payloads on known tables, as they are read and executed.
+//! Tests of orders of known payloads on known tables: their decoding and execution.
 use arrayvec::ArrayVec;
 use data_files::{FileSpec, MakeFault, Tables};
 use df1_base::{Code, FileType};
@@ -232,13 +232,13 @@ const UNREAD: [(u8, &[u8], Code); 31] = [
     (0x0F, &[0x00, 0, 0, 1, 0, 6, 7, 0, 1], ILLEGAL),
     (0x0F, &[0x26], ILLEGAL),
     (0x0F, &[0x26, 6, 7, 0, 0xFF, 0, 0], ILLEGAL),
-    // a second set that is cut off after a first whose file isn't there
+    // a second set that is cut off after a first whose file doesn't exist
     (0x0F, &[0x26, 6, 9, 0, 0xFF, 0, 0, 0, 6, 7], ILLEGAL),
     (0x0F, &[0x26, 6, 9, 0, 0xFF, 0, 0, 0, 2, 7], TOO_FEW_LEVELS),
-    // no parameter at a file that isn't there
+    // no parameter at a file that doesn't exist
     (0x0F, &[0x67, 0, 0, 1, 0, 6, 9, 0], ILLEGAL),
     (0x0F, &[0x67, 0, 0, 1, 0, 6, 9, 0, 0xC2, 1, 0], ILLEGAL),
-    // an array's size that isn't that of what follows, at an area that isn't there
+    // an array's size that isn't that of what follows, at an area that doesn't exist
     (
         0x0F,
         &[0x67, 0, 0, 1, 0, 7, 1, 7, 0, 0x99, 9, 2, 0x42, 1, 0],
@@ -248,7 +248,7 @@ const UNREAD: [(u8, &[u8], Code); 31] = [
     (0x0F, &[0x68, 0, 0, 1, 0, 6, 7, 0, 1], ILLEGAL),
 ];
 
-/// Orders that are refused: of those that two neighbouring tests refuse, the code is the first one's.
+/// Orders that are refused. If two adjacent tests refuse an order, the code is the first one's.
 const REFUSED: [(u8, &[u8], Code); 51] = [
     (0x01, &[0, 0, 0], ILLEGAL),
     (0x01, &[0, 0, 3], ILLEGAL),
@@ -268,7 +268,7 @@ const REFUSED: [(u8, &[u8], Code); 51] = [
     (0x0F, &[0x01, 0, 0, 1, 0, 7, 1, 7, 0, 246], TOO_LARGE),
     // another area, and past the range
     (0x0F, &[0x01, 1, 0, 1, 0, 7, 1, 7, 0, 2], NO_PLACE),
-    // past the range at a file that isn't there
+    // past the range at a file that doesn't exist
     (0x0F, &[0x01, 1, 0, 1, 0, 6, 9, 0, 2], PAST_THE_END),
     (
         0x0F,
@@ -276,14 +276,14 @@ const REFUSED: [(u8, &[u8], Code); 51] = [
         PAST_THE_END,
     ),
     (0x0F, &[0x01, 0, 0, 1, 0, 6, 9, 0, 2], NO_PLACE),
-    // a sub-element that isn't there past the end of the file
+    // a sub-element that doesn't exist past the end of the file
     (0x0F, &[0x01, 0, 0, 1, 0, 0x0E, 7, 16, 1, 2], NO_PLACE),
     (0x0F, &[0x01, 0, 0, 1, 0, 6, 7, 16, 2], PAST_THE_END),
     (0x0F, &[0x01, 16, 0, 17, 0, 6, 7, 0, 2], PAST_THE_END),
     (0x0F, &[0x00, 2, 0, 2, 0, 6, 7, 0, 0xCD, 0xAB], PAST_THE_END),
     (0x0F, &[0x00, 0, 0, 1, 0, 6, 9, 0, 1, 0], NO_PLACE),
     (0x0F, &[0x00, 0, 0, 1, 0, 6, 2, 0, 1, 0], READ_ONLY),
-    // a sub-element that isn't there of a Status file
+    // a sub-element that doesn't exist of a Status file
     (0x0F, &[0x00, 0, 0, 1, 0, 0x0E, 2, 0, 1, 1, 0], READ_ONLY),
     (0x0F, &[0x26, 7, 1, 9, 0, 0xFF, 0, 0, 0], NO_PLACE),
     (0x0F, &[0x26, 6, 2, 0, 0xFF, 0, 0, 0], READ_ONLY),

@@ -1,4 +1,4 @@
-//! Orders and what they do to worked tables.
+//! Tests of orders and their effect on worked tables.
 use arrayvec::ArrayVec;
 use data_files::{FileSpec, MakeFault, Tables};
 use df1_base::{Code, FileType};
@@ -6,7 +6,8 @@ use slc_commands::{SlcFnc, do_slc, read_slc};
 use std::alloc::Global;
 use std::test::Fail;
 
-/// Integers 7 with the words 1234 and 5678 in front, floats 8, status 2, timers 4, 122 integers 10 and an integer 300.
+/// Returns integers 7 with the first words 1234 and 5678, floats 8, status 2, timers 4, 122 integers 10 and an integer
+/// 300.
 fn worked_tables(alloc: Global) -> Result<Tables, MakeFault> {
     let file = |number, kind, count| FileSpec {
         number,
@@ -126,10 +127,10 @@ fn the_first_test_that_fails_refuses(rt: HostRuntime) -> Result<(), Fail> {
         (&[0xAA, 3, 7, 0x89, 0, 0, 1, 2, 3], BAD_SIZE),
         // odd and over 244
         (&[0xA2, 245, 7, 0x89, 0, 0], BAD_SIZE),
-        // odd at a file that isn't there
+        // odd at a file that doesn't exist
         (&[0xA2, 3, 9, 0x89, 0, 0], BAD_SIZE),
         (&[0xA2, 246, 7, 0x89, 0, 0], TOO_LARGE),
-        // over 244 at a file that isn't there
+        // over 244 at a file that doesn't exist
         (&[0xA2, 246, 9, 0x89, 0, 0], TOO_LARGE),
         (&[0xA2, 2, 9, 0x89, 0, 0], NO_PLACE),
         (&[0xA2, 2, 7, 0x8A, 0, 0], OTHER_TYPE),
@@ -137,12 +138,12 @@ fn the_first_test_that_fails_refuses(rt: HostRuntime) -> Result<(), Fail> {
         // another type at a Status file that is written
         (&[0xAA, 2, 2, 0x89, 0, 0, 1, 0], OTHER_TYPE),
         (&[0xAA, 2, 2, 0x84, 0, 0, 1, 0], READ_ONLY),
-        // a sub-element that isn't there at a Status file that is written
+        // a sub-element that doesn't exist at a Status file that is written
         (&[0xAA, 2, 2, 0x84, 0, 1, 1, 0], READ_ONLY),
         (&[0xA2, 2, 7, 0x89, 0, 1], NO_PLACE),
         (&[0xA2, 2, 8, 0x8A, 0, 2], NO_PLACE),
         (&[0xA2, 2, 4, 0x86, 0, 3], NO_PLACE),
-        // a sub-element that isn't there past the end
+        // a sub-element that doesn't exist past the end
         (&[0xA2, 2, 7, 0x89, 16, 1], NO_PLACE),
         (&[0xA2, 2, 7, 0x89, 16, 0], PAST_THE_END),
         (&[0xA2, 4, 7, 0x89, 15, 0], PAST_THE_END),

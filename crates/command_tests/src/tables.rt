@@ -1,4 +1,4 @@
-//! Worked tables.
+//! Tests of worked tables.
 use data_files::{FileSpec, MakeFault, Tables};
 use df1_base::FileType;
 use std::test::Fail;

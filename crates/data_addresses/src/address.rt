@@ -11,28 +11,28 @@ use df1_base::FileType;
 use logical_address::{Levels, Three};
 use thiserror::Error;
 
-/// The place of a word in the data files of a controller, or of one of its bits.
+/// The address of a word in the data files of a controller, or of one of its bits.
 #[derive(Clone, Copy, Debug, PartialEq, Eq)]
 pub struct Address {
     /// The type of the file.
     pub kind: FileType,
-    /// The number of the file, at most 999 in an address that was read.
+    /// The number of the file; at most 999 in an address that was read.
     pub file: u16,
-    /// The element, from 0, at most 999 in an address that was read.
+    /// The element, from 0; at most 999 in an address that was read.
     pub element: u16,
-    /// The sub-element, from 0: the word in its element. It is 0 where it isn't given.
+    /// The sub-element, from 0: the word in its element; 0 if the text has none.
     pub sub: u16,
-    /// The bit of the word, 0 to 15 in an address that was read, where one is given.
+    /// The bit of the word, if there is one; 0 to 15 in an address that was read.
     pub bit: Option<u8>,
 }
 
-/// Why a text is no address: the first of its parts that isn't as it should be.
+/// The reason why a text is not an address: its first invalid part.
 #[derive(Clone, Copy, Debug, PartialEq, Eq, Error)]
 pub enum AddressFault {
     /// It doesn't begin with S, B, T, C, R, N or F.
     #[error("it doesn't begin with the letter of a file's type")]
     NoType,
-    /// No number 0 to 999 follows the letter, nor the colon an S.
+    /// No number 0 to 999 follows the letter, nor does a colon follow an S.
     #[error("its file isn't a number 0 to 999")]
     NoFile,
     /// No colon follows the file.
@@ -53,7 +53,7 @@ pub enum AddressFault {
 }
 
 impl Address {
-    /// The place by levels: of area 0, without the bit.
+    /// Returns the place by levels: area 0, without the bit.
     pub fn levels(&self) -> Levels
         ensures { result ≡ levels_of self.now }
     {
@@ -65,7 +65,7 @@ impl Address {
         }
     }
 
-    /// The place by three fields beside the type byte, without the bit.
+    /// Returns the place by three fields and the type byte, without the bit.
     pub fn three(&self) -> Three
         ensures { result ≡ three_of self.now }
     {
@@ -78,7 +78,7 @@ impl Address {
     }
 }
 
-/// Reads the text of an address (manual topic: addressing). Else the fault of the first part that isn't as it should be.
+/// Reads the text of an address (manual topic: addressing), or returns the fault of its first invalid part.
 pub fn read_address(text: &[u8]) -> Result<Address, AddressFault>
     ensures reads { result ≡ address_of text.now }
     ensures spelled { IfOk result (λ at. SpellsAddress at text.now) }
@@ -87,7 +87,7 @@ pub fn read_address(text: &[u8]) -> Result<Address, AddressFault>
     by_parts(text)
 }
 
-/// The address whose parts these are.
+/// Reads an address part by part.
 #[tactic(auto, unfolding(crate::specs::Reading::address_of))]
 fn by_parts(text: &[u8]) -> Result<Address, AddressFault>
     ensures { result ≡ address_of text.now }

@@ -7,13 +7,13 @@ ghost use Rattle.data_addresses.specs.Text.{SpellsAddress};
 ghost use Rattle.data_addresses.specs.Reading.{address_of};
 ghost use Rattle.data_addresses.specs.Canonical.{IsAddress, address_text};
 
-/// A text is one address at most.
+/// A text is at most one address.
 pub fn one_address()
     ensures { (at other : Place) (text : List ℕ) → SpellsAddress at text → SpellsAddress other text → at ≡ other }
 {}
 
-/// Each address has a text, and this text is read as it; what a text is has files and elements up to 999, words of the element
-/// and bits of the word.
+/// Each address has a text, and this text is read as that address. An address that is read has files and elements up to
+/// 999, words of the element and bits of the word.
 pub fn addresses_have_texts()
     ensures spelled { (at : Place) → IsAddress at → SpellsAddress at (address_text at) }
     ensures read { (at : Place) → IsAddress at → address_of (address_text at) ≡ Ok at }

@@ -3,7 +3,8 @@ ghost use Rattle.std.specs.Prelude.{◌≡◌, ◌≤◌, length, take, nat_le, 
 ghost use Rattle.std.specs.Option.{option_map};
 ghost use Rattle.data_addresses.specs.Numbers.{digits, is_digit, number_front, number_of};
 
-/// The number at the front, at most `most`, and what follows its digits. None where there is no digit, or a larger number.
+/// Returns the number at the front, at most `most`, and what follows its digits. Returns None if there is no digit, or
+/// a larger number.
 #[tactic(auto, using(crate::proofs::Digits::digits_within))]
 pub(crate) fn number_front(most: u16, text: &[u8]) -> Option<(u16, &[u8])>
     requires { most ≤ 999 }
@@ -18,7 +19,7 @@ pub(crate) fn number_front(most: u16, text: &[u8]) -> Option<(u16, &[u8])>
     Some((number, &text[count..]))
 }
 
-/// How many digits stand at the front.
+/// Returns the number of digits at the front.
 fn digit_count(text: &[u8]) -> usize
     ensures { result ≡ length (digits text.now) }
 {
@@ -30,7 +31,7 @@ fn digit_count(text: &[u8]) -> usize
     text.len()
 }
 
-/// The number of these digits, and None where it is over `most`.
+/// Returns the number of these digits, and None if it is over `most`.
 fn number_of(most: u16, digits: &[u8]) -> Option<u16>
     requires { most ≤ 999 }
     ensures { result ≡ (if nat_le (number_of digits.now) most then Some (number_of digits.now) else None) }
@@ -45,7 +46,7 @@ fn number_of(most: u16, digits: &[u8]) -> Option<u16>
     Some(number)
 }
 
-/// Whether a byte is a digit.
+/// Returns whether a byte is a digit.
 fn is_digit(byte: u8) -> bool
     ensures { result ≡ is_digit byte }
 {

@@ -1,4 +1,4 @@
-//! The parts of an address. A part is read at the front of the text, and answers what is left.
+//! The parts of an address. A part is read at the front of the text, and the remaining text is returned.
 ghost use Rattle.std.specs.Prelude.{◌≡◌, ◌≤◌};
 ghost use Rattle.std.specs.Option.{option_map};
 ghost use Rattle.std.specs.Result.{result_map_both};
@@ -14,10 +14,10 @@ const MOST: u16 = 999;
 /// The highest bit of a word.
 const MOST_BIT: u16 = 15;
 
-/// The file that an S without a number names.
+/// The file that an S without a number means.
 const STATUS_FILE: u16 = 2;
 
-/// The letter of the type.
+/// Reads the letter of the type.
 pub(crate) fn type_part(text: &[u8]) -> Result<(FileType, &[u8]), AddressFault>
     ensures { result_map_both (λ found. (found.0, found.1.now)) (λ fault. fault) result ≡ part.type_part text.now }
 {
@@ -27,7 +27,7 @@ pub(crate) fn type_part(text: &[u8]) -> Result<(FileType, &[u8]), AddressFault>
     }
 }
 
-/// The type at the front.
+/// Returns the type at the front.
 fn type_front(text: &[u8]) -> Option<(FileType, &[u8])>
     ensures { option_map (λ found. (found.0, found.1.now)) result ≡ part.type_front text.now }
 {
@@ -37,7 +37,7 @@ fn type_front(text: &[u8]) -> Option<(FileType, &[u8])>
     }
 }
 
-/// The type of a letter.
+/// Returns the type of a letter.
 fn type_of(letter: u8) -> Option<FileType>
     ensures { result ≡ part.type_of letter }
 {
@@ -53,7 +53,7 @@ fn type_of(letter: u8) -> Option<FileType>
     }
 }
 
-/// The number of the file.
+/// Reads the number of the file.
 pub(crate) fn file_part(kind: FileType, text: &[u8]) -> Result<(u16, &[u8]), AddressFault>
     ensures { result_map_both (λ found. (found.0, found.1.now)) (λ fault. fault) result ≡ part.file_part kind text.now }
 {
@@ -66,14 +66,14 @@ pub(crate) fn file_part(kind: FileType, text: &[u8]) -> Result<(u16, &[u8]), Add
     }
 }
 
-/// Whether a colon stands at the front.
+/// Returns whether the text begins with a colon.
 fn begins_with_colon(text: &[u8]) -> bool
     ensures { result ≡ part.begins_with_colon text.now }
 {
     matches!(text, [b':', ..])
 }
 
-/// The colon before the element.
+/// Reads the colon before the element.
 pub(crate) fn colon_part(text: &[u8]) -> Result<&[u8], AddressFault>
     ensures { result_map_both (λ rest. rest.now) (λ fault. fault) result ≡ part.colon_part text.now }
 {
@@ -83,7 +83,7 @@ pub(crate) fn colon_part(text: &[u8]) -> Result<&[u8], AddressFault>
     }
 }
 
-/// The element.
+/// Reads the element.
 pub(crate) fn element_part(text: &[u8]) -> Result<(u16, &[u8]), AddressFault>
     ensures { result_map_both (λ found. (found.0, found.1.now)) (λ fault. fault) result ≡ part.element_part text.now }
 {
@@ -93,7 +93,7 @@ pub(crate) fn element_part(text: &[u8]) -> Result<(u16, &[u8]), AddressFault>
     }
 }
 
-/// The sub-element, where a point stands before one, and else 0.
+/// Reads the sub-element after a point, or returns 0 if there is no point.
 pub(crate) fn sub_part(kind: FileType, text: &[u8]) -> Result<(u16, &[u8]), AddressFault>
     ensures { result_map_both (λ found. (found.0, found.1.now)) (λ fault. fault) result ≡ part.sub_part kind text.now }
 {
@@ -106,7 +106,7 @@ pub(crate) fn sub_part(kind: FileType, text: &[u8]) -> Result<(u16, &[u8]), Addr
     }
 }
 
-/// A word of an element, by its name or its number.
+/// Reads a word of an element, by its name or its number.
 fn word_front(kind: FileType, text: &[u8]) -> Option<(u16, &[u8])>
     ensures { option_map (λ found. (found.0, found.1.now)) result ≡ part.word_front kind text.now }
 {
@@ -116,7 +116,7 @@ fn word_front(kind: FileType, text: &[u8]) -> Option<(u16, &[u8])>
     }
 }
 
-/// The last word of an element.
+/// Returns the last word of an element.
 fn most_sub(kind: FileType) -> u16
     ensures is { result ≡ part.most_sub kind }
     ensures most { result ≤ 2 }
@@ -128,7 +128,7 @@ fn most_sub(kind: FileType) -> u16
     }
 }
 
-/// The name of a word at the front.
+/// Reads the name of a word at the front.
 fn name_front(kind: FileType, text: &[u8]) -> Option<(u16, &[u8])>
     ensures { option_map (λ found. (found.0, found.1.now)) result ≡ part.name_front kind text.now }
 {
@@ -138,7 +138,7 @@ fn name_front(kind: FileType, text: &[u8]) -> Option<(u16, &[u8])>
     }
 }
 
-/// The word of an element that these three letters name.
+/// Returns the word of an element that these three letters name.
 fn word_named(kind: FileType, a: u8, b: u8, c: u8) -> Option<u16>
     ensures { result ≡ part.word_named kind a b c }
 {
@@ -159,7 +159,7 @@ fn word_named(kind: FileType, a: u8, b: u8, c: u8) -> Option<u16>
     }
 }
 
-/// The bit, where a slash stands before one.
+/// Reads the bit after a slash, if there is a slash.
 pub(crate) fn bit_part(kind: FileType, text: &[u8]) -> Result<(Option<u8>, &[u8]), AddressFault>
     ensures { result_map_both (λ found. (found.0, found.1.now)) (λ fault. fault) result ≡ part.bit_part kind text.now }
 {
@@ -175,7 +175,7 @@ pub(crate) fn bit_part(kind: FileType, text: &[u8]) -> Result<(Option<u8>, &[u8]
     }
 }
 
-/// The end.
+/// Checks that the text ends here.
 pub(crate) fn end_part(text: &[u8]) -> Result<(), AddressFault>
     ensures { result ≡ part.end_part text.now }
 {

@@ -1,4 +1,4 @@
-//! The text of an address, as it is told.
+//! The text of an address, as it is written.
 ghost use Rattle.std.specs.Prelude.{◌≡◌, ◌≤◌, ◌+◌, ◌++◌, ◌∷◌, [], decimal, Ok};
 ghost use Rattle.arrayvec.specs.ArrayVec.{array_vec_len};
 ghost use Rattle.data_addresses.specs.Text.{SpellsAddress, letter};
@@ -9,11 +9,11 @@ use crate::Address;
 use arrayvec::ArrayVec;
 use df1_base::FileType;
 
-/// The most bytes of a text.
+/// The maximum number of bytes of a text.
 const MOST: usize = 24;
 
-/// Replaces `into` by the text of an address (manual topic: addressing): no zeros in front of a number, a sub-element by its
-/// number where it isn't 0, and a bit where there is one. An address that can be read is read again from it.
+/// Replaces `into` by the text of an address (manual topic: addressing): no leading zeros, a sub-element by its number
+/// unless it is 0, and a bit if there is one. An address that can be read is read back from it.
 pub fn write_address(at: &Address, into: &mut ArrayVec<u8, 24>)
     ensures text { into.new.items ≡ address_text at.now }
     ensures spelled { IsAddress at.now → SpellsAddress at.now into.new.items }
@@ -36,7 +36,7 @@ fn add_parts(at: &Address, into: &mut ArrayVec<u8, MOST>)
     add_bit(at.bit, into);
 }
 
-/// The letter of a type.
+/// Returns the letter of a type.
 fn letter(kind: FileType) -> u8
     ensures { result ≡ letter kind }
 {
@@ -51,7 +51,7 @@ fn letter(kind: FileType) -> u8
     }
 }
 
-/// Adds a point and a sub-element, which isn't 0.
+/// Adds a point and a sub-element, unless it is 0.
 fn add_sub(sub: u16, into: &mut ArrayVec<u8, MOST>)
     requires { array_vec_len into.old ≤ 12 }
     ensures text { into.new.items ≡ into.old.items ++ sub_text sub }
@@ -63,7 +63,7 @@ fn add_sub(sub: u16, into: &mut ArrayVec<u8, MOST>)
     }
 }
 
-/// Adds a slash and a bit, where there is one.
+/// Adds a slash and a bit, if there is one.
 fn add_bit(bit: Option<u8>, into: &mut ArrayVec<u8, MOST>)
     requires { array_vec_len into.old ≤ 18 }
     ensures { into.new.items ≡ into.old.items ++ bit_text bit }

@@ -1,17 +1,17 @@
-//! What is wrong with files that tables are to be made of.
+//! Faults of the files from which tables are to be made.
 ghost use Rattle.std.specs.Prelude.{◌≡◌, ◌==◌};
 ghost use Rattle.std.specs.List.{list_any};
 ghost use Rattle.data_files.specs.Tables.{fault_of, faults};
 
 use crate::{FileSpec, MakeFault};
 
-/// The most files that tables may have.
+/// The maximum number of files of the tables.
 pub const MAX_FILES: usize = 256;
 
-/// The most elements that a file may have.
+/// The maximum number of elements of a file.
 const MAX_ELEMENTS: u16 = 1000;
 
-/// The first fault of these files.
+/// Returns the first fault of these files.
 pub(crate) fn first_fault(specs: &[FileSpec]) -> Option<MakeFault>
     ensures { result ≡ faults specs.now }
 {
@@ -27,7 +27,7 @@ pub(crate) fn first_fault(specs: &[FileSpec]) -> Option<MakeFault>
     None
 }
 
-/// What is wrong with a file that follows others.
+/// Returns the fault of a file that follows others.
 fn fault_after(before: &[FileSpec], spec: FileSpec) -> Option<MakeFault>
     ensures { result ≡ fault_of before.now spec }
 {
@@ -42,7 +42,7 @@ fn fault_after(before: &[FileSpec], spec: FileSpec) -> Option<MakeFault>
     }
 }
 
-/// Whether one of the files has this number.
+/// Returns whether one of the files has this number.
 fn has_number(specs: &[FileSpec], number: u16) -> bool
     ensures { result ≡ list_any (λ other. other.number == number) specs.now }
 {

@@ -1,5 +1,5 @@
-//! The data tables of a controller (manual topic: addressing): its files in the order in which they were given, and the
-//! words of each, which lie in one vector, file after file, beside a directory of where each file begins.
+//! The data tables of a controller (manual topic: addressing): its files in the order given, and their words in one
+//! vector, file after file, with a directory of where each file starts.
 #![tactic(auto)]
 
 mod faults;

@@ -1,8 +1,8 @@
-//! Why data tables are not made.
+//! The reasons why data tables are not made.
 use std::alloc::{AllocError, AllocFailed};
 use thiserror::Error;
 
-/// Why tables were not made.
+/// The reason why tables were not made.
 #[derive(Clone, Copy, Debug, PartialEq, Eq, Error)]
 pub enum MakeFault {
     /// There are more than 256 files.
@@ -14,7 +14,7 @@ pub enum MakeFault {
     /// The file of this number has over 1,000 elements.
     #[error("file {0} has over 1000 elements")]
     Large(u16),
-    /// The file of this number stood before.
+    /// An earlier file has this number too.
     #[error("file {0} is given twice")]
     Twice(u16),
     /// There is no memory left.

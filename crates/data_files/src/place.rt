@@ -1,10 +1,10 @@
-//! The place of the words that an order reads or writes, and the tests of it, the first of which that fails refuses the
-//! order (manual topics: addressing, status codes):
+//! The place of the words that an order reads or writes, and its tests; the first test that fails refuses the order
+//! (manual topics: addressing, status codes):
 //!
 //! | Test | Refused with |
 //! |---|---|
 //! | there is such a file | F0/06 |
-//! | the type byte, where one is given, is the file's | F0/11 |
+//! | the type byte, if there is one, is the file's | F0/11 |
 //! | the order doesn't write, or the file isn't Status | F0/0B |
 //! | the sub-element is below the words of an element | F0/06 |
 //! | the first word plus the offset plus the number of words is at most the file's words | F0/0A |
@@ -33,22 +33,22 @@ const PAST_THE_END: Code = Code::Ext(0x0A);
 pub struct Place {
     /// The number of the file.
     pub file: u16,
-    /// The type byte, where the order gives one.
+    /// The type byte, if the order has one.
     pub kind: Option<u8>,
     /// The element, from 0.
     pub element: u16,
     /// The sub-element, from 0.
     pub sub: u16,
-    /// How many words after the sub-element the first word is.
+    /// The number of words from the sub-element to the first word.
     pub offset: u16,
-    /// How many words there are.
+    /// The number of words.
     pub count: u16,
     /// Whether the order writes them.
     pub writes: bool,
 }
 
-/// The index in its file of the first word of a place: the element times the words of an element, plus the sub-element,
-/// plus the offset. Else the code of the first test that fails.
+/// Returns the index in its file of the first word of a place: the element times the words of an element, plus the
+/// sub-element, plus the offset. Otherwise returns the code of the first test that fails.
 pub fn locate(tables: &Tables, place: &Place) -> Result<u32, Code>
     ensures found { result ≡ located (file_of tables.now.specs place.now.file) place.now }
     ensures room { IfOk result (λ first. has_words tables.now.specs place.now.file first place.now.count ≡ true) }
@@ -73,7 +73,7 @@ pub fn locate(tables: &Tables, place: &Place) -> Result<u32, Code>
     Ok(first)
 }
 
-/// Whether a type byte is given, and isn't that of the type.
+/// Returns whether there is a type byte and it isn't that of the type.
 fn is_other_type(byte: Option<u8>, kind: FileType) -> bool
     ensures { result ≡ not (is_of_type byte kind) }
 {
@@ -83,7 +83,7 @@ fn is_other_type(byte: Option<u8>, kind: FileType) -> bool
     }
 }
 
-/// The type byte of a file (manual topic: addressing).
+/// Returns the type byte of a file (manual topic: addressing).
 pub fn type_byte(kind: FileType) -> u8
     ensures { result ≡ type_byte kind }
 {

@@ -11,14 +11,14 @@ use std::alloc::Global;
 use std::collections::BTreeMap;
 use std::marker::Model;
 
-/// A file, and where its words begin among the words of all files.
+/// A file, and where its words start among the words of all files.
 #[derive(Clone, Copy)]
 struct File {
     spec: FileSpec,
     start: u32,
 }
 
-/// Data tables. Words are numbered from 0 in a file: the element times the words of an element, and the sub-element.
+/// Data tables. Words are numbered from 0 in a file: the element times the words of an element, plus the sub-element.
 /// There are at most 256 files of at most 3,000 words each.
 #[derive(Drop)]
 pub struct Tables {
@@ -45,8 +45,8 @@ impl Model for Tables {
 }
 
 impl Tables {
-    /// Tables of these files, whose words are all 0. There are at most 256 files, each of 1 to 1,000 elements, and
-    /// their numbers differ; else the first fault is told, where `TooMany` comes before all others, and at one file
+    /// Creates tables of these files, with all words 0. There are at most 256 files, each of 1 to 1,000 elements, and
+    /// their numbers differ; otherwise returns the first fault. `TooMany` comes before all others, and for one file
     /// `Empty` before `Large` before `Twice`.
     pub fn new(alloc: Global, specs: &[FileSpec]) -> Result<Tables, MakeFault>
         ensures ok { IfOk result (λ tables. tables ≡ fresh specs.now) }
@@ -71,7 +71,7 @@ impl Tables {
         })
     }
 
-    /// How many files there are, at most 256.
+    /// Returns the number of files, at most 256.
     pub fn files(&self) -> usize
         ensures value { result ≡ length self.now.specs }
         ensures most { result ≤ 256 }
@@ -79,21 +79,21 @@ impl Tables {
         self.specs.len()
     }
 
-    /// The file at this place, from 0, in the order in which the files were given, and None past the last.
+    /// Returns the file at this place, from 0, in the order in which the files were given, and None past the last.
     pub fn spec_at(&self, place: usize) -> Option<FileSpec>
         ensures { result ≡ slice_get self.now.specs place }
     {
         self.specs.get(place).copied()
     }
 
-    /// The file of this number, and None exactly where there is no such file.
+    /// Returns the file of this number, and None exactly if there is no such file.
     pub fn spec(&self, number: u16) -> Option<FileSpec>
         ensures { result ≡ file_of self.now.specs number }
     {
         Some(file_in(&self.directory, number)?.spec)
     }
 
-    /// The word of this index in the file of this number, and None exactly where there is no such file or word.
+    /// Returns the word of this index in the file of this number, and None exactly if there is no such file or word.
     pub fn word(&self, number: u16, index: u32) -> Option<u16>
         ensures value { result ≡ word_at self.now number index }
         ensures known { is_some result ≡ has_word self.now.specs number index }
@@ -105,8 +105,8 @@ impl Tables {
         Some(self.words[file.start as usize + index as usize])
     }
 
-    /// Sets the word of this index in the file of this number. False, with nothing changed, exactly where there is no
-    /// such file or word.
+    /// Sets the word of this index in the file of this number. Returns false, with nothing changed, exactly if there is
+    /// no such file or word.
     pub fn set(&mut self, number: u16, index: u32, value: u16) -> bool
         ensures known { result ≡ has_word self.old.specs number index }
         ensures after { self.new ≡ (if result then with_word self.old number index value else self.old) }
@@ -121,8 +121,8 @@ impl Tables {
         true
     }
 
-    /// The words of all files, file after file in the order in which the files were given. The word of an index in a
-    /// file is at that index after the file's start.
+    /// Returns the words of all files, file after file in the order in which the files were given. The word of an index
+    /// in a file is at that index after the file's start.
     pub fn flat(&self) -> &[u16]
         ensures words { result.now ≡ flat_words self.now }
         ensures size { length result.now ≡ total_words self.now.specs }
@@ -131,16 +131,16 @@ impl Tables {
         &self.words
     }
 
-    /// Where the words of the file of this number begin among the words of all files, after those of the files before
-    /// it, and None exactly where there is no such file.
+    /// Returns where the words of the file of this number start among the words of all files, and None exactly if there
+    /// is no such file. They come after those of the files before it.
     pub fn start(&self, number: u16) -> Option<u32>
         ensures { result ≡ start_of self.now.specs number }
     {
         Some(file_in(&self.directory, number)?.start)
     }
 
-    /// So many words of the file of this number, from the index `first` on. None comes exactly where there is no such
-    /// file, or `first` plus `count` is over its words.
+    /// Returns `count` words of the file of this number, from the index `first` on. Returns None exactly if there is no
+    /// such file, or `first` plus `count` exceeds its words.
     pub fn range(&self, number: u16, first: u32, count: u32) -> Option<&[u16]>
         ensures known { is_some result ≡ has_words self.now.specs number first count }
         ensures words { IfSome result (λ part. part.now ≡ words_at self.now number first count) }
@@ -153,8 +153,8 @@ impl Tables {
         Some(part(&self.words, place, count as usize))
     }
 
-    /// Sets words of the file of this number, from the index `first` on. False, with nothing changed, exactly where
-    /// there is no such file, or `first` plus their count is over its words.
+    /// Sets words of the file of this number, from the index `first` on. Returns false, with nothing changed, exactly
+    /// if there is no such file, or `first` plus their count exceeds its words.
     pub fn set_words(&mut self, number: u16, first: u32, words: &[u16]) -> bool
         ensures known { result ≡ has_words self.old.specs number first (length words.now) }
         ensures after { self.new ≡ (if result then with_words self.old number first words.now else self.old) }
@@ -172,14 +172,14 @@ impl Tables {
     }
 }
 
-/// The file of this number.
+/// Returns the file of this number.
 fn file_in(directory: &BTreeMap<u16, File>, number: u16) -> Option<File>
     ensures { result ≡ get nat_cmp directory.now number }
 {
     directory.get(&number).copied()
 }
 
-/// So many of the words, from a place on.
+/// Returns `count` of the words, from a place on.
 fn part(words: &[u16], place: usize, count: usize) -> &[u16]
     requires { place + count ≤ length words.now }
     ensures { result.now ≡ take count (drop place words.now) }
@@ -187,7 +187,7 @@ fn part(words: &[u16], place: usize, count: usize) -> &[u16]
     &words[place..place + count]
 }
 
-/// Writes `new` over the words from a place on.
+/// Overwrites the words from a place on with `new`.
 fn overwrite(words: &mut [u16], place: usize, new: &[u16])
     requires { place + length new.now ≤ length words.old }
     ensures { words.new ≡ overwritten words.old place new.now }

@@ -5,7 +5,7 @@ ghost use Rattle.data_files.specs.WordBytes.{bytes_of, words_of};
 
 use arrayvec::ArrayVec;
 
-/// Writes the bytes of words at the end of `out`, each low byte first.
+/// Appends the bytes of words to `out`, each low byte first.
 pub fn push_words(words: &[u16], out: &mut ArrayVec<u8, 244>)
     requires { array_vec_len out.old + 2 * length words.now ≤ 244 }
     ensures { out.new.items ≡ out.old.items ++ bytes_of words.now }
@@ -17,7 +17,7 @@ pub fn push_words(words: &[u16], out: &mut ArrayVec<u8, 244>)
     }
 }
 
-/// The words of data, each low byte first. A last byte without another is left out.
+/// Returns the words of data, each low byte first. An odd last byte is ignored.
 pub fn words_of(bytes: &[u8]) -> ArrayVec<u16, 122>
     requires { length bytes.now ≤ 244 }
     ensures { result.items ≡ words_of bytes.now }

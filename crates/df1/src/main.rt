@@ -8,7 +8,7 @@ use std::process::ExitCode;
 use std::rt::Env;
 use std::{env, io};
 
-/// The status of a program that finds no memory for its words.
+/// The exit status if there is no memory for the arguments.
 const NO_MEMORY: u8 = 7;
 
 fn main(rt: HostRuntime) -> ExitCode {
@@ -27,7 +27,8 @@ fn main(rt: HostRuntime) -> ExitCode {
     ExitCode::from(ran.status)
 }
 
-/// The words after the program's name. Where one isn't UTF-8 they are no form of the program, and none is given.
+/// Returns the arguments after the program's name. If one isn't valid UTF-8, returns none, which is no form of the
+/// program.
 fn words<R: Env + AllocGlobal>(rt: &R) -> io::Result<Vec<String>> {
     let mut words = Vec::new(rt.alloc());
     let args = match env::args(rt) {

@@ -6,10 +6,10 @@ ghost use Rattle.df1_base.specs.Outside.{Rose, Took};
 use crate::{Failed, Source};
 use std::marker::Model;
 
-/// How many bytes one read asks for at most.
+/// The most bytes that one read asks for.
 const PIECE: usize = 4096;
 
-/// The bytes that were taken and are not used yet, at most 4,096.
+/// The bytes that were taken and not used yet, at most 4,096.
 #[derive(Drop)]
 pub(crate) struct Ahead {
     bytes: [u8; PIECE],
@@ -28,7 +28,7 @@ impl Model for Ahead {
 }
 
 impl Ahead {
-    /// No bytes.
+    /// Returns an `Ahead` that holds no bytes.
     pub fn new() -> Self
         ensures { result ≡ [] }
     {
@@ -39,8 +39,8 @@ impl Ahead {
         }
     }
 
-    /// The byte at this place, 0 or 1, after one read where so many aren't there. None comes only where the source gave
-    /// no more, at the end of the input.
+    /// Returns the byte at this place, 0 or 1, after one read if there are too few bytes. Returns None only at the end
+    /// of the input.
     pub fn peek<S: Source>(&mut self, place: usize, source: &mut S) -> Result<Option<u8>, Failed>
         requires near { place ≤ 1 }
         requires after { place ≤ length self.old }
@@ -61,7 +61,7 @@ impl Ahead {
         Ok(self.get(place))
     }
 
-    /// Uses the first bytes.
+    /// Drops the first `count` bytes.
     pub fn skip(&mut self, count: usize)
         requires { count ≤ length self.old }
         ensures { self.new ≡ drop count self.old }
@@ -69,7 +69,7 @@ impl Ahead {
         self.at += count;
     }
 
-    /// How many bytes there are.
+    /// Returns how many bytes there are.
     pub fn len(&self) -> usize
         ensures count { result ≡ length self.now }
         ensures few { length self.now ≤ 4096 }
@@ -77,14 +77,14 @@ impl Ahead {
         self.end - self.at
     }
 
-    /// The byte at this place.
+    /// Returns the byte at this place.
     fn get(&self, place: usize) -> Option<u8>
         ensures { result ≡ slice_get self.now place }
     {
         self.bytes[self.at..self.end].get(place).copied()
     }
 
-    /// Reads once, where there is at most one byte.
+    /// Reads once, when there is at most one byte.
     fn refill<S: Source>(&mut self, source: &mut S) -> Result<(), Failed>
         requires { length self.old ≤ 1 }
         ensures took { OnOk result ((more : List ℕ) × Took (S.left source.old) (S.left source.new) more × (self.new ≡ self.old ++ more) × (length more ≤ 4096)

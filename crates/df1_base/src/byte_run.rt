@@ -1,4 +1,4 @@
-//! A source that gives one byte again and again, and never fails.
+//! A source that returns one byte again and again, and never fails.
 ghost use Rattle.std.specs.Prelude.{◌≡◌, ◌<◌, ◌≤◌, ◌-◌, Some, Result, min, length, take, replicate, IsOk, IfOk, OnErr};
 ghost use Rattle.std.specs.Io.KnownBytes.{Keeps, IsAtEnd};
 ghost use Rattle.df1_base.specs.Outside.{Took};
@@ -6,7 +6,7 @@ ghost use Rattle.df1_base.specs.Outside.{Took};
 use crate::{Failed, Source};
 use std::marker::Model;
 
-/// A source that gives one byte a number of times. It keeps no bytes, whatever the number.
+/// A source that returns one byte a number of times. It stores no bytes, whatever the number.
 #[derive(Drop)]
 pub struct ByteRun {
     byte: u8,
@@ -22,7 +22,7 @@ impl Model for ByteRun {
 }
 
 impl ByteRun {
-    /// A source of this byte, `count` times.
+    /// Returns a source of this byte, `count` times.
     pub fn new(b: u8, count: u64) -> Self
         ensures { result ≡ record { byte = b; left = count } }
     {

@@ -1,4 +1,4 @@
-//! A source in memory, which fails at the calls that it is told to fail at.
+//! A source in memory, which fails at the calls that it is set up to fail at.
 ghost use Rattle.std.specs.Prelude.{◌≡◌, ◌<◌, ◌≤◌, ◌↔◌, List, [], Some, ℕ, Result, min, max, length, take, drop, IsTrue, IsErr, IfOk, OnOk, OnErr};
 ghost use Rattle.std.specs.Io.KnownBytes.{Keeps, IsAtEnd};
 ghost use Rattle.df1_base.specs.Outside.{Rose, Took};
@@ -8,7 +8,7 @@ use crate::{Failed, NoMemory, Source};
 use std::alloc::Global;
 use std::marker::Model;
 
-/// A source that gives bytes, some at a call.
+/// A source that returns bytes, some at a call.
 #[derive(Drop)]
 pub struct BytesIn {
     bytes: Vec<u8>,
@@ -31,8 +31,8 @@ impl Model for BytesIn {
 }
 
 impl BytesIn {
-    /// A source of these bytes, at most `piece` of them at a call, or 1 where that is 0. Calls are counted from 1, and
-    /// each whose number is in `fail` fails.
+    /// Returns a source of these bytes, at most `piece` of them at a call, or 1 if `piece` is 0. Calls are counted from
+    /// 1, and each whose number is in `fail` fails.
     pub fn new(alloc: Global, bytes: &[u8], piece: usize, fail: &[u64]) -> Result<Self, NoMemory>
         ensures { IfOk result (λ source. source ≡ record { left = bytes.now; piece = max piece 1; calls = 0; fail = fail.now; faults = 0 }) }
     {
@@ -46,7 +46,7 @@ impl BytesIn {
         })
     }
 
-    /// The bytes that are left.
+    /// Returns the bytes that are left.
     pub fn left(&self) -> &[u8]
         ensures { result.now ≡ self.now.left }
     {

@@ -1,4 +1,4 @@
-//! A sink in memory, which fails where it is full and at the calls that it is told to fail at.
+//! A sink in memory, which fails when it is full and at the calls that it is set up to fail at.
 ghost use Rattle.std.specs.Prelude.{◌≡◌, ◌<◌, ◌≤◌, ◌↔◌, List, [], Some, ℕ, Result, min, max, length, take, IsTrue, IsErr, IfOk, OnOk, OnErr, nat_lt, ◌==◌, ◌&&◌};
 ghost use Rattle.std.specs.Io.KnownBytes.{Keeps};
 ghost use Rattle.df1_base.specs.Outside.{Rose, Put};
@@ -31,8 +31,8 @@ impl Model for BytesOut {
 }
 
 impl BytesOut {
-    /// An empty sink with room for `room` bytes. It takes at most `piece` of them at a call, or 1 where that is 0.
-    /// Calls are counted from 1, and each whose number is in `fail` fails.
+    /// Returns an empty sink with room for `room` bytes. It takes at most `piece` of them at a call, or 1 if `piece` is
+    /// 0. Calls are counted from 1, and each whose number is in `fail` fails.
     pub fn new(alloc: Global, room: usize, piece: usize, fail: &[u64]) -> Result<Self, NoMemory>
         ensures { IfOk result (λ sink. sink ≡ record { held = []; room = room; piece = max piece 1; calls = 0; fail = fail.now; faults = 0 }) }
     {
@@ -46,7 +46,7 @@ impl BytesOut {
         })
     }
 
-    /// The bytes that were taken.
+    /// Returns the bytes that were taken.
     pub fn held(&self) -> &[u8]
         ensures { result.now ≡ self.now.held }
     {
@@ -83,7 +83,7 @@ impl Sink for BytesOut {
     }
 }
 
-/// Whether there is something to be taken and no room for any of it.
+/// Returns whether there are bytes to take and no room for any of them.
 fn finds_no_room(room: usize, from: &[u8]) -> bool
     ensures { result ≡ ((room == 0) && nat_lt 0 (length from.now)) }
 {

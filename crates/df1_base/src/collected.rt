@@ -5,7 +5,7 @@ use crate::{Failed, Sink};
 use std::alloc::Global;
 use std::marker::Model;
 
-/// Bytes in memory, for as long as it grows. A growth that is refused is a fault.
+/// A sink that keeps its bytes in memory, which grows as needed. A growth that is refused is a fault.
 #[derive(Drop)]
 pub struct Collected {
     bytes: Vec<u8>,
@@ -21,7 +21,7 @@ impl Model for Collected {
 }
 
 impl Collected {
-    /// No bytes.
+    /// Returns an empty sink.
     pub fn new(alloc: Global) -> Self
         ensures { result ≡ record { held = []; faults = 0 } }
     {
@@ -31,7 +31,7 @@ impl Collected {
         }
     }
 
-    /// The bytes.
+    /// Returns the bytes.
     pub fn bytes(&self) -> &[u8]
         ensures { result.now ≡ self.now.held }
     {

@@ -1,4 +1,4 @@
-//! The control characters of a link: each stands behind a DLE (manual topic: full-duplex protocol).
+//! The control characters of a link: each follows a DLE (manual topic: full-duplex protocol).
 
 /// Data link escape, the first byte of each pair.
 pub const DLE: u8 = 0x10;

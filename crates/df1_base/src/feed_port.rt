@@ -1,6 +1,6 @@
 //! A port over a source and a sink.
 //!
-//! A raw input has no time: each of its bytes gives a Byte and then a Drain. A timed input has records of two bytes:
+//! A raw input has no time: each of its bytes yields a Byte and then a Drain. A timed input has records of two bytes:
 //!
 //! | Record | Signal |
 //! |---|---|
@@ -9,8 +9,8 @@
 //! | `02 00` | Take |
 //! | `03 00` | Drain |
 //!
-//! Any other record gives Bad with the offset of its first byte, and so does a single last byte. The end of the input
-//! gives End, and a byte after 268,435,456 others Long.
+//! Any other record yields Bad with the offset of its first byte, and so does a single last byte. The end of the input
+//! yields End, and a byte after 268,435,456 others yields Long.
 ghost use Rattle.std.specs.Prelude.{◌≡◌, ◌+◌, ◌≤◌, ◌<◌, [], Some, IfOk, OnOk, OnErr, length, slice_get, true, false};
 ghost use Rattle.std.specs.Io.KnownBytes.{Keeps};
 ghost use Rattle.df1_base.specs.Feed.{Came, EndsWith, holds_signal, most_to_come};
@@ -21,11 +21,11 @@ use crate::ahead::Ahead;
 use crate::{Failed, Port, Signal, Sink, Source, write_all};
 use std::marker::Model;
 
-/// The most bytes of an input that are taken.
+/// The most bytes that are taken of an input.
 const INPUT: u64 = 268_435_456;
 
-/// A port that reads its signals from a source, at most 4,096 bytes at a time and only where those taken hold no further
-/// signal, and writes what is put to a sink.
+/// A port that reads its signals from a source and writes what is put to a sink. It reads at most 4,096 bytes at a
+/// time, and only if the bytes taken hold no further signal.
 #[derive(Drop)]
 pub struct FeedPort<S: Source, K: Sink> {
     source: S,
@@ -49,7 +49,7 @@ impl<S: Source, K: Sink> Model for FeedPort<S, K> {
 }
 
 impl<S: Source, K: Sink> FeedPort<S, K> {
-    /// A port over a source, whose input has records where it is `timed` and else is raw, and a sink.
+    /// Returns a port over a source and a sink. The input has records if it is `timed`, and is raw otherwise.
     pub fn new(source: S, sink: K, timed: bool) -> Self
         ensures { result ≡ record { source = source; sink = sink; timed = timed; used = 0; waiting = []; drains = false } }
     {
@@ -63,14 +63,15 @@ impl<S: Source, K: Sink> FeedPort<S, K> {
         }
     }
 
-    /// How many bytes were taken whose signals were not given.
+    /// Returns how many bytes were taken whose signals were not returned.
     pub fn held(&self) -> usize
         ensures { result ≡ length self.now.waiting }
     {
         self.ahead.len()
     }
 
-    /// The source and the sink, as they now are. At most 4,096 bytes were taken whose signals were not given.
+    /// Returns the source and the sink, as they now are. At most 4,096 bytes were taken whose signals were not
+    /// returned.
     pub fn into_parts(self) -> (S, K)
         ensures source { result.0 ≡ self.source }
         ensures sink { result.1 ≡ self.sink }
@@ -79,7 +80,7 @@ impl<S: Source, K: Sink> FeedPort<S, K> {
         (self.source, self.sink)
     }
 
-    /// The next signal of the input, where no Drain is due.
+    /// Returns the next signal of the input, when no Drain is due.
     fn next_of_input(&mut self) -> Result<Signal, Failed>
         requires none_due { self.old.drains ≡ false }
         ensures gave { IfOk result (λ signal. Gave (Came S.left) (EndsWith S.left) self.old self.new signal) }
@@ -106,7 +107,7 @@ impl<S: Source, K: Sink> FeedPort<S, K> {
         }
     }
 
-    /// The signal of the next byte, of a raw input.
+    /// Returns the signal of the next byte of a raw input.
     fn next_of_byte(&mut self, first: u8) -> Signal
         requires first { slice_get self.old.waiting 0 ≡ Some first }
         requires room { self.old.used < input_limit }
@@ -122,7 +123,7 @@ impl<S: Source, K: Sink> FeedPort<S, K> {
         Signal::Byte(first)
     }
 
-    /// The signal of the next record, of a timed input.
+    /// Returns the signal of the next record of a timed input.
     fn next_of_record(&mut self, first: u8) -> Result<Signal, Failed>
         requires first { slice_get self.old.waiting 0 ≡ Some first }
         requires room { self.old.used < input_limit }
@@ -151,7 +152,7 @@ impl<S: Source, K: Sink> FeedPort<S, K> {
     }
 }
 
-/// The signal that a record of two bytes stands for, if it has one of the forms.
+/// Returns the signal that a record of two bytes stands for, if it has one of the forms.
 fn signal_of(form: u8, byte: u8) -> Option<Signal>
     ensures { result ≡ the_signal form byte }
 {

@@ -1,5 +1,5 @@
-//! What every layer of `df1` stands on: sources of bytes, sinks for them and ports of signals, each with counted faults,
-//! their forms in memory and over std, and the types that several layers share.
+//! The base of every layer of `df1`: byte sources, byte sinks and signal ports, each with counted faults, their forms
+//! in memory and over std, and the types that several layers share.
 #![tactic(auto)]
 
 mod ahead;

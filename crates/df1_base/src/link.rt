@@ -1,5 +1,5 @@
-//! What passes between the parts of an end of a link, and between an end and what drives it: responses, bytes that
-//! go out, and what a byte, a tick or a take meant.
+//! What passes between the parts of an end of a link, and between an end and its driver: responses, bytes to transmit,
+//! and what a byte, a tick or a take meant.
 
 use crate::{Did, News};
 
@@ -12,7 +12,7 @@ pub enum Resp {
     Nak,
 }
 
-/// A byte that goes out.
+/// A byte to transmit.
 #[derive(Clone, Copy, Debug, PartialEq, Eq)]
 pub struct Out {
     /// The byte.
@@ -23,18 +23,18 @@ pub struct Out {
     pub body_of: Option<u64>,
 }
 
-/// What an end made of a byte.
+/// What a received byte meant to an end.
 #[derive(Clone, Copy, Debug, PartialEq, Eq)]
 pub enum Act {
     /// A message was accepted.
     Accept,
-    /// A message came again, and was acknowledged again.
+    /// A duplicate message arrived, and was acknowledged again.
     Repeat,
     /// There was no room for a message.
     Refuse,
     /// A frame was damaged.
     Damaged,
-    /// A frame was given up for a new one.
+    /// A frame was abandoned for a new one.
     Forgot,
     /// An ACK.
     PeerAck,
@@ -46,28 +46,28 @@ pub enum Act {
     Nothing,
 }
 
-/// What a byte did to an end.
+/// The effect of a byte on an end.
 #[derive(Clone, Copy, Debug, PartialEq, Eq)]
 pub struct Step {
-    /// What the end made of it.
+    /// What the byte meant.
     pub act: Act,
-    /// What the host did with an accepted message: None exactly where the act isn't Accept.
+    /// What the host did with an accepted message: None exactly if the act isn't Accept.
     pub did: Option<Did>,
-    /// What the host answered to a fate that was told at this byte, and Nothing where none was.
+    /// The host's answer to a fate that was reported at this byte, and Nothing if there was none.
     pub news: News,
-    /// Whether a whole frame was heard at this byte, whatever the act.
+    /// Whether a whole frame was received at this byte, whatever the act.
     pub whole: bool,
     /// The station that a whole half-duplex message names, and 0 in every other case.
     pub station: u8,
 }
 
-/// What a tick did to an end.
+/// The effect of a tick on an end.
 #[derive(Clone, Copy, Debug, PartialEq, Eq)]
 pub enum Turn {
-    /// Nothing that is told.
+    /// Nothing to report.
     Still,
     /// The sender asks for the last response again, by an ENQ.
     Ask,
-    /// A message was given up, with what the host answered to that.
+    /// A message was given up, with the host's answer to that.
     Failed(News),
 }

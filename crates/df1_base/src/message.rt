@@ -1,4 +1,4 @@
-//! The sizes of a message, and the bit that tells a reply from a command (manual topic: message packets).
+//! The sizes of a message, and the bit that distinguishes a reply from a command (manual topic: message packets).
 
 /// The fewest bytes of a body: an envelope without data.
 pub const MIN_BODY: usize = 6;

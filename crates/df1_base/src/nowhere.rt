@@ -5,12 +5,12 @@ ghost use Rattle.df1_base.specs.Outside.{Put};
 
 use crate::{Failed, Sink};
 
-/// A sink that takes every piece whole, keeps nothing and tells nothing.
+/// A sink that takes every piece completely, keeps nothing and reports nothing.
 #[derive(Drop)]
 pub struct Nowhere;
 
 impl Nowhere {
-    /// The sink.
+    /// Returns the sink.
     pub fn new() -> Self {
         Nowhere
     }

@@ -6,7 +6,7 @@ ghost use Rattle.df1_base.specs.Outside.{Rose, Took, Put, Mark, Later, unmarked}
 use std::alloc::{AllocError, AllocFailed};
 use thiserror::Error;
 
-/// A source or a sink has failed, and its count of faults rose.
+/// The failure of a source or a sink, whose count of faults rose.
 #[derive(Clone, Copy, Debug, PartialEq, Eq, Error)]
 #[error("a source or a sink failed")]
 pub struct Failed;
@@ -28,17 +28,17 @@ impl<T: Drop> From<AllocFailed<T>> for NoMemory {
     }
 }
 
-/// Where bytes come from.
+/// A source of bytes.
 pub trait Source {
-    /// The bytes that are left, where the source tells them.
+    /// The bytes that are left, if the source reports them.
     ghost left: { Self → Option (List ℕ) };
 
     /// How often it has failed.
     ghost faults: { Self → ℕ };
 
-    /// Moves the next bytes to the front of `into`, and answers how many: 0 for an `into` that isn't empty only at the
-    /// end of the input. `Failed` comes only where the count of faults rose, and then nothing was taken. Else the count
-    /// stands still.
+    /// Moves the next bytes to the front of `into`, and returns how many: 0 for an `into` that isn't empty only at the
+    /// end of the input. Returns `Failed` only if the count of faults rose, and then nothing was taken. Otherwise the
+    /// count is unchanged.
     fn read(&mut self, into: &mut [u8]) -> Result<usize, Failed>
         ensures bound { IfOk result (λ count. count ≤ length into.new) }
         ensures took { IfOk result (λ count. Took (left self.old) (left self.new) (take count into.new)) }
@@ -49,21 +49,22 @@ pub trait Source {
         ensures cause { OnErr result (Rose (faults self.old) (faults self.new)) };
 }
 
-/// Where bytes go.
+/// A sink for bytes.
 pub trait Sink {
-    /// The bytes that it holds, where the sink tells them.
+    /// The bytes that it holds, if the sink reports them.
     ghost held: { Self → Option (List ℕ) };
 
     /// How often it has failed.
     ghost faults: { Self → ℕ };
 
-    /// What tells it from others, and which of its bytes are settled: nothing, for a sink that keeps its bytes itself. One
-    /// that hands them on to a sink that it borrows names the borrow, and what it has handed on is settled.
+    /// What distinguishes it from others, and which of its bytes are settled: nothing, for a sink that keeps its bytes
+    /// itself. A sink that passes them on to a sink that it borrows names the borrow, and what it has passed on is
+    /// settled.
     ghost mark: { Self → Mark } = { λ _. unmarked };
 
-    /// Takes bytes from the front of `from`, at least one where there is one, and answers how many. `Failed` comes only
-    /// where the count of faults rose, and then nothing was taken. Else the count stands still. It is the same sink then,
-    /// and takes nothing back that was settled.
+    /// Takes bytes from the front of `from`, at least one if there is one, and returns how many. Returns `Failed` only
+    /// if the count of faults rose, and then nothing was taken. Otherwise the count is unchanged. It is the same sink
+    /// then, and takes back nothing that was settled.
     fn write(&mut self, from: &[u8]) -> Result<usize, Failed>
         ensures bound { IfOk result (λ count. count ≤ length from.now) }
         ensures some { IfOk result (λ count. 0 < length from.now → 0 < count) }

@@ -1,10 +1,10 @@
-//! The outside of an end of a link: the signals that come to it, and the bytes that it gives.
+//! The outside of an end of a link: the signals that come to it, and the bytes that it transmits.
 use crate::{Failed, Signal};
 
-/// Where an end's signals come from, and where its bytes go.
+/// The source of an end's signals, and the destination of its bytes.
 ///
-/// Of the signals it may tell, by two of its states, which it gave between them, and that nothing but a last one is to
-/// come. It may also tell the bytes that were put.
+/// It may report which signals it returned between two of its states, and that nothing but a last one is to come. It
+/// may also report the bytes that were put.
 pub trait Port {
     ghost use Rattle.std.specs.Prelude.{◌≡◌, ◌+◌, ◌≤◌, List, ℕ, [], ◌∷◌, ◌++◌, Option, IfOk, OnOk, OnErr, true};
     ghost use Rattle.std.specs.Io.KnownBytes.{Keeps};
@@ -12,16 +12,16 @@ pub trait Port {
     ghost use Rattle.df1_base.specs.declared.signal.Signal.{Signal as OneSignal};
     ghost use Rattle.df1_base.specs.Signals.{Gave, goes_on};
 
-    /// Between two states the port gave these signals, which others may follow.
+    /// Between two states the port returned these signals, which others may follow.
     ghost came: { Self → List OneSignal → Self → Type 0 };
 
     /// This signal, after which none follows, is the only one to come.
     ghost ends_with: { Self → OneSignal → Type 0 };
 
-    /// Of what the port took, no signal is left to be given.
+    /// Of what the port took, no signal is left to be returned.
     ghost dry: { Self → Type 0 };
 
-    /// The bytes that were put, where the port tells them.
+    /// The bytes that were put, if the port reports them.
     ghost sent: { Self → Option (List ℕ) };
 
     /// At most so many signals may still come before an End, Bad or Long.
@@ -33,8 +33,8 @@ pub trait Port {
     /// How often `put` has failed.
     ghost put_faults: { Self → ℕ };
 
-    /// Gives the next signal, which is then no longer to come, unless it is End, Bad or Long. `Failed` comes only where the count for
-    /// `next` rose; then no signal came, and the port holds none. Else the count stands still.
+    /// Returns the next signal, which is then no longer to come, unless it is End, Bad or Long. Returns `Failed` only
+    /// if the count for `next` rose; then no signal came, and the port holds none. Otherwise the count is unchanged.
     fn next(&mut self) -> Result<Signal, Failed>
         ensures gave { IfOk result (λ signal. Gave came ends_with self.old self.new signal) }
         ensures failed { OnErr result (came self.old [] self.new) }
@@ -47,8 +47,8 @@ pub trait Port {
         ensures cause { OnErr result (Rose (next_faults self.old) (next_faults self.new)) }
         ensures other { put_faults self.new ≡ put_faults self.old };
 
-    /// Puts a byte. `Failed` comes only where the count for `put` rose, and then it was not put. Else the count stands
-    /// still.
+    /// Puts a byte. Returns `Failed` only if the count for `put` rose, and then the byte was not put. Otherwise the
+    /// count is unchanged.
     fn put(&mut self, b: u8) -> Result<(), Failed>
         ensures put { OnOk result (Put (sent self.old) (sent self.new) (b ∷ [])) }
         ensures failed { OnErr result (Keeps (sent self.old) (sent self.new)) }
@@ -59,7 +59,7 @@ pub trait Port {
         ensures cause { OnErr result (Rose (put_faults self.old) (put_faults self.new)) }
         ensures other { next_faults self.new ≡ next_faults self.old };
 
-    /// Puts all these bytes. Where one can't be put, those before it were, and not all.
+    /// Puts all these bytes. If one can't be put, those before it were, and not all.
     fn put_all(&mut self, bytes: &[u8]) -> Result<(), Failed>
         ensures put { OnOk result (Put (sent self.old) (sent self.new) bytes.now) }
         ensures missing { OnErr result (WroteLess (sent self.old) (sent self.new) bytes.now) }
@@ -77,9 +77,9 @@ pub trait Port {
         Ok(())
     }
 
-    /// No signal comes where nothing happens.
+    /// If nothing happens, no signal comes.
     ghost none_came: { (p : Self) → came p [] p };
 
-    /// Signals that come one after another came together.
+    /// Signals that came between two states, and then those up to a third, came between the first and the third.
     ghost more_came: { (p q r : Self) (first second : List OneSignal) → came p first q → came q second r → came p (first ++ second) r };
 }

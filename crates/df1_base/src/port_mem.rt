@@ -1,4 +1,4 @@
-//! A port in memory, which fails at the calls that it is told to fail at.
+//! A port in memory, which fails at the calls that it is set up to fail at.
 ghost use Rattle.std.specs.Prelude.{◌≡◌, ◌↔◌, ◌≤◌, ◌+◌, [], ◌∷◌, ◌++◌, Some, length, true, ⊤, IsTrue, IsErr, IfOk, OnOk, OnErr};
 ghost use Rattle.std.specs.Io.KnownBytes.{Keeps};
 ghost use Rattle.df1_base.specs.InMemory.{Exchange, after_next, after_write, next_fails, next_signal, refuses_next, up_to_last};
@@ -9,7 +9,7 @@ use crate::{BytesOut, Failed, NoMemory, Port, Signal, Sink};
 use std::alloc::Global;
 use std::marker::Model;
 
-/// A port that gives signals, and then End, and holds up to `room` bytes that were put.
+/// A port that returns signals, and then End, and holds up to `room` bytes that were put.
 #[derive(Drop)]
 pub struct PortMem {
     signals: Vec<Signal>,
@@ -32,9 +32,9 @@ impl Model for PortMem {
 }
 
 impl PortMem {
-    /// A port that gives these signals, and then End. It has room for `room` bytes, and a `put` into a full one fails.
-    /// The calls of `next` and those of `put` are counted from 1, each for themselves: a `next` whose number is in
-    /// `fail_next` fails, and a `put` whose number is in `fail_put`.
+    /// Returns a port that returns these signals, and then End. It has room for `room` bytes, and a `put` into a full
+    /// one fails. The calls of `next` and those of `put` are counted separately, each from 1: a `next` whose number is
+    /// in `fail_next` fails, and a `put` whose number is in `fail_put`.
     pub fn new(
         alloc: Global,
         signals: &[Signal],
@@ -54,7 +54,7 @@ impl PortMem {
         })
     }
 
-    /// The bytes that were put.
+    /// Returns the bytes that were put.
     pub fn held(&self) -> &[u8]
         ensures { result.now ≡ self.now.sink.held }
     {

@@ -3,7 +3,7 @@ use crate::{BytesIn, BytesOut, FeedPort, Port, Signal};
 use std::alloc::Global;
 use std::test::Fail;
 
-/// A port over an input that comes two bytes at a time.
+/// Returns a port over an input that comes two bytes at a time.
 fn port_over(
     alloc: Global,
     bytes: &[u8],

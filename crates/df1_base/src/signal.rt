@@ -1,4 +1,4 @@
-//! What comes to an end of a link from outside.
+//! What arrives at an end of a link from outside.
 ghost use Rattle.std.specs.Prelude.{◌≡◌};
 ghost use Rattle.df1_base.specs.Signals.{goes_on as others_follow};
 
@@ -9,9 +9,9 @@ pub enum Signal {
     Byte(u8),
     /// A unit of time has passed.
     Tick,
-    /// One byte is wished.
+    /// One byte is requested.
     Take,
-    /// Bytes are wished until there is none.
+    /// Bytes are requested until there is none.
     Drain,
     /// The input has ended.
     End,
@@ -22,7 +22,7 @@ pub enum Signal {
 }
 
 impl Signal {
-    /// Whether other signals may follow: not after End, Bad and Long.
+    /// Returns whether other signals may follow: not after End, Bad and Long.
     pub(crate) fn goes_on(self) -> bool
         ensures { result ≡ others_follow self }
     {

@@ -6,7 +6,7 @@ use std::alloc::Global;
 use std::io::{self, ErrorKind, Read, Write};
 use std::test::Fail;
 
-/// The numbers 0 to 4,999, each less a multiple of 251.
+/// Returns the numbers 0 to 4,999, each less a multiple of 251.
 fn five_thousand(alloc: Global) -> Result<Vec<u8>, Fail> {
     let mut bytes = Vec::new(alloc);
     for i in 0..5000u32 {
@@ -72,7 +72,7 @@ fn short_writes_go_on_where_they_ended(rt: HostRuntime) -> Result<(), Fail> {
     Ok(())
 }
 
-/// A stream whose calls go well, fail, and move nothing, in turn.
+/// A stream whose calls succeed, fail, and move nothing, in turn.
 #[derive(Drop)]
 struct Moody {
     calls: u8,

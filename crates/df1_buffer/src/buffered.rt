@@ -1,4 +1,4 @@
-//! A sink before another one, to which it hands on what it takes by pieces of 4,096 bytes.
+//! A sink in front of another one, to which it passes on what it takes in pieces of 4,096 bytes.
 ghost use Rattle.std.specs.Prelude.{◌≡◌, ◌≢◌, ◌<◌, ◌≤◌, ◌-◌, ◌++◌, [], IsOk, OnOk, OnErr, IfOk, length, min, take, drop};
 ghost use Rattle.std.specs.Io.KnownBytes.{Keeps};
 ghost use Rattle.df1_base.specs.Outside.{Rose, Put, Later};
@@ -6,11 +6,11 @@ ghost use Rattle.df1_base.specs.Outside.{Rose, Put, Later};
 use arrayvec::ArrayVec;
 use df1_base::{Failed, Sink};
 
-/// How many bytes wait at most.
+/// The most bytes that wait.
 pub const PIECE: usize = 4096;
 
-/// A sink before another one. Bytes wait in it until there are 4,096, or until it is flushed. What waits when it is
-/// dropped is lost.
+/// A sink in front of another one. Bytes wait in it until there are 4,096, or until it is flushed. What waits when it
+/// is dropped is lost.
 #[derive(Drop)]
 pub struct Buffered<'a, K: Sink> {
     out: &'a mut K,
@@ -20,7 +20,7 @@ pub struct Buffered<'a, K: Sink> {
 impl<'a, K: Sink> Buffered<'a, K> {
     ghost use Rattle.df1_buffer.specs.Buffered.{buffer_out, buffer_waiting, buffer_name, buffer_mark, buffer_held, buffer_faults};
 
-    /// A buffer in which nothing waits, before `out`.
+    /// Returns a buffer in which nothing waits, in front of `out`.
     pub fn new(out: &'a mut K) -> Self
         ensures same_reference { buffer_name result ≡ out.entry.ghost_name }
         ensures out { buffer_out result ≡ out.old }
@@ -32,8 +32,8 @@ impl<'a, K: Sink> Buffered<'a, K> {
         }
     }
 
-    /// Hands on all that waits. Where the sink fails, what it didn't take still waits: some bytes. Where nothing waits, it
-    /// succeeds, and nothing happens.
+    /// Passes on all that waits. If the sink fails, what it didn't take still waits: at least one byte. If nothing
+    /// waits, it succeeds, and nothing happens.
     #[inline(never)]
     pub fn flush(&mut self) -> Result<(), Failed>
         ensures none { OnOk result (buffer_waiting self.new ≡ []) }

@@ -1,4 +1,4 @@
-//! What is written in small parts is handed on in large ones: a sink that stands before another.
+//! A buffering sink, which passes on what is written in small parts to another sink in large ones.
 #![tactic(auto)]
 
 mod buffered;

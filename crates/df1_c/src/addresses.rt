@@ -21,7 +21,8 @@ pub extern "C" fn df1_address_read(text: &[u8], address: &mut AddressParts) -> u
     read_address(text, address).number()
 }
 
-/// Gives the text of an address, with a zero byte at its end, into a buffer. `count` is how many bytes it has with that zero.
+/// Puts the text of an address, with a zero byte at its end, into a buffer. `count` becomes its number of bytes with
+/// that zero.
 #[unsafe(no_mangle)]
 pub extern "C" fn df1_address_text(
     address: &AddressParts,

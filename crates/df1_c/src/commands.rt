@@ -1,4 +1,4 @@
-//! The commands that an end behind a handle issues: issuing one, what became of it, and its reply.
+//! The commands that an end behind a handle issues: issuing a command, its outcome, and its reply.
 
 ghost use Rattle.std.specs.Prelude.{◌≡◌, ℕ, List, length, Some};
 ghost use Rattle.std.specs.Option.{option_map};
@@ -17,7 +17,7 @@ use c_calls::{copy_reply, issue, tell_outcome};
 use c_ends::Code;
 use std::alloc::Global;
 
-/// Issues a command to a node, in the name of the end's own. The payload is CMD and what follows TNS.
+/// Issues a command to a node, with the end's own node as SRC. The payload is CMD and what follows TNS.
 #[tactic(auto, unfolding(crate::specs::Held::value_in))]
 #[unsafe(no_mangle)]
 pub extern "C" fn df1_end_issue(
@@ -38,7 +38,7 @@ pub extern "C" fn df1_end_issue(
     code
 }
 
-/// Issues a command to a node, in the name of a source, which is SRC of the command. The payload is CMD and what follows TNS.
+/// Issues a command to a node, with `src` as its SRC. The payload is CMD and what follows TNS.
 #[tactic(auto, unfolding(crate::specs::Held::value_in))]
 #[unsafe(no_mangle)]
 pub extern "C" fn df1_end_issue_from(
@@ -60,7 +60,7 @@ pub extern "C" fn df1_end_issue_from(
     code
 }
 
-/// What became of a command.
+/// Reports the outcome of a command.
 #[tactic(auto, unfolding(crate::specs::Held::value_in))]
 #[unsafe(no_mangle)]
 pub extern "C" fn df1_end_outcome(

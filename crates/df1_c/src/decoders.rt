@@ -1,4 +1,4 @@
-//! A decoder behind a handle: made, the bytes that it hears, the body that it lends, and letting it go.
+//! A decoder behind a handle: its creation, the bytes that it receives, the body that it lends, and its release.
 
 ghost use Rattle.std.specs.Prelude.{◌≡◌, ◌∷◌, ◌++◌, [], ℕ, List, length, Some};
 ghost use Rattle.std.specs.Option.{option_map, option_or, unwrap_or};
@@ -22,7 +22,7 @@ use c_lines::{Hearing, LineDecoder, Side};
 use std::alloc::Global;
 use std::mem::ManuallyDrop;
 
-/// Fills an empty handle with a decoder of a full-duplex line that has heard nothing.
+/// Fills an empty handle with a decoder of a full-duplex line that has received nothing.
 #[tactic(auto, unfolding(crate::specs::Held::value_in))]
 #[unsafe(no_mangle)]
 pub extern "C" fn df1_decoder_make(alloc: Global, crc: bool, decoder: &mut Seat) -> u32
@@ -35,7 +35,7 @@ pub extern "C" fn df1_decoder_make(alloc: Global, crc: bool, decoder: &mut Seat)
     fill(alloc, Side::Full, crc, decoder).number()
 }
 
-/// Fills an empty handle with a decoder of this side of a line that has heard nothing.
+/// Fills an empty handle with a decoder of this side of a line that has received nothing.
 #[tactic(auto, unfolding(crate::specs::Held::value_in))]
 #[unsafe(no_mangle)]
 pub extern "C" fn df1_decoder_make_side(
@@ -56,7 +56,7 @@ pub extern "C" fn df1_decoder_make_side(
     fill(alloc, side, crc, decoder).number()
 }
 
-/// Fills an empty handle with a decoder of a side that has heard nothing, unless there is no memory.
+/// Fills an empty handle with a decoder of a side that has received nothing, unless there is no memory.
 #[tactic(auto, unfolding(crate::specs::Held::value_in))]
 fn fill(alloc: Global, side: Side, crc: bool, decoder: &mut Seat) -> Code
     requires { holding decoder.old ≡ None }
@@ -66,7 +66,7 @@ fn fill(alloc: Global, side: Side, crc: bool, decoder: &mut Seat) -> Code
     decoder.fill(alloc, Ok(made))
 }
 
-/// Lets a decoder go, with its memory.
+/// Frees a decoder and its memory.
 #[tactic(auto, unfolding(crate::specs::Held::value_in))]
 #[unsafe(no_mangle)]
 pub extern "C" fn df1_decoder_free(alloc: Global, decoder: &mut Seat) -> u32
@@ -93,7 +93,7 @@ fn is_decoder(held: &Held) -> bool
     }
 }
 
-/// Hears a byte, and tells what is heard at it.
+/// Receives a byte, and reports what is decoded at it.
 #[tactic(auto, unfolding(crate::specs::Held::value_in))]
 #[unsafe(no_mangle)]
 pub extern "C" fn df1_decoder_byte(

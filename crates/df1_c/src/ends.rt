@@ -1,4 +1,4 @@
-//! An end behind a handle: bytes that it hears, ticks, bytes that it gives, and letting it go.
+//! An end behind a handle: bytes that it receives, ticks, bytes that it sends, and its release.
 
 ghost use Rattle.std.specs.Prelude.{◌≡◌, ◌↔◌, ◌∷◌, ◌++◌, [], ℕ, List, IsTrue, length, nat_lt, if◌then◌else◌};
 ghost use Rattle.std.specs.Option.{option_map};
@@ -17,7 +17,7 @@ use c_ends::{Code, OutTold, StepTold, TurnTold};
 use std::alloc::Global;
 use std::mem::ManuallyDrop;
 
-/// Lets an end go, with its memory.
+/// Frees an end and its memory.
 #[tactic(auto, unfolding(crate::specs::Held::value_in))]
 #[unsafe(no_mangle)]
 pub extern "C" fn df1_end_free(alloc: Global, end: &mut Seat) -> u32
@@ -35,7 +35,7 @@ pub extern "C" fn df1_end_free(alloc: Global, end: &mut Seat) -> u32
     Code::Done.number()
 }
 
-/// Hears a byte, and tells what the end made of it.
+/// Receives a byte, and reports what the end made of it.
 #[tactic(auto, unfolding(crate::specs::Held::value_in))]
 #[unsafe(no_mangle)]
 pub extern "C" fn df1_end_byte(alloc: Global, end: &mut Seat, byte: u8, step: &mut StepTold) -> u32
@@ -76,7 +76,7 @@ pub extern "C" fn df1_end_body(
     code.number()
 }
 
-/// A unit of time has passed.
+/// Performs a tick.
 #[tactic(auto, unfolding(crate::specs::Held::value_in))]
 #[unsafe(no_mangle)]
 pub extern "C" fn df1_end_tick(
@@ -99,7 +99,7 @@ pub extern "C" fn df1_end_tick(
     code.number()
 }
 
-/// Gives the next byte, if there is one.
+/// Puts the next byte to transmit, if there is one, into `out`.
 #[tactic(auto, unfolding(crate::specs::Held::value_in))]
 #[unsafe(no_mangle)]
 pub extern "C" fn df1_end_take(alloc: Global, end: &mut Seat, out: &mut OutTold) -> u32
@@ -116,7 +116,7 @@ pub extern "C" fn df1_end_take(alloc: Global, end: &mut Seat, out: &mut OutTold)
     code.number()
 }
 
-/// Whether the end has nothing to give.
+/// Reports whether the end has nothing to transmit.
 #[tactic(auto, unfolding(crate::specs::Held::value_in))]
 #[unsafe(no_mangle)]
 pub extern "C" fn df1_end_quiet(alloc: Global, end: &mut Seat, quiet: &mut bool) -> u32
@@ -132,7 +132,7 @@ pub extern "C" fn df1_end_quiet(alloc: Global, end: &mut Seat, quiet: &mut bool)
     code.number()
 }
 
-/// Tells the state of the end.
+/// Reports the state of the end.
 #[tactic(auto, unfolding(crate::specs::Held::value_in))]
 #[unsafe(no_mangle)]
 pub extern "C" fn df1_end_state(alloc: Global, end: &mut Seat, state: &mut StateTold) -> u32

@@ -1,4 +1,4 @@
-//! The proved link for programs in C: each export calls one function over what a handle holds, and states its clauses again.
+//! The verified link for C programs: each export calls one function on what a handle holds, and repeats its contract.
 #![tactic(auto)]
 
 mod addresses;

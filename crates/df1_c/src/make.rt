@@ -1,4 +1,4 @@
-//! Ends that are made.
+//! Creation of ends.
 
 ghost use Rattle.std.specs.Prelude.{◌≡◌, []};
 ghost use Rattle.std.specs.Option.{option_or};

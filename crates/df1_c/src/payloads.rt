@@ -19,11 +19,11 @@ use c_payloads::{
     status_payload, unprotected_read_payload, unprotected_write_payload, write_payload,
 };
 
-/// As many words as any more are told as: no message has room for them.
+/// The number of words that stands for any larger one: no message has room for that many.
 const MANY_WORDS: u32 = 65535;
 
-/// Gives the payload that reads words from an address on, or elements by a typed command, into a buffer. `count` is how many
-/// bytes it has.
+/// Puts the payload that reads words from an address on, or elements by a typed command, into a buffer. `count` becomes
+/// its number of bytes.
 #[unsafe(no_mangle)]
 pub extern "C" fn df1_payload_read(
     command: u32,
@@ -42,7 +42,7 @@ pub extern "C" fn df1_payload_read(
     give(read_payload(command, address, words), into, count)
 }
 
-/// Gives the payload that writes words from an address on into a buffer. `count` is how many bytes it has.
+/// Puts the payload that writes words from an address on into a buffer. `count` becomes its number of bytes.
 #[unsafe(no_mangle)]
 pub extern "C" fn df1_payload_write(
     command: u32,
@@ -60,7 +60,8 @@ pub extern "C" fn df1_payload_write(
     give(write_payload(command, address, words), into, count)
 }
 
-/// Gives the payload that writes the bits of a mask of words from an address on into a buffer. `count` is how many bytes it has.
+/// Puts the payload that writes the bits of a mask of words from an address on into a buffer. `count` becomes its
+/// number of bytes.
 #[unsafe(no_mangle)]
 pub extern "C" fn df1_payload_masked(
     address: &AddressParts,
@@ -78,7 +79,8 @@ pub extern "C" fn df1_payload_masked(
     give(masked_payload(address, mask, words), into, count)
 }
 
-/// Gives the payload that makes a word its old value AND one mask, OR the other, into a buffer. `count` is how many bytes it has.
+/// Puts the payload that makes a word its old value AND one mask, OR the other, into a buffer. `count` becomes its
+/// number of bytes.
 #[unsafe(no_mangle)]
 pub extern "C" fn df1_payload_modify(
     address: &AddressParts,
@@ -96,7 +98,7 @@ pub extern "C" fn df1_payload_modify(
     give(modify_payload(address, and_mask, or_mask), into, count)
 }
 
-/// Gives the payload that sets the bit of an address, or clears it, into a buffer. `count` is how many bytes it has.
+/// Puts the payload that sets or clears the bit of an address into a buffer. `count` becomes its number of bytes.
 #[unsafe(no_mangle)]
 pub extern "C" fn df1_payload_bit(
     address: &AddressParts,
@@ -113,7 +115,7 @@ pub extern "C" fn df1_payload_bit(
     give(bit_payload(address, on), into, count)
 }
 
-/// Gives the payload that asks for bytes back into a buffer. `count` is how many bytes it has.
+/// Puts the payload of an echo of these bytes into a buffer. `count` becomes its number of bytes.
 #[unsafe(no_mangle)]
 pub extern "C" fn df1_payload_echo(bytes: &[u8], into: &mut [u8], count: &mut usize) -> u32
     ensures code { result ≡ code_number (given_code (echo_told bytes.now) (length into.old)) }
@@ -125,7 +127,8 @@ pub extern "C" fn df1_payload_echo(bytes: &[u8], into: &mut [u8], count: &mut us
     give(echo_payload(bytes), into, count)
 }
 
-/// Gives the payload that reads words of the compatibility file of a station into a buffer. `count` is how many bytes it has.
+/// Puts the payload that reads words of the compatibility file of a station into a buffer. `count` becomes its number
+/// of bytes.
 #[unsafe(no_mangle)]
 pub extern "C" fn df1_payload_unprotected_read(
     address: u16,
@@ -143,7 +146,8 @@ pub extern "C" fn df1_payload_unprotected_read(
     give(unprotected_read_payload(address, words), into, count)
 }
 
-/// Gives the payload that writes words to the compatibility file of a station into a buffer. `count` is how many bytes it has.
+/// Puts the payload that writes words to the compatibility file of a station into a buffer. `count` becomes its number
+/// of bytes.
 #[unsafe(no_mangle)]
 pub extern "C" fn df1_payload_unprotected_write(
     address: u16,
@@ -160,7 +164,7 @@ pub extern "C" fn df1_payload_unprotected_write(
     give(unprotected_write_payload(address, words), into, count)
 }
 
-/// Gives the payload that asks for the status of a station into a buffer. `count` is how many bytes it has.
+/// Puts the payload that requests the status of a station into a buffer. `count` becomes its number of bytes.
 #[unsafe(no_mangle)]
 pub extern "C" fn df1_payload_status(into: &mut [u8], count: &mut usize) -> u32
     ensures code { result ≡ code_number (room_code 2 (length into.old)) }
@@ -171,7 +175,7 @@ pub extern "C" fn df1_payload_status(into: &mut [u8], count: &mut usize) -> u32
     copy(&status_payload(), into, count).number()
 }
 
-/// Copies a payload, or answers why there is none.
+/// Copies a payload, or returns the reason why there is none.
 fn give(payload: Result<ArrayVec<u8, 245>, Code>, into: &mut [u8], count: &mut usize) -> u32
     ensures code { result ≡ code_number (given_code (result_map_both (λ payload. payload.items) (λ code. code) payload) (length into.old)) }
     ensures bytes { into.new ≡ given_into into.old (result_map_both (λ payload. payload.items) (λ code. code) payload) }

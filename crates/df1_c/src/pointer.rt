@@ -1,5 +1,5 @@
-//! The pointer of a handle: that of the box whose value the handle holds, or of nothing. What it holds is seen by proofs
-//! alone.
+//! The pointer of a handle: that of the box whose value the handle holds, or null. What it holds is visible only to
+//! proofs.
 
 ghost use Rattle.std.specs.Prelude.{◌≡◌, IsSome, Some, None};
 ghost use Rattle.std.specs.declared.option.Option.{Option};
@@ -12,7 +12,7 @@ use std::marker::Model;
 use std::mem::ManuallyDrop;
 use std::ptr::null_mut;
 
-/// The pointer of a box, or of nothing, which C keeps.
+/// The pointer of a box, or null, which C keeps.
 #[repr(C)]
 #[derive(Drop)]
 pub struct Pointer {
@@ -29,14 +29,14 @@ impl Model for Pointer {
 unsafe impl Send for Pointer {}
 
 impl Pointer {
-    /// A pointer of nothing.
+    /// Returns a null pointer.
     pub(crate) fn empty() -> Pointer
         ensures { result.held ≡ None }
     {
         Pointer { at: null_mut() }
     }
 
-    /// The pointer of a box.
+    /// Returns the pointer of a box.
     pub(crate) fn seal(held: Box<ManuallyDrop<Held>>) -> Pointer
         ensures { result.held ≡ Some held.value }
     {
@@ -44,7 +44,7 @@ impl Pointer {
         Pointer { at: at as *mut u8 }
     }
 
-    /// The box of a pointer that is one's.
+    /// Returns the box of a pointer that has one.
     pub(crate) fn unseal(self, alloc: Global) -> Box<ManuallyDrop<Held>>
         requires { IsSome self.held }
         ensures { Some result.value ≡ self.held }

@@ -1,4 +1,4 @@
-//! What replies tell.
+//! The contents of replies.
 
 ghost use Rattle.std.specs.Prelude.{◌≡◌, ◌≤◌, length, drop, IfSome};
 ghost use Rattle.reply_values.specs.Reply.{reply_of};
@@ -10,7 +10,7 @@ ghost use Rattle.c_payloads.specs.Replies.{answer_after, ended_text, reply_code,
 use c_calls::copy;
 use c_payloads::{AnswerParts, TypedParts, read_reply, read_typed, status_text};
 
-/// Tells what a reply says, and where its data is.
+/// Reports the status of a reply, and where its data is.
 #[unsafe(no_mangle)]
 pub extern "C" fn df1_reply_read(reply: &[u8], answer: &mut AnswerParts) -> u32
     ensures code { result ≡ code_number (reply_code (reply_of reply.now)) }
@@ -20,7 +20,8 @@ pub extern "C" fn df1_reply_read(reply: &[u8], answer: &mut AnswerParts) -> u32
     read_reply(reply, answer).number()
 }
 
-/// Gives the text of STS and EXT STS, with a zero byte at its end, into a buffer. `count` is how many bytes it has with that zero.
+/// Puts the text of STS and EXT STS, with a zero byte at its end, into a buffer. `count` becomes its number of bytes
+/// with that zero.
 #[unsafe(no_mangle)]
 pub extern "C" fn df1_status_text(sts: u8, ext: u8, into: &mut [u8], count: &mut usize) -> u32
     ensures code { result ≡ code_number (room_code (length (ended_text sts ext)) (length into.old)) }
@@ -31,7 +32,7 @@ pub extern "C" fn df1_status_text(sts: u8, ext: u8, into: &mut [u8], count: &mut
     copy(&status_text(sts, ext), into, count).number()
 }
 
-/// Tells what the data of a reply to a typed read is, and where its words are.
+/// Reports the type of the data of a reply to a typed read, and where its words are.
 #[unsafe(no_mangle)]
 pub extern "C" fn df1_typed_read(bytes: &[u8], typed: &mut TypedParts) -> u32
     ensures code { result ≡ code_number (typed_code (typed_of bytes.now)) }

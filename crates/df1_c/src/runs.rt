@@ -1,4 +1,4 @@
-//! Runs of bytes that an end behind a handle hears or gives, as by the calls for one byte.
+//! Runs of bytes that an end behind a handle receives or sends, as by the calls for one byte.
 
 ghost use Rattle.std.specs.Prelude.{◌≡◌, ◌++◌, ℕ, List, length, min, take};
 ghost use Rattle.std.specs.Option.{option_map};
@@ -15,7 +15,8 @@ use c_calls::{GivenTold, give_run, hear_run};
 use c_ends::{Code, StepTold};
 use std::alloc::Global;
 
-/// Hears bytes up to the first after which there is something to do, and tells what the end made of the last of them.
+/// Receives bytes up to the first after which there is something to do, and reports what the end made of the last of
+/// them.
 #[tactic(auto, unfolding(crate::specs::Held::value_in))]
 #[unsafe(no_mangle)]
 pub extern "C" fn df1_end_bytes(
@@ -39,7 +40,7 @@ pub extern "C" fn df1_end_bytes(
     code.number()
 }
 
-/// Gives the next bytes, up to the first that ends a message.
+/// Puts the next bytes to transmit into a buffer, up to the first that ends a message.
 #[tactic(auto, unfolding(crate::specs::Held::value_in))]
 #[unsafe(no_mangle)]
 pub extern "C" fn df1_end_take_bytes(

@@ -1,4 +1,4 @@
-//! A handle: a plain struct of C's that holds a box, or nothing. One of all zeros holds nothing.
+//! A handle: a plain C struct that holds a box, or nothing. A handle of all zeros holds nothing.
 
 ghost use Rattle.std.specs.Prelude.{◌≡◌, is_some};
 
@@ -22,7 +22,7 @@ impl Seat {
     ghost use Rattle.std.specs.Option.{option_map};
     ghost use Rattle.df1_c.specs.Held.{holding, value_in};
 
-    /// A handle that holds nothing.
+    /// Returns a handle that holds nothing.
     #[tactic(auto, unfolding(crate::specs::Held::value_in))]
     pub(crate) fn empty() -> Seat
         ensures { holding result ≡ None }
@@ -33,7 +33,7 @@ impl Seat {
         }
     }
 
-    /// Whether nothing is held.
+    /// Returns whether nothing is held.
     #[tactic(auto, unfolding(crate::specs::Held::value_in))]
     pub(crate) fn is_empty(&self) -> bool
         ensures { result ≡ is_none (holding self.now) }
@@ -41,7 +41,7 @@ impl Seat {
         !self.holds
     }
 
-    /// The handle of a box.
+    /// Returns the handle of a box.
     #[tactic(auto, unfolding(crate::specs::Held::value_in))]
     pub(crate) fn of(held: Box<ManuallyDrop<Held>>) -> Seat
         ensures { holding result ≡ value_in (Some held.value) }
@@ -52,7 +52,7 @@ impl Seat {
         }
     }
 
-    /// Takes the box out of a handle, and leaves it empty. None comes exactly from a handle that is empty.
+    /// Takes the box out of a handle, and leaves it empty. Returns None exactly if the handle is empty.
     #[tactic(auto, unfolding(crate::specs::Held::value_in))]
     pub(crate) fn take(&mut self, alloc: Global) -> Option<Box<ManuallyDrop<Held>>>
         ensures empty { holding self.new ≡ None }
@@ -66,7 +66,7 @@ impl Seat {
         }
     }
 
-    /// Lets an empty handle hold what was made.
+    /// Fills an empty handle with what was made.
     #[tactic(auto, unfolding(crate::specs::Held::value_in))]
     pub(crate) fn fill(&mut self, alloc: Global, made: Result<Held, Code>) -> Code
         requires { holding self.old ≡ None }

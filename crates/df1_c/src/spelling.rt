@@ -1,4 +1,4 @@
-//! The spelling of full-duplex frames, and of the messages and polls of a half-duplex line.
+//! The encoding of full-duplex frames, and of the messages and polls of a half-duplex line.
 
 ghost use Rattle.std.specs.Prelude.{◌≡◌, ◌≢◌, ◌≤◌, ◌<◌, length, IfSome, None};
 ghost use Rattle.c_ends.specs.declared.code.Code.TheVariants as code;
@@ -15,7 +15,7 @@ use c_lines::{frame_of, message_of, poll_of, reply_of};
 use df1_base::MAX_BODY;
 use df1_check::Check;
 
-/// Spells the full-duplex frame of a body into a buffer. `count` is how many bytes the frame has.
+/// Encodes the full-duplex frame of a body into a buffer. `count` becomes its number of bytes.
 #[unsafe(no_mangle)]
 pub extern "C" fn df1_spell(crc: bool, body: &[u8], into: &mut [u8], count: &mut usize) -> u32
     ensures code { length body.now ≤ 250 → result ≡ code_number (room_code (length (frame_of (check_of crc) body.now)) (length into.old)) }
@@ -40,7 +40,7 @@ fn spell(check: Check, body: &[u8], into: &mut [u8], count: &mut usize) -> Code
     copy(&frame_of(check, body), into, count)
 }
 
-/// Spells a master's message to a station into a buffer. `count` is how many bytes the message has.
+/// Encodes a master's message to a station into a buffer. `count` becomes its number of bytes.
 #[unsafe(no_mangle)]
 pub extern "C" fn df1_spell_message(
     station: u8,
@@ -61,7 +61,7 @@ pub extern "C" fn df1_spell_message(
     copy(&message_of(check_of(crc), station, body), into, count).number()
 }
 
-/// Spells a slave's message into a buffer. `count` is how many bytes the message has.
+/// Encodes a slave's message into a buffer. `count` becomes its number of bytes.
 #[unsafe(no_mangle)]
 pub extern "C" fn df1_spell_reply(crc: bool, body: &[u8], into: &mut [u8], count: &mut usize) -> u32
     ensures code { body_fault body.now ≡ None → result ≡ code_number (room_code (length (reply_bytes (check_of crc) body.now)) (length into.old)) }
@@ -76,7 +76,7 @@ pub extern "C" fn df1_spell_reply(crc: bool, body: &[u8], into: &mut [u8], count
     copy(&reply_of(check_of(crc), body), into, count).number()
 }
 
-/// Spells a master's poll of a station into a buffer. `count` is how many bytes the poll has.
+/// Encodes a master's poll of a station into a buffer. `count` becomes its number of bytes.
 #[unsafe(no_mangle)]
 pub extern "C" fn df1_spell_poll(station: u8, into: &mut [u8], count: &mut usize) -> u32
     ensures code { number_fault station ≡ None → result ≡ code_number (room_code 4 (length into.old)) }
@@ -90,7 +90,7 @@ pub extern "C" fn df1_spell_poll(station: u8, into: &mut [u8], count: &mut usize
     copy(&poll_of(station), into, count).number()
 }
 
-/// What stands against a master's message to a station.
+/// Returns the fault of a master's message to a station.
 fn message_fault(station: u8, body: &[u8]) -> Option<Code>
     ensures fault { result ≡ message_fault station body.now }
     ensures none { result ≡ None → (station ≢ 16) × (station ≢ 255) × (length body.now ≤ 250) }
@@ -101,7 +101,7 @@ fn message_fault(station: u8, body: &[u8]) -> Option<Code>
     }
 }
 
-/// A body that is too long.
+/// Returns the fault of a body that is too long.
 fn body_fault(body: &[u8]) -> Option<Code>
     ensures fault { result ≡ body_fault body.now }
     ensures none { result ≡ None → length body.now ≤ 250 }

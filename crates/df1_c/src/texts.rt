@@ -1,4 +1,4 @@
-//! The texts of codes, as C has them.
+//! The texts of codes, as C strings.
 
 ghost use Rattle.std.specs.Prelude.{◌≡◌, ◌≤◌, length};
 ghost use Rattle.c_ends.specs.Code.{code_number};
@@ -9,10 +9,11 @@ use arrayvec::ArrayVec;
 use c_calls::copy;
 use c_ends::Code;
 
-/// The text of a number that is no code's.
+/// The text of a number that is not a code.
 const NO_CODE: &str = "no code of df1";
 
-/// Gives the text of a code, with a zero byte at its end, into a buffer. `count` is how many bytes it has with that zero.
+/// Puts the text of a code, with a zero byte at its end, into a buffer. `count` becomes its number of bytes with that
+/// zero.
 #[unsafe(no_mangle)]
 pub extern "C" fn df1_code_text(code: u32, into: &mut [u8], count: &mut usize) -> u32
     ensures code { result ≡ code_number (room_code (length (number_text code)) (length into.old)) }
@@ -23,7 +24,7 @@ pub extern "C" fn df1_code_text(code: u32, into: &mut [u8], count: &mut usize) -
     copy(&ended_text(code), into, count).number()
 }
 
-/// The text of a number, with the zero byte that ends it.
+/// Returns the text of a number, with the zero byte that ends it.
 fn ended_text(number: u32) -> ArrayVec<u8, 80>
     ensures text { result.items ≡ number_text number }
     ensures most { length result.items ≤ 80 }

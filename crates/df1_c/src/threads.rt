@@ -1,11 +1,11 @@
-//! What is true of handles between threads.
+//! Laws of handles between threads.
 
 use crate::seat::Seat;
 
-/// Takes what may go from one thread to another.
+/// Accepts what may move from one thread to another.
 fn may_cross<T: Send>(_value: &T) {}
 
-/// A law: a handle may go from one thread to another with what it holds.
+/// A law: a handle may move from one thread to another with what it holds.
 pub fn a_handle_may_cross(seat: &Seat) {
     may_cross(seat);
 }

@@ -1,4 +1,5 @@
-//! The transfers of an end behind a handle: whole files by orders that are issued together, and what each came to so far.
+//! The transfers of an end behind a handle: whole files, by orders that are issued together, and the result so far of
+//! each.
 
 ghost use Rattle.std.specs.Prelude.{◌≡◌, ℕ, List, length, Some};
 ghost use Rattle.std.specs.Option.{option_map};
@@ -18,7 +19,8 @@ use c_ends::Code;
 use c_transfers::TransferTold;
 use std::alloc::Global;
 
-/// Issues the orders of a transfer that reads the first words of a file of a node, in the end's own name: all of them or none.
+/// Issues the orders of a transfer that reads the first words of a file of a node, with the end's own node as SRC: all
+/// of them or none.
 #[tactic(auto, unfolding(crate::specs::Held::value_in))]
 #[unsafe(no_mangle)]
 pub extern "C" fn df1_end_pull(
@@ -40,8 +42,8 @@ pub extern "C" fn df1_end_pull(
     code
 }
 
-/// Issues the orders of a transfer that writes words to the beginning of a file of a node, in the end's own name: all of them or
-/// none.
+/// Issues the orders of a transfer that writes words to the beginning of a file of a node, with the end's own node as
+/// SRC: all of them or none.
 #[tactic(auto, unfolding(crate::specs::Held::value_in))]
 #[unsafe(no_mangle)]
 pub extern "C" fn df1_end_push(
@@ -63,7 +65,7 @@ pub extern "C" fn df1_end_push(
     code
 }
 
-/// Tells what a transfer that reads came to so far, and copies its words where it is whole.
+/// Reports the result so far of a transfer that reads, and copies its words if it is whole.
 #[tactic(auto, unfolding(crate::specs::Held::value_in))]
 #[unsafe(no_mangle)]
 pub extern "C" fn df1_end_pulled(
@@ -89,7 +91,7 @@ pub extern "C" fn df1_end_pulled(
     code.number()
 }
 
-/// Tells what a transfer that writes came to so far.
+/// Reports the result so far of a transfer that writes.
 #[tactic(auto, unfolding(crate::specs::Held::value_in))]
 #[unsafe(no_mangle)]
 pub extern "C" fn df1_end_pushed(

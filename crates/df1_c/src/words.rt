@@ -18,7 +18,7 @@ use c_calls::{
 use c_ends::{Code, FileParts};
 use std::alloc::Global;
 
-/// Tells the value of a word.
+/// Reports the value of a word.
 #[tactic(auto, unfolding(crate::specs::Held::value_in))]
 #[unsafe(no_mangle)]
 pub extern "C" fn df1_end_word(
@@ -62,7 +62,7 @@ pub extern "C" fn df1_end_set_word(
     code.number()
 }
 
-/// Tells the values of a run of words.
+/// Reports the values of a run of words.
 #[tactic(auto, unfolding(crate::specs::Held::value_in))]
 #[unsafe(no_mangle)]
 pub extern "C" fn df1_end_words(
@@ -84,7 +84,7 @@ pub extern "C" fn df1_end_words(
     code.number()
 }
 
-/// Finds the first of a run of words that isn't what was seen of it, and puts it there.
+/// Finds the first of a run of words that differs from the one in `seen`, and puts it there.
 #[tactic(auto, unfolding(crate::specs::Held::value_in))]
 #[unsafe(no_mangle)]
 pub extern "C" fn df1_end_changed(
@@ -130,7 +130,7 @@ pub extern "C" fn df1_end_set_words(
     code.number()
 }
 
-/// Locks data files, and unlocks all others: no command of the line may write a locked one.
+/// Locks data files, and unlocks all others: no command of the line may write a locked file.
 #[tactic(auto, unfolding(crate::specs::Held::value_in))]
 #[unsafe(no_mangle)]
 pub extern "C" fn df1_end_lock(alloc: Global, end: &mut Seat, files: &[u16]) -> u32
@@ -146,7 +146,7 @@ pub extern "C" fn df1_end_lock(alloc: Global, end: &mut Seat, files: &[u16]) -> 
     code.number()
 }
 
-/// Tells how many data files the end has.
+/// Reports the number of data files of the end.
 #[tactic(auto, unfolding(crate::specs::Held::value_in))]
 #[unsafe(no_mangle)]
 pub extern "C" fn df1_end_files(alloc: Global, end: &mut Seat, count: &mut u32) -> u32
@@ -162,7 +162,7 @@ pub extern "C" fn df1_end_files(alloc: Global, end: &mut Seat, count: &mut u32) 
     code.number()
 }
 
-/// Tells the data file at a place.
+/// Reports the data file at a place.
 #[tactic(auto, unfolding(crate::specs::Held::value_in))]
 #[unsafe(no_mangle)]
 pub extern "C" fn df1_end_file(

@@ -1,38 +1,38 @@
-//! A capture of a line: what is captured, how much of it is heard, and why it isn't heard to its end.
+//! A capture of a line: what is captured, the limit of its length, and the reasons why it isn't decoded to its end.
 ghost use Rattle.std.specs.Prelude.{◌≡◌, ◌≤◌, ◌<◌, ◌+◌, ◌++◌, length, drop};
 
 use df1_check::Check;
 use df1_dissect::Side;
 use thiserror::Error;
 
-/// The most bytes of a capture.
+/// The maximum length of a capture, in bytes.
 pub(crate) const CAPTURE: u64 = 268_435_456;
 
-/// How many bytes one read asks for.
+/// The number of bytes that one read asks for.
 pub(crate) const PIECE: usize = 4096;
 
-/// What is captured: whose bytes, of a line with which check.
+/// The side that is captured, and the check of its line.
 #[derive(Clone, Copy, Debug, PartialEq, Eq)]
 pub struct Capture {
     pub side: Side,
     pub check: Check,
 }
 
-/// Why a capture isn't heard to its end, or what is to be told of it isn't written.
+/// The reason why a capture isn't decoded to its end, or its result isn't written.
 #[derive(Clone, Copy, Debug, PartialEq, Eq, Error)]
 pub enum CaptureFault {
-    /// The input has failed.
+    /// The input failed.
     #[error("the input failed")]
     Input,
-    /// The output has failed.
+    /// The output failed.
     #[error("the output failed")]
     Output,
-    /// There is a byte after 268,435,456 others.
+    /// There is a byte after the first 268,435,456.
     #[error("the capture is over its limit")]
     TooLong,
 }
 
-/// The bytes of a piece that are within the limit, where so many bytes came before it.
+/// Returns the bytes of a piece that are within the limit, after so many bytes before it.
 pub(crate) fn within_limit(piece: &[u8], before: u64) -> &[u8]
     requires { before ≤ 268435456 }
     ensures front { piece.now ≡ result.now ++ drop (length result.now) piece.now }

@@ -1,5 +1,5 @@
-//! What is heard in a capture is counted, and in the end one line tells the counts: of all that is heard, of the faults of the line
-//! among it, and of the bytes of an unfinished item.
+//! Counting what is decoded in a capture. At the end one line reports the counts: of all decoded things, of the faults
+//! of the line among them, and of the bytes of an unfinished item.
 ghost use Rattle.std.specs.Prelude.{◌≡◌, ◌≤◌, ◌+◌, ◌++◌, [], ℕ, List, length, OnOk};
 ghost use Rattle.arrayvec.specs.ArrayVec.{array_vec_len};
 ghost use Rattle.df1_check.specs.declared.Check.{Check as CheckKind};
@@ -12,12 +12,12 @@ use arrayvec::ArrayVec;
 use df1_base::{Failed, Sink, Source, write_all};
 use df1_dissect::Reader;
 
-/// Room for the line, in bytes: three numbers of at most 20 digits, and the words.
+/// The buffer size for the line, in bytes: three numbers of at most 20 digits, and the words.
 const ROOM: usize = 80;
 
-/// Counts what is heard in the input, at most 268,435,456 bytes, writes the line of the counts to the output, and says whether
-/// anything is a fault of the line or unfinished. `Input` and `Output` come only where the count of faults of the input or of the
-/// output rose, and `TooLong` where a byte is left behind so many. Nothing is written but the line.
+/// Counts what is decoded in the input, at most 268,435,456 bytes, writes the line of the counts to the output, and
+/// returns whether anything is a fault of the line or unfinished. Returns `Input` or `Output` only if the count of
+/// faults of the input or the output rose, and `TooLong` if there are more bytes. Nothing but the line is written.
 pub fn check<S: Source, K: Sink>(
     capture: Capture,
     input: &mut S,
@@ -52,7 +52,7 @@ fn count_all<S: Source>(reader: &mut Reader, input: &mut S) -> Result<(), Captur
     }
 }
 
-/// Hears what of a piece is within the limit.
+/// Decodes the part of a piece that is within the limit.
 fn count_piece(reader: &mut Reader, piece: &[u8]) -> Result<(), CaptureFault>
     requires { reader.old.fed ≤ 268435456 }
     ensures ends { (side : Captured) (check : CheckKind) (bytes : List ℕ) → StandsFor side check bytes reader.old
@@ -69,7 +69,7 @@ fn count_piece(reader: &mut Reader, piece: &[u8]) -> Result<(), CaptureFault>
     }
 }
 
-/// Writes the counts, and says whether anything is a fault or unfinished.
+/// Writes the counts, and returns whether anything is a fault or unfinished.
 fn put_counts<K: Sink>(reader: &Reader, out: &mut K) -> Result<bool, CaptureFault>
     ensures { (side : Captured) (check : CheckKind) (bytes : List ℕ) → StandsFor side check bytes reader.now
         → ToldCounts side check bytes (K.held out.old) (K.held out.new) (K.faults out.old) (K.faults out.new) result }
@@ -83,14 +83,15 @@ fn put_counts<K: Sink>(reader: &Reader, out: &mut K) -> Result<bool, CaptureFaul
     }
 }
 
-/// Whether anything is a fault of the line, or unfinished.
+/// Returns whether anything is a fault of the line, or unfinished.
 fn is_faulty(bad: u64, begun: u64) -> bool
     ensures { result ≡ the_faulty bad begun }
 {
     bad > 0 || begun > 0
 }
 
-/// The line of the counts: of the things that are heard, of the faults among them, and of the bytes of an unfinished item.
+/// Returns the line of the counts: of the decoded things, of the faults among them, and of the bytes of an unfinished
+/// item.
 fn counts(heard: u64, bad: u64, begun: u64) -> ArrayVec<u8, ROOM>
     ensures { result.items ≡ counts_line heard bad begun }
 {
@@ -106,7 +107,7 @@ fn counts(heard: u64, bad: u64, begun: u64) -> ArrayVec<u8, ROOM>
     line
 }
 
-/// Adds bytes to a line that has room for them.
+/// Appends bytes to a line that has room for them.
 fn append(line: &mut ArrayVec<u8, ROOM>, bytes: &[u8])
     requires { array_vec_len line.old + length bytes.now ≤ ROOM }
     ensures { line.new.items ≡ line.old.items ++ bytes.now }

@@ -1,5 +1,5 @@
-//! What is heard in a capture is written line by line. Of each piece that was read the lines are collected, and written before the
-//! next piece is read.
+//! Writing what is decoded in a capture, line by line. The lines of each piece that is read are collected, and written
+//! before the next piece is read.
 ghost use Rattle.std.specs.Prelude.{◌≡◌, ◌≤◌, ◌+◌, [], ℕ, List, length, OnOk, OnErr};
 ghost use Rattle.arrayvec.specs.ArrayVec.{array_vec_len};
 ghost use Rattle.df1_base.specs.Outside.{Rose, Put, WroteLess};
@@ -12,9 +12,10 @@ use crate::capture::{Capture, CaptureFault, PIECE, within_limit};
 use df1_base::{Failed, Sink, Source, write_all};
 use df1_dissect::{CollectedLines, Dissector, LINE};
 
-/// Writes to the output the lines of all that is heard in the input, at most 268,435,456 bytes, and that of an unfinished item.
-/// `Input` and `Output` come only where the count of faults of the input or of the output rose, and `TooLong` where a byte is left
-/// behind so many; the lines of the bytes taken are written then, with `Output` a first part, and not all.
+/// Writes to the output the lines of all that is decoded in the input, at most 268,435,456 bytes, and that of an
+/// unfinished item. Returns `Input` or `Output` only if the count of faults of the input or the output rose, and
+/// `TooLong` if there are more bytes. The lines of the bytes taken were written then; with `Output`, a first part, and
+/// not all.
 pub fn dissect<S: Source, K: Sink>(
     capture: Capture,
     input: &mut S,
@@ -65,7 +66,7 @@ fn close<K: Sink>(dissector: &mut Dissector, out: &mut K) -> Result<(), CaptureF
     }
 }
 
-/// Hears what of a piece is within the limit, and writes the lines of it.
+/// Decodes the part of a piece that is within the limit, and writes its lines.
 fn dissect_piece<K: Sink>(
     dissector: &mut Dissector,
     piece: &[u8],
@@ -89,7 +90,7 @@ fn dissect_piece<K: Sink>(
     }
 }
 
-/// Hears bytes, and writes the lines of them.
+/// Decodes bytes, and writes their lines.
 fn put_lines<K: Sink>(
     dissector: &mut Dissector,
     heard: &[u8],
@@ -114,7 +115,7 @@ fn put_lines<K: Sink>(
     hand_on(lines, out)
 }
 
-/// Writes the lines that were collected, where there is no room for one more.
+/// Writes the collected lines, if there is no room for one more.
 fn make_room<K: Sink>(lines: &mut CollectedLines, out: &mut K) -> Result<(), Failed>
     ensures room { OnOk result (array_vec_len lines.new + 700 ≤ 8192) }
     ensures moved { OnOk result (IsMoved (K.held out.old) (K.held out.new) lines.old.items lines.new.items) }
@@ -129,7 +130,7 @@ fn make_room<K: Sink>(lines: &mut CollectedLines, out: &mut K) -> Result<(), Fai
     }
 }
 
-/// Writes the lines that were collected.
+/// Writes the collected lines.
 fn hand_on<K: Sink>(lines: &mut CollectedLines, out: &mut K) -> Result<(), Failed>
     ensures none { OnOk result (lines.new.items ≡ []) }
     ensures ok { OnOk result (Put (K.held out.old) (K.held out.new) lines.old.items) }

@@ -1,4 +1,4 @@
-//! Captures of a line, taken from an input piece by piece: what is heard in one is told line by line, or counted.
+//! Captures of a line, read from an input piece by piece: what is decoded in one is reported line by line, or counted.
 #![tactic(auto)]
 
 mod capture;

@@ -11,14 +11,14 @@ mod table;
 pub use running::Running;
 pub use table::CRC_TABLE;
 
-/// Which check ends a message: one byte, or two.
+/// The check that ends a message: one byte, or two.
 #[derive(Clone, Copy, Debug, PartialEq, Eq)]
 pub enum Check {
     Bcc,
     Crc,
 }
 
-/// The two's complement of the 8-bit sum of `bytes` (block check character).
+/// Returns the two's complement of the 8-bit sum of `bytes` (block check character).
 pub fn bcc(bytes: &[u8]) -> u8
     ensures value { result ≡ bcc bytes.now }
     ensures multiple { IsBcc bytes.now result }
@@ -30,7 +30,7 @@ pub fn bcc(bytes: &[u8]) -> u8
     check
 }
 
-/// The CRC-16 of `bytes` (cyclic redundancy check). On the line its low byte goes first.
+/// Returns the CRC-16 of `bytes` (cyclic redundancy check). On the line its low byte goes first.
 pub fn crc(bytes: &[u8]) -> u16
     ensures { result ≡ crc bytes.now }
 {
@@ -41,7 +41,7 @@ pub fn crc(bytes: &[u8]) -> u16
     register
 }
 
-/// The register after one more byte, by one look-up.
+/// Returns the register after one more byte, by one look-up.
 fn crc_byte(register: u16, b: u8) -> u16
     ensures { result ≡ crc_byte register b }
 {
@@ -49,7 +49,7 @@ fn crc_byte(register: u16, b: u8) -> u16
     entry(register % 256) ^ register / 256
 }
 
-/// The entry of a register below 256.
+/// Returns the entry of a register below 256.
 fn entry(register: u16) -> u16
     requires { register < 256 }
     ensures { result ≡ eight_shifts register }

@@ -1,4 +1,4 @@
-//! A check over bytes that come singly.
+//! A check over bytes that come one by one.
 
 ghost use Rattle.std.specs.Prelude.{◌≡◌, ◌<◌, ◌^◌, ℕ, List, [], ◌∷◌, ◌++◌};
 ghost use Rattle.df1_check.specs.declared.Check.{Check};
@@ -24,7 +24,7 @@ impl Model for Running {
 }
 
 impl Running {
-    /// A check that has taken no byte.
+    /// Returns a check that has taken no byte.
     pub fn new(check: Check) -> Running
         ensures { result ≡ taken check [] }
     {
@@ -43,7 +43,7 @@ impl Running {
         };
     }
 
-    /// The check of the bytes that were taken. A BCC stands in the low 8 bits, and the others are 0.
+    /// Returns the check of the bytes that were taken. A BCC stands in the low 8 bits, and the others are 0.
     pub fn value(&self) -> u16
         ensures value { result ≡ self.now.value }
         ensures stands { (check : Check) (bytes : List ℕ) → self.now ≡ taken check bytes → result ≡ check_value check bytes }

@@ -10,8 +10,8 @@ use slc_commands::read_slc;
 /// CMD of the logical commands and of those that a PLC adds.
 const EXTENDED: u8 = 0x0F;
 
-/// The name of a message: `reply`; else `unknown` where CMD or FNC is none of a command's, or FNC is missing; else
-/// `malformed` where the command can't be read; else the command's own. The payload is what follows TNS.
+/// Returns the name of a message: `reply` for a reply; else `unknown` if CMD or FNC is not a command's, or FNC is
+/// missing; else `malformed` if the command can't be read; else the command's own. The payload is what follows TNS.
 pub(crate) fn message_name(cmd: u8, payload: &[u8]) -> &'static str
     requires { length payload.now ≤ 244 }
     ensures value { result.now ≡ message_name cmd payload.now }
@@ -23,7 +23,7 @@ pub(crate) fn message_name(cmd: u8, payload: &[u8]) -> &'static str
     spelled_name(command_name(cmd, payload), is_spelled(cmd, payload))
 }
 
-/// The name of a command with this name, if it has one.
+/// Returns the name of a command with this name, if it has one.
 fn spelled_name(name: Option<&'static str>, spelled: bool) -> &'static str
     requires { IfSome name (λ name. length name.now ≤ 18) }
     ensures value { result.now ≡ spelled_name (option_map (λ name. name.now) name.entry) spelled }
@@ -36,7 +36,7 @@ fn spelled_name(name: Option<&'static str>, spelled: bool) -> &'static str
     }
 }
 
-/// The name of a command that stations know.
+/// Returns the name of a command that stations know.
 fn command_name(cmd: u8, payload: &[u8]) -> Option<&'static str>
     ensures value { option_map (λ name. name.now) result ≡ command_name cmd payload.now }
     ensures short { IfSome result (λ name. length name.now ≤ 18) }
@@ -50,7 +50,7 @@ fn command_name(cmd: u8, payload: &[u8]) -> Option<&'static str>
     }
 }
 
-/// The name of a command with CMD 06.
+/// Returns the name of a command with CMD 06.
 fn basic_name(payload: &[u8]) -> Option<&'static str>
     ensures value { option_map (λ name. name.now) result ≡ basic_name payload.now }
     ensures short { IfSome result (λ name. length name.now ≤ 18) }
@@ -62,7 +62,7 @@ fn basic_name(payload: &[u8]) -> Option<&'static str>
     }
 }
 
-/// The name of a command with CMD 0F.
+/// Returns the name of a command with CMD 0F.
 fn extended_name(payload: &[u8]) -> Option<&'static str>
     ensures value { option_map (λ name. name.now) result ≡ extended_name payload.now }
     ensures short { IfSome result (λ name. length name.now ≤ 18) }
@@ -82,7 +82,7 @@ fn extended_name(payload: &[u8]) -> Option<&'static str>
     }
 }
 
-/// Whether a command can be read.
+/// Returns whether a command can be read.
 fn is_spelled(cmd: u8, payload: &[u8]) -> bool
     requires { length payload.now ≤ 244 }
     ensures { result ≡ is_spelled cmd payload.now }

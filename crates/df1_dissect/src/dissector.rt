@@ -1,4 +1,4 @@
-//! The dissector: bytes of a capture go in one by one, and the lines that they complete go to a sink.
+//! The dissector: it takes the bytes of a capture one by one, and writes the lines that they complete to a sink.
 ghost use Rattle.std.specs.Prelude.{◌≡◌, ◌≤◌, ◌<◌, ◌+◌, ◌-◌, ◌%◌, ◌++◌, ◌∷◌, [], ℕ, List, length, take, OnOk, OnErr};
 ghost use Rattle.std.specs.List.{flat_map};
 ghost use Rattle.arrayvec.specs.ArrayVec.{array_vec_len};
@@ -21,17 +21,17 @@ use df1_base::{DLE, Failed, MAX_BODY, Sink, write_all};
 use df1_check::Check;
 use std::marker::Model;
 
-/// Room for lines that are collected, in bytes.
+/// The buffer size for collected lines, in bytes.
 pub const LINES: usize = 8192;
 
-/// Room for one more line, in bytes.
+/// The buffer size for one more line, in bytes.
 pub const LINE: usize = ROOM;
 
-/// Lines that are collected, until they go to a sink.
+/// Lines that are collected before they are written to a sink.
 pub type CollectedLines = ArrayVec<u8, LINES>;
 
-/// Takes the bytes of a capture one by one, and writes the line of each thing at its last byte. After `Failed` it is only
-/// dropped.
+/// A dissector of a capture, which takes its bytes one by one and writes the line of each thing at its last byte. After
+/// `Failed` it can only be dropped.
 #[derive(Drop)]
 pub struct Dissector {
     reader: Reader,
@@ -46,7 +46,7 @@ impl Model for Dissector {
 }
 
 impl Dissector {
-    /// A dissector of this side, of a line with this check, that has taken no byte.
+    /// Creates a dissector of this side, for a line with this check, that has taken no byte.
     pub fn new(side: Side, check: Check) -> Dissector
         ensures stands { StandsFor side check [] result }
         ensures fed { result.fed ≡ 0 }
@@ -56,7 +56,7 @@ impl Dissector {
         }
     }
 
-    /// Takes a byte, after fewer than 268,435,456, and writes the lines that it completes. `Failed` comes where the sink
+    /// Takes a byte, after fewer than 268,435,456, and writes the lines that it completes. Returns `Failed` if the sink
     /// failed; then it holds a first part of them, and not all.
     pub fn feed<K: Sink>(&mut self, b: u8, sink: &mut K) -> Result<(), Failed>
         requires { self.old.fed < 268435456 }
@@ -78,7 +78,7 @@ impl Dissector {
         }
     }
 
-    /// Takes a byte, after fewer than 268,435,456, and adds the line that it completes, where it does, to lines that have
+    /// Takes a byte, after fewer than 268,435,456, and appends the line that it completes, if any, to lines that have
     /// room for one more.
     pub fn collect(&mut self, b: u8, lines: &mut CollectedLines)
         requires few { self.old.fed < 268435456 }
@@ -97,9 +97,9 @@ impl Dissector {
         }
     }
 
-    /// Takes a run of bytes, or the first byte where there is none, of bytes of which there is at least one, all among the
-    /// first 268,435,456, and adds the lines that they complete to lines that have room for one of any form; says how many it
-    /// took. A run is the bytes before a DLE: in a body all, and outside those whose lines fit.
+    /// Takes a run of bytes, or the first byte if there is no run, appends the lines that they complete, and returns
+    /// how many bytes it took. There is at least one byte, all are among the first 268,435,456, and the lines have room
+    /// for one of any form. A run is the bytes before a DLE: in a body all of them, and outside those whose lines fit.
     pub fn collect_some(&mut self, bytes: &[u8], lines: &mut CollectedLines) -> usize
         requires some { 0 < length bytes.now }
         requires few { self.old.fed + length bytes.now ≤ 268435456 }
@@ -122,8 +122,8 @@ impl Dissector {
         1
     }
 
-    /// Takes the bytes before the first DLE in a body, or outside, there at most those that end a ten of offsets, and none
-    /// elsewhere; adds the lines that they complete.
+    /// Takes the bytes before the first DLE in a body or outside, and none elsewhere, and appends the lines that they
+    /// complete. Outside it takes at most the bytes up to the end of a ten of offsets.
     fn collect_run(&mut self, bytes: &[u8], lines: &mut CollectedLines) -> usize
         requires some { 0 < length bytes.now }
         requires few { self.old.fed + length bytes.now ≤ 268435456 }
@@ -148,8 +148,8 @@ impl Dissector {
         count
     }
 
-    /// Writes the line of the unfinished item, if there is one. `Failed` comes where the sink failed; then it holds a first
-    /// part of the line, and not all.
+    /// Writes the line of the unfinished item, if there is one. Returns `Failed` if the sink failed; then it holds a
+    /// first part of the line, and not all.
     pub fn finish<K: Sink>(&mut self, sink: &mut K) -> Result<(), Failed>
         ensures same { self.new ≡ self.old }
         ensures whole { (side : Captured) (check : CheckKind) (bytes so_far : List ℕ) → StandsFor side check bytes self.old
@@ -169,7 +169,7 @@ impl Dissector {
         put_open(sink, fed - left, fed - 1)
     }
 
-    /// How many things have a line.
+    /// Returns how many things have a line.
     pub fn heard(&self) -> u64
         ensures value { result ≡ self.now.heard }
         ensures heard { (side : Captured) (check : CheckKind) (bytes : List ℕ) (things : List Told) → StandsFor side check bytes self.now
@@ -178,7 +178,7 @@ impl Dissector {
         self.reader.heard()
     }
 
-    /// How many of these are faults of the line.
+    /// Returns how many of these are faults of the line.
     pub fn bad(&self) -> u64
         ensures value { result ≡ self.now.bad }
         ensures bad { (side : Captured) (check : CheckKind) (bytes : List ℕ) (things : List Told) → StandsFor side check bytes self.now
@@ -187,7 +187,7 @@ impl Dissector {
         self.reader.bad()
     }
 
-    /// How many bytes the unfinished item has.
+    /// Returns how many bytes the unfinished item has.
     pub fn left(&self) -> u64
         ensures value { result ≡ self.now.fed - self.now.start }
         ensures left { (side : Captured) (check : CheckKind) (bytes : List ℕ) → StandsFor side check bytes self.now
@@ -196,7 +196,7 @@ impl Dissector {
         self.reader.left()
     }
 
-    /// How many bytes were fed.
+    /// Returns how many bytes were taken.
     pub fn fed(&self) -> u64
         ensures value { result ≡ self.now.fed }
         ensures fed { (side : Captured) (check : CheckKind) (bytes : List ℕ) → StandsFor side check bytes self.now → result ≡ length bytes }
@@ -205,7 +205,7 @@ impl Dissector {
     }
 }
 
-/// The bytes, the first of which is at this offset, up to the last offset of its ten.
+/// Returns the bytes, the first of which is at this offset, up to the last offset of its ten.
 fn within_ten(at: u64, bytes: &[u8]) -> &[u8]
     ensures { result.now ≡ take (10 - at % 10) bytes.now }
 {

@@ -1,4 +1,4 @@
-//! What hears one side of a line: a byte goes in, and what comes of it comes out.
+//! The decoder of one side of a line: it takes a byte, and returns what results from it.
 ghost use Rattle.std.specs.Prelude.{◌≡◌, ◌≤◌, length, take};
 ghost use Rattle.df1_frame.specs.Runs.{steps};
 ghost use Rattle.df1_dissect.specs.Hearing.{ear_next, ear_of_none, lent_by, turn_of};
@@ -21,7 +21,7 @@ pub enum Side {
     Slave,
 }
 
-/// What hears a side.
+/// The decoder of a side.
 #[derive(Drop)]
 pub(crate) enum Ear {
     Full(Decoder<MAX_BODY>),
@@ -29,21 +29,21 @@ pub(crate) enum Ear {
     Slave(MasterEar<MAX_BODY>),
 }
 
-/// What comes of a byte.
+/// The result of a byte.
 #[derive(Clone, Copy, Debug, PartialEq, Eq)]
 pub(crate) enum Turn {
-    /// Nothing that has a line: the item goes on.
+    /// Nothing that has a line: the item continues.
     Goes,
     /// An item ends at this byte.
     Ends(Kind),
-    /// An item is cut off by a pair that ends at this byte and begins the next item.
+    /// An item is cut off by a pair that ends at this byte and starts the next item.
     CutsOff(Kind),
-    /// A response of two bytes, inside an item that goes on.
+    /// A response of two bytes, inside an item that continues.
     Within(Kind),
 }
 
 impl Ear {
-    /// An ear that has taken no byte.
+    /// Creates a decoder that has taken no byte.
     pub(crate) fn new(side: Side, check: Check) -> Ear
         ensures { result ≡ ear_of_none side check }
     {
@@ -67,8 +67,8 @@ impl Ear {
         }
     }
 
-    /// Takes the bytes before the first DLE where it stands in a body or outside, and none elsewhere, and says how many. In a
-    /// body the item goes on at them; outside each is an item.
+    /// Takes the bytes before the first DLE, in a body or outside, and none elsewhere, and returns how many. In a body
+    /// the item continues at them; outside each is an item.
     pub(crate) fn hear_run(&mut self, bytes: &[u8]) -> usize
         ensures most { result ≤ length bytes.now }
         ensures value { self.new ≡ (steps ear_next self.old (take result bytes.now)).0 }
@@ -81,7 +81,7 @@ impl Ear {
         }
     }
 
-    /// Whether an item is under way.
+    /// Returns whether an item is under way.
     pub(crate) fn inside(&self) -> bool
         ensures { result ≡ ear_inside self.now }
     {
@@ -92,7 +92,7 @@ impl Ear {
         }
     }
 
-    /// The body of what ended at the last byte, where that is a message whose body is told; else none.
+    /// Returns the body of what ended at the last byte, if that is a message whose body is reported; otherwise empty.
     pub(crate) fn body(&self) -> &[u8]
         ensures value { result.now ≡ lent_by self.now }
         ensures fits { length result.now ≤ MAX_BODY }
@@ -105,7 +105,7 @@ impl Ear {
     }
 }
 
-/// What comes of a byte at which this is heard, where afterwards an item is under way or none is.
+/// Returns the result of a byte at which this is decoded, and after which an item is under way or none is.
 fn turn_of(heard: Option<Kind>, inside: bool) -> Turn
     ensures { result ≡ turn_of heard inside }
 {

@@ -9,7 +9,7 @@ use arrayvec::ArrayVec;
 use df1_base::{MAX_BODY, MAX_DATA, MIN_BODY};
 use pccc_envelope::{Envelope, read_envelope};
 
-/// Adds the fields of a body. A body too short for an envelope is added as it is.
+/// Appends the fields of a body. A body too short for an envelope is appended in hexadecimal, without fields.
 #[tactic(auto, unfolding(crate::specs::Lines::fields_text))]
 pub(crate) fn append_fields<const N: usize>(text: &mut ArrayVec<u8, N>, body: &[u8])
     requires room { array_vec_len text.old + 600 ≤ N }
@@ -23,7 +23,7 @@ pub(crate) fn append_fields<const N: usize>(text: &mut ArrayVec<u8, N>, body: &[
     }
 }
 
-/// Adds the fields of a message, of which `rest` follows TNS.
+/// Appends the fields of a message, of which `rest` follows TNS.
 fn append_message<const N: usize>(text: &mut ArrayVec<u8, N>, envelope: Envelope, rest: &[u8])
     requires room { array_vec_len text.old + 600 ≤ N }
     requires rest { length rest.now ≤ MAX_DATA }
@@ -36,7 +36,7 @@ fn append_message<const N: usize>(text: &mut ArrayVec<u8, N>, envelope: Envelope
     append_bytes(text, rest);
 }
 
-/// Adds the fields of an envelope.
+/// Appends the fields of an envelope.
 fn append_envelope<const N: usize>(text: &mut ArrayVec<u8, N>, envelope: Envelope)
     requires { array_vec_len text.old + 40 ≤ N }
     ensures text { text.new.items ≡ text.old.items ++ envelope_text envelope }
@@ -51,8 +51,8 @@ fn append_envelope<const N: usize>(text: &mut ArrayVec<u8, N>, envelope: Envelop
     append(text, b" ");
 }
 
-/// Adds a field of one byte, with a name of three letters and its sign, and a space. It is added at once, since each adding looks
-/// at how long the text is.
+/// Appends a field of one byte, with a name of three letters and an equals sign, and a space. It is appended at once,
+/// since each append reads the length of the text.
 fn append_field<const N: usize>(text: &mut ArrayVec<u8, N>, name: &[u8], byte: u8)
     requires name { length name.now ≡ 4 }
     requires room { array_vec_len text.old + 7 ≤ N }

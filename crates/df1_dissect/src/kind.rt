@@ -5,12 +5,12 @@ ghost use Rattle.df1_dissect.specs.Kinds.{full_kind as kind_of_full, master_kind
 use df1_frame::Heard;
 use half_frame::{MasterHeard, SlaveHeard};
 
-/// What kind of thing a line tells of. `u8` is the station of a message or poll, or the byte that is told.
+/// The kind of thing that a line reports. `u8` is the station of a message or poll, or the byte that is reported.
 #[derive(Clone, Copy, Debug, PartialEq, Eq)]
 pub enum Kind {
     /// A whole message with a body of 6 to 250 bytes and the right check.
     Good,
-    /// The same, of the master's, to this station.
+    /// The same, sent by the master to this station.
     Message(u8),
     /// A frame with the right check and a body of under 6 bytes.
     Short,
@@ -20,11 +20,11 @@ pub enum Kind {
     Long,
     /// A frame that was broken off by a DLE and this byte.
     Broken(u8),
-    /// A frame that was cut off by the begin of the next.
+    /// A frame that was cut off by the start of the next.
     Restart,
-    /// A slave's message that didn't end as one, or that has a short or long body or a wrong check.
+    /// A slave's message that is broken off, or that has a short or long body or a wrong check.
     Damaged,
-    /// The same, of the master's, to this station.
+    /// The same, sent by the master to this station.
     DamagedFor(u8),
     /// A poll of this station.
     Poll(u8),
@@ -34,7 +34,7 @@ pub enum Kind {
     Ack,
     /// DLE NAK.
     Nak,
-    /// DLE NAK of the master's, by which it asks the slaves to drop what they keep.
+    /// DLE NAK of the master's, by which it asks the slaves to drop what they hold.
     Reset,
     /// DLE ENQ.
     Enq,
@@ -47,7 +47,7 @@ pub enum Kind {
 }
 
 impl Kind {
-    /// Whether it is none of the things that a line without faults has.
+    /// Returns whether it is a fault: no line without faults has it.
     pub fn is_bad(self) -> bool
         ensures { result ≡ is_bad self }
     {
@@ -58,7 +58,7 @@ impl Kind {
         }
     }
 
-    /// Whether it is a response, which may stand inside a full-duplex frame.
+    /// Returns whether it is a response, which may stand inside a full-duplex frame.
     pub(crate) fn is_response(self) -> bool
         ensures { result ≡ is_response self }
     {
@@ -66,7 +66,7 @@ impl Kind {
     }
 }
 
-/// The kind of what is heard on a full-duplex line.
+/// Returns the kind of an item that is decoded on a full-duplex line.
 pub(crate) fn full_kind(heard: Option<Heard>) -> Option<Kind>
     ensures { result ≡ kind_of_full heard }
 {
@@ -85,7 +85,7 @@ pub(crate) fn full_kind(heard: Option<Heard>) -> Option<Kind>
     }
 }
 
-/// The kind of what a slave hears of the master's bytes. The begin of a message has no line.
+/// Returns the kind of an item that a slave decodes from the master's bytes. The start of a message has no line.
 pub(crate) fn master_kind(heard: Option<SlaveHeard>) -> Option<Kind>
     ensures { result ≡ kind_of_master heard }
 {
@@ -102,7 +102,7 @@ pub(crate) fn master_kind(heard: Option<SlaveHeard>) -> Option<Kind>
     }
 }
 
-/// The kind of what the master hears of the slaves' bytes.
+/// Returns the kind of an item that the master decodes from the slaves' bytes.
 pub(crate) fn slave_kind(heard: Option<MasterHeard>) -> Option<Kind>
     ensures { result ≡ kind_of_slave heard }
 {

@@ -1,4 +1,4 @@
-//! What holds of the dissection of every list of bytes, and two captures with their text. The functions do nothing.
+//! Laws of the dissection of every list of bytes, and two captures with their text. The functions do nothing.
 ghost use Rattle.std.specs.Prelude.{◌≡◌, ℕ, List, [], ◌∷◌, ◌++◌, codes};
 ghost use Rattle.df1_check.specs.declared.Check.TheVariants as checks;
 ghost use Rattle.df1_dissect.specs.declared.ear.Side.TheVariants as sides;

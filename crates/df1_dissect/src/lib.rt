@@ -1,11 +1,12 @@
-//! What a capture of a line says, byte by byte: each thing that is heard in it, with the offsets of its first and last
-//! byte, and the text that tells it (manual topics: full-duplex protocol, half-duplex protocol, message packets).
+//! Dissection of a captured line, byte by byte: each item that is decoded, with the offsets of its first and last byte,
+//! and its text (manual topics: full-duplex protocol, half-duplex protocol, message packets).
 //!
-//! A capture is of one side: all bytes of one direction of a full-duplex line, or of a half-duplex line the master's bytes
-//! or the slaves'. Every list of bytes splits in exactly one way into items and an unfinished front of one. An item has a
-//! line, and so has each response inside a full-duplex frame; the front of a half-duplex message has none of its own.
+//! A capture is of one side: all bytes of one direction of a full-duplex line, or of a half-duplex line the master's
+//! bytes or the slaves'. Every list of bytes splits in exactly one way into items and an unfinished prefix of one. Each
+//! item has a line, and so has each response inside a full-duplex frame; the beginning of a half-duplex message has no
+//! line of its own.
 //!
-//! A frame that the next one's begin cuts off ends at the second byte of the pair which begins the next.
+//! A frame that is cut off by the start of the next one ends at the second byte of the pair that starts the next.
 #![tactic(auto)]
 
 mod command;

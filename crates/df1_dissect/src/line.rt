@@ -1,18 +1,18 @@
-//! The lines of a dissection. A line is added to text that has room for one, of at most 700 bytes.
+//! The lines of a dissection, of at most 700 bytes each. A line is appended to text that has room for it.
 //!
 //! | Kind | Line, after the offsets of its first and last byte |
 //! |---|---|
 //! | a good message | `good FIELDS`; of the master's, `message SS FIELDS` |
 //! | a frame with a short body, or a wrong check | `short BODY`, `bad-check BODY` |
 //! | a frame with a long body | `long` |
-//! | a frame that was broken off, or cut off | `broken CC`, `restart` |
-//! | a half-duplex message that is none | `damaged`; of the master's, `damaged SS` |
+//! | a frame that was broken off or cut off | `broken CC`, `restart` |
+//! | a half-duplex message that is invalid | `damaged`; of the master's, `damaged SS` |
 //! | a poll | `poll SS`, `bad-poll` |
 //! | a pair with a meaning | `ack`, `nak`, `reset`, `enq`, `eot` |
 //! | another byte or pair | `stray BB`, `stray-pair CC` |
-//! | an item that is unfinished in the end | `open` |
+//! | an item that is unfinished at the end | `open` |
 //!
-//! SS, CC and BB are two hexadecimal digits, BODY is hexadecimal, or `-` where it is empty.
+//! SS, CC and BB are two hexadecimal digits; BODY is hexadecimal, or `-` if it is empty.
 ghost use Rattle.std.specs.Prelude.{◌≡◌, ◌≤◌, ◌<◌, ◌+◌, ◌*◌, ◌/◌, ◌%◌, ◌++◌, ◌∷◌, [], ℕ, decimal, length, slice_index};
 ghost use Rattle.arrayvec.specs.ArrayVec.{array_vec_len};
 ghost use Rattle.hex.specs.Hex.{encode_upper, upper_digits};
@@ -27,16 +27,16 @@ use arrayvec::ArrayVec;
 use df1_base::MAX_BODY;
 use itoa::write_digits;
 
-/// Room for a line, in bytes: two digits for each byte of a body, the offsets and the fields' names.
+/// The buffer size for a line, in bytes: two digits for each byte of a body, the offsets and the fields' names.
 pub(crate) const ROOM: usize = 700;
 
-/// Room for two offsets, each with a space behind it.
+/// The buffer size for two offsets, each followed by a space.
 const OFFSETS: usize = 42;
 
-/// The digits, by their values.
+/// The hexadecimal digits, by value.
 static DIGITS: [u8; 16] = *b"0123456789ABCDEF";
 
-/// Adds the line of a thing with a body of at most 250 bytes.
+/// Appends the line of a thing with a body of at most 250 bytes.
 pub(crate) fn append_line<const N: usize>(text: &mut ArrayVec<u8, N>, thing: Thing, body: &[u8])
     requires room { array_vec_len text.old + 700 ≤ N }
     requires body { length body.now ≤ MAX_BODY }
@@ -47,8 +47,8 @@ pub(crate) fn append_line<const N: usize>(text: &mut ArrayVec<u8, N>, thing: Thi
     append(text, b"\n");
 }
 
-/// Adds the lines of bytes outside, of which the first is at this offset. Their offsets differ in the last digit alone, so the
-/// digits before it are made once.
+/// Appends the lines of bytes outside, the first of which is at this offset. Their offsets differ only in the last
+/// digit, so the digits before it are made once.
 pub(crate) fn append_strays<const N: usize>(text: &mut ArrayVec<u8, N>, at: u64, bytes: &[u8])
     requires room { array_vec_len text.old + 700 ≤ N }
     requires two { 10 ≤ at }
@@ -65,7 +65,7 @@ pub(crate) fn append_strays<const N: usize>(text: &mut ArrayVec<u8, N>, at: u64,
     }
 }
 
-/// Adds the line of a byte outside, at an offset with these digits before its last one.
+/// Appends the line of a byte outside, at an offset with these digits before its last one.
 fn append_stray<const N: usize>(text: &mut ArrayVec<u8, N>, tens: &[u8], one: u8, byte: u8)
     requires { array_vec_len text.old + 2 * length tens.now + 13 ≤ N }
     ensures text { (at : ℕ) → decimal at ≡ tens.now ++ one ∷ [] → text.new.items ≡ text.old.items ++ stray_line at byte }
@@ -84,7 +84,7 @@ fn append_stray<const N: usize>(text: &mut ArrayVec<u8, N>, tens: &[u8], one: u8
     );
 }
 
-/// Adds the line of an item that is unfinished.
+/// Appends the line of an item that is unfinished.
 pub(crate) fn append_open_line<const N: usize>(text: &mut ArrayVec<u8, N>, first: u64, last: u64)
     requires { array_vec_len text.old + 700 ≤ N }
     ensures { text.new.items ≡ text.old.items ++ open_line first last }
@@ -93,7 +93,7 @@ pub(crate) fn append_open_line<const N: usize>(text: &mut ArrayVec<u8, N>, first
     append(text, b"open\n");
 }
 
-/// Adds the beginning of a line. It is put together in an array of spaces, from its end, and added at once.
+/// Appends the beginning of a line. It is put together in an array of spaces, from the end, and appended at once.
 fn append_offsets<const N: usize>(text: &mut ArrayVec<u8, N>, first: u64, last: u64)
     requires { array_vec_len text.old + 42 ≤ N }
     ensures text { text.new.items ≡ text.old.items ++ offsets_text first last }
@@ -105,7 +105,7 @@ fn append_offsets<const N: usize>(text: &mut ArrayVec<u8, N>, first: u64, last: 
     append(text, &both[start..]);
 }
 
-/// Adds what is told of a thing of this kind.
+/// Appends the text of a thing of this kind.
 #[tactic(auto, unfolding(crate::specs::Lines::kind_text))]
 fn append_kind<const N: usize>(text: &mut ArrayVec<u8, N>, kind: Kind, body: &[u8])
     requires room { array_vec_len text.old + 650 ≤ N }
@@ -142,7 +142,7 @@ fn append_kind<const N: usize>(text: &mut ArrayVec<u8, N>, kind: Kind, body: &[u
     }
 }
 
-/// Adds a word and the digits of a byte.
+/// Appends a word and the digits of a byte.
 pub(crate) fn append_code<const N: usize>(text: &mut ArrayVec<u8, N>, word: &[u8], byte: u8)
     requires { array_vec_len text.old + length word.now + 2 ≤ N }
     ensures text { text.new.items ≡ text.old.items ++ word.now ++ byte_digits byte }
@@ -152,7 +152,7 @@ pub(crate) fn append_code<const N: usize>(text: &mut ArrayVec<u8, N>, word: &[u8
     append(text, &[high_digit(byte), low_digit(byte)]);
 }
 
-/// Adds a word and a body.
+/// Appends a word and a body.
 fn append_body<const N: usize>(text: &mut ArrayVec<u8, N>, word: &[u8], body: &[u8])
     requires room { array_vec_len text.old + length word.now + 501 ≤ N }
     requires body { length body.now ≤ MAX_BODY }
@@ -163,7 +163,7 @@ fn append_body<const N: usize>(text: &mut ArrayVec<u8, N>, word: &[u8], body: &[
     append_bytes(text, body);
 }
 
-/// Adds bytes in hexadecimal, or a dash where there are none.
+/// Appends bytes in hexadecimal, or a dash if there are none.
 pub(crate) fn append_bytes<const N: usize>(text: &mut ArrayVec<u8, N>, bytes: &[u8])
     requires { array_vec_len text.old + 2 * length bytes.now < N }
     ensures text { text.new.items ≡ text.old.items ++ bytes_text bytes.now }
@@ -176,7 +176,7 @@ pub(crate) fn append_bytes<const N: usize>(text: &mut ArrayVec<u8, N>, bytes: &[
     }
 }
 
-/// Adds bytes in hexadecimal.
+/// Appends bytes in hexadecimal.
 fn append_hex<const N: usize>(text: &mut ArrayVec<u8, N>, bytes: &[u8])
     requires { array_vec_len text.old + 2 * length bytes.now < N }
     ensures text { text.new.items ≡ text.old.items ++ encode_upper bytes.now }
@@ -187,21 +187,21 @@ fn append_hex<const N: usize>(text: &mut ArrayVec<u8, N>, bytes: &[u8])
     }
 }
 
-/// The first digit of a byte.
+/// Returns the first digit of a byte.
 pub(crate) fn high_digit(byte: u8) -> u8
     ensures { result ≡ slice_index upper_digits (byte / 16) }
 {
     DIGITS[usize::from(byte / 16)]
 }
 
-/// The second digit of a byte.
+/// Returns the second digit of a byte.
 pub(crate) fn low_digit(byte: u8) -> u8
     ensures { result ≡ slice_index upper_digits (byte % 16) }
 {
     DIGITS[usize::from(byte % 16)]
 }
 
-/// Adds bytes.
+/// Appends bytes.
 pub(crate) fn append<const N: usize>(text: &mut ArrayVec<u8, N>, bytes: &[u8])
     requires { array_vec_len text.old + length bytes.now ≤ N }
     ensures { text.new.items ≡ text.old.items ++ bytes.now }

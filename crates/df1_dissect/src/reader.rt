@@ -1,4 +1,4 @@
-//! The reader of a capture: bytes go in one by one, and it says what ends at each, or many at a time, and it counts.
+//! The reader of a capture: it takes bytes one by one, reporting what ends at each, or many at a time, and counts.
 ghost use Rattle.std.specs.Prelude.{◌≡◌, ◌≤◌, ◌<◌, ◌-◌, ℕ, List, [], ◌+◌, ◌++◌, ◌∷◌, length, take};
 ghost use Rattle.df1_check.specs.declared.Check.{Check as CheckKind};
 ghost use Rattle.df1_frame.specs.Line.{ReadOff};
@@ -21,15 +21,16 @@ use std::marker::Model;
 pub struct Thing {
     /// The offset of its first byte.
     pub first: u64,
-    /// The offset of its last byte; that of a message which is cut off is the second byte of the pair that begins the next.
+    /// The offset of its last byte. That of a message which is cut off is the second byte of the pair that starts the
+    /// next.
     pub last: u64,
     /// What it is.
     pub kind: Kind,
 }
 
-/// Takes the bytes of a capture in their order, at most 268,435,456: one by one, and it tells what ends at each, or many at
-/// a time. It counts what has a line. Each byte takes constant time, but that a message's begin blanks what was held of the
-/// body before.
+/// A reader of the bytes of a capture, in their order and at most 268,435,456. It takes them one by one, reporting what
+/// ends at each, or many at a time, and counts what has a line. Each byte takes constant time, except that the start of
+/// a message clears what was held of the previous body.
 #[derive(Drop)]
 pub struct Reader {
     ear: Ear,
@@ -51,7 +52,7 @@ impl Model for Reader {
 }
 
 impl Reader {
-    /// A reader of this side, of a line with this check, that has taken no byte.
+    /// Creates a reader of this side, for a line with this check, that has taken no byte.
     pub fn new(side: Side, check: Check) -> Reader
         ensures stands { StandsFor side check [] result }
         ensures fed { result.fed ≡ 0 }
@@ -65,8 +66,8 @@ impl Reader {
         }
     }
 
-    /// Takes a byte, after fewer than 268,435,456, and says what has a line and ends at it: None exactly where nothing
-    /// does. It is inlined, with what it calls for each byte, since an answer would else be handed on through memory at each.
+    /// Takes a byte, after fewer than 268,435,456, and returns what has a line and ends at it: None exactly if nothing
+    /// does. It is inlined, with what it calls for each byte, since otherwise each result would pass through memory.
     #[inline(always)]
     pub fn hear(&mut self, b: u8) -> Option<Thing>
         requires { self.old.fed < 268435456 }
@@ -101,8 +102,8 @@ impl Reader {
         }
     }
 
-    /// Takes a run, or a DLE and the byte after it, or the first byte, of bytes of which there is at least one; says how many it
-    /// took.
+    /// Takes a run, or a DLE and the byte after it, or the first byte, and returns how many bytes it took. There is at
+    /// least one byte.
     fn hear_some(&mut self, bytes: &[u8]) -> usize
         requires some { 0 < length bytes.now }
         requires few { self.old.fed + length bytes.now ≤ 268435456 }
@@ -121,8 +122,8 @@ impl Reader {
         1
     }
 
-    /// Takes the first byte, and the second one where there is one, of bytes of which there is at least one; says how many it
-    /// took. No run begins with a DLE or directly after one, so none is looked for there.
+    /// Takes the first byte, and the second one if there is one, and returns how many it took. There is at least one
+    /// byte. No run begins with a DLE or directly after one, so none is looked for there.
     #[inline(always)]
     fn hear_pair(&mut self, bytes: &[u8]) -> usize
         requires some { 0 < length bytes.now }
@@ -139,7 +140,7 @@ impl Reader {
         2
     }
 
-    /// Takes the bytes before the first DLE where it stands in a body or outside, and none elsewhere, and says how many.
+    /// Takes the bytes before the first DLE, in a body or outside, and none elsewhere, and returns how many.
     #[inline(always)]
     fn hear_run(&mut self, bytes: &[u8]) -> usize
         requires { self.old.fed + length bytes.now ≤ 268435456 }
@@ -153,8 +154,8 @@ impl Reader {
         }
     }
 
-    /// Takes the bytes before the first DLE where it stands in a body, and none elsewhere, and says how many. Nothing is told
-    /// at them.
+    /// Takes the bytes before the first DLE in a body, and none elsewhere, and returns how many. Nothing is reported at
+    /// them.
     #[inline(always)]
     pub(crate) fn hear_body(&mut self, bytes: &[u8]) -> usize
         requires { self.old.fed + length bytes.now ≤ 268435456 }
@@ -171,8 +172,8 @@ impl Reader {
         count
     }
 
-    /// Takes the bytes before the first DLE where no item is under way, and none elsewhere, and says how many. Each is told
-    /// as a stray one.
+    /// Takes the bytes before the first DLE if no item is under way, and none otherwise, and returns how many. Each is
+    /// reported as a stray byte.
     #[inline(always)]
     pub(crate) fn hear_strays(&mut self, bytes: &[u8]) -> usize
         requires { self.old.fed + length bytes.now ≤ 268435456 }
@@ -196,7 +197,7 @@ impl Reader {
         count
     }
 
-    /// The body of the message whose thing was told at the last byte, where its body is told; empty after every other byte.
+    /// Returns the body of the message that was reported at the last byte, if its body is reported; otherwise empty.
     pub fn body(&self) -> &[u8]
         ensures value { result.now ≡ lent_by self.now.ear }
         ensures fits { length result.now ≤ MAX_BODY }
@@ -204,7 +205,7 @@ impl Reader {
         self.ear.body()
     }
 
-    /// How many things have a line.
+    /// Returns how many things have a line.
     pub fn heard(&self) -> u64
         ensures value { result ≡ self.now.heard }
         ensures heard { (side : Captured) (check : CheckKind) (bytes : List ℕ) (things : List Told) → StandsFor side check bytes self.now
@@ -213,7 +214,7 @@ impl Reader {
         self.heard
     }
 
-    /// How many of these are faults of the line.
+    /// Returns how many of these are faults of the line.
     pub fn bad(&self) -> u64
         ensures value { result ≡ self.now.bad }
         ensures bad { (side : Captured) (check : CheckKind) (bytes : List ℕ) (things : List Told) → StandsFor side check bytes self.now
@@ -222,7 +223,7 @@ impl Reader {
         self.bad
     }
 
-    /// How many bytes the unfinished item has.
+    /// Returns how many bytes the unfinished item has.
     pub fn left(&self) -> u64
         ensures value { result ≡ self.now.fed - self.now.start }
         ensures left { (side : Captured) (check : CheckKind) (bytes : List ℕ) → StandsFor side check bytes self.now
@@ -231,7 +232,7 @@ impl Reader {
         self.fed - self.start
     }
 
-    /// How many bytes were fed.
+    /// Returns how many bytes were taken.
     pub fn fed(&self) -> u64
         ensures value { result ≡ self.now.fed }
         ensures fed { (side : Captured) (check : CheckKind) (bytes : List ℕ) → StandsFor side check bytes self.now → result ≡ length bytes }
@@ -240,7 +241,7 @@ impl Reader {
     }
 }
 
-/// What has a line, where the item under way began at `start` and the byte is at `at`.
+/// Returns what has a line, if the item under way began at `start` and the byte is at `at`.
 fn thing_of(turn: Turn, start: u64, at: u64) -> Option<Thing>
     ensures { result ≡ thing_of turn start at }
 {
@@ -256,7 +257,7 @@ fn thing_of(turn: Turn, start: u64, at: u64) -> Option<Thing>
     })
 }
 
-/// Where the item that is under way after a byte begins.
+/// Returns the offset at which the item that is under way after a byte begins.
 fn start_after(turn: Turn, start: u64, at: u64) -> u64
     requires { at < 268435456 }
     ensures { result ≡ start_after turn start at }
@@ -268,7 +269,7 @@ fn start_after(turn: Turn, start: u64, at: u64) -> u64
     }
 }
 
-/// The count of things, with one more or none.
+/// Returns the count of things, increased by one if there is a thing.
 fn heard_with(count: u64, thing: Option<Thing>) -> u64
     requires { count < 268435456 }
     ensures { result ≡ heard_with count thing }
@@ -279,7 +280,7 @@ fn heard_with(count: u64, thing: Option<Thing>) -> u64
     }
 }
 
-/// The count of faults, with one thing more or none.
+/// Returns the count of faults, increased by one if this thing is a fault.
 fn bad_with(count: u64, thing: Option<Thing>) -> u64
     requires { count < 268435456 }
     ensures { result ≡ bad_with count thing }

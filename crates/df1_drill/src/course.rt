@@ -1,11 +1,11 @@
-//! What happens to the bytes of a round, by its pattern: one of four in turn.
+//! The events of a round, by its pattern: one of four in turn.
 //!
-//! | Pattern | What happens |
+//! | Pattern | Events |
 //! |---|---|
 //! | plain | the command and its reply arrive |
-//! | damaged frame | a byte of the command is altered: it is refused by a NAK, and sent again |
-//! | lost ACK | the ACK of the command is lost: an enquiry asks for it again |
-//! | false NAK | the ACK is lost, and a foreign NAK stands in its place: the command is sent again, and is a repeat |
+//! | damaged frame | a byte of the command is altered: it is refused by a NAK, and retransmitted |
+//! | lost ACK | the ACK of the command is lost: an ENQ asks for it again |
+//! | false NAK | the ACK is lost, and a foreign NAK arrives in its place: the command is retransmitted, and is a duplicate |
 ghost use Rattle.std.specs.Prelude.{◌≡◌, map};
 ghost use Rattle.round_scripts.specs.Rounds.{event_of};
 ghost use Rattle.df1_drill.specs.Drill.{course_of, pattern_of as the_pattern};
@@ -13,7 +13,7 @@ ghost use Rattle.df1_drill.specs.Drill.{course_of, pattern_of as the_pattern};
 use round_scripts::{CourseEvent, TO_A, TO_B, UNDISTURBED};
 use script_parts::Who;
 
-/// What happens to the bytes of a round.
+/// The pattern of what happens to the bytes of a round.
 #[derive(Clone, Copy, Debug, PartialEq, Eq)]
 pub(crate) enum Pattern {
     Plain,
@@ -66,7 +66,7 @@ const FALSE_NAK: [CourseEvent; 11] = [
 ];
 
 impl Pattern {
-    /// The pattern of a round, counted from 1.
+    /// Returns the pattern of a round, counted from 1.
     pub fn of(seed: u32, round: u32) -> Pattern
         ensures { result ≡ the_pattern seed round }
     {
@@ -78,7 +78,7 @@ impl Pattern {
         }
     }
 
-    /// What happens behind the command of a round.
+    /// Returns the events after the command of a round.
     pub fn course(self) -> &'static [CourseEvent]
         ensures { map event_of result.now ≡ course_of self }
     {

@@ -1,4 +1,4 @@
-//! A drill or a storm that was run: what it came to, and the line that tells it.
+//! The result of a drill or a storm, and the line that reports it.
 ghost use Rattle.std.specs.Prelude.{◌≡◌, ◌≤◌, ◌+◌, ◌++◌, IfOk, decimal, length};
 ghost use Rattle.arrayvec.specs.ArrayVec.{array_vec_len};
 ghost use Rattle.replay_report.specs.Report.{word_digits};
@@ -17,32 +17,32 @@ use round_scripts::MOST_ROUNDS;
 use script_parts::Script;
 use std::alloc::Global;
 
-/// Room for the line, in bytes: seven numbers of at most 20 digits, four hexadecimal digits, and the words.
+/// The buffer size for the line, in bytes: seven numbers of at most 20 digits, four hexadecimal digits, and the words.
 pub const LINE: usize = 219;
 
-/// What the run of a script came to.
+/// The result of the run of a script.
 #[derive(Clone, Copy, Debug, PartialEq, Eq)]
 pub struct Drilled {
-    /// The commands that the script issues.
+    /// The number of commands that the script issues.
     pub issued: usize,
-    /// The commands that were executed.
+    /// The number of commands that were executed.
     pub executed: usize,
-    /// The commands that were answered.
+    /// The number of commands that were answered.
     pub answered: usize,
-    /// The messages that came damaged.
+    /// The number of messages that arrived damaged.
     pub damaged: usize,
-    /// The messages that came again.
+    /// The number of duplicate messages.
     pub repeats: usize,
-    /// How often a missing response was asked for.
+    /// The number of times a missing response was asked for.
     pub enquiries: usize,
-    /// How often an end was deceived.
+    /// The number of times an end was deceived.
     pub deceived: u64,
     /// The CRC-16 of the report's text.
     pub report: u16,
 }
 
-/// Runs the drill's script of `count` rounds, at most 20,000, whose patterns and words begin at `seed`: what its report
-/// tells is counted. An error is want of memory.
+/// Runs the drill's script of `count` rounds, at most 20,000, whose patterns and words begin at `seed`, and counts what
+/// its report says. An error is want of memory.
 pub fn drill(alloc: Global, seed: u32, count: u32) -> Result<Drilled, NoMemory>
     requires { count ≤ MOST_ROUNDS }
     ensures { IfOk result (λ d. d ≡ drilled seed count) }
@@ -50,7 +50,7 @@ pub fn drill(alloc: Global, seed: u32, count: u32) -> Result<Drilled, NoMemory>
     run_tally(alloc, &drill_script(alloc, seed, count)?)
 }
 
-/// Runs a script that can be played: what its report tells is counted. An error is want of memory.
+/// Runs a script that can be played, and counts what its report says. An error is want of memory.
 pub(crate) fn run_tally(alloc: Global, script: &Script) -> Result<Drilled, NoMemory>
     requires { CanBePlayed script.now }
     ensures { IfOk result (λ d. d ≡ the_tally script.now) }
@@ -71,8 +71,8 @@ pub(crate) fn run_tally(alloc: Global, script: &Script) -> Result<Drilled, NoMem
 }
 
 impl Drilled {
-    /// The line that tells it, which ends with a line feed: the counts in decimal, and the CRC in four hexadecimal digits,
-    /// high byte first.
+    /// Returns the line that reports it, which ends with a line feed: the counts in decimal, and the CRC in four
+    /// hexadecimal digits, high byte first.
     pub fn line(&self) -> ArrayVec<u8, LINE>
         ensures { result.items ≡ line_of self.now }
     {
@@ -91,7 +91,7 @@ impl Drilled {
     }
 }
 
-/// Adds a name and a count to a line that has room for them.
+/// Appends a name and a count to a line that has room for them.
 fn append_count(line: &mut ArrayVec<u8, LINE>, name: &[u8], n: u64)
     requires { array_vec_len line.old + length name.now + 20 ≤ LINE }
     ensures text { line.new.items ≡ line.old.items ++ name.now ++ decimal n }
@@ -101,7 +101,7 @@ fn append_count(line: &mut ArrayVec<u8, LINE>, name: &[u8], n: u64)
     append(line, itoa::Buffer::new().format(n).as_bytes());
 }
 
-/// Adds the four hexadecimal digits of a number, high byte first, to a line that has room for them.
+/// Appends the four hexadecimal digits of a number, high byte first, to a line that has room for them.
 fn append_digits(line: &mut ArrayVec<u8, LINE>, n: u16)
     requires { array_vec_len line.old + 4 ≤ LINE }
     ensures text { line.new.items ≡ line.old.items ++ word_digits n }
@@ -111,7 +111,7 @@ fn append_digits(line: &mut ArrayVec<u8, LINE>, n: u16)
     append(line, &pair((n % 256) as u8));
 }
 
-/// Adds bytes to a line that has room for them.
+/// Appends bytes to a line that has room for them.
 fn append(line: &mut ArrayVec<u8, LINE>, bytes: &[u8])
     requires { array_vec_len line.old + length bytes.now ≤ LINE }
     ensures { line.new.items ≡ line.old.items ++ bytes.now }

@@ -1,5 +1,5 @@
-//! The drill: a full-duplex script that is made from two numbers, its run, and one line that tells what the run came to. The
-//! storm's script is run so too.
+//! The drill: a full-duplex script that is made from two numbers, its run, and one line that reports the result. The
+//! storm's script is run in the same way.
 #![tactic(auto)]
 
 mod course;

@@ -6,7 +6,7 @@ use df1_base::{Collected, Failed, NoMemory};
 use replay_report::{Record, print};
 use std::alloc::Global;
 
-/// The text of the report of a run. An error is a growth that was refused.
+/// Returns the text of the report of a run. An error is a failed allocation.
 pub(crate) fn text_of(alloc: Global, run: &Record) -> Result<Collected, NoMemory>
     ensures { IfOk result (λ text. text.held ≡ report run.now) }
 {

@@ -1,5 +1,5 @@
-//! The drill's script: end b has an integer file of 16 elements, end a writes a word of it in each round, and things happen
-//! to the bytes by the round's pattern.
+//! The drill's script: end b has an integer file of 16 elements, end a writes a word of it in each round, and the bytes
+//! are disturbed by the round's pattern.
 ghost use Rattle.std.specs.Prelude.{◌≡◌, ◌≤◌, ◌++◌, ℕ, IfOk, OnOk};
 ghost use Rattle.script_parts.specs.HalfPlayable.{CanBePlayed};
 ghost use Rattle.df1_drill.specs.Drill.{drill_script as the_script, round_of};
@@ -10,7 +10,8 @@ use round_scripts::{MOST_ROUNDS, put_command, put_course, setup};
 use script_parts::{Events, Script};
 use std::alloc::Global;
 
-/// The drill's script of `count` rounds, at most 20,000, whose patterns and words begin at `seed`. It can be played.
+/// Returns the drill's script of `count` rounds, at most 20,000, whose patterns and words begin at `seed`. It can be
+/// played.
 pub fn drill_script(alloc: Global, seed: u32, count: u32) -> Result<Script, NoMemory>
     requires { count ≤ MOST_ROUNDS }
     ensures script { IfOk result (λ script. script ≡ the_script seed count) }
@@ -23,7 +24,7 @@ pub fn drill_script(alloc: Global, seed: u32, count: u32) -> Result<Script, NoMe
     Ok(script)
 }
 
-/// Puts the events of a round, counted from 1, behind those of the rounds before it.
+/// Appends the events of a round, counted from 1, to those of the rounds before it.
 fn put_round(alloc: Global, events: &mut Events, seed: u32, round: u32) -> Result<(), NoMemory>
     ensures { OnOk result (events.new ≡ events.old ++ round_of seed round) }
 {

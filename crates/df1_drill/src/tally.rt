@@ -6,42 +6,42 @@ ghost use Rattle.df1_drill.specs.Tally.{is_answered as the_answered_test, is_dam
 use replay_report::Line;
 use script_parts::Event;
 
-/// How many commands are issued.
+/// Returns how many commands are issued.
 pub(crate) fn issued(events: &[Event]) -> usize
     ensures { result ≡ count_by the_issue_test events.now }
 {
     events.iter().filter(|event| is_issue(event)).count()
 }
 
-/// How many commands were executed.
+/// Returns how many commands were executed.
 pub(crate) fn executed(lines: &[Line]) -> usize
     ensures { result ≡ count_by the_exec_test lines.now }
 {
     lines.iter().filter(|line| is_exec(line)).count()
 }
 
-/// How many commands were answered.
+/// Returns how many commands were answered.
 pub(crate) fn answered(lines: &[Line]) -> usize
     ensures { result ≡ count_by the_answered_test lines.now }
 {
     lines.iter().filter(|line| is_answered(line)).count()
 }
 
-/// How many messages came damaged.
+/// Returns how many messages arrived damaged.
 pub(crate) fn damaged(lines: &[Line]) -> usize
     ensures { result ≡ count_by the_damaged_test lines.now }
 {
     lines.iter().filter(|line| is_damaged(line)).count()
 }
 
-/// How many messages came again.
+/// Returns how many messages were duplicates.
 pub(crate) fn repeats(lines: &[Line]) -> usize
     ensures { result ≡ count_by the_repeat_test lines.now }
 {
     lines.iter().filter(|line| is_repeat(line)).count()
 }
 
-/// How often a missing response was asked for.
+/// Returns how often a missing response was asked for.
 pub(crate) fn enquiries(lines: &[Line]) -> usize
     ensures { result ≡ count_by the_enquiry_test lines.now }
 {

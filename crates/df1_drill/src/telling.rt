@@ -1,4 +1,4 @@
-//! A drill or a storm is run, and its line is written.
+//! The run of a drill or a storm, and the writing of its line.
 ghost use Rattle.std.specs.Prelude.{◌≡◌, ◌≤◌};
 ghost use Rattle.script_parts.specs.HalfPlayable.{CanBePlayed};
 ghost use Rattle.line_world.specs.Recovery.{Recovers};
@@ -16,7 +16,7 @@ use script_parts::Script;
 use std::alloc::Global;
 use thiserror::Error;
 
-/// Why the line of a drill or a storm isn't written.
+/// The reason why the line of a drill or a storm isn't written.
 #[derive(Clone, Copy, Debug, PartialEq, Eq, Error)]
 pub enum DrillFault {
     /// The output has failed.
@@ -27,9 +27,9 @@ pub enum DrillFault {
     NoMemory,
 }
 
-/// Runs the drill of `count` rounds, at most 20,000, and writes its line to the output. `Output` comes only where the output's count
-/// of faults rose; a first part of the line is written then. With `NoMemory` nothing is. Where its line recovers from what the
-/// drill does to the bytes, all its commands are executed and answered.
+/// Runs the drill of `count` rounds, at most 20,000, and writes its line to the output. Returns `Output` only if the
+/// output's count of faults rose; then a first part of the line was written. With `NoMemory` nothing was. If the line
+/// recovers from what the drill does to the bytes, all its commands are executed and answered.
 pub fn write_drill<K: Sink>(
     alloc: Global,
     seed: u32,
@@ -46,7 +46,8 @@ pub fn write_drill<K: Sink>(
     }
 }
 
-/// Runs the storm of `count` rounds, at most 20,000, and writes its line to the output, as `write_drill` does that of a drill.
+/// Runs the storm of `count` rounds, at most 20,000, and writes its line to the output, in the same way as
+/// `write_drill`.
 pub fn write_storm<K: Sink>(
     alloc: Global,
     seed: u32,
@@ -63,7 +64,7 @@ pub fn write_storm<K: Sink>(
     }
 }
 
-/// Runs a script that can be played, and writes the line that tells what it came to.
+/// Runs a script that can be played, and writes the line that reports the result.
 fn write_run<K: Sink>(alloc: Global, script: &Script, out: &mut K) -> Result<(), DrillFault>
     requires { CanBePlayed script.now }
     ensures { LineEnd (run_line script.now) (K.held out.old) (K.held out.new) (K.faults out.old) (K.faults out.new) result }

@@ -1,4 +1,4 @@
-//! A decoder of a full-duplex line: bytes go in one by one, and at each it says what is heard.
+//! A decoder of a full-duplex line: it takes bytes one by one, and returns what is decoded at each.
 
 ghost use Rattle.std.specs.Prelude.{◌≡◌, ◌≤◌, ℕ, List, [], ◌∷◌, ◌++◌, length, take, Option, Some};
 ghost use Rattle.df1_check.specs.declared.Check.{Check as CheckKind};
@@ -38,9 +38,10 @@ enum DecoderPlace {
     AtSecondCheck(u8),
 }
 
-/// Takes a line's bytes one by one, and says what is heard at each. It has room for a body of N bytes.
+/// A decoder, which takes a line's bytes one by one, and returns what is decoded at each. It has room for a body of N
+/// bytes.
 ///
-/// Each byte takes constant time, but that a frame's begin blanks what was held of the body before.
+/// Each byte takes constant time, except that a frame's start blanks what was held of the body before.
 #[derive(Drop)]
 pub struct Decoder<const N: usize> {
     check: Check,
@@ -59,7 +60,7 @@ impl<const N: usize> Model for Decoder<N> {
 }
 
 impl<const N: usize> Decoder<N> {
-    /// A decoder that has taken no byte, of a line with this check.
+    /// Returns a decoder that has taken no byte, of a line with this check.
     pub fn new(check: Check) -> Self
         requires { N ≤ 4096 }
         ensures stands { ReadOff (full_duplex check N) [] (decoding check N) result }
@@ -72,8 +73,8 @@ impl<const N: usize> Decoder<N> {
         }
     }
 
-    /// Takes a byte, and says what is heard at it: None exactly where nothing is. It is inlined, since a caller that looks at
-    /// each byte would else get each answer through memory.
+    /// Takes a byte, and returns what is decoded at it: None exactly if there is nothing. It is inlined, since a caller
+    /// that looks at each byte would otherwise get each answer through memory.
     #[inline(always)]
     pub fn feed(&mut self, b: u8) -> Option<Heard>
         ensures stands { (check : CheckKind) (bytes : List ℕ) → ReadOff (full_duplex check N) bytes (decoding check N) self.old
@@ -89,8 +90,8 @@ impl<const N: usize> Decoder<N> {
         self.advance(b)
     }
 
-    /// Takes the bytes before the first DLE where it stands in a frame's body or outside a frame, and none elsewhere, and
-    /// says how many. In a body nothing is heard at them; outside each is heard as Stray.
+    /// Takes the bytes before the first DLE if the decoder is in a frame's body or outside a frame, and none otherwise,
+    /// and returns how many. In a body nothing is decoded at them; outside, each is decoded as Stray.
     pub fn feed_run(&mut self, bytes: &[u8]) -> usize
         ensures count { result ≡ run_len self.old.standing bytes.now }
         ensures stands { (check : CheckKind) (before : List ℕ) → ReadOff (full_duplex check N) before (decoding check N) self.old
@@ -125,7 +126,7 @@ impl<const N: usize> Decoder<N> {
         heard
     }
 
-    /// The body of a Good, Short or BadCheck that was heard at the last byte fed; empty after every other byte.
+    /// Returns the body of a Good, Short or BadCheck that was decoded at the last byte fed; otherwise empty.
     pub fn body(&self) -> &[u8]
         ensures lent { (check : CheckKind) (bytes : List ℕ) → ReadOff (full_duplex check N) bytes (decoding check N) self.now
             → ReadOff (full_duplex check N) bytes (lent check N) result.now }
@@ -138,7 +139,7 @@ impl<const N: usize> Decoder<N> {
         }
     }
 
-    /// How many bytes are held, at most N, of a body that is being read or that is lent.
+    /// Returns how many bytes are held, at most N, of a body that is being read or that is lent.
     pub fn held(&self) -> usize
         ensures held { (check : CheckKind) (bytes : List ℕ) → ReadOff (full_duplex check N) bytes (decoding check N) self.now
             → ReadOff (full_duplex check N) bytes (held_of check N) result }
@@ -151,7 +152,7 @@ impl<const N: usize> Decoder<N> {
         }
     }
 
-    /// Whether a frame is begun and not ended.
+    /// Returns whether a frame is started and not ended.
     pub fn inside(&self) -> bool
         ensures inside { (check : CheckKind) (bytes : List ℕ) → ReadOff (full_duplex check N) bytes (decoding check N) self.now
             → ReadOff (full_duplex check N) bytes has_begun result }
@@ -171,7 +172,7 @@ impl<const N: usize> Decoder<N> {
     }
 }
 
-/// What a byte leads to, and what is heard at it.
+/// Returns what a byte leads to, and what is decoded at it.
 #[inline(always)]
 fn step<const N: usize>(
     place: DecoderPlace,
@@ -267,7 +268,7 @@ fn first_check<const N: usize>(
     }
 }
 
-/// After the last of the check bytes.
+/// Ends a frame after the last of its check bytes.
 fn end<const N: usize>(
     gathered: &Gathered<N>,
     check: Check,

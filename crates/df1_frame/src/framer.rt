@@ -1,4 +1,4 @@
-//! The units in which a frame is given, so that responses can be put between them.
+//! The units in which a frame is sent, so that responses can be put between them.
 
 ghost use Rattle.std.specs.Prelude.{◌≡◌, ◌≤◌, ℕ, List, [], length, drop, slice_get, IsTrue, ◌↔◌};
 ghost use Rattle.df1_check.specs.Checks.{taken};
@@ -17,13 +17,13 @@ pub struct Unit {
     pub first: u8,
     /// The second byte of a pair.
     pub second: Option<u8>,
-    /// A response may follow: true for the pair DLE STX, and for each byte of the body.
+    /// Whether a response may follow: true for the pair DLE STX, and for each byte of the body.
     pub gap: bool,
-    /// The unit is the frame's last.
+    /// Whether the unit is the frame's last.
     pub last: bool,
 }
 
-/// What of a frame is given next.
+/// The part of a frame that is sent next.
 #[derive(Clone, Copy)]
 enum Part {
     /// DLE STX.
@@ -34,7 +34,7 @@ enum Part {
     Check(usize),
 }
 
-/// A frame without responses, under way. Contracts see the list of the units that are still to be given.
+/// A frame without responses, under way. Contracts see the list of the units that are still to be sent.
 #[derive(Drop)]
 pub struct Framer {
     part: Part,
@@ -56,7 +56,7 @@ impl Model for Framer {
 }
 
 impl Framer {
-    /// A framer with nothing to give.
+    /// Returns a framer with nothing to send.
     pub fn new() -> Framer
         ensures { result ≡ [] }
     {
@@ -67,7 +67,7 @@ impl Framer {
         }
     }
 
-    /// Begins the frame of a body of at most 250 bytes, in the place of what is left.
+    /// Starts the frame of a body of at most 250 bytes, in place of what is left.
     pub fn begin(&mut self, body: &[u8], check: Check)
         requires { length body.now ≤ 250 }
         ensures { self.new ≡ units check body.now }
@@ -82,8 +82,8 @@ impl Framer {
         self.check = check_bytes(check, running);
     }
 
-    /// Gives the next unit: None exactly where none is left. It is inlined, since a unit that is handed over in memory costs
-    /// more than all else here.
+    /// Returns the next unit: None exactly if none is left. It is inlined, since a unit that is returned in memory
+    /// costs more than all else here.
     #[inline(always)]
     pub fn next_unit(&mut self) -> Option<Unit>
         ensures given { result ≡ slice_get self.old 0 }
@@ -112,7 +112,7 @@ impl Framer {
         }
     }
 
-    /// Whether no unit is left. At most 506 bytes are.
+    /// Returns whether no unit is left. At most 506 bytes are left.
     #[inline(always)]
     pub fn done(&self) -> bool
         ensures done { IsTrue result ↔ (self.now ≡ []) }
@@ -150,7 +150,7 @@ fn single(b: u8, gap: bool, last: bool) -> Unit
     }
 }
 
-/// A byte of the body, with a DLE doubled.
+/// Returns the unit of a byte of the body, with a DLE doubled.
 #[inline(always)]
 fn body_unit(b: u8) -> Unit
     ensures { result ≡ body_unit b }
@@ -162,8 +162,8 @@ fn body_unit(b: u8) -> Unit
     }
 }
 
-/// The check bytes of what a running check of this kind has taken: one byte (BCC), or two (CRC), of which the low one
-/// goes first and which cover the ETX too.
+/// Returns the check bytes of what a running check of this kind has taken: one byte (BCC), or two (CRC), of which the
+/// low one goes first and which cover the ETX too.
 #[tactic(auto, unfolding(crate::specs::Spelling::check_bytes))]
 pub fn check_bytes(check: Check, mut running: Running) -> ArrayVec<u8, 2>
     ensures bytes { (body : List ℕ) → running ≡ taken check body → result.items ≡ check_of check body }

@@ -1,4 +1,4 @@
-//! What is gathered of a frame's body while it comes.
+//! What is gathered of a frame's body while it arrives.
 
 ghost use Rattle.std.specs.Prelude.{◌≡◌, ◌≤◌, length};
 ghost use Rattle.std.specs.List.{fold};
@@ -29,7 +29,7 @@ impl<const N: usize> Model for Gathered<N> {
 }
 
 impl<const N: usize> Gathered<N> {
-    /// Of no body, for at most 4,096 bytes.
+    /// Returns a `Gathered` of no body, for at most 4,096 bytes.
     pub fn new(check: Check) -> Self
         requires { N ≤ 4096 }
         ensures { result ≡ nothing_gathered check }
@@ -41,7 +41,7 @@ impl<const N: usize> Gathered<N> {
         }
     }
 
-    /// Forgets all, and begins the check anew.
+    /// Forgets all, and starts the check anew.
     pub fn clear(&mut self, check: Check)
         ensures { self.new ≡ nothing_gathered check }
     {
@@ -76,7 +76,7 @@ impl<const N: usize> Gathered<N> {
         }
     }
 
-    /// Takes a byte that the check covers and that is none of the body.
+    /// Takes a byte that the check covers and that is not part of the body.
     pub fn cover(&mut self, b: u8)
         ensures { self.new ≡ covering self.old b }
     {
@@ -93,14 +93,14 @@ impl<const N: usize> Gathered<N> {
         }
     }
 
-    /// Whether more than N bytes of the body came.
+    /// Returns whether more than N bytes of the body came.
     pub fn is_long(&self) -> bool
         ensures { result ≡ self.now.long }
     {
         self.long
     }
 
-    /// The first N bytes of the body.
+    /// Returns the first N bytes of the body.
     pub fn bytes(&self) -> &[u8]
         ensures value { result.now ≡ self.now.bytes }
         ensures fits { length result.now ≤ N }
@@ -108,7 +108,7 @@ impl<const N: usize> Gathered<N> {
         self.bytes.as_slice()
     }
 
-    /// What is heard at the end of the frame with these check bytes.
+    /// Returns what is decoded at the end of the frame with these check bytes.
     pub fn verdict(&self, check: Check, bytes: &[u8]) -> Heard
         ensures { result ≡ verdict_of check self.now bytes.now }
     {
@@ -124,7 +124,7 @@ impl<const N: usize> Gathered<N> {
     }
 }
 
-/// The check takes bytes, in order.
+/// Passes bytes to the check, in order.
 fn step_all(running: &mut Running, bytes: &[u8])
     ensures { running.new ≡ fold take_byte running.old bytes.now }
 {
@@ -133,7 +133,7 @@ fn step_all(running: &mut Running, bytes: &[u8])
     }
 }
 
-/// Whether these are the check bytes of the value.
+/// Returns whether these are the check bytes of the value.
 #[tactic(auto, unfolding(crate::specs::Spelling::check_bytes))]
 fn is_check(check: Check, value: u16, bytes: &[u8]) -> bool
     ensures { result ≡ same bytes.now (check_bytes check value) }

@@ -1,4 +1,4 @@
-//! What can be heard on a full-duplex line, and the pairs that mean it.
+//! What can be decoded on a full-duplex line, and the pairs that mean it.
 
 ghost use Rattle.std.specs.Prelude.{◌≡◌};
 ghost use Rattle.df1_frame.specs.Spelling.{response as response_of};
@@ -7,7 +7,7 @@ ghost use Rattle.df1_frame.specs.Grammar.{stray_pair_heard};
 use crate::SHORT_NAK;
 use df1_base::{ACK, ENQ, NAK};
 
-/// What is heard at a byte.
+/// What is decoded at a byte.
 #[derive(Clone, Copy, Debug, PartialEq, Eq)]
 pub enum Heard {
     /// A frame with a body of at least 6 bytes, for which there is room, and with the right check.
@@ -34,7 +34,7 @@ pub enum Heard {
     StrayPair(u8),
 }
 
-/// What a response says, if the code is one's.
+/// Returns what a response says, if the code is that of one.
 pub(crate) fn response(code: u8) -> Option<Heard>
     ensures { result ≡ response_of code }
 {
@@ -45,7 +45,7 @@ pub(crate) fn response(code: u8) -> Option<Heard>
     }
 }
 
-/// What a DLE and this code say outside a frame.
+/// Returns what a DLE and this code say outside a frame.
 pub(crate) fn stray_pair(code: u8) -> Heard
     ensures { result ≡ stray_pair_heard (response_of code) code }
 {

@@ -23,20 +23,20 @@ pub fn one_split(check: Check)
         Splits (full_duplex check N) bytes items front → length (answers (full_duplex check N) items front) ≡ length bytes }
 {}
 
-/// What is heard at the bytes so far stays, whatever follows, so the cut into pieces can't matter.
+/// What is decoded at the bytes so far stays, whatever follows, so the division into pieces doesn't matter.
 pub fn heard_stays(check: Check)
     ensures { (N : ℕ) (bytes more : List ℕ) (so_far : List (Option Heard)) → ReadOff (full_duplex check N) bytes (answers (full_duplex check N)) so_far →
         (later : List (Option Heard)) × (length later ≡ length more) × ReadOff (full_duplex check N) (bytes ++ more) (answers (full_duplex check N)) (so_far ++ later) }
 {}
 
-/// A run has the bytes before the first DLE where a decoder stands in a frame's body or outside a frame, and none elsewhere:
-/// in a body nothing is heard at them, and outside each is heard as Stray.
+/// A run has the bytes before the first DLE if a decoder is in a frame's body or outside a frame, and none otherwise.
+/// In a body nothing is decoded at them; outside, each is decoded as Stray.
 pub fn heard_in_a_run()
     ensures { (N : ℕ) (d : Decoding) (bytes : List ℕ) → let run : List ℕ = take (run_len d.standing bytes) bytes in
         (steps (next N) d run).1 ≡ heard_in_run heard.Stray (is_inside d.standing) run }
 {}
 
-/// A frame with a body of 6 to N bytes, after whole items, is heard as the responses in it, each at its second byte,
+/// A frame with a body of 6 to N bytes, after whole items, is decoded as the responses in it, each at its second byte,
 /// and as good at its last byte, and nothing else, whatever follows. After its last byte its body is lent.
 pub fn round_trip(check: Check)
     ensures heard { (N : ℕ) (before body bytes : List ℕ) (items : List Item) (pieces : List Piece) → Splits (full_duplex check N) before items Nothing
@@ -68,7 +68,7 @@ pub fn frame_spells(check: Check)
     ensures { (body : List ℕ) → Spells check (pieces_of body) body (bytes_of (units check body)) }
 {}
 
-/// In a frame without responses, with a body of 6 to N bytes and after whole items, nothing is heard before its last
+/// In a frame without responses, with a body of 6 to N bytes and after whole items, nothing is decoded before its last
 /// byte, and there it is good.
 pub fn whole_frame(check: Check)
     ensures before { (N : ℕ) (before body front rest : List ℕ) (b : ℕ) (items : List Item) → Splits (full_duplex check N) before items Nothing

@@ -5,7 +5,7 @@ ghost use Rattle.df1_frame.specs.Runs.{plain_len};
 
 use df1_base::DLE;
 
-/// How many bytes stand before the first DLE: all where there is none.
+/// Returns how many bytes stand before the first DLE: all if there is none.
 pub fn plain_len(bytes: &[u8]) -> usize
     ensures { result ≡ plain_len bytes.now }
 {

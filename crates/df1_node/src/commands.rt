@@ -1,6 +1,6 @@
-//! The commands that a station executes: the logical commands of an SLC, and those of a PLC and of every station (manual
-//! topic: commands). Every other command is refused with STS 10, and one that would write a file which no command may write
-//! with F0/0B, or 50 where it is an unprotected write.
+//! The commands that a station executes: the logical commands of an SLC, and those of a PLC and of every station
+//! (manual topic: commands). Every other command is refused with STS 10. A command that would write a locked file is
+//! refused with F0/0B, or with 50 if it is an unprotected write.
 ghost use Rattle.std.specs.List.{list_any};
 ghost use Rattle.std.specs.Prelude.{◌≡◌, ◌+◌, ◌≤◌, None, length, option_map, IfSome};
 ghost use Rattle.slc_commands.specs.Order.{IsOrder, seen};
@@ -23,9 +23,9 @@ const PROTECTED: Code = Code::Sts(0x50);
 /// EXT STS: access is denied.
 const ACCESS_DENIED: Code = Code::Ext(0x0B);
 
-/// Executes a command of this CMD, whose payload is what follows TNS, and replaces `out` by the data of its reply. `compat`
-/// is the number of the compatibility file, if there is one, `block` the data of the status reply, and `locked` has the
-/// numbers of the files that no command may write.
+/// Executes a command with this CMD and with `payload`, the bytes after TNS, and replaces `out` by the data of its
+/// reply. `compat` is the number of the compatibility file, if there is one, `block` the data of the status reply, and
+/// `locked` the numbers of the files that no command may write.
 pub(crate) fn execute(
     tables: &mut Tables,
     compat: Option<u16>,
@@ -49,7 +49,7 @@ pub(crate) fn execute(
     }
 }
 
-/// The order of a command that is a logical one and can be read; None for every other.
+/// Returns the order of a logical command that can be read, and None for every other command.
 fn logical_order(cmd: u8, payload: &[u8]) -> Option<SlcOrder<'_>>
     ensures reads { option_map seen result ≡ logical_order cmd payload.now }
     ensures order { IfSome result (λ order. IsOrder (seen order)) }
@@ -63,7 +63,7 @@ fn logical_order(cmd: u8, payload: &[u8]) -> Option<SlcOrder<'_>>
     }
 }
 
-/// Executes a logical order, unless it writes a file that no command may write, and replaces `out` by the data of its reply.
+/// Executes a logical order, unless it writes a locked file, and replaces `out` by the data of its reply.
 fn execute_logical(
     tables: &mut Tables,
     locked: &[u16],
@@ -84,7 +84,7 @@ fn execute_logical(
     do_slc(tables, order, out)
 }
 
-/// Executes a command that is none of the logical ones, and replaces `out` by the data of its reply.
+/// Executes a command that isn't logical, and replaces `out` by the data of its reply.
 fn execute_other(
     tables: &mut Tables,
     compat: Option<u16>,
@@ -110,7 +110,7 @@ fn execute_other(
     }
 }
 
-/// Whether an order writes a file that no command may write.
+/// Returns whether an order writes a locked file.
 fn writes_locked(order: &PlcOrder<'_>, compat: Option<u16>, locked: &[u16]) -> bool
     ensures { result ≡ plc_writes (is_locked locked.now) compat (seen_plc order.now) }
 {
@@ -131,21 +131,21 @@ fn writes_locked(order: &PlcOrder<'_>, compat: Option<u16>, locked: &[u16]) -> b
     }
 }
 
-/// Whether one of these changes is of a file that no command may write.
+/// Returns whether one of these changes is to a locked file.
 fn sets_locked(sets: &[Set], locked: &[u16]) -> bool
     ensures { result ≡ list_any (λ set. is_locked locked.now set.at.file) sets.now }
 {
     sets.iter().any(|set| is_locked(locked, set.at.file))
 }
 
-/// Whether no command may write this file.
+/// Returns whether a file is locked: no command may write it.
 fn is_locked(locked: &[u16], file: u16) -> bool
     ensures { result ≡ is_locked locked.now file }
 {
     locked.contains(&file)
 }
 
-/// The code that refuses an order which writes a file that no command may write.
+/// Returns the code that refuses an order which writes a locked file.
 fn denial(order: &PlcOrder<'_>) -> Code
     ensures { result ≡ plc_denial (seen_plc order.now) }
 {

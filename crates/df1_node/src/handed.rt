@@ -1,6 +1,6 @@
-//! What a node handed out last.
+//! The last item that a node handed out.
 
-/// What was handed out last and not told yet.
+/// What was handed out last, its fate not yet reported.
 #[derive(Clone, Copy, Debug)]
 pub(crate) enum Handed {
     Nothing,

@@ -1,10 +1,10 @@
-//! The initiator: it numbers the commands that are issued, hands them out lowest first as far as its window and their
-//! sources allow, and keeps what became of each (manual topic: message packets, transaction numbers).
+//! The initiator numbers the commands that are issued, hands them out lowest first as far as its window and their
+//! sources allow, and keeps the outcome of each (manual topic: message packets, transaction numbers).
 //!
-//! The places of the commands that are out, and those of the commands that wait, source by source, are kept beside the
-//! commands, so no step looks at all of them; a clearing starts at the first that waits, and so comes to each command
-//! once at most. The bytes of bodies and replies are kept in one row, each behind those before, and with each command
-//! room is made for the reply to it.
+//! The indices of the outstanding commands, and of the waiting commands by source, are kept beside the commands, so no
+//! step searches all of them. A clearing starts at the first waiting command, so it reaches each command at most once.
+//! The bytes of bodies and replies are appended to one buffer; space for a command's reply is reserved with the
+//! command.
 ghost use Rattle.std.specs.Prelude.{◌≡◌, ℕ, ◌+◌, ◌*◌, ◌≤◌, ◌<◌, [], ◌++◌, ◌∷◌, length, map, All, IfOk, IfErr, OnOk, OnErr, Err, IfSome, MatchOption, is_some, option_and_then, ◌==◌, IfNone, IsSome, IsTrue, if◌then◌else◌, vec_len, vec_capacity, slice_index, slice_get, remove, position, unwrap_or};
 ghost use Rattle.std.specs.Int.{bit_at};
 ghost use Rattle.df1_base.specs.Host.{IsBody};
@@ -25,13 +25,13 @@ use pccc_envelope::{Envelope, read_envelope, write_envelope};
 use std::alloc::{AllocError, Global};
 use std::marker::Model;
 
-/// The most commands of an initiator.
+/// The maximum number of commands of an initiator.
 const MAX_COMMANDS: usize = 65535;
 
-/// The most commands that may be out.
+/// The maximum number of outstanding commands.
 const MAX_WINDOW: usize = 16;
 
-/// The place of SRC in a body.
+/// The index of SRC in a body.
 const SRC: usize = 1;
 
 /// An initiator and its commands, which are numbered from 1.
@@ -43,7 +43,7 @@ pub struct Initiator {
     reply_ticks: u32,
     window: usize,
     per_source: usize,
-    /// The bodies and replies, in the order in which they came, with room for those replies that may still come.
+    /// The bodies and replies, in order of arrival, with space for the replies that may still come.
     bytes: Vec<u8>,
     issued: Vec<Command>,
     queue: Queue,
@@ -62,8 +62,8 @@ impl Model for Initiator {
 }
 
 impl Initiator {
-    /// An initiator of this node, with the TNS of its first command and the ticks, at least 1, that a reply may take. One
-    /// command at a time is out.
+    /// Creates an initiator of this node, with the TNS of its first command and the ticks, at least 1, that a reply may
+    /// take. One command at a time is outstanding.
     pub fn new(alloc: Global, node: u8, tns: u16, reply_ticks: u32) -> Initiator
         requires { 1 ≤ reply_ticks }
         ensures { result ≡ record { node = node; tns = tns; reply_ticks = reply_ticks; window = 1; per_source = 16; issued = [] } }
@@ -71,7 +71,8 @@ impl Initiator {
         Initiator::with_window(alloc, node, tns, reply_ticks, 1, MAX_WINDOW)
     }
 
-    /// The same, where up to `window` commands may be out, and up to `per_source` of one source (SRC): 1 to 16 each.
+    /// Creates one as `new` does, with up to `window` outstanding commands, and up to `per_source` of one source (SRC):
+    /// 1 to 16 each.
     pub fn with_window(
         alloc: Global,
         node: u8,
@@ -98,7 +99,7 @@ impl Initiator {
         }
     }
 
-    /// Issues a command to a node, in the name of the initiator's own node, as `issue_from` does.
+    /// Issues a command to a node, with the initiator's own node as SRC, as `issue_from` does.
     pub fn issue(&mut self, dst: u8, payload: &[u8]) -> Result<u32, IssueFault>
         ensures number { IfOk result (λ number. number ≡ length self.old.issued + 1) }
         ensures ok { OnOk result (self.new ≡ after_issue self.old self.old.node dst payload.now) }
@@ -108,9 +109,8 @@ impl Initiator {
         self.issue_from(self.node, dst, payload)
     }
 
-    /// Issues a command to a node in the name of a source, which is its SRC. The payload is CMD and what follows TNS. The
-    /// answer is the command's number, from 1: all sources share one run of numbers and of TNS. After a refusal nothing has
-    /// changed.
+    /// Issues a command to a node with `src` as its SRC. The payload is CMD and what follows TNS. Returns the command's
+    /// number, from 1; all sources share one sequence of numbers and of TNS. After a refusal nothing has changed.
     pub fn issue_from(&mut self, src: u8, dst: u8, payload: &[u8]) -> Result<u32, IssueFault>
         ensures number { IfOk result (λ number. number ≡ length self.old.issued + 1) }
         ensures ok { OnOk result (self.new ≡ after_issue self.old src dst payload.now) }
@@ -135,9 +135,9 @@ impl Initiator {
         Ok(count as u32 + 1)
     }
 
-    /// Issues a command of each payload to a node, in order and in the name of the initiator's own node: all of them or none.
-    /// The answer is the number of the first. `Spent` comes exactly where fewer numbers are left than there are payloads, and
-    /// else `NoMemory` may come. After a refusal nothing has changed.
+    /// Issues one command per payload to a node, in order and with the initiator's own node as SRC: all of them or
+    /// none. Returns the number of the first. `Spent` is returned exactly if fewer numbers are left than there are
+    /// payloads; otherwise `NoMemory` may be returned. After a refusal nothing has changed.
     pub fn issue_all(&mut self, dst: u8, payloads: &[ArrayVec<u8, 245>]) -> Result<u32, IssueFault>
         requires { All (λ payload. IsPayload payload.items) payloads.now }
         ensures number { IfOk result (λ number. number ≡ length self.old.issued + 1) }
@@ -170,7 +170,8 @@ impl Initiator {
         Ok(first as u32 + 1)
     }
 
-    /// What became of command `n`, and None exactly where `n` is 0 or a number that was not issued, as each over 65,535.
+    /// Returns the outcome of command `n`, and None exactly if `n` is 0 or a number that was not issued, as is every
+    /// one over 65,535.
     pub fn outcome(&self, n: u32) -> Option<Outcome>
         ensures outcome { result ≡ outcome_of self.now n }
         ensures few { IsSome result → n ≤ 65535 }
@@ -178,7 +179,7 @@ impl Initiator {
         Some(command(&self.issued, n)?.state.outcome())
     }
 
-    /// The accepted reply to command `n`, empty unless it is answered: at most 250 bytes.
+    /// Returns the accepted reply to command `n`, at most 250 bytes; empty unless the command is answered.
     pub fn reply(&self, n: u32) -> &[u8]
         ensures reply { result.now ≡ reply_of self.now n }
         ensures size { length result.now ≤ 250 }
@@ -189,7 +190,7 @@ impl Initiator {
         }
     }
 
-    /// Whether a command is to be handed out.
+    /// Returns whether there is a command to hand out.
     pub(crate) fn ready(&self) -> bool
         ensures ready { result ≡ is_some (next_command self.now) }
         ensures bodies { All (λ c. IsBody c.body) self.now.issued }
@@ -197,8 +198,8 @@ impl Initiator {
         self.next().is_some()
     }
 
-    /// Hands out the lowest command that waits and of whose source fewer than `per_source` are out, where fewer than
-    /// `window` are out: `into` is replaced by its body, and its place is told.
+    /// Hands out the lowest waiting command whose source has fewer than `per_source` outstanding, if fewer than
+    /// `window` are outstanding. Replaces `into` by its body and returns its index.
     pub(crate) fn hand_out(&mut self, into: &mut ArrayVec<u8, 250>) -> Option<usize>
         ensures place { result ≡ next_place self.old }
         ensures ready { is_some result ≡ is_some (next_command self.old) }
@@ -217,7 +218,7 @@ impl Initiator {
         Some(place as usize)
     }
 
-    /// Takes a reply: where it answers a command that is out, that command is answered and its place is told.
+    /// Accepts a reply: if it answers an outstanding command, that command is answered and its index is returned.
     pub(crate) fn take_reply(&mut self, reply: &[u8]) -> Option<usize>
         requires { IsBody reply.now }
         ensures place { result ≡ answered_place self.old.issued reply.now }
@@ -234,7 +235,7 @@ impl Initiator {
         Some(place)
     }
 
-    /// Gives up the command at a place, which counts only while that command is out, and answers whether it did.
+    /// Gives up the command at this index if it is outstanding, and returns whether it was.
     pub(crate) fn give_up(&mut self, place: usize) -> bool
         ensures given_up { result ≡ is_out_at self.old.issued place }
         ensures few { IsTrue result → place < 65535 }
@@ -250,7 +251,8 @@ impl Initiator {
         true
     }
 
-    /// A tick. `gone` is replaced by the numbers, which rise, of the commands that are unanswered from this tick on.
+    /// Performs a tick. Replaces `gone` by the numbers, ascending, of the commands that are unanswered from this tick
+    /// on.
     pub(crate) fn tick(&mut self, gone: &mut ArrayVec<u32, 16>)
         ensures gone { gone.new.items ≡ unanswered_from 1 self.old.issued }
         ensures after { self.new ≡ record self.old { issued = all_ticked self.old.issued } }
@@ -264,7 +266,7 @@ impl Initiator {
         }
     }
 
-    /// Gives up each command that waits.
+    /// Gives up each waiting command.
     pub(crate) fn clear(&mut self)
         ensures { self.new ≡ record self.old { issued = all_cleared self.old.issued } }
     {
@@ -273,7 +275,7 @@ impl Initiator {
         self.queue.clear();
     }
 
-    /// The place of the command that is handed out next.
+    /// Returns the index of the command that is handed out next.
     fn next(&self) -> Option<u32>
         ensures place { result ≡ next_place self.now }
         ensures bodies { All (λ c. IsBody c.body) self.now.issued }
@@ -284,7 +286,7 @@ impl Initiator {
         self.queue.lowest_due(self.per_source)
     }
 
-    /// The place of the first command that waits, and the number of commands where none does.
+    /// Returns the index of the first waiting command, or the number of commands if there is none.
     fn first_waiting(&self) -> usize
         ensures { result ≡ unwrap_or (position (λ c. is_waiting c.standing) self.now.issued) (length self.now.issued) }
     {
@@ -294,7 +296,7 @@ impl Initiator {
         }
     }
 
-    /// The index, among the commands that are out, of the one that a reply answers.
+    /// Returns the position, among the outstanding commands, of the one that a reply answers.
     fn answered_index(&self, reply: &[u8]) -> Option<usize>
         requires { IsBody reply.now }
         ensures within { IfSome result (λ at. at < length (places out_now self.now.issued)) }
@@ -323,7 +325,8 @@ impl Initiator {
         }
     }
 
-    /// A tick for the command at this index among those that are out. The answer is whether it still is.
+    /// Performs a tick for the command at this position among the outstanding ones. Returns whether it is still
+    /// outstanding.
     fn tick_at(&mut self, at: usize) -> bool
         requires { at < length (places out_now self.old.issued) }
         ensures after { self.new ≡ record self.old { issued = ticked_at (slice_index (places out_now self.old.issued) at) self.old.issued } }
@@ -341,7 +344,7 @@ impl Initiator {
         false
     }
 
-    /// Why a payload is not issued.
+    /// Returns the reason why a payload can't be issued.
     fn fault_of(&self, payload: &[u8]) -> Option<IssueFault>
         ensures fault { result ≡ issue_fault self.now payload.now }
         ensures size { IfNone result ((1 ≤ length payload.now) × (length payload.now ≤ 245)) }
@@ -361,7 +364,7 @@ impl Initiator {
     }
 }
 
-/// Gives up each command that waits, where none does below this place.
+/// Gives up each waiting command, if there is none below this index.
 fn clear_from(issued: &mut [Command], place: usize)
     requires { place ≤ length issued.old }
     ensures { issued.new ≡ cleared_from place issued.old }
@@ -371,7 +374,7 @@ fn clear_from(issued: &mut [Command], place: usize)
     }
 }
 
-/// Command `n`, from 1.
+/// Returns command `n`, from 1.
 fn command(issued: &[Command], n: u32) -> Option<Command>
     ensures found { result ≡ kept_at issued.now n }
     ensures within { IsSome result → n ≤ length issued.now }
@@ -380,7 +383,7 @@ fn command(issued: &[Command], n: u32) -> Option<Command>
     issued.get(place as usize).copied()
 }
 
-/// Makes room for so many commands more, for their bodies, and for the replies to them and to so many others.
+/// Reserves space for `count` more commands, for their bodies, and for the replies to them and to `others` more.
 fn make_room(
     bytes: &mut Vec<u8>,
     issued: &mut Vec<Command>,
@@ -399,7 +402,7 @@ fn make_room(
     bytes.reserve(MAX_BODY * (others + 2 * count))
 }
 
-/// Adds a command that waits, for which there is room.
+/// Adds a waiting command, for which there is space.
 fn push_command(bytes: &mut Vec<u8>, issued: &mut Vec<Command>, queue: &mut Queue, body: &[u8])
     requires are { AreCommands bytes.old.items (vec_capacity bytes.old) issued.old.items queue.old 16 }
     requires room { HasRoomFor 1 (slice_index body.now 1) bytes.old.items (vec_capacity bytes.old) (vec_len issued.old) (vec_capacity issued.old) queue.old }
@@ -418,7 +421,7 @@ fn push_command(bytes: &mut Vec<u8>, issued: &mut Vec<Command>, queue: &mut Queu
     queue.push(body[SRC], place);
 }
 
-/// The body of a command: its envelope, and what follows.
+/// Returns the body of a command: its envelope, and what follows.
 fn command_body(envelope: &Envelope, rest: &[u8]) -> ArrayVec<u8, 250>
     requires { length rest.now ≤ 244 }
     ensures body { result.items ≡ spelling envelope.now ++ rest.now }
@@ -430,7 +433,7 @@ fn command_body(envelope: &Envelope, rest: &[u8]) -> ArrayVec<u8, 250>
     body
 }
 
-/// Whether bit 6 of a CMD is set.
+/// Returns whether bit 6 of a CMD is set.
 fn has_reply_bit(cmd: u8) -> bool
     ensures { result ≡ (bit_at cmd 6 == 1) }
 {

@@ -1,4 +1,4 @@
-//! A command that was issued, and what becomes of it.
+//! An issued command and its outcome.
 ghost use Rattle.std.specs.Prelude.{◌≡◌, ◌≤◌, ℕ, List, length};
 ghost use Rattle.df1_base.specs.Host.{IsBody};
 ghost use Rattle.df1_node.specs.Initiator.{is_last_tick, is_reply_to, source_of, ticked, told_outcome, told_reply};
@@ -8,23 +8,23 @@ use crate::Outcome;
 use crate::part::Part;
 use pccc_envelope::{read_envelope, reply_of};
 
-/// The place of SRC in a body.
+/// The index of SRC in a body.
 const SRC: usize = 1;
 
-/// How a command stands.
+/// The state of a command.
 #[derive(Clone, Copy, Debug)]
 pub(crate) enum State {
     Waiting,
-    /// So many ticks are left in which a reply counts.
+    /// Outstanding, with this many ticks left in which a reply counts.
     Out(u32),
-    /// By the reply that is this part of the kept bytes.
+    /// Answered by the reply in this part of the kept bytes.
     Answered(Part),
     Undelivered,
     Unanswered,
 }
 
 impl State {
-    /// The state after a tick: the last tick in which a reply counts leaves the command unanswered.
+    /// Returns the state after a tick: the last tick in which a reply counts leaves the command unanswered.
     pub fn ticked(self) -> State
         ensures stands { (bytes : List ℕ) → standing_of bytes result ≡ ticked (standing_of bytes self) }
         ensures kept { (bytes : List ℕ) → IsStateKept bytes self → IsStateKept bytes result }
@@ -36,7 +36,7 @@ impl State {
         }
     }
 
-    /// Whether a tick is the last in which a reply counts.
+    /// Returns whether a tick is the last in which a reply counts.
     pub fn is_last_tick(self) -> bool
         ensures { (bytes : List ℕ) → result ≡ is_last_tick (standing_of bytes self) }
     {
@@ -46,7 +46,7 @@ impl State {
         }
     }
 
-    /// The state after what waits was given up.
+    /// Returns the state after the waiting commands were given up.
     pub fn cleared(self) -> State
         ensures { result ≡ cleared_state self }
     {
@@ -56,7 +56,7 @@ impl State {
         }
     }
 
-    /// What became of the command.
+    /// Returns the outcome of the command.
     pub fn outcome(self) -> Outcome
         ensures { (bytes : List ℕ) → result ≡ told_outcome (standing_of bytes self) }
     {
@@ -69,7 +69,7 @@ impl State {
         }
     }
 
-    /// The reply that was accepted, and nothing where none was. The bytes are those that are kept.
+    /// Returns the accepted reply, or nothing if there was none. `bytes` are the kept bytes.
     pub fn accepted(self, bytes: &[u8]) -> &[u8]
         requires { IsStateKept bytes.now self }
         ensures reply { result.now ≡ told_reply (standing_of bytes.now self) }
@@ -82,7 +82,7 @@ impl State {
     }
 }
 
-/// A command: its body, which is a part of the kept bytes, and how it stands.
+/// A command: its body, which is a part of the kept bytes, and its state.
 #[derive(Clone, Copy)]
 pub(crate) struct Command {
     pub body: Part,
@@ -90,7 +90,7 @@ pub(crate) struct Command {
 }
 
 impl Command {
-    /// Its source: SRC of its body. The bytes are those that are kept.
+    /// Returns its source: SRC of its body. `bytes` are the kept bytes.
     pub fn source(self, bytes: &[u8]) -> u8
         requires { IsPart bytes.now self.body }
         ensures { result ≡ source_of (issued_of bytes.now self) }
@@ -99,7 +99,8 @@ impl Command {
     }
 }
 
-/// Whether a reply is that to the command with this body: the same TNS, CMD with bit 6 set, and SRC and DST changed over.
+/// Returns whether a reply answers the command with this body: the same TNS, CMD with bit 6 set, and SRC and DST
+/// swapped.
 pub(crate) fn is_answered_by(body: &[u8], reply: &[u8]) -> bool
     requires command { IsBody body.now }
     requires reply { IsBody reply.now }

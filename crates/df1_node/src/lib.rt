@@ -1,5 +1,5 @@
-//! What stands behind an end of a link: the station that executes commands on the data tables of a controller, the
-//! initiator that issues commands, and the node that joins the two.
+//! The host behind an end of a link: the station, which executes commands on the data tables of a controller, the
+//! initiator, which issues commands, and the node, which joins the two.
 #![tactic(auto)]
 
 mod commands;

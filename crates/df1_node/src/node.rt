@@ -1,5 +1,5 @@
-//! The node: what stands behind an end. It executes the commands that come and replies to each, and issues commands of
-//! its own and takes their replies.
+//! The node, the host behind an end: it executes the commands that it accepts and replies to each, and issues its own
+//! commands and accepts their replies.
 ghost use Rattle.std.specs.Prelude.{◌≡◌, ◌+◌, ◌≤◌, [], All, length, map, IfOk, IfErr, OnOk, OnErr, Err, MatchOption, IsTrue, if◌then◌else◌};
 ghost use Rattle.df1_node.specs.Initiator.{issue_fault};
 ghost use Rattle.data_files.specs.Tables.{has_word};
@@ -16,23 +16,23 @@ use pccc_envelope::is_reply;
 use std::alloc::Global;
 use std::marker::Model;
 
-/// The most bytes in the data of a status reply.
+/// The maximum size of the data of a status reply.
 const MAX_BLOCK: usize = 244;
 
-/// How a node is set up.
+/// The settings of a node.
 #[derive(Clone, Copy, Debug, PartialEq, Eq)]
 pub struct NodeSetup {
-    /// The node's address, which is SRC of the commands that are issued in no other name.
+    /// The node's address: SRC of the commands that are issued under no other SRC.
     pub node: u8,
     /// TNS of its first command.
     pub tns: u16,
     /// The ticks, at least 1, that a reply may take.
     pub reply_ticks: u32,
-    /// How many replies may wait: 2 to 64.
+    /// The number of replies that may wait: 2 to 64.
     pub room: usize,
-    /// How many commands may be out at once: 1 to 16.
+    /// The number of commands that may be outstanding: 1 to 16.
     pub window: usize,
-    /// How many commands of one source (SRC) may be out at once: 1 to 16.
+    /// The number of commands of one source (SRC) that may be outstanding: 1 to 16.
     pub per_source: usize,
 }
 
@@ -64,7 +64,7 @@ impl Model for Node {
 }
 
 impl Node {
-    /// A node over a station, with memory for the replies that wait.
+    /// Creates a node with this station, and allocates memory for the waiting replies.
     pub fn new(alloc: Global, setup: NodeSetup, station: Station) -> Result<Node, NoMemory>
         requires room { (2 ≤ setup.room) × (setup.room ≤ 64) }
         requires reply_ticks { 1 ≤ setup.reply_ticks }
@@ -99,7 +99,7 @@ impl Node {
         self.initiator.issue(dst, payload)
     }
 
-    /// Issues a command to a node in the name of a source, as `Initiator::issue_from` does.
+    /// Issues a command to a node with `src` as its SRC, as `Initiator::issue_from` does.
     pub fn issue_from(&mut self, src: u8, dst: u8, payload: &[u8]) -> Result<u32, IssueFault>
         ensures number { IfOk result (λ number. number ≡ length self.old.initiator.issued + 1) }
         ensures ok { OnOk result (self.new ≡ after_node_issue self.old src dst payload.now) }
@@ -109,7 +109,7 @@ impl Node {
         self.initiator.issue_from(src, dst, payload)
     }
 
-    /// Issues a command of each payload to a node, all of them or none, as `Initiator::issue_all` does.
+    /// Issues one command per payload to a node, all of them or none, as `Initiator::issue_all` does.
     pub fn issue_all(&mut self, dst: u8, payloads: &[ArrayVec<u8, 245>]) -> Result<u32, IssueFault>
         requires { All (λ payload. IsPayload payload.items) payloads.now }
         ensures number { IfOk result (λ number. number ≡ length self.old.initiator.issued + 1) }
@@ -120,15 +120,15 @@ impl Node {
         self.initiator.issue_all(dst, payloads)
     }
 
-    /// The data tables of the station.
+    /// Returns the data tables of the station.
     pub fn tables(&self) -> &Tables
         ensures { result.now ≡ self.now.station.tables }
     {
         self.station.tables()
     }
 
-    /// Sets the word of this index in the file of this number, as a program in the controller would. False, with nothing
-    /// changed, exactly where there is no such file or word.
+    /// Sets the word of this index in the file of this number, as a program in the controller would. Returns false,
+    /// with nothing changed, exactly if there is no such file or word.
     pub fn set_word(&mut self, number: u16, index: u32, value: u16) -> bool
         ensures known { result ≡ has_word self.old.station.tables.specs number index }
         ensures after { self.new ≡ (if result then with_node_word self.old number index value else self.old) }
@@ -136,7 +136,7 @@ impl Node {
         self.station.set_word(number, index, value)
     }
 
-    /// Lets no command write the files of these numbers, at most 256, and lets commands write all others, from now on, as
+    /// Locks the files of these numbers, at most 256, so that no command may write them, and unlocks all others, as
     /// `Station::lock` does.
     pub fn lock(&mut self, files: &[u16])
         requires { length files.now ≤ 256 }
@@ -145,7 +145,7 @@ impl Node {
         self.station.lock(files);
     }
 
-    /// The initiator.
+    /// Returns the initiator.
     pub fn initiator(&self) -> &Initiator
         ensures { result.now ≡ self.now.initiator }
     {

@@ -1,13 +1,13 @@
-//! What becomes of a command, and why one is not issued.
+//! The outcomes of a command, and the reasons why one is not issued.
 use std::alloc::AllocError;
 use thiserror::Error;
 
-/// What became of a command.
+/// The outcome of a command.
 #[derive(Clone, Copy, Debug, PartialEq, Eq)]
 pub enum Outcome {
-    /// It was not handed out yet.
+    /// It was not yet handed out.
     Waiting,
-    /// It was handed out, and nothing became of it yet.
+    /// It was handed out and is outstanding.
     Out,
     /// Its reply was accepted.
     Answered,
@@ -17,7 +17,7 @@ pub enum Outcome {
     Unanswered,
 }
 
-/// Why a command was not issued. The first that fits is told.
+/// The reason why a command was not issued: the first of these that applies.
 #[derive(Clone, Copy, Debug, PartialEq, Eq, Error)]
 pub enum IssueFault {
     /// The payload is empty.

@@ -1,8 +1,8 @@
-//! Where the bytes of commands and replies stand, which an initiator keeps in one row.
+//! The parts of an initiator's byte buffer that hold commands and replies.
 ghost use Rattle.std.specs.Prelude.{◌≡◌, ◌+◌, ◌<◌, ◌≤◌, ◌^◌, ◌++◌, length, vec_capacity};
 ghost use Rattle.df1_node.specs.Commands.{IsPart, part_of};
 
-/// A part of the kept bytes, from a place up to another.
+/// A range of the kept bytes.
 #[derive(Clone, Copy, Debug)]
 pub(crate) struct Part {
     pub start: u32,
@@ -10,7 +10,7 @@ pub(crate) struct Part {
 }
 
 impl Part {
-    /// Its bytes.
+    /// Returns its bytes.
     pub fn of(self, bytes: &[u8]) -> &[u8]
         requires { IsPart bytes.now self }
         ensures { result.now ≡ part_of bytes.now self }
@@ -19,7 +19,7 @@ impl Part {
     }
 }
 
-/// Adds bytes behind those that are kept, where there is room for them, and tells their part.
+/// Appends bytes to the kept ones, which have space for them, and returns their part.
 pub(crate) fn append(kept: &mut Vec<u8>, bytes: &[u8]) -> Part
     requires room { length kept.old.items + length bytes.now ≤ vec_capacity kept.old }
     requires few { length kept.old.items + length bytes.now < 2 ^ 32 }

@@ -1,5 +1,5 @@
-//! What is kept of the order of the commands: the places of those that are out, and for each source, which is the SRC of a
-//! command, the places of its commands that wait and how many of them are out. So no step looks at all commands.
+//! The order of the commands: the indices of the outstanding ones and, for each source (SRC), the indices of its
+//! waiting commands and the number that are outstanding. So no step searches all commands.
 ghost use Rattle.std.specs.Prelude.{◌≡◌, ℕ, ◌+◌, ◌-◌, ◌<◌, ◌≤◌, [], ◌∷◌, ◌++◌, length, drop, remove, true, false, ◌==◌, OnOk, position, nat_lt, if◌then◌else◌, slice_get, slice_index};
 ghost use Rattle.df1_node.specs.Queue.{HasRoom, first_due, inserted, is_listed, lower, lowest_due, out_at, waiting_at};
 
@@ -7,33 +7,33 @@ use arrayvec::ArrayVec;
 use std::alloc::{AllocError, Global};
 use std::collections::VecDeque;
 
-/// How many sources there may be.
+/// The number of possible sources.
 const SOURCES: usize = 256;
 
-/// What is kept of a source.
+/// The commands of a source.
 #[derive(Drop)]
 pub(crate) struct Source {
-    /// The places at which its commands wait, lowest first.
+    /// The indices of its waiting commands, lowest first.
     pub waiting: VecDeque<u32>,
-    /// How many of its commands are out.
+    /// The number of its outstanding commands.
     pub out: usize,
 }
 
 /// The order of the commands.
 #[derive(Drop)]
 pub(crate) struct Queue {
-    /// The places of the commands that are out, lowest first.
+    /// The indices of the outstanding commands, lowest first.
     pub out: ArrayVec<u32, 16>,
-    /// How many commands wait or are out.
+    /// The number of commands that wait or are outstanding.
     pub unsettled: usize,
-    /// The sources by SRC; none before the first command.
+    /// The sources by SRC; empty before the first command.
     pub sources: Vec<Source>,
-    /// Each SRC of whose commands some may wait, in the order in which they came.
+    /// Each SRC that may have waiting commands, in order of arrival.
     pub used: Vec<u8>,
 }
 
 impl Queue {
-    /// The order of no commands.
+    /// Creates the order of no commands.
     pub fn new(alloc: Global) -> Queue
         ensures out { result.out.items ≡ [] }
         ensures unsettled { result.unsettled ≡ 0 }
@@ -48,7 +48,7 @@ impl Queue {
         }
     }
 
-    /// The lowest place that waits and of whose source fewer than `per_source` are out.
+    /// Returns the lowest waiting index whose source has fewer than `per_source` outstanding commands.
     pub fn lowest_due(&self, per_source: usize) -> Option<u32>
         ensures { result ≡ lowest_due per_source self.now.sources.items self.now.used.items }
     {
@@ -59,7 +59,7 @@ impl Queue {
         lowest
     }
 
-    /// The index, among the commands that are out, of the one at a place.
+    /// Returns the position, among the outstanding commands, of the one at an index.
     pub fn index_of(&self, place: usize) -> Option<usize>
         ensures { result ≡ position (λ p. p == place) self.now.out.items }
     {
@@ -67,7 +67,7 @@ impl Queue {
         out.iter().position(|other| *other as usize == place)
     }
 
-    /// Makes room for so many commands more of a source.
+    /// Reserves space for `count` more commands of a source.
     pub fn reserve(&mut self, alloc: Global, source: u8, count: usize) -> Result<(), AllocError>
         ensures out { self.new.out.items ≡ self.old.out.items }
         ensures unsettled { self.new.unsettled ≡ self.old.unsettled }
@@ -86,7 +86,7 @@ impl Queue {
         Ok(())
     }
 
-    /// A command of a source waits from now on, at a place above those of its others.
+    /// Adds a waiting command of a source, at an index above those of its others.
     pub fn push(&mut self, source: u8, place: u32)
         requires room { HasRoom 1 self.old.sources.items source }
         requires few { self.old.unsettled < 65535 }
@@ -102,7 +102,7 @@ impl Queue {
         self.unsettled += 1;
     }
 
-    /// The command at this place is out from now on: the first of its source that waits.
+    /// Marks the command at this index as outstanding; it is the first waiting one of its source.
     pub fn hand_out(&mut self, source: u8, place: u32)
         requires waits { 0 < length (waiting_at self.old.sources.items source) }
         requires few { out_at self.old.sources.items source < 65535 }
@@ -119,7 +119,7 @@ impl Queue {
         insert(&mut self.out, place);
     }
 
-    /// The command at this index among those that are out is so no longer. Its source is given.
+    /// Removes the command at this position from the outstanding ones. `source` is its source.
     pub fn settle(&mut self, source: u8, at: usize)
         requires within { at < length self.old.out.items }
         requires outs { 0 < out_at self.old.sources.items source }
@@ -136,7 +136,7 @@ impl Queue {
         self.unsettled -= 1;
     }
 
-    /// No command waits from now on.
+    /// Removes all waiting commands.
     pub fn clear(&mut self)
         ensures out { self.new.out.items ≡ self.old.out.items }
         ensures unsettled { self.new.unsettled ≡ length self.old.out.items }
@@ -151,7 +151,7 @@ impl Queue {
     }
 }
 
-/// The lower of two places.
+/// Returns the lower of two indices.
 fn lower(one: Option<u32>, other: Option<u32>) -> Option<u32>
     ensures { result ≡ lower one other }
 {
@@ -162,7 +162,7 @@ fn lower(one: Option<u32>, other: Option<u32>) -> Option<u32>
     }
 }
 
-/// The first place at which a command of a source waits, where fewer than `per_source` of them are out.
+/// Returns the first index at which a command of a source waits, if fewer than `per_source` of them are outstanding.
 fn first_due(sources: &[Source], source: u8, per_source: usize) -> Option<u32>
     ensures { result ≡ first_due per_source sources.now source }
 {
@@ -174,7 +174,7 @@ fn first_due(sources: &[Source], source: u8, per_source: usize) -> Option<u32>
     }
 }
 
-/// Puts a place among others that rise.
+/// Inserts an index among ascending others.
 fn insert(out: &mut ArrayVec<u32, 16>, place: u32)
     requires { length out.old.items < 16 }
     ensures { out.new.items ≡ inserted place out.old.items }
@@ -183,14 +183,14 @@ fn insert(out: &mut ArrayVec<u32, 16>, place: u32)
     out.insert(at, place);
 }
 
-/// The index of the first place above this one.
+/// Returns the position of the first index above this one.
 fn first_above(places: &[u32], place: u32) -> Option<usize>
     ensures { result ≡ position (nat_lt place) places.now }
 {
     places.iter().position(|other| *other > place)
 }
 
-/// Makes each source, with no commands, that is not there yet.
+/// Creates the sources that don't exist yet, with no commands.
 fn make_sources(sources: &mut Vec<Source>, alloc: Global) -> Result<(), AllocError>
     ensures waits { (b : ℕ) → waiting_at sources.new.items b ≡ waiting_at sources.old.items b }
     ensures outs { (b : ℕ) → out_at sources.new.items b ≡ out_at sources.old.items b }

@@ -1,7 +1,7 @@
-//! The station: it executes the commands that come and replies to each.
+//! The station: it executes the commands that it accepts and replies to each.
 //!
-//! A reply carries its command's envelope with DST and SRC changed over, bit 6 of CMD set and STS; where STS is F0 a
-//! byte EXT STS follows; then the data (manual topics: message packets, status codes).
+//! A reply has its command's envelope with DST and SRC swapped, bit 6 of CMD set, and STS. If STS is F0, a byte EXT STS
+//! follows; then the data (manual topics: message packets, status codes).
 ghost use Rattle.std.specs.Prelude.{◌≡◌, ◌+◌, ◌≤◌, ◌++◌, false, length, IsTrue, if◌then◌else◌};
 ghost use Rattle.df1_base.specs.Host.{IsBody};
 ghost use Rattle.pccc_envelope.specs.Envelope.{is_reply, reply_form, spelling};
@@ -44,8 +44,8 @@ impl Model for Station {
 }
 
 impl Station {
-    /// A station with these tables. The block has at most 244 bytes, and the compatibility file, where one is given, is
-    /// a Bit or Integer file of the tables.
+    /// Creates a station with these tables. The block has at most 244 bytes, and the compatibility file, if there is
+    /// one, is a Bit or Integer file of the tables.
     pub fn new(tables: Tables, compat: Option<u16>, block: &[u8]) -> Station
         requires block { length block.now ≤ 244 }
         requires compat { IsTrue (fits_compat tables.specs compat) }
@@ -61,14 +61,14 @@ impl Station {
         }
     }
 
-    /// The data tables.
+    /// Returns the data tables.
     pub fn tables(&self) -> &Tables
         ensures { result.now ≡ self.now.tables }
     {
         &self.tables
     }
 
-    /// The data of its status reply: at most 244 bytes.
+    /// Returns the data of its status reply: at most 244 bytes.
     pub fn block(&self) -> &[u8]
         ensures block { result.now ≡ self.now.block }
         ensures size { length result.now ≤ 244 }
@@ -76,8 +76,8 @@ impl Station {
         &self.block
     }
 
-    /// Sets the word of this index in the file of this number, as `Tables::set` does. False, with nothing changed, exactly
-    /// where there is no such file or word.
+    /// Sets the word of this index in the file of this number, as `Tables::set` does. Returns false, with nothing
+    /// changed, exactly if there is no such file or word.
     pub fn set_word(&mut self, number: u16, index: u32, value: u16) -> bool
         ensures known { result ≡ has_word self.old.tables.specs number index }
         ensures after { self.new ≡ (if result then with_station_word self.old number index value else self.old) }
@@ -85,9 +85,9 @@ impl Station {
         self.tables.set(number, index, value)
     }
 
-    /// Lets no command write the files of these numbers, at most 256, and lets commands write all others, from now on. A
-    /// command that would write one of them is refused with STS F0 and EXT STS 0B (access denied), and changes nothing;
-    /// `set_word` still writes it. At first no file is locked.
+    /// Locks the files of these numbers, at most 256, so that no command may write them, and unlocks all others. A
+    /// command that would write a locked file is refused with STS F0 and EXT STS 0B (access denied), and changes
+    /// nothing; `set_word` still writes it. Initially no file is locked.
     pub fn lock(&mut self, files: &[u16])
         requires { length files.now ≤ 256 }
         ensures { self.new ≡ with_locks self.old files.now }

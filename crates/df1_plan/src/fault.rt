@@ -1,4 +1,4 @@
-//! Why a document is no plan.
+//! The causes for which a document is not a plan.
 ghost use Rattle.std.specs.Prelude.{◌≡◌};
 
 use crate::PlanKey;
@@ -6,23 +6,23 @@ use df1_base::NoMemory;
 use std::alloc::{AllocError, AllocFailed};
 use thiserror::Error;
 
-/// Why a document is no plan. Where several fit, the first is told, in the order of these, and keys in the order of their
-/// bytes: `File` stands in the place of `Key(File)`, and `Issue` in that of `Key(Issue)`.
+/// The cause for which a document is not a plan. If several apply, the first in the order of the variants is reported,
+/// and keys in byte order of their names: `File` counts as `Key(File)` and `Issue` as `Key(Issue)` in that order.
 #[derive(Clone, Copy, Debug, PartialEq, Eq, Error)]
 pub enum PlanFault {
-    /// TOML refuses the document, for another cause than memory.
+    /// TOML refuses the document, for a cause other than memory.
     #[error("text")]
     Text,
-    /// It has a key that a plan hasn't.
+    /// It has a key that a plan doesn't have.
     #[error("unknown key")]
     UnknownKey,
     /// The value of this key is refused.
     #[error("key {0}")]
     Key(PlanKey),
-    /// This entry of `file`, counted from 1, is no data file, has the number of an earlier one, or is the 257th.
+    /// This entry of `file`, counted from 1, is not a data file, has the number of an earlier one, or is the 257th.
     #[error("file {0}")]
     File(u32),
-    /// This entry of `issue`, counted from 1, is no command, or is the 65,536th.
+    /// This entry of `issue`, counted from 1, is not a command, or is the 65,536th.
     #[error("issue {0}")]
     Issue(u32),
     /// There is no memory left.

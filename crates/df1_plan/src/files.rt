@@ -16,7 +16,7 @@ use script_statement::{Items, Who};
 use std::alloc::Global;
 use toml::{Table, Value};
 
-/// The most files of an end.
+/// The maximum number of files of an end.
 const FILES: usize = 256;
 
 /// A data file of a plan, and the first values of its words, from word 0 on.
@@ -26,7 +26,7 @@ pub(crate) struct PlannedFile {
     pub words: Items<u16>,
 }
 
-/// The files at the key `file`, or the first entry that is refused.
+/// Returns the files at the key `file`, or the first entry that is refused.
 pub(crate) fn files_at(alloc: Global, table: &Table) -> Result<Items<PlannedFile>, PlanFault>
     ensures ok { IfOk result (λ planned. files (table_view table.now) ≡ Ok planned) }
     ensures refused { IfErr result (λ e. e ≢ PlanFault.NoMemory → files (table_view table.now) ≡ Err e) }
@@ -40,7 +40,7 @@ pub(crate) fn files_at(alloc: Global, table: &Table) -> Result<Items<PlannedFile
     }
 }
 
-/// The files of entries, or the first entry that is refused.
+/// Returns the files of these entries, or the first entry that is refused.
 fn files_of(alloc: Global, entries: &[Value]) -> Result<Items<PlannedFile>, PlanFault>
     ensures ok { IfOk result (λ files. files_after [] (items_view entries.now) ≡ Ok files) }
     ensures refused { IfErr result (λ e. e ≢ PlanFault.NoMemory → files_after [] (items_view entries.now) ≡ Err e) }
@@ -55,7 +55,7 @@ fn files_of(alloc: Global, entries: &[Value]) -> Result<Items<PlannedFile>, Plan
     Ok(files)
 }
 
-/// The file of an entry after these files.
+/// Returns the file of an entry after these files, if it may follow them.
 fn next_file(
     alloc: Global,
     before: &[PlannedFile],
@@ -69,21 +69,21 @@ fn next_file(
     }
 }
 
-/// Whether a file may stand after these: fewer than 256, none of which has its number.
+/// Returns whether a file may follow these: fewer than 256, none of which has its number.
 fn may_follow(before: &[PlannedFile], spec: FileSpec) -> bool
     ensures { result ≡ (nat_lt (length before.now) 256 && not (list_any (λ other. other.spec.number == spec.number) before.now)) }
 {
     before.len() < FILES && !has_number(before, spec.number)
 }
 
-/// Whether one of these files has a number.
+/// Returns whether one of these files has this number.
 fn has_number(files: &[PlannedFile], number: u16) -> bool
     ensures { result ≡ list_any (λ file. file.spec.number == number) files.now }
 {
     files.iter().any(|file| file.spec.number == number)
 }
 
-/// The file that an entry describes, by itself.
+/// Returns the file that an entry describes by itself.
 fn file_in(alloc: Global, entry: &Value) -> Result<Option<PlannedFile>, NoMemory>
     ensures { IfOk result (λ file. file ≡ the_file (view entry.now)) }
 {
@@ -99,7 +99,7 @@ fn file_in(alloc: Global, entry: &Value) -> Result<Option<PlannedFile>, NoMemory
     }
 }
 
-/// Whether a field has a name that is none of an entry's.
+/// Returns whether a field has a name that is not one of an entry's.
 fn has_other_field(fields: &Table) -> bool
     ensures { result ≡ has_other the_field (table_view fields.now) }
 {
@@ -111,7 +111,7 @@ fn has_other_field(fields: &Table) -> bool
     false
 }
 
-/// Whether a name is one of an entry's fields.
+/// Returns whether a name is one of an entry's fields.
 fn is_field(name: &str) -> bool
     ensures { result ≡ the_field name.now }
 {
@@ -121,7 +121,7 @@ fn is_field(name: &str) -> bool
     }
 }
 
-/// The file that the fields describe.
+/// Returns the file that the fields describe.
 fn spec_in(fields: &Table) -> Option<FileSpec>
     ensures { result ≡ the_spec (table_view fields.now) }
 {
@@ -135,7 +135,7 @@ fn spec_in(fields: &Table) -> Option<FileSpec>
     })
 }
 
-/// A file with its first words.
+/// Returns a file with its first words.
 fn file_with(alloc: Global, fields: &Table, spec: FileSpec) -> Result<Option<PlannedFile>, NoMemory>
     ensures { IfOk result (λ file. file ≡ the_file_with (table_view fields.now) spec) }
 {
@@ -151,7 +151,7 @@ fn file_with(alloc: Global, fields: &Table, spec: FileSpec) -> Result<Option<Pla
     }
 }
 
-/// A file with the words of these bytes, where they are words of it.
+/// Returns a file with the words of these bytes, if they are valid words of it.
 fn words_in(alloc: Global, spec: FileSpec, bytes: &[u8]) -> Result<Option<PlannedFile>, NoMemory>
     ensures { IfOk result (λ file. file ≡ with_words spec (the_words_in spec bytes.now)) }
 {
@@ -163,7 +163,7 @@ fn words_in(alloc: Global, spec: FileSpec, bytes: &[u8]) -> Result<Option<Planne
     Ok(Some(PlannedFile { spec, words }))
 }
 
-/// The words of bytes, each low byte first.
+/// Returns the words of these bytes, each low byte first.
 fn words_of(alloc: Global, bytes: &[u8]) -> Result<Items<u16>, NoMemory>
     ensures { IfOk result (λ words. words ≡ the_words bytes.now) }
 {
@@ -176,7 +176,7 @@ fn words_of(alloc: Global, bytes: &[u8]) -> Result<Items<u16>, NoMemory>
     Ok(words)
 }
 
-/// The files of an end.
+/// Returns the files of an end.
 pub(crate) fn specs_of(alloc: Global, files: &[PlannedFile]) -> Result<Specs, NoMemory>
     ensures { IfOk result (λ specs. specs ≡ the_specs files.now) }
 {
@@ -187,7 +187,7 @@ pub(crate) fn specs_of(alloc: Global, files: &[PlannedFile]) -> Result<Specs, No
     Ok(specs)
 }
 
-/// The first words of the files of an end.
+/// Returns the first words of the files of an end.
 pub(crate) fn words_of_all(alloc: Global, files: &[PlannedFile]) -> Result<Words, NoMemory>
     requires { All HoldsItsWords files.now }
     ensures { IfOk result (λ words. words ≡ all_words files.now) }
@@ -199,7 +199,7 @@ pub(crate) fn words_of_all(alloc: Global, files: &[PlannedFile]) -> Result<Words
     Ok(words)
 }
 
-/// Puts the first words of a file at the end.
+/// Appends the first words of a file.
 fn push_words(words: &mut Words, number: u16, values: &[u16]) -> Result<(), NoMemory>
     requires { length values.now ≤ 3000 }
     ensures { OnOk result (words.new ≡ words.old ++ numbered number 0 values.now) }

@@ -16,10 +16,10 @@ use script_statement::{Bytes, Items};
 use std::alloc::Global;
 use toml::{Table, Value};
 
-/// The most commands of an end.
+/// The maximum number of commands of an end.
 const COMMANDS: usize = 65_535;
 
-/// The commands at the key `issue`, or the first entry that is refused.
+/// Returns the commands at the key `issue`, or the first entry that is refused.
 pub(crate) fn issue_at(alloc: Global, table: &Table) -> Result<Commands, PlanFault>
     ensures ok { IfOk result (λ commands. issue (table_view table.now) ≡ Ok commands) }
     ensures refused { IfErr result (λ e. e ≢ PlanFault.NoMemory → issue (table_view table.now) ≡ Err e) }
@@ -33,7 +33,7 @@ pub(crate) fn issue_at(alloc: Global, table: &Table) -> Result<Commands, PlanFau
     }
 }
 
-/// The commands of entries, or the first entry that is refused.
+/// Returns the commands of these entries, or the first entry that is refused.
 fn commands_of(alloc: Global, entries: &[Value]) -> Result<Commands, PlanFault>
     ensures ok { IfOk result (λ commands. commands_after [] (items_view entries.now) ≡ Ok commands) }
     ensures refused { IfErr result (λ e. e ≢ PlanFault.NoMemory → commands_after [] (items_view entries.now) ≡ Err e) }
@@ -48,7 +48,7 @@ fn commands_of(alloc: Global, entries: &[Value]) -> Result<Commands, PlanFault>
     Ok(commands)
 }
 
-/// The command of an entry after these.
+/// Returns the command of an entry after these, if it may follow them.
 fn next_command(
     alloc: Global,
     before: &[PlannedCommand],
@@ -64,7 +64,7 @@ fn next_command(
     }
 }
 
-/// The command that an entry describes, by itself.
+/// Returns the command that an entry describes by itself.
 #[tactic(auto, using(crate::proofs::Entries::no_table))]
 fn command_in(alloc: Global, entry: &Value) -> Result<Option<PlannedCommand>, NoMemory>
     ensures { IfOk result (λ command. command ≡ the_command (view entry.now)) }
@@ -78,7 +78,7 @@ fn command_in(alloc: Global, entry: &Value) -> Result<Option<PlannedCommand>, No
     command_with(alloc, fields)
 }
 
-/// A command in its end's own name.
+/// Returns a command whose source is the end itself.
 fn own_command(payload: Option<Bytes>) -> Option<PlannedCommand>
     ensures { result ≡ option_map own payload }
 {
@@ -88,7 +88,7 @@ fn own_command(payload: Option<Bytes>) -> Option<PlannedCommand>
     })
 }
 
-/// The command that the fields describe.
+/// Returns the command that the fields describe.
 fn command_with(alloc: Global, fields: &Table) -> Result<Option<PlannedCommand>, NoMemory>
     ensures { IfOk result (λ command. command ≡ the_described (table_view fields.now)) }
 {
@@ -96,7 +96,7 @@ fn command_with(alloc: Global, fields: &Table) -> Result<Option<PlannedCommand>,
     Ok(command_from(source_in(fields), payload))
 }
 
-/// A command in the name of a source, where both are there.
+/// Returns a command with this source, if both are present.
 fn command_from(src: Option<u8>, payload: Option<Bytes>) -> Option<PlannedCommand>
     ensures { result ≡ the_command_from src payload }
 {
@@ -106,7 +106,7 @@ fn command_from(src: Option<u8>, payload: Option<Bytes>) -> Option<PlannedComman
     })
 }
 
-/// The source that the fields tell.
+/// Returns the source that the fields specify.
 fn source_in(fields: &Table) -> Option<u8>
     ensures { result ≡ field (the_integer 0 255) (codes "source") (table_view fields.now) }
 {
@@ -114,7 +114,7 @@ fn source_in(fields: &Table) -> Option<u8>
     Some(src as u8)
 }
 
-/// The payload that the fields tell.
+/// Returns the payload that the fields specify.
 fn payload_in(alloc: Global, fields: &Table) -> Result<Option<Bytes>, NoMemory>
     ensures { IfOk result (λ payload. payload ≡ field the_bytes (codes "payload") (table_view fields.now)) }
 {
@@ -124,7 +124,7 @@ fn payload_in(alloc: Global, fields: &Table) -> Result<Option<Bytes>, NoMemory>
     }
 }
 
-/// Whether a field has a name that is none of a command's.
+/// Returns whether a field has a name that is not one of a command's.
 fn has_other_field(fields: &Table) -> bool
     ensures { result ≡ has_other the_field (table_view fields.now) }
 {
@@ -136,7 +136,7 @@ fn has_other_field(fields: &Table) -> bool
     false
 }
 
-/// Whether a name is one of a command's fields.
+/// Returns whether a name is one of a command's fields.
 fn is_field(name: &str) -> bool
     ensures { result ≡ the_field name.now }
 {
@@ -146,7 +146,7 @@ fn is_field(name: &str) -> bool
     }
 }
 
-/// Whether bytes are a payload: 1 to 245, and bit 6 of the first, CMD, is clear.
+/// Returns whether bytes are a payload: 1 to 245 bytes, and bit 6 of the first, CMD, is clear.
 fn is_payload(bytes: &[u8]) -> bool
     ensures { result ≡ the_payload_test bytes.now }
 {

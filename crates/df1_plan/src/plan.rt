@@ -1,4 +1,4 @@
-//! What a plan says.
+//! The contents of a plan.
 
 use df1_check::Check;
 use script_parts::EndPlan;
@@ -10,20 +10,20 @@ pub type Commands = Items<PlannedCommand>;
 /// A command of a plan.
 #[derive(Drop)]
 pub struct PlannedCommand {
-    /// The source in whose name it is issued, or None where that is the end itself.
+    /// The source (SRC) of the command, or None if it is the end itself.
     pub src: Option<u8>,
-    /// Its payload of 1 to 245 bytes, with CMD as its first, whose bit 6 is clear.
+    /// The payload of 1 to 245 bytes. Its first byte is CMD, whose bit 6 is clear.
     pub payload: Bytes,
 }
 
-/// A plan, read.
+/// A plan that was read.
 #[derive(Drop)]
 pub struct Plan {
-    /// Which check ends a frame.
+    /// The check that ends a frame.
     pub check: Check,
-    /// The address to which the commands go, 0 to 255.
+    /// The address to which the commands are sent, 0 to 255.
     pub peer: u8,
-    /// How the end is set up; it has the name a.
+    /// The settings and files of the end; it has the name a.
     pub end: EndPlan,
     /// The commands that the end issues, in order, at most 65,535.
     pub issue: Commands,

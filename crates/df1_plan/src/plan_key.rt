@@ -5,8 +5,8 @@ ghost use Rattle.df1_plan.specs.Keys.{is_other as the_other, is_setting as the_s
 use end_settings::Key;
 use std::fmt::{Display, Error, Formatter, Write};
 
-/// A key of a plan: a setting that a full-duplex end has, or one of the others, which stand here in the order of their names'
-/// bytes.
+/// A key of a plan: a setting of a full-duplex end, or one of the others, which are listed in byte order of their
+/// names.
 #[derive(Clone, Copy, Debug, PartialEq, Eq)]
 pub enum PlanKey {
     Setting(Key),
@@ -18,7 +18,7 @@ pub enum PlanKey {
     Peer,
 }
 
-/// The keys that are no settings.
+/// The keys that are not settings.
 const OTHERS: [PlanKey; 6] = [
     PlanKey::Block,
     PlanKey::Check,
@@ -29,7 +29,7 @@ const OTHERS: [PlanKey; 6] = [
 ];
 
 impl PlanKey {
-    /// The name of the key in a document.
+    /// Returns the name of the key in a document.
     pub fn name(self) -> &'static str
         ensures { result.now ≡ name_of self }
     {
@@ -51,7 +51,7 @@ impl Display for PlanKey {
     }
 }
 
-/// Whether a name is that of a setting that a full-duplex end has.
+/// Returns whether a name is that of a setting of a full-duplex end.
 pub(crate) fn is_setting(name: &str) -> bool
     ensures { result ≡ the_setting name.now }
 {
@@ -61,7 +61,7 @@ pub(crate) fn is_setting(name: &str) -> bool
     }
 }
 
-/// Whether a name is that of another key.
+/// Returns whether a name is that of another key.
 pub(crate) fn is_other(name: &str) -> bool
     ensures { result ≡ the_other name.now }
 {

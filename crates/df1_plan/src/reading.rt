@@ -1,4 +1,4 @@
-//! The reading of a plan, key by key in the order of their bytes.
+//! The reading of a plan, key by key in byte order of the names.
 ghost use Rattle.std.specs.Prelude.{◌≡◌, ◌≢◌, ◌≤◌, Ok, Err, None, Some, IfOk, IfErr, IsTrue, All, length};
 ghost use Rattle.data_files.specs.Tables.{fits_compat as the_fitting};
 ghost use Rattle.script_statement.specs.declared.who.Who.TheVariants.{A};
@@ -26,10 +26,10 @@ use script_statement::{Bytes, Items, Who};
 use std::alloc::Global;
 use toml::{Table, Value};
 
-/// The address of a plan's end where none is told.
+/// The address of a plan's end if none is set.
 const ADDRESS: u8 = 1;
 
-/// The values of the keys before `file` that are no settings.
+/// The values of the keys before `file` that are not settings.
 #[derive(Drop)]
 struct Front {
     block: Bytes,
@@ -44,7 +44,7 @@ struct Entries {
     issue: Commands,
 }
 
-/// Reads a plan, or tells the first cause why the document is none.
+/// Reads a plan, or returns the first cause why the document is not one.
 pub fn read_plan(alloc: Global, text: &[u8]) -> Result<Plan, PlanFault>
     ensures ok { IfOk result (IsPlanOfText text.now) }
     ensures valid { IfOk result (λ plan. IsPlanOf A plan.end × All (λ command. IsTrue (is_payload command.payload)) plan.issue × (length plan.issue ≤ 65535)) }
@@ -57,7 +57,7 @@ pub fn read_plan(alloc: Global, text: &[u8]) -> Result<Plan, PlanFault>
     }
 }
 
-/// The plan of a table.
+/// Returns the plan of a table.
 fn plan_in(alloc: Global, table: &Table) -> Result<Plan, PlanFault>
     ensures ok { IfOk result (λ plan. (first_cause (table_view table.now) ≡ None) × Says (table_view table.now) plan) }
     ensures refused { IfErr result (λ e. e ≢ PlanFault.NoMemory → first_cause (table_view table.now) ≡ Some e) }
@@ -75,7 +75,7 @@ fn plan_in(alloc: Global, table: &Table) -> Result<Plan, PlanFault>
     joined(alloc, &settings_of(table), front, entries, peer)
 }
 
-/// Whether a key has a name that is none of a plan's.
+/// Returns whether a key has a name that is not one of a plan's.
 fn has_other_key(table: &Table) -> bool
     ensures { result ≡ has_other the_known (table_view table.now) }
 {
@@ -87,14 +87,14 @@ fn has_other_key(table: &Table) -> bool
     false
 }
 
-/// Whether a name is that of a key.
+/// Returns whether a name is that of a key.
 fn is_known(name: &str) -> bool
     ensures { result ≡ the_known name.now }
 {
     is_setting(name) || is_other(name)
 }
 
-/// The values of the keys before `file`, where neither they nor settings before it are refused.
+/// Returns the values of the keys before `file`, if neither they nor settings before it are refused.
 fn front_of(alloc: Global, table: &Table, refused: Option<Key>) -> Result<Front, PlanFault>
     requires { refused ≡ refused_in (table_view table.now) }
     ensures ok { IfOk result (FrontSays (table_view table.now)) }
@@ -113,7 +113,7 @@ fn front_of(alloc: Global, table: &Table, refused: Option<Key>) -> Result<Front,
     })
 }
 
-/// The files and the commands, where neither they nor settings before them are refused.
+/// Returns the files and the commands, if neither they nor settings before them are refused.
 fn entries_of(alloc: Global, table: &Table, refused: Option<Key>) -> Result<Entries, PlanFault>
     requires { refused ≡ refused_in (table_view table.now) }
     ensures ok { IfOk result (EntriesSay (table_view table.now)) }
@@ -126,7 +126,7 @@ fn entries_of(alloc: Global, table: &Table, refused: Option<Key>) -> Result<Entr
     Ok(Entries { files, issue })
 }
 
-/// The address at the key `peer`, where neither it nor a setting is refused.
+/// Returns the address at the key `peer`, if neither it nor a setting is refused.
 fn back_of(table: &Table, refused: Option<Key>) -> Result<u8, PlanFault>
     requires { refused ≡ refused_in (table_view table.now) }
     ensures ok { IfOk result (BackSays (table_view table.now)) }
@@ -140,7 +140,7 @@ fn back_of(table: &Table, refused: Option<Key>) -> Result<u8, PlanFault>
     }
 }
 
-/// The address to which the commands go, 0 where it is left out.
+/// Returns the address to which the commands are sent, 0 if it is left out.
 fn peer_at(table: &Table) -> Result<u8, PlanFault>
     ensures { result ≡ the_peer (table_view table.now) }
 {
@@ -153,7 +153,7 @@ fn peer_at(table: &Table) -> Result<u8, PlanFault>
     }
 }
 
-/// The block, empty where it is left out.
+/// Returns the block, empty if it is left out.
 fn block_at(alloc: Global, table: &Table) -> Result<Bytes, PlanFault>
     ensures ok { IfOk result (λ bytes. the_block (table_view table.now) ≡ Ok bytes) }
     ensures refused { IfErr result (λ e. e ≢ PlanFault.NoMemory → the_block (table_view table.now) ≡ Err e) }
@@ -167,7 +167,7 @@ fn block_at(alloc: Global, table: &Table) -> Result<Bytes, PlanFault>
     }
 }
 
-/// The check of frames, BCC where it is left out.
+/// Returns the check of frames, BCC if it is left out.
 fn check_at(table: &Table) -> Result<Check, PlanFault>
     ensures { result ≡ the_check (table_view table.now) }
 {
@@ -177,7 +177,7 @@ fn check_at(table: &Table) -> Result<Check, PlanFault>
     }
 }
 
-/// The number of the compatibility file, if there is one.
+/// Returns the number of the compatibility file, if there is one.
 fn compat_at(table: &Table) -> Result<Option<u16>, PlanFault>
     ensures { result ≡ the_compat (table_view table.now) }
 {
@@ -190,7 +190,7 @@ fn compat_at(table: &Table) -> Result<Option<u16>, PlanFault>
     }
 }
 
-/// Whether the compatibility file, if there is one, is one of the files and holds bits or integers.
+/// Returns whether the compatibility file, if there is one, is one of the files and holds bits or integers.
 fn fits_compat(files: &[PlannedFile], compat: Option<u16>) -> bool
     ensures { result ≡ the_fitting (the_specs files.now) compat }
 {
@@ -205,7 +205,7 @@ fn fits_compat(files: &[PlannedFile], compat: Option<u16>) -> bool
     false
 }
 
-/// The plan of these settings and values.
+/// Returns the plan of these settings and values.
 fn joined(
     alloc: Global,
     settings: &Settings,

@@ -10,7 +10,7 @@ use crate::{PlanFault, PlanKey};
 use end_settings::{KEYS, Key, Role, Setting, Settings};
 use toml::{Table, Value};
 
-/// The settings that a table gives.
+/// Returns the settings that a table specifies.
 pub(crate) fn settings_of(table: &Table) -> Settings
     ensures { (key : OneKey) → value_of result key ≡ the_given (table_view table.now) key }
 {
@@ -22,7 +22,7 @@ pub(crate) fn settings_of(table: &Table) -> Settings
     settings
 }
 
-/// The first setting that is refused, in the order of the names' bytes.
+/// Returns the first setting that is refused, in byte order of the names.
 #[tactic(auto, unfolding(crate::specs::Settings::refused_in))]
 pub(crate) fn refused_in(table: &Table) -> Option<Key>
     ensures { result ≡ the_first (table_view table.now) }
@@ -30,7 +30,7 @@ pub(crate) fn refused_in(table: &Table) -> Option<Key>
     KEYS.iter().copied().find(|key| is_refused(table, *key))
 }
 
-/// Tells a setting that is refused, where its name stands before that of another key.
+/// Returns the refused setting as an error, if its name precedes that of another key.
 pub(crate) fn before(other: PlanKey, refused: Option<Key>) -> Result<(), PlanFault>
     ensures { MatchResult result (λ _. refused_before other refused ≡ None) (λ e. refused_before other refused ≡ Some e) }
 {
@@ -40,14 +40,14 @@ pub(crate) fn before(other: PlanKey, refused: Option<Key>) -> Result<(), PlanFau
     }
 }
 
-/// Whether the name of a setting stands before that of another key.
+/// Returns whether the name of a setting precedes that of another key.
 fn stands_before(key: Key, other: PlanKey) -> bool
     ensures { result ≡ the_order key other }
 {
     key.name().as_bytes().cmp(&other.name().as_bytes()).is_lt()
 }
 
-/// What stands at a setting.
+/// Returns the entry of a table at a setting.
 fn setting_at(table: &Table, key: Key) -> Option<&Value>
     ensures { option_map (λ v. view v.now) result ≡ the_value (table_view table.now) key }
 {
@@ -58,14 +58,14 @@ fn setting_at(table: &Table, key: Key) -> Option<&Value>
     }
 }
 
-/// The value that a setting is given.
+/// Returns the value that a table specifies for a setting.
 fn given_at(table: &Table, key: Key) -> Option<u32>
     ensures { result ≡ the_given (table_view table.now) key }
 {
     value_in(setting_at(table, key)?, key.values())
 }
 
-/// Whether what stands at a setting is none of its values.
+/// Returns whether the entry at a setting is not one of its values.
 fn is_refused(table: &Table, key: Key) -> bool
     ensures { result ≡ the_test (table_view table.now) key }
 {

@@ -1,4 +1,4 @@
-//! What one value of a document says.
+//! Decoding the values of a document.
 ghost use Rattle.std.specs.Prelude.{◌≡◌, IfOk, option_map};
 ghost use Rattle.toml.specs.Data.{get_member};
 ghost use Rattle.toml.specs.View.{table_view, view};
@@ -12,14 +12,14 @@ use script_statement::{Bytes, Items};
 use std::alloc::Global;
 use toml::{Table, Value};
 
-/// The value of this name.
+/// Returns the value of this name.
 pub(crate) fn value_at<'a>(table: &'a Table, name: &str) -> Option<&'a Value>
     ensures { option_map (λ v. view v.now) result ≡ get_member name.now (table_view table.now) }
 {
     table.get(name)
 }
 
-/// An integer from `least` to `most`.
+/// Returns an integer from `least` to `most`.
 pub(crate) fn integer_in(value: &Value, least: u32, most: u32) -> Option<u32>
     ensures { result ≡ the_integer least most (view value.now) }
 {
@@ -31,7 +31,7 @@ pub(crate) fn integer_in(value: &Value, least: u32, most: u32) -> Option<u32>
     }
 }
 
-/// The value of a setting: a boolean tells a switch, an integer a number.
+/// Returns the value of a setting: from a boolean for a switch, from an integer for a number.
 pub(crate) fn value_in(value: &Value, values: Values) -> Option<u32>
     ensures { result ≡ the_value values (view value.now) }
 {
@@ -41,7 +41,7 @@ pub(crate) fn value_in(value: &Value, values: Values) -> Option<u32>
     }
 }
 
-/// The check that a text names.
+/// Returns the check that a text names.
 pub(crate) fn check_in(value: &Value) -> Option<Check>
     ensures { result ≡ the_check (view value.now) }
 {
@@ -52,7 +52,7 @@ pub(crate) fn check_in(value: &Value) -> Option<Check>
     }
 }
 
-/// The type of a data file that a text names, letter for letter.
+/// Returns the type of a data file that a text names; case matters.
 pub(crate) fn kind_in(value: &Value) -> Option<FileType>
     ensures { result ≡ the_kind (view value.now) }
 {
@@ -68,7 +68,7 @@ pub(crate) fn kind_in(value: &Value) -> Option<FileType>
     }
 }
 
-/// The bytes that a text of hexadecimal pairs spells.
+/// Returns the bytes that a text of hexadecimal pairs spells.
 pub(crate) fn hex_in(alloc: Global, value: &Value) -> Result<Option<Bytes>, NoMemory>
     ensures { IfOk result (λ bytes. bytes ≡ the_bytes (view value.now)) }
 {

@@ -1,12 +1,12 @@
-//! Why a replay of an input didn't end well.
+//! Why a replay of an input failed.
 
 use line_replay::{Cause, StreamFault};
 use thiserror::Error;
 
-/// Why a replay of an input didn't end well.
+/// Why a replay of an input failed.
 #[derive(Clone, Copy, Debug, PartialEq, Eq, Error)]
 pub enum ReplayFault {
-    /// A line of the script is refused: its number, counted from 1, and the first cause that fits it.
+    /// A line of the script was refused: its number, counted from 1, and the first cause that fits it.
     #[error("line {line}: {cause}")]
     Refusal { line: u32, cause: Cause },
     /// The input has failed.

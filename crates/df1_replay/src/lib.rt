@@ -1,4 +1,4 @@
-//! Replaying a script that comes from an input: what each piece of it shows is written to an output before the next is read.
+//! Replays a script from an input: what each piece of it reports is written to an output before the next piece is read.
 #![tactic(auto)]
 
 mod fault;

@@ -1,4 +1,4 @@
-//! The input is read piece by piece, and what a piece shows is written before the next is read.
+//! The input is read piece by piece, and what a piece reports is written before the next is read.
 ghost use Rattle.std.specs.Prelude.{◌≡◌, ◌⊎◌, ◌≢◌, [], ◌++◌, List, ℕ, Some, Err, OnOk, OnErr, IfErr, IsErrOf};
 ghost use Rattle.std.specs.Io.KnownBytes.{Keeps};
 ghost use Rattle.df1_base.specs.Outside.{Rose, Later};
@@ -17,14 +17,15 @@ use line_replay::{Replayer, StreamFault};
 use line_script::{LINE, SCRIPT};
 use std::alloc::Global;
 
-/// How many bytes one read asks for.
+/// The number of bytes that one read asks for.
 const PIECE: usize = 4096;
 
-/// Reads a script from the input, at most 4,096 bytes at a time, runs it and writes its report, in the order in which things
-/// happen: of each piece that was read, first its lines' events happen, then the report's lines of these are written, and then the
-/// next is read. `Refusal` comes where no text that begins with the bytes taken is a script, with its first faulty line and the
-/// first cause that fits it; `Input` and `Output` only where the count of faults of the input or of the output rose. What was
-/// shown before is written; with `Output`, something is missing of what the bytes taken tell.
+/// Reads a script from the input, at most 4,096 bytes at a time, runs it and writes its report, in the order in which
+/// things happen. For each piece that was read, first its lines' events happen, then the report's lines of these are
+/// written, and then the next piece is read. Returns `Refusal` if no text that begins with the bytes taken is a script,
+/// with its first faulty line and the first cause that fits it; `Input` and `Output` only if the count of faults of the
+/// input or of the output rose. What was reported before is written; with `Output`, something is missing of what the
+/// bytes taken report.
 pub fn replay_input<S: Source, K: Sink>(
     alloc: Global,
     input: &mut S,
@@ -47,7 +48,7 @@ pub fn replay_input<S: Source, K: Sink>(
     replay_all(&mut replayer, &mut report, input)
 }
 
-/// Reads the whole script, piece by piece, over a replay that was fed nothing.
+/// Reads the whole script, piece by piece, into a replay that was fed nothing.
 fn replay_all<S: Source, K: Sink>(
     replayer: &mut Replayer,
     report: &mut Buffered<'_, K>,
@@ -84,7 +85,7 @@ fn replay_all<S: Source, K: Sink>(
     unreachable!()
 }
 
-/// Lets the events of a piece happen, and writes the report's lines of them.
+/// Plays the events of a piece, and writes the report's lines of them.
 fn go_on<K: Sink>(
     replayer: &mut Replayer,
     piece: &[u8],
@@ -126,7 +127,7 @@ fn close<K: Sink>(replayer: &mut Replayer, report: &mut Buffered<'_, K>) -> Resu
     hand_on(ended, report)
 }
 
-/// Writes what still waits of the lines of a piece, and tells what else happened.
+/// Writes the lines of a piece that still wait, and returns what else happened.
 fn hand_on<K: Sink>(
     ended: Result<(), StreamFault>,
     report: &mut Buffered<'_, K>,

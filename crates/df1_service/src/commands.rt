@@ -35,9 +35,9 @@ pub enum Issues<'a> {
     },
 }
 
-/// Issues them in order, the orders of a transfer in the node's own name. Each payload of the plan has 1 to 245 bytes with bit 6
-/// of its CMD clear, and the plan has at most 65,535; the node has issued none. An error is want of memory; the node is then only
-/// dropped.
+/// Issues them in order, the orders of a transfer with the node itself as source. Each payload of the plan has 1 to 245
+/// bytes with bit 6 of its CMD clear, the plan has at most 65,535, and the node has issued none. An error is want of
+/// memory; the node can then only be dropped.
 pub(crate) fn issue_before(node: &mut Node, plan: &Plan, issues: Issues<'_>) -> Result<(), NoMemory>
     requires payloads { All (λ command. IsTrue (is_payload command.payload)) plan.now.issue }
     requires few { length plan.now.issue ≤ 65535 }
@@ -53,8 +53,8 @@ pub(crate) fn issue_before(node: &mut Node, plan: &Plan, issues: Issues<'_>) -> 
     }
 }
 
-/// Issues commands to the node `dst`, in order. Each payload has 1 to 245 bytes with bit 6 of its CMD clear, and at most
-/// 65,535 commands are issued in all. An error is want of memory.
+/// Issues commands to the node `dst`, in order. Each payload has 1 to 245 bytes with bit 6 of its CMD clear, and at
+/// most 65,535 commands are issued in all. An error is want of memory.
 fn issue_all(node: &mut Node, dst: u8, commands: &[PlannedCommand]) -> Result<(), NoMemory>
     requires payloads { All (λ command. IsTrue (is_payload command.payload)) commands.now }
     requires few { length node.old.initiator.issued + length commands.now ≤ 65535 }
@@ -66,7 +66,7 @@ fn issue_all(node: &mut Node, dst: u8, commands: &[PlannedCommand]) -> Result<()
     Ok(())
 }
 
-/// Issues a command in the name of its source, or else in the node's own. An error is want of memory.
+/// Issues a command with its source, or else with the node itself as source. An error is want of memory.
 fn issue(node: &mut Node, dst: u8, command: &PlannedCommand) -> Result<(), NoMemory>
     requires { issue_fault node.old.initiator command.now.payload ≡ None }
     ensures { OnOk result (node.new ≡ after_command node.old dst command.now) }
@@ -109,7 +109,7 @@ fn issue_push(node: &mut Node, dst: u8, file: u16, bytes: &[u8]) -> Result<(), N
     Ok(())
 }
 
-/// Issues an order in the node's own name. An error is want of memory.
+/// Issues an order with the node itself as source. An error is want of memory.
 fn issue_order(node: &mut Node, dst: u8, order: &[u8]) -> Result<(), NoMemory>
     requires { issue_fault node.old.initiator order.now ≡ None }
     ensures { OnOk result (node.new ≡ after_order node.old dst order.now) }
@@ -117,7 +117,7 @@ fn issue_order(node: &mut Node, dst: u8, order: &[u8]) -> Result<(), NoMemory>
     issued(node.issue(dst, order))
 }
 
-/// What is told of a command that may be issued: want of memory alone.
+/// Returns the result of issuing a command that may be issued: the only error is want of memory.
 fn issued(number: Result<u32, IssueFault>) -> Result<(), NoMemory>
     requires { IfErr number (λ fault. fault ≡ IssueFault.NoMemory) }
     ensures { OnOk result (IsOk number) }

@@ -1,4 +1,4 @@
-//! Why a service of a plan's end didn't end well.
+//! The faults by which the service of a plan's end fails.
 ghost use Rattle.std.specs.Prelude.{◌≡◌};
 
 use df1_base::NoMemory;
@@ -6,28 +6,28 @@ use df1_plan::PlanFault;
 use df1_shelf::FetchFault;
 use thiserror::Error;
 
-/// Why a service didn't end well.
+/// The reason why a service failed.
 #[derive(Clone, Copy, Debug, PartialEq, Eq, Error)]
 pub enum ServiceFault {
-    /// The shelf failed to give the plan.
+    /// The shelf failed to read the plan.
     #[error("the plan cannot be read")]
     PlanFailed,
     /// The plan is over 1,048,576 bytes.
     #[error("the plan is over its limit")]
     PlanTooLong,
-    /// The document is no plan, for this cause, which isn't want of memory.
+    /// The document is not a plan, for this cause, which isn't want of memory.
     #[error("the plan is refused: {0}")]
     Plan(PlanFault),
-    /// The record that begins at this offset of the input, in bytes from 0, has none of the forms.
+    /// The record that begins at this offset of the input, in bytes from 0, has an unknown form.
     #[error("the record at {0} has none of the forms")]
     Form(u64),
     /// The record that begins at this offset of the input is a single last byte.
     #[error("the record at {0} is cut")]
     Cut(u64),
-    /// The input has failed.
+    /// The input failed.
     #[error("the input cannot be read")]
     Input,
-    /// The output has failed.
+    /// The output failed.
     #[error("the output cannot be written")]
     Output,
     /// The input is over 268,435,456 bytes.

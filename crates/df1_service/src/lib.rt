@@ -1,6 +1,6 @@
-//! The service of one end by its plan over an input and an output: the plan's commands, or the orders of a transfer, are issued
-//! before anything comes, the end hears the signals of the input, what it gives goes to the output, and what became of the commands
-//! is told in the end.
+//! The service of one end by its plan over an input and an output. The plan's commands, or the orders of a transfer,
+//! are issued first; then the end takes the signals of the input, and what it sends goes to the output. At the end the
+//! outcomes of the commands are reported.
 #![tactic(auto)]
 
 mod commands;

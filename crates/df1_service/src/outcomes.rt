@@ -1,12 +1,12 @@
 //! The outcomes of an initiator's commands, a line for each in order. N is the command's number in decimal, from 1, and
-//! HEX the reply in hexadecimal, its letters in upper case.
+//! HEX the reply in hexadecimal, in upper case.
 //!
 //! | Line | When |
 //! |---|---|
 //! | `N answered HEX` | its reply was accepted |
 //! | `N undelivered` | it was given up on its way, or before |
 //! | `N unanswered` | no reply came in time |
-//! | `N unfinished` | nothing became of it yet |
+//! | `N unfinished` | it has no outcome yet |
 
 ghost use Rattle.std.specs.Prelude.{◌≡◌, ◌+◌, ◌*◌, ◌≤◌, ◌++◌, OnErr, OnOk, length};
 ghost use Rattle.arrayvec.specs.ArrayVec.{array_vec_len};
@@ -19,13 +19,13 @@ use df1_base::{Failed, Sink, write_all};
 use df1_node::{Initiator, Outcome};
 use replay_report::pair;
 
-/// The most bytes of a line: a number of 10 digits, a word with its blanks, the digits of a body and a line feed.
+/// The maximum length of a line: a number of 10 digits, a word with its blanks, the digits of a body and a line feed.
 const LINE: usize = 521;
 
 /// A line, or the beginning of one.
 type Text = ArrayVec<u8, LINE>;
 
-/// Writes the outcome of each command of an initiator, each line at once. `Failed` comes where the sink failed; then it
+/// Writes the outcome of each command of an initiator, one line per write. Returns `Failed` if the sink failed; then it
 /// holds a first part of the text, and not all.
 pub fn write_outcomes<K: Sink>(initiator: &Initiator, sink: &mut K) -> Result<(), Failed>
     ensures ok { OnOk result (Put (K.held sink.old) (K.held sink.new) (outcomes_text initiator.now)) }
@@ -42,7 +42,7 @@ pub fn write_outcomes<K: Sink>(initiator: &Initiator, sink: &mut K) -> Result<()
     Ok(())
 }
 
-/// The line of command `n`.
+/// Returns the line of command `n`.
 fn line_of(n: u32, outcome: Outcome, reply: &[u8]) -> Text
     requires { length reply.now ≤ 250 }
     ensures { result.items ≡ outcome_line n outcome reply.now }
@@ -62,7 +62,7 @@ fn line_of(n: u32, outcome: Outcome, reply: &[u8]) -> Text
     line
 }
 
-/// Adds two hexadecimal digits for each byte to a line that has room for them.
+/// Appends two hexadecimal digits for each byte to a line that has room for them.
 fn append_hex(line: &mut Text, bytes: &[u8])
     requires { array_vec_len line.old + 2 * length bytes.now ≤ LINE }
     ensures text { line.new.items ≡ line.old.items ++ encode_upper bytes.now }
@@ -73,7 +73,7 @@ fn append_hex(line: &mut Text, bytes: &[u8])
     }
 }
 
-/// Adds bytes to a line that has room for them.
+/// Appends bytes to a line that has room for them.
 fn append(line: &mut Text, bytes: &[u8])
     requires { array_vec_len line.old + length bytes.now ≤ LINE }
     ensures { line.new.items ≡ line.old.items ++ bytes.now }

@@ -1,4 +1,4 @@
-//! The plan that a shelf has under a name.
+//! The plan that a shelf holds under a name.
 ghost use Rattle.std.specs.Prelude.{◌≡◌, ◌≤◌, ℕ, List, All, IsTrue, length, true, IfOk, IfErr, IsErrOf};
 ghost use Rattle.df1_base.specs.Outside.{Rose};
 ghost use Rattle.df1_shelf.specs.Shelves.{IsLonger, is_sound};
@@ -12,10 +12,10 @@ use df1_plan::{Plan, read_plan};
 use df1_shelf::Shelf;
 use std::alloc::Global;
 
-/// The most bytes of a plan.
+/// The maximum length of a plan, in bytes.
 const PLAN: usize = 1_048_576;
 
-/// Fetches and reads the plan of a name. The faults are `PlanFailed`, `PlanTooLong`, `Plan` and `NoMemory`.
+/// Reads the plan of this name from the shelf. The errors are `PlanFailed`, `PlanTooLong`, `Plan` and `NoMemory`.
 pub(crate) fn plan_on<H: Shelf>(
     alloc: Global,
     shelf: &mut H,

@@ -1,5 +1,5 @@
-//! The service of a plan's end over an input and an output: the plan is read, its node made, and what the service
-//! issues is issued, before the first signal. From there on it takes no memory.
+//! The service of a plan's end over an input and an output. Before the first signal the plan is read, its node is made,
+//! and the service's commands are issued. After that no memory is allocated.
 ghost use Rattle.std.specs.Prelude.{◌≡◌, ◌≤◌, ◌+◌, ℕ, List, length, true, All, IsTrue, IfOk, IfErr, IsErrOf};
 ghost use Rattle.df1_base.specs.Outside.{Rose};
 ghost use Rattle.df1_base.specs.declared.signal.Signal.TheVariants as signal;
@@ -23,19 +23,20 @@ use duplex_end::{End, Served, serve};
 use outset::{node_of, setup_of};
 use std::alloc::Global;
 
-/// How an end is served.
+/// The kind of service of an end.
 #[derive(Clone, Copy, Debug, PartialEq, Eq)]
 pub struct Service<'a> {
-    /// Whether the input has records, with ticks and takes of their own; else each of its bytes is one of the line.
+    /// Whether the input has records, with ticks and takes of their own; otherwise each of its bytes is a byte of the
+    /// line.
     pub timed: bool,
-    /// Which commands are issued.
+    /// The commands that are issued.
     pub issues: Issues<'a>,
 }
 
-/// A service that has ended, with the input and the output as it left them.
+/// A service that ended, with the input and the output as it left them.
 #[derive(Drop)]
 pub struct Ended<S, K> {
-    /// The end, where the input was read to its end and all is written; or else why not.
+    /// The end, if the input was read to its end and everything was written; otherwise the fault.
     pub end: Result<End<Node>, ServiceFault>,
     /// The input.
     pub input: S,
@@ -43,9 +44,9 @@ pub struct Ended<S, K> {
     pub out: K,
 }
 
-/// Serves the end of the plan of this name: its signals are those of the input, and what it gives goes to the output.
-/// Where the plan can't be read or is refused, and where there is no memory, nothing was read and nothing is written.
-/// After any other fault what the end gave before it is written, after one of the output a part of it.
+/// Serves the end of the plan of this name: it takes the signals of the input, and what it sends goes to the output. If
+/// the plan can't be read or is refused, or memory runs out, nothing was read and nothing was written. After any other
+/// fault what the end sent before it was written; if the output failed, a part of it.
 pub fn serve_plan<H: Shelf, S: Source, K: Sink>(
     alloc: Global,
     shelf: &mut H,
@@ -86,8 +87,8 @@ pub fn serve_plan<H: Shelf, S: Source, K: Sink>(
     }
 }
 
-/// The end of the plan of this name, before the first signal. The faults are `PlanFailed`, `PlanTooLong`, `Plan` and
-/// `NoMemory`.
+/// Returns the end of the plan of this name, before the first signal. The errors are `PlanFailed`, `PlanTooLong`,
+/// `Plan` and `NoMemory`.
 fn end_of<H: Shelf>(
     alloc: Global,
     shelf: &mut H,
@@ -111,7 +112,7 @@ fn end_of<H: Shelf>(
     }
 }
 
-/// The node of a plan before the first signal.
+/// Returns the node of a plan before the first signal.
 fn node_before(alloc: Global, plan: &Plan, issues: Issues<'_>) -> Result<Node, NoMemory>
     requires end { IsPlanOf A plan.now.end }
     requires payloads { All (λ command. IsTrue (is_payload command.payload)) plan.now.issue }
@@ -148,7 +149,7 @@ fn serve_end<S: Source, K: Sink>(mut end: End<Node>, timed: bool, input: S, out:
     }
 }
 
-/// How a service ended, by its end's serving, of which so many bytes were taken and made no signal.
+/// Returns how a service ended, by the result of serving its end, with `held` bytes taken that made no signal.
 fn ended_with(served: Served, end: End<Node>, held: usize) -> Result<End<Node>, ServiceFault>
     ensures { result ≡ ended_of served end held }
 {

@@ -1,4 +1,4 @@
-//! What is told when a service has ended, of the commands that it issued.
+//! The report of the commands that a service issued, after it has ended.
 ghost use Rattle.std.specs.Prelude.{◌≡◌, ◌/◌, ◌≤◌, OnErr, OnOk, length};
 ghost use Rattle.bulk_orders.specs.Orders.{orders_of};
 ghost use Rattle.bulk_orders.specs.Outcomes.{pull_result, push_result, words_pulled};
@@ -12,9 +12,9 @@ use bulk_orders::{confirm, gather, order_count, put_pull_result, put_push_result
 use df1_base::{Failed, Sink};
 use df1_node::Initiator;
 
-/// Writes what became of the commands that were issued before the first signal, by the initiator that the service left: nothing
-/// where none were, a line for each of the plan's, and the line of a transfer. `Failed` comes where the sink failed; then it holds a
-/// first part of the text, and not all.
+/// Writes the outcomes of the commands that were issued before the first signal, by the initiator that the service
+/// left: nothing if there were none, a line for each command of the plan, or the line of a transfer. Returns `Failed`
+/// if the sink failed; then it holds a first part of the text, and not all.
 pub fn write_told<K: Sink>(
     initiator: &Initiator,
     issues: Issues<'_>,

@@ -1,4 +1,4 @@
-//! The files of the current folder as a shelf, which tells nothing of them.
+//! The files of the current folder as a shelf, which reports nothing of them.
 ghost use Rattle.std.specs.Prelude.{◌≡◌, ◌≤◌, IfOk, length, IsErrOf};
 
 use crate::{FetchFault, Shelf};
@@ -7,7 +7,7 @@ use std::fs;
 use std::io::Read;
 use std::rt::Files;
 
-/// How many bytes one read asks for at most.
+/// The most bytes that one read asks for.
 const PIECE: usize = 4096;
 
 /// A shelf over the file calls of std.
@@ -18,7 +18,7 @@ pub struct DirShelf<'a, R: Files> {
 }
 
 impl<'a, R: Files> DirShelf<'a, R> {
-    /// A shelf that has not failed yet.
+    /// Returns a shelf that has not failed yet.
     pub fn new(files: &'a R) -> Self
         ensures { result.faults ≡ 0 }
     {

@@ -1,4 +1,4 @@
-//! Where files are: shelves, from which a file is fetched whole by its name, in memory and over the current folder.
+//! Shelves, from which a file is fetched whole by its name: in memory, and over the current folder.
 #![tactic(auto)]
 
 mod dir_shelf;

@@ -1,8 +1,8 @@
-//! The outside where files are: each is read whole, by its name.
+//! The outside that holds files: each is read whole, by its name.
 use std::alloc::{AllocError, Global};
 use thiserror::Error;
 
-/// Why a file was not fetched.
+/// The reason why a file was not fetched.
 #[derive(Clone, Copy, Debug, PartialEq, Eq, Error)]
 pub enum FetchFault {
     /// The shelf failed, and its count of faults rose.
@@ -27,22 +27,22 @@ impl From<AllocError> for FetchFault {
     }
 }
 
-/// Where files are. It may tell its files, and of each whether a fetch of it fails.
+/// A store of files. It may report its files, and of each whether a fetch of it fails.
 pub trait Shelf {
     ghost use Rattle.std.specs.Prelude.{◌≡◌, ◌≤◌, List, ℕ, Option, true, length, IfOk, IsErrOf};
     ghost use Rattle.df1_base.specs.Outside.{Rose};
     ghost use Rattle.df1_shelf.specs.Shelves.{Filed, IsContent, IsLonger, is_sound};
     ghost use Rattle.df1_shelf.specs.declared.shelf.FetchFault.TheVariants.{Failed, TooLong};
 
-    /// The file of a name, where the shelf tells it.
+    /// The file of a name, if the shelf reports it.
     ghost file: { Self → List ℕ → Option Filed };
 
     /// How often it has failed.
     ghost faults: { Self → ℕ };
 
-    /// The whole file of a name. `TooLong` comes exactly where the file has more than `limit` bytes, but for `Failed`,
-    /// which comes only where the count of faults rose, and never at a file of which the shelf tells that its fetch
-    /// doesn't fail. Else the count stands still.
+    /// Returns the whole file of a name. Returns `TooLong` only if the file has more than `limit` bytes, and `NoMemory` if
+    /// memory for it is refused. `Failed` is returned only if the count of faults rose, and never at a file of which the shelf reports
+    /// that its fetch doesn't fail. Otherwise the count is unchanged.
     fn fetch(&mut self, alloc: Global, name: &str, limit: usize) -> Result<Vec<u8>, FetchFault>
         ensures whole { IfOk result (λ bytes. IsContent (file self.old name.now) bytes.items) }
         ensures fits { IfOk result (λ bytes. length bytes.items ≤ limit) }

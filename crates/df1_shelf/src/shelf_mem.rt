@@ -25,7 +25,7 @@ pub struct ShelfMem {
 }
 
 impl ShelfMem {
-    /// A shelf without files.
+    /// Returns a shelf without files.
     pub fn new(alloc: Global) -> Self
         ensures files { (name : List ℕ) → file_of result name ≡ None }
         ensures faults { result.faults ≡ 0 }
@@ -37,7 +37,7 @@ impl ShelfMem {
         }
     }
 
-    /// Adds a file, in the place of one that had its name. Where there is no memory for it, the files are as before.
+    /// Adds a file, in place of one that had its name. If there is no memory for it, the files are unchanged.
     pub fn add(&mut self, name: &str, bytes: &[u8], fails: bool) -> Result<(), NoMemory>
         ensures added { OnOk result (file_of self.new name.now ≡ Some (record { bytes = bytes.now; fails = fails })) }
         ensures others { OnOk result ((other : List ℕ) → other ≢ name.now → file_of self.new other ≡ file_of self.old other) }
@@ -82,7 +82,7 @@ impl Shelf for ShelfMem {
     }
 }
 
-/// A copy of a file of at most `limit` bytes.
+/// Returns a copy of a file of at most `limit` bytes.
 fn copy_of(alloc: Global, bytes: &[u8], limit: usize) -> Result<Vec<u8>, FetchFault>
     ensures whole { IfOk result (λ copy. copy.items ≡ bytes.now) }
     ensures fits { IfOk result (λ copy. length copy.items ≤ limit) }

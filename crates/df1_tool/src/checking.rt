@@ -1,17 +1,17 @@
-//! The command `check`: how counting what is heard in a capture ends.
+//! The command `check`: the exit status of counting the items that are decoded in a capture.
 //!
-//! | Status | Comes |
+//! | Status | When |
 //! |---|---|
-//! | 0 | nothing that is heard is a fault of the line, and no item is unfinished in the end |
-//! | 1 | something is a fault, or an item is unfinished |
+//! | 0 | no decoded item is a fault of the line, and no item is unfinished at the end |
+//! | 1 | an item is a fault, or unfinished |
 ghost use Rattle.df1_tool.specs.Captures.{CheckRun};
 
 use crate::refusal::refuse;
 use df1_base::{Sink, Source};
 use df1_capture::{Capture, check};
 
-/// Counts what is heard in the input, writes the counts to the output, and answers the status. Where it is neither 0 nor
-/// 1, the note is written.
+/// Counts the items that are decoded in the input, writes the counts to the output, and returns the status.
+/// If it is neither 0 nor 1, the note is written.
 pub(crate) fn run<S: Source, K: Sink, N: Sink>(
     capture: Capture,
     input: &mut S,

@@ -1,13 +1,13 @@
-//! The words of a data file among the words of a call: four hexadecimal digits of either case each, the low byte first.
+//! The words of a data file as an argument: four hexadecimal digits of either case each, the low byte first.
 ghost use Rattle.std.specs.Prelude.{◌≡◌, ◌≤◌, ◌*◌, ◌/◌, IfSome, MatchOption, None, Some, length};
 ghost use Rattle.df1_tool.specs.Forms.{data_of as the_data};
 
 use arrayvec::ArrayVec;
 
-/// Room for the words of a transfer, in bytes.
+/// The buffer size for the words of a transfer, in bytes.
 const BYTES: usize = 6000;
 
-/// The bytes of the words that a word of the call spells, if they are 1 to 3,000 words.
+/// Returns the bytes of the words that an argument spells, if they are 1 to 3,000 words.
 pub(crate) fn data_of(word: &str) -> Option<ArrayVec<u8, BYTES>>
     ensures value { MatchOption result (the_data word.now ≡ None) (λ bytes. the_data word.now ≡ Some bytes.items) }
     ensures some { IfSome result (λ bytes. 2 ≤ length bytes.items) }

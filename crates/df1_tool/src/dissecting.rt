@@ -1,4 +1,4 @@
-//! The command `dissect`, and how either command over a capture ends that doesn't hear it to its end.
+//! The command `dissect`, and the faults by which `dissect` or `check` stops before the end of a capture.
 //!
 //! | Status | Note |
 //! |---|---|
@@ -12,7 +12,7 @@ use crate::refusal::{Refusal, refuse};
 use df1_base::{Sink, Source};
 use df1_capture::{Capture, CaptureFault, dissect};
 
-/// Dissects the input to the output, and answers the status. Where it isn't 0, the note is written.
+/// Dissects the input to the output, and returns the status. If it isn't 0, the note is written.
 pub(crate) fn run<S: Source, K: Sink, N: Sink>(
     capture: Capture,
     input: &mut S,

@@ -1,10 +1,10 @@
-//! The commands `drill` and `storm`: how a run ends whose line is to be written.
+//! The commands `drill` and `storm`: the exit status and the note of a run.
 //!
-//! | Status | Comes | Note |
+//! | Status | When | Note |
 //! |---|---|---|
-//! | 0 | the line is written | none |
-//! | 5 | the output has failed, and a first part of the line is written | `df1: output cannot be written` |
-//! | 7 | want of memory, before anything is written | `df1: no memory` |
+//! | 0 | the line was written | none |
+//! | 5 | the output failed, and a first part of the line was written | `df1: output cannot be written` |
+//! | 7 | out of memory, before anything was written | `df1: no memory` |
 ghost use Rattle.std.specs.Prelude.{◌≡◌, ◌≤◌};
 ghost use Rattle.line_world.specs.Recovery.{Recovers};
 ghost use Rattle.line_world.specs.Runs.{record_of};
@@ -20,8 +20,8 @@ use df1_base::Sink;
 use df1_drill::{DrillFault, MOST_ROUNDS, write_drill, write_storm};
 use std::alloc::Global;
 
-/// Runs the drill of these rounds, at most 20,000, writes its line to the output, and answers the status. Where it isn't 0,
-/// the note is written.
+/// Runs the drill of these rounds, at most 20,000, writes its line to the output, and returns the status. If it isn't
+/// 0, the note is written.
 pub(crate) fn drill<K: Sink, N: Sink>(
     alloc: Global,
     rounds: Rounds,
@@ -41,7 +41,7 @@ pub(crate) fn drill<K: Sink, N: Sink>(
     }
 }
 
-/// Runs the storm of these rounds, at most 20,000, and writes its line, as `drill` does that of a drill.
+/// Runs the storm of these rounds, at most 20,000, and writes its line, in the same way as `drill`.
 pub(crate) fn storm<K: Sink, N: Sink>(
     alloc: Global,
     rounds: Rounds,

@@ -1,4 +1,4 @@
-//! What the words of a call ask for.
+//! The forms of the command line, and their parsing.
 ghost use Rattle.std.specs.Prelude.{◌≡◌, ◌≤◌, IfSome, IsSome, length, map, string_bytes};
 ghost use Rattle.df1_tool.specs.Forms.{capture_of as the_capture, captured, check_of as the_check, form_of as the_form, form_of_four as of_four, form_of_one as of_one, form_of_three as of_three, form_of_two as of_two, mode_of as the_mode, pull_by, pull_of as the_pull, push_of as the_push, rehearsal_of as the_rehearsal, rehearsed as the_rehearsed, rounds_by, rounds_of as the_rounds, service_of, side_of as the_side};
 
@@ -14,7 +14,7 @@ use df1_drill::MOST_ROUNDS;
 /// The highest number of a data file.
 const MOST_FILE: u16 = 999;
 
-/// The most words of a transfer.
+/// The maximum number of words of a transfer.
 const MOST_WORDS: u16 = 3000;
 
 /// A command of the program.
@@ -27,42 +27,42 @@ pub(crate) enum Form {
         /// Whether the input has records.
         timed: bool,
     },
-    /// `issue PLAN`: serves it over a timed input, with the plan's commands issued, and tells their outcomes.
+    /// `issue PLAN`: serves it over a timed input, issues the plan's commands, and reports their outcomes.
     Issue,
-    /// `dissect SIDE CHECK`: tells what is heard in a capture.
+    /// `dissect SIDE CHECK`: reports each item that is decoded in a capture.
     Dissect(Capture),
-    /// `check SIDE CHECK`: tells how much of that is a fault of the line.
+    /// `check SIDE CHECK`: reports how many of these items are faults of the line.
     Check(Capture),
-    /// `drill SEED COUNT`: runs a script that is made from the two numbers, and tells what it came to.
+    /// `drill SEED COUNT`: runs a script that is made from the two numbers, and reports the result.
     Drill(Rounds),
-    /// `storm SEED COUNT`: the same of a script in which bodies are damaged.
+    /// `storm SEED COUNT`: the same with a script in which bodies are damaged.
     Storm(Rounds),
-    /// `vectors`: runs the forty conformance cases, and tells whether one differs.
+    /// `vectors`: runs the forty conformance cases, and reports whether one differs.
     Vectors,
-    /// `pull PLAN FILE WORDS`: serves a plan's end over a timed input, with the orders of a transfer issued that reads the first
-    /// words of a file, and tells what it came to.
+    /// `pull PLAN FILE WORDS`: serves a plan's end over a timed input, issues the orders of a transfer that reads the
+    /// first words of a file, and reports the result of the transfer.
     Pull {
         /// The file, 0 to 999.
         file: u16,
         /// How many words, 1 to 3,000.
         count: u16,
     },
-    /// `push PLAN FILE HEX`: the same of a transfer that writes the words that the fourth word spells.
+    /// `push PLAN FILE HEX`: the same for a transfer that writes the words that the fourth word spells.
     Push {
         /// The file, 0 to 999.
         file: u16,
     },
     /// `route`: reads the script of a route, runs it and prints its report.
     Route,
-    /// `rehearse pull FILE WORDS`: reads a script, runs it with the orders of a transfer in front that reads the first words of a
-    /// file, prints its report, and tells what the transfer came to.
+    /// `rehearse pull FILE WORDS`: reads a script, runs it after the orders of a transfer that reads the first words of
+    /// a file, prints its report, and reports the result of the transfer.
     RehearsePull {
         /// The file, 0 to 999.
         file: u16,
         /// How many words, 1 to 3,000.
         count: u16,
     },
-    /// `rehearse push FILE HEX`: the same of a transfer that writes the words that the fourth word spells.
+    /// `rehearse push FILE HEX`: the same for a transfer that writes the words that the fourth word spells.
     RehearsePush {
         /// The file, 0 to 999.
         file: u16,
@@ -72,13 +72,13 @@ pub(crate) enum Form {
 /// The two numbers of a script of rounds.
 #[derive(Clone, Copy, Debug, PartialEq, Eq)]
 pub(crate) struct Rounds {
-    /// Where its patterns, or its hits, and its words begin.
+    /// The seed: where its patterns (or its hits) and its words begin.
     pub seed: u32,
-    /// How many rounds, 1 to 20,000.
+    /// The number of rounds, 1 to 20,000.
     pub count: u32,
 }
 
-/// The words are none of the forms.
+/// The refusal of words that are none of the forms.
 #[derive(Clone, Copy, Debug, PartialEq, Eq)]
 pub(crate) struct NoForm;
 
@@ -101,7 +101,7 @@ impl Refusal for NoForm {
     }
 }
 
-/// What the words ask for, if they are one of the forms. A plan's name is the second word.
+/// Returns the form that the words have, if they have one. A plan's name is the second word.
 #[tactic(auto, unfolding(crate::specs::Forms::form_of))]
 pub(crate) fn form_of(words: &[String]) -> Option<Form>
     ensures value { result ≡ the_form (map string_bytes words.now) }
@@ -116,7 +116,7 @@ pub(crate) fn form_of(words: &[String]) -> Option<Form>
     }
 }
 
-/// What one word asks for.
+/// Returns the form of one word.
 fn form_of_one(word: &str) -> Option<Form>
     ensures { result ≡ of_one word.now }
 {
@@ -128,7 +128,7 @@ fn form_of_one(word: &str) -> Option<Form>
     }
 }
 
-/// What two words ask for.
+/// Returns the form of two words, of which this is the first.
 fn form_of_two(word: &str) -> Option<Form>
     ensures { result ≡ of_two word.now }
 {
@@ -138,7 +138,7 @@ fn form_of_two(word: &str) -> Option<Form>
     }
 }
 
-/// What three words ask for.
+/// Returns the form of three words.
 fn form_of_three(word: &str, second: &str, third: &str) -> Option<Form>
     ensures { result ≡ of_three word.now second.now third.now }
 {
@@ -152,7 +152,7 @@ fn form_of_three(word: &str, second: &str, third: &str) -> Option<Form>
     }
 }
 
-/// What four words ask for.
+/// Returns the form of four words.
 fn form_of_four(word: &str, second: &str, third: &str, fourth: &str) -> Option<Form>
     ensures { result ≡ of_four word.now second.now third.now fourth.now }
 {
@@ -164,7 +164,7 @@ fn form_of_four(word: &str, second: &str, third: &str, fourth: &str) -> Option<F
     }
 }
 
-/// The rehearsal of a transfer, if these words are a kind of transfer and what that needs.
+/// Returns the rehearsal of a transfer, if these words are a kind of transfer and its arguments.
 fn rehearsal_of(kind: &str, file: &str, what: &str) -> Option<Form>
     ensures { result ≡ the_rehearsal kind.now file.now what.now }
 {
@@ -175,7 +175,7 @@ fn rehearsal_of(kind: &str, file: &str, what: &str) -> Option<Form>
     }
 }
 
-/// A transfer, rehearsed.
+/// Returns the rehearsal of a transfer.
 fn rehearsed(transfer: Option<Form>) -> Option<Form>
     ensures { result ≡ the_rehearsed transfer }
 {
@@ -186,7 +186,7 @@ fn rehearsed(transfer: Option<Form>) -> Option<Form>
     }
 }
 
-/// The transfer that reads so many words of a file, if these words are a number of each.
+/// Returns the transfer that reads so many words of a file, if both words are numbers in range.
 fn pull_of(file: &str, count: &str) -> Option<Form>
     ensures { result ≡ the_pull file.now count.now }
 {
@@ -196,7 +196,7 @@ fn pull_of(file: &str, count: &str) -> Option<Form>
     )
 }
 
-/// The transfer of both numbers.
+/// Returns the transfer of both numbers, if both are present.
 fn pull_by(file: Option<u16>, count: Option<u16>) -> Option<Form>
     ensures { result ≡ pull_by file count }
 {
@@ -206,7 +206,7 @@ fn pull_by(file: Option<u16>, count: Option<u16>) -> Option<Form>
     }
 }
 
-/// The transfer that writes words to a file, if these words are its number and such words.
+/// Returns the transfer that writes words to a file, if these words are the file's number and the words to write.
 fn push_of(file: &str, hex: &str) -> Option<Form>
     ensures { result ≡ the_push file.now hex.now }
 {
@@ -217,7 +217,7 @@ fn push_of(file: &str, hex: &str) -> Option<Form>
     }
 }
 
-/// What the last word of `serve` asks for, if it is one of the two.
+/// Returns the form that the last word of `serve` asks for, if it is one of the two.
 fn mode_of(word: &str) -> Option<Form>
     ensures { result ≡ the_mode word.now }
 {
@@ -228,7 +228,7 @@ fn mode_of(word: &str) -> Option<Form>
     }
 }
 
-/// The rounds that these words name, if each is a number of its own.
+/// Returns the rounds that these words specify, if both are numbers in range.
 fn rounds_of(seed: &str, count: &str) -> Option<Rounds>
     ensures { result ≡ the_rounds seed.now count.now }
 {
@@ -238,7 +238,7 @@ fn rounds_of(seed: &str, count: &str) -> Option<Rounds>
     )
 }
 
-/// The rounds of both numbers.
+/// Returns the rounds of both numbers, if both are present.
 fn rounds_by(seed: Option<u32>, count: Option<u32>) -> Option<Rounds>
     ensures { result ≡ rounds_by seed count }
 {
@@ -248,14 +248,14 @@ fn rounds_by(seed: Option<u32>, count: Option<u32>) -> Option<Rounds>
     }
 }
 
-/// The capture that these words name, if each is one of its own.
+/// Returns the capture that these words specify, if they are a side and a check.
 fn capture_of(side: &str, check: &str) -> Option<Capture>
     ensures { result ≡ the_capture side.now check.now }
 {
     captured(side_of(side), check_of(check))
 }
 
-/// A capture that both name.
+/// Returns the capture of this side and check, if both are present.
 fn captured(side: Option<Side>, check: Option<Check>) -> Option<Capture>
     ensures { result ≡ captured side check }
 {
@@ -265,7 +265,7 @@ fn captured(side: Option<Side>, check: Option<Check>) -> Option<Capture>
     }
 }
 
-/// Whose bytes a word names, if it is one of the three.
+/// Returns the side that a word names, if it is one of the three.
 fn side_of(word: &str) -> Option<Side>
     ensures { result ≡ the_side word.now }
 {
@@ -277,7 +277,7 @@ fn side_of(word: &str) -> Option<Side>
     }
 }
 
-/// The check that a word names, if it is one of the two.
+/// Returns the check that a word names, if it is one of the two.
 fn check_of(word: &str) -> Option<Check>
     ensures { result ≡ the_check word.now }
 {

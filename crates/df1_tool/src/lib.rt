@@ -1,4 +1,4 @@
-//! The program `df1` as one call: it is given its words and the outside world, and answers a status.
+//! The program `df1` as one call: it takes the arguments and the outside world, and returns an exit status.
 #![tactic(auto)]
 
 mod checking;

@@ -5,13 +5,13 @@ ghost use Rattle.df1_tool.specs.Notes.{input_failed as the_input, output_failed 
 
 use arrayvec::ArrayVec;
 
-/// Room for a note, in bytes.
+/// The buffer size for a note, in bytes.
 const NOTE: usize = 251;
 
 /// A note, or the beginning of one.
 pub(crate) type Note = ArrayVec<u8, NOTE>;
 
-/// A note of these bytes.
+/// Returns a note of these bytes.
 pub(crate) fn noted(text: &[u8]) -> Note
     requires { length text.now ≤ NOTE }
     ensures { result.items ≡ text.now }
@@ -21,35 +21,35 @@ pub(crate) fn noted(text: &[u8]) -> Note
     note
 }
 
-/// The note of an input that has failed.
+/// Returns the note of an input that failed.
 pub(crate) fn input_failed() -> Note
     ensures { result.items ≡ the_input }
 {
     noted(b"df1: input cannot be read\n")
 }
 
-/// The note of an output that has failed.
+/// Returns the note of an output that failed.
 pub(crate) fn output_failed() -> Note
     ensures { result.items ≡ the_output }
 {
     noted(b"df1: output cannot be written\n")
 }
 
-/// The note of an input that is over its limit.
+/// Returns the note of an input that is over its limit.
 pub(crate) fn input_too_long() -> Note
     ensures { result.items ≡ the_size }
 {
     noted(b"df1: input is over 268435456 bytes\n")
 }
 
-/// The note of want of memory.
+/// Returns the note of want of memory.
 pub(crate) fn no_memory() -> Note
     ensures { result.items ≡ the_want }
 {
     noted(b"df1: no memory\n")
 }
 
-/// A note of a text, a number and a text.
+/// Returns a note of a text, a number and a text.
 pub(crate) fn with_number(before: &[u8], number: u64, after: &[u8]) -> Note
     requires before { length before.now ≤ 32 }
     requires after { length after.now ≤ 32 }
@@ -62,7 +62,7 @@ pub(crate) fn with_number(before: &[u8], number: u64, after: &[u8]) -> Note
     note
 }
 
-/// Adds bytes to a note that has room for them.
+/// Appends bytes to a note that has room for them.
 pub(crate) fn append(note: &mut Note, bytes: &[u8])
     requires { array_vec_len note.old + length bytes.now ≤ NOTE }
     ensures { note.new.items ≡ note.old.items ++ bytes.now }

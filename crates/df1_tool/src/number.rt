@@ -1,14 +1,14 @@
-//! Numbers among the words of a call.
+//! Parsing numbers among the arguments.
 ghost use Rattle.std.specs.Prelude.{◌≡◌};
 ghost use Rattle.script_statement.specs.Words.{within, number_of as short_number};
 ghost use Rattle.df1_tool.specs.Forms.{number_of as the_number};
 
 use script_statement::number_of as short_number;
 
-/// The most decimal digits that a number has.
+/// The maximum number of decimal digits of a number.
 const DIGITS: usize = 10;
 
-/// The number that a word is, if it is 1 to 10 decimal digits and within these bounds.
+/// Parses a number, if the word is 1 to 10 decimal digits and the number is within these bounds.
 pub(crate) fn number_within(word: &str, least: u32, most: u32) -> Option<u32>
     ensures { result ≡ within least most (the_number word.now) }
 {
@@ -18,7 +18,7 @@ pub(crate) fn number_within(word: &str, least: u32, most: u32) -> Option<u32>
     }
 }
 
-/// The number that a word is, if it is 1 to 9 decimal digits and within these bounds.
+/// Parses a number, if the word is 1 to 9 decimal digits and the number is within these bounds.
 pub(crate) fn short_within(word: &str, least: u16, most: u16) -> Option<u16>
     ensures { result ≡ within least most (short_number word.now) }
 {
@@ -28,7 +28,7 @@ pub(crate) fn short_within(word: &str, least: u16, most: u16) -> Option<u16>
     }
 }
 
-/// The number that a word of 1 to 10 decimal digits is. Leading zeros are digits like others.
+/// Parses a word of 1 to 10 decimal digits. Leading zeros count as digits.
 #[tactic(auto, unfolding(crate::specs::Forms::number_of))]
 fn number_of(word: &[u8]) -> Option<u64>
     ensures { result ≡ the_number word.now }

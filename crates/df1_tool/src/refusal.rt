@@ -1,18 +1,18 @@
-//! What a command's fault comes to: a status, and a note, which is written once. A note that fails changes no status.
+//! The status and the note of a command's fault. The note is written once; if that fails, the status is unchanged.
 ghost use Rattle.std.specs.Prelude.{◌≡◌};
 ghost use Rattle.df1_tool.specs.Notes.{IsNoted};
 
 use crate::note::Note;
 use df1_base::{Sink, write_all};
 
-/// Why a command didn't end well, or that the words are none of the forms.
+/// The reason why a command failed, or that the words are none of the forms.
 pub(crate) trait Refusal {
     ghost use Rattle.std.specs.Prelude.{◌≡◌, ℕ, List};
 
-    /// Its exit status.
+    /// The exit status.
     ghost status_of: { Self → ℕ };
 
-    /// Its note, which ends with a line feed.
+    /// The note, which ends with a line feed.
     ghost note_of: { Self → List ℕ };
 
     fn status(&self) -> u8
@@ -22,7 +22,7 @@ pub(crate) trait Refusal {
         ensures { result.items ≡ note_of self.now };
 }
 
-/// Writes the note, and answers the status.
+/// Writes the note, and returns the status.
 pub(crate) fn refuse<R: Refusal, N: Sink>(why: &R, note: &mut N) -> u8
     ensures status { result ≡ R.status_of why.now }
     ensures note { IsNoted (N.held note.old) (N.held note.new) (N.faults note.old) (N.faults note.new) (R.note_of why.now) }

@@ -1,4 +1,4 @@
-//! The command `replay`: how a replay of the input ends.
+//! The command `replay`: the exit status and the note of a replay of the input.
 //!
 //! | Status | Note |
 //! |---|---|
@@ -24,7 +24,7 @@ use df1_replay::{ReplayFault, replay_input};
 use line_replay::Cause;
 use std::alloc::Global;
 
-/// Replays the input to the output, and answers the status. Where it isn't 0, the note is written.
+/// Replays the input to the output, and returns the status. If it isn't 0, the note is written.
 pub(crate) fn run<S: Source, K: Sink, N: Sink>(
     alloc: Global,
     input: &mut S,
@@ -81,7 +81,7 @@ impl Refusal for ReplayFault {
     }
 }
 
-/// The note of a refused line.
+/// Returns the note of a refused line.
 pub(crate) fn refused(line: u32, cause: Cause) -> Note
     ensures { result.items ≡ line_note line cause }
 {
@@ -94,7 +94,7 @@ pub(crate) fn refused(line: u32, cause: Cause) -> Note
     note
 }
 
-/// The word of a cause.
+/// Returns the word for a cause.
 fn text_of(cause: Cause) -> &'static [u8]
     ensures value { result.now ≡ cause_text cause }
     ensures short { length result.now ≤ 8 }

@@ -1,4 +1,4 @@
-//! The commands `route` and `rehearse`: how a run ends whose script is read whole before anything is written.
+//! The commands `route` and `rehearse`, which read the whole script before anything is written: their status and note.
 //!
 //! | Status | Note |
 //! |---|---|
@@ -20,7 +20,8 @@ use df1_base::{Sink, Source};
 use std::alloc::Global;
 use whole_scripts::{RunFault, pull_input, push_input, route_input};
 
-/// Runs the route of the input, writes its report to the output, and answers the status. Where it isn't 0, the note is written.
+/// Runs the route of the input, writes its report to the output, and returns the status. If it isn't 0, the note is
+/// written.
 pub(crate) fn route<S: Source, K: Sink, N: Sink>(
     alloc: Global,
     input: &mut S,
@@ -39,8 +40,8 @@ pub(crate) fn route<S: Source, K: Sink, N: Sink>(
     }
 }
 
-/// Rehearses a transfer that reads so many words, 1 to 3,000, of a file, 0 to 999, over the script of the input, and answers the
-/// status, as `route` does.
+/// Rehearses a transfer that reads so many words, 1 to 3,000, of a file, 0 to 999, over the script of the input, and
+/// returns the status, as `route` does.
 pub(crate) fn pull<S: Source, K: Sink, N: Sink>(
     alloc: Global,
     input: &mut S,
@@ -63,7 +64,7 @@ pub(crate) fn pull<S: Source, K: Sink, N: Sink>(
     }
 }
 
-/// The same of a transfer that writes words, 1 to 3,000 with their low bytes first.
+/// Rehearses a transfer that writes words, 1 to 3,000 with their low bytes first, in the same way.
 pub(crate) fn push<S: Source, K: Sink, N: Sink>(
     alloc: Global,
     input: &mut S,

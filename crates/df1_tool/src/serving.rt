@@ -1,8 +1,9 @@
-//! The commands `serve`, `issue`, `pull` and `push`: a plan's end over the input and the output, and how they end.
+//! The commands `serve`, `issue`, `pull` and `push`, which serve a plan's end over the input and the output: their
+//! status and note.
 //!
 //! | Status | Note |
 //! |---|---|
-//! | 0 | none, the outcomes of the plan's commands, or what the transfer came to |
+//! | 0 | none, the outcomes of the plan's commands, or the result of the transfer |
 //! | 3 | `df1: plan: CAUSE`, `df1: record at P: form`, `df1: record at P: cut` |
 //! | 4 | `df1: input cannot be read` |
 //! | 5 | `df1: output cannot be written` |
@@ -55,7 +56,7 @@ pub(crate) fn run<H: Shelf, S: Source, K: Sink, N: Sink>(
     }
 }
 
-/// Tells how a service ended, and answers the status.
+/// Writes the note of how a service ended, and returns the status.
 fn tell<N: Sink>(ended: &Result<End<Node>, ServiceFault>, issues: Issues<'_>, note: &mut N) -> u8
     requires { CanBeIssued (seen issues) }
     ensures finished { IfOk ended.now (λ end. IsFinished (N.held note.old) (N.held note.new) (N.faults note.old) (N.faults note.new) (told_of (seen issues.entry) end) result) }
@@ -67,7 +68,7 @@ fn tell<N: Sink>(ended: &Result<End<Node>, ServiceFault>, issues: Issues<'_>, no
     }
 }
 
-/// Tells what became of the commands of an end, and answers the status.
+/// Writes what became of the commands of an end, and returns the status.
 fn finish<N: Sink>(end: &End<Node>, issues: Issues<'_>, note: &mut N) -> u8
     requires { CanBeIssued (seen issues) }
     ensures { IsFinished (N.held note.old) (N.held note.new) (N.faults note.old) (N.faults note.new) (told_of (seen issues.entry) end.now) result }
@@ -112,7 +113,7 @@ impl Refusal for ServiceFault {
     }
 }
 
-/// The note of a plan that is refused.
+/// Returns the note of a plan that is refused.
 fn plan_note(cause: PlanFault) -> Note
     ensures { result.items ≡ note_of_fault (ServiceFault.Plan cause) }
 {
@@ -126,7 +127,7 @@ fn plan_note(cause: PlanFault) -> Note
     }
 }
 
-/// A note of a text and a word.
+/// Returns a note of a text and a word.
 fn with_word(text: &[u8], word: &[u8]) -> Note
     requires text { length text.now ≤ 16 }
     requires word { length word.now ≤ 16 }

@@ -1,18 +1,18 @@
 //! The top call.
 //!
-//! | Status | Comes |
+//! | Status | When |
 //! |---|---|
-//! | 0 | the input was read to its end, which `drill`, `storm` and `vectors` don't touch, and all text was written |
-//! | 1 | `check`: the same, and something that is heard is a fault of the line, or an item is unfinished; `vectors`: a case differs |
-//! | 2 | exactly where the words are none of the forms |
-//! | 3 | the script, the plan or a timed record is refused: the note tells which and why |
-//! | 4 | only where the input's count of faults rose |
-//! | 5 | only where the output's count of faults rose, or the note's |
+//! | 0 | the input was read to its end (`drill`, `storm` and `vectors` don't read it), and all text was written |
+//! | 1 | `check`: as for 0, and an item is a fault of the line or unfinished; `vectors`: a case differs |
+//! | 2 | exactly if the words are none of the forms |
+//! | 3 | the script, the plan or a timed record is refused; the note says which and why |
+//! | 4 | only if the input's count of faults rose |
+//! | 5 | only if the output's count of faults rose, or the note's |
 //! | 6 | the plan can't be read, or is over its limit |
-//! | 7 | want of memory; never with `dissect` and `check` |
+//! | 7 | out of memory; never with `dissect` and `check` |
 //! | 8 | the input of `serve`, `issue`, `pull`, `push`, `dissect` or `check` is over its limit |
 //!
-//! Of several the one is told that came first, in the order in which things happen.
+//! If several apply, the status is that of the first fault in time.
 ghost use Rattle.std.specs.Prelude.{◌≡◌, ◌⊎◌, ◌↔◌, ◌≢◌, ℕ, List, [], None, Some, map, slice_index_or, string_bytes, true, IsTrue};
 ghost use Rattle.std.specs.Option.{ForSome};
 ghost use Rattle.df1_base.specs.Outside.{Rose};
@@ -51,23 +51,23 @@ use df1_service::{Issues, Service};
 use df1_shelf::Shelf;
 use std::alloc::Global;
 
-/// How a run ended, with what it was given of the outside world, as the run left it.
+/// The exit status of a run, with the parts of the outside world as the run left them.
 #[derive(Drop)]
 pub struct Ran<H, S, K, N> {
     /// The exit status.
     pub status: u8,
-    /// Where the plan is.
+    /// The shelf that holds the plan.
     pub shelf: H,
     /// The input.
     pub input: S,
     /// The output.
     pub out: K,
-    /// Where the note goes.
+    /// The sink of the note.
     pub note: N,
 }
 
 impl<H, S, K, N> Ran<H, S, K, N> {
-    /// A run that ended with this status, and left the four so.
+    /// Returns a run that ended with this status and left the four parts in this state.
     fn new(status: u8, shelf: H, input: S, out: K, note: N) -> Self
         ensures { result ≡ record { status = status; shelf = shelf; input = input; out = out; note = note } }
     {
@@ -81,8 +81,9 @@ impl<H, S, K, N> Ran<H, S, K, N> {
     }
 }
 
-/// Runs the program: its words are those after its name, the plan is a file of the shelf, the input is read at most 4,096
-/// bytes at a time, the text or the bytes of the line go to `out` and the note to `note`. The four are handed back.
+/// Runs the program. Its words are those after the program's name; the plan is a file of the shelf; the input is read
+/// at most 4,096 bytes at a time. The text or the bytes of the line go to `out`, and the note to `note`. The four are
+/// returned.
 pub fn run<H: Shelf, S: Source, K: Sink, N: Sink>(
     alloc: Global,
     words: &[String],
@@ -113,8 +114,8 @@ pub fn run<H: Shelf, S: Source, K: Sink, N: Sink>(
         (record { left = S.left result.input; input_faults = S.faults result.input; held = K.held result.out; out_faults = K.faults result.out; noted = N.held result.note; note_faults = N.faults result.note })
         result.status }
 
-    // `drill` and `storm`. They leave the input. Where the line recovers from what happens to the bytes, all commands are
-    // executed and answered.
+    // `drill` and `storm`. They don't read the input. If the line recovers from what happens to the bytes, all commands
+    // are executed and answered.
     ensures drills { (rounds : TwoNumbers) → the_form (map string_bytes words.now) ≡ Some (Drill rounds) → LineRun (drill_line rounds.seed rounds.count)
         (record { held = K.held out; out_faults = K.faults out; noted = N.held note; note_faults = N.faults note })
         (record { held = K.held result.out; out_faults = K.faults result.out; noted = N.held result.note; note_faults = N.faults result.note })
@@ -128,14 +129,14 @@ pub fn run<H: Shelf, S: Source, K: Sink, N: Sink>(
     ensures storm_recovers { (rounds : TwoNumbers) → the_form (map string_bytes words.now) ≡ Some (Storm rounds) → Recovers (storm_script rounds.seed rounds.count) (record_of (storm_script rounds.seed rounds.count)) }
     ensures left_input { (rounds : TwoNumbers) → the_form (map string_bytes words.now) ≡ Some (Storm rounds) → result.input ≡ input }
 
-    // `vectors`. It leaves the input too.
+    // `vectors`. It doesn't read the input either.
     ensures conforms { the_form (map string_bytes words.now) ≡ Some Vectors → VectorsRun
         (record { held = K.held out; out_faults = K.faults out; noted = N.held note; note_faults = N.faults note })
         (record { held = K.held result.out; out_faults = K.faults result.out; noted = N.held result.note; note_faults = N.faults result.note })
         result.status }
     ensures input_kept { the_form (map string_bytes words.now) ≡ Some Vectors → result.input ≡ input }
 
-    // `route` and `rehearse`. They write nothing before the whole script is read.
+    // `route` and `rehearse`. They write nothing until the whole script was read.
     ensures routes { the_form (map string_bytes words.now) ≡ Some Route → ScriptRun Purpose.Route route_text HasRouted
         (record { left = S.left input; input_faults = S.faults input; held = K.held out; out_faults = K.faults out; noted = N.held note; note_faults = N.faults note })
         (record { left = S.left result.input; input_faults = S.faults result.input; held = K.held result.out; out_faults = K.faults result.out; noted = N.held result.note; note_faults = N.faults result.note })
@@ -151,31 +152,32 @@ pub fn run<H: Shelf, S: Source, K: Sink, N: Sink>(
         result.status }
     ensures unwritten { (form : Asked) → the_form (map string_bytes words.now) ≡ Some form → IsTrue (reads_whole form) → result.status ≢ 0 → result.status ≢ 5 → result.out ≡ out }
 
-    // What doesn't serve a plan leaves the shelf.
+    // A command that doesn't serve a plan leaves the shelf unchanged.
     ensures same_shelf { service_for (map string_bytes words.now) ≡ None → result.shelf ≡ shelf }
 
     // `replay`.
     ensures statuses { the_form (map string_bytes words.now) ≡ Some Replay → IsReplayStatus result.status }
 
-    // 0 of `replay`: the input is read to its end, and the report of its script's run is written; nothing has failed, and no
-    // note is written. Unless an end was deceived, each station executed commands that were issued to it, each once, those of
-    // each source in their order, and accepted replies are what it answered to that very command. Where nothing disturbs the
-    // line, or it recovers, all commands were executed and answered; and so were those that a full-duplex end hands out from a
-    // state at rest on, where that is so from there on. Whatever was heard, what each end sent is DF1.
+    // 0 of `replay`: the input was read to its end, and the report of its script's run was written; nothing failed, and
+    // no note was written. Unless an end was deceived, each station executed commands that were issued to it, each
+    // once, those of each source in order, and each accepted reply is the answer to that very command. If nothing
+    // disturbs the line, or it recovers, all commands were executed and answered. The same holds of the commands that a
+    // full-duplex end hands out from a state at rest on, if nothing disturbs the line, or it recovers, from there on.
+    // Whatever was received, what each end sent is DF1.
     ensures done { the_form (map string_bytes words.now) ≡ Some Replay → result.status ≡ 0 → Answered replayed
         (S.left input) (S.left result.input) (K.held out) (K.held result.out) }
     ensures calm { the_form (map string_bytes words.now) ≡ Some Replay → result.status ≡ 0 → (S.faults result.input ≡ S.faults input) × (result.note ≡ note) }
     ensures replayed { the_form (map string_bytes words.now) ≡ Some Replay → result.status ≡ 0 →
         Replayed (S.left input) (S.left result.input) (K.held out) (K.held result.out) }
 
-    // 3 of `replay`: the bytes taken show the first faulty line and its cause, and the note tells them; what stands before it
-    // is written.
+    // 3 of `replay`: the bytes taken contain the first faulty line and its cause, and the note names them; the report
+    // of what precedes it was written.
     ensures refusal { the_form (map string_bytes words.now) ≡ Some Replay → result.status ≡ 3 → (line : ℕ) × (fault : Fault)
         × Refused (S.left input) (S.left result.input) (K.held out) (K.held result.out) (S.faults input) (S.faults result.input) line fault
         × IsNoted (N.held note) (N.held result.note) (N.faults note) (N.faults result.note) (line_note line fault) }
 
-    // 4 and 5 of `replay`: the input has failed, or the output. What was shown before is written; with 5, something of what the
-    // bytes taken tell is missing.
+    // 4 and 5 of `replay`: the input or the output failed. What was determined before was written; with 5, something of
+    // what the bytes taken determine is missing.
     ensures input { the_form (map string_bytes words.now) ≡ Some Replay → result.status ≡ 4 →
         BrokenOff (S.left input) (S.left result.input) (K.held out) (K.held result.out) (S.faults input) (S.faults result.input) }
     ensures output { the_form (map string_bytes words.now) ≡ Some Replay → result.status ≡ 5 →
@@ -184,15 +186,15 @@ pub fn run<H: Shelf, S: Source, K: Sink, N: Sink>(
     ensures steady { the_form (map string_bytes words.now) ≡ Some Replay → result.status ≢ 5 → K.faults result.out ≡ K.faults out }
     ensures memory { the_form (map string_bytes words.now) ≡ Some Replay → result.status ≡ 7 → S.faults result.input ≡ S.faults input }
 
-    // Where neither has failed, the status of `replay` is the one that is defined, or there was no memory.
+    // If neither failed, the status of `replay` is the one that is defined, or 7 for want of memory.
     ensures exact { the_form (map string_bytes words.now) ≡ Some Replay
         → ¬ Rose (S.faults input) (S.faults result.input)
         → ¬ Rose (K.faults out) (K.faults result.out)
         → ForSome (S.left input) (λ bytes.
         (result.status ≡ status_for bytes) ⊎ (result.status ≡ 7)) }
 
-    // Whatever the status of `replay`, a part of what is to be written for the bytes taken is written and nothing else, and so
-    // is the note.
+    // Whatever the status of `replay`, a part of what is to be written for the bytes taken was written, and nothing
+    // else; likewise for the note.
     ensures written { the_form (map string_bytes words.now) ≡ Some Replay → Written told
         (S.left input) (S.left result.input) (K.held out) (K.held result.out) }
     ensures note { the_form (map string_bytes words.now) ≡ Some Replay → result.status ≢ 0 → result.status ≢ 3 →
@@ -264,7 +266,7 @@ pub fn run<H: Shelf, S: Source, K: Sink, N: Sink>(
     }
 }
 
-/// A service over records.
+/// Returns a service over timed records.
 fn timed(issues: Issues<'_>) -> Service<'_>
     ensures { serving_of result ≡ record { timed = true; issues = seen issues.entry } }
 {

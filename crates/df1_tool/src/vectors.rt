@@ -1,11 +1,11 @@
-//! The command `vectors`: how a run of the forty cases ends.
+//! The command `vectors`: the exit status and the note of a run of the forty cases.
 //!
-//! | Status | Comes | Note |
+//! | Status | When | Note |
 //! |---|---|---|
-//! | 0 | the line is written, and no case differs | none |
-//! | 1 | the line is written, and a case differs | none |
-//! | 5 | the output has failed, and a first part of the line is written | `df1: output cannot be written` |
-//! | 7 | want of memory, before anything is written | `df1: no memory` |
+//! | 0 | the line was written, and no case differs | none |
+//! | 1 | the line was written, and a case differs | none |
+//! | 5 | the output failed, and a first part of the line was written | `df1: output cannot be written` |
+//! | 7 | out of memory, before anything was written | `df1: no memory` |
 ghost use Rattle.std.specs.Prelude.{◌≡◌};
 ghost use Rattle.df1_tool.specs.Vectors.{VectorsRun, status_by};
 
@@ -15,7 +15,8 @@ use df1_base::Sink;
 use std::alloc::Global;
 use vector_suite::{VectorsFault, write_vectors};
 
-/// Runs the forty cases, writes the line that tells of them to the output, and answers the status. Where that is 5 or 7, the note is written.
+/// Runs the forty cases, writes the line that reports the result to the output, and returns the status.
+/// If that is 5 or 7, the note is written.
 pub(crate) fn run<K: Sink, N: Sink>(alloc: Global, out: &mut K, note: &mut N) -> u8
     ensures { VectorsRun
         (record { held = K.held out.old; out_faults = K.faults out.old; noted = N.held note.old; note_faults = N.faults note.old })
@@ -28,7 +29,7 @@ pub(crate) fn run<K: Sink, N: Sink>(alloc: Global, out: &mut K, note: &mut N) ->
     }
 }
 
-/// The status where the line is written for the first case that differs, if one does.
+/// Returns the status of a run whose line was written, by the place of the first case that differs, if one does.
 fn status_by(place: Option<usize>) -> u8
     ensures { result ≡ status_by place }
 {

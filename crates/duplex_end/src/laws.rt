@@ -18,14 +18,14 @@ ghost use Rattle.duplex_end.specs.Emission.{Letter, Take, end_after, given_at, e
 
 use df1_base::Host;
 
-/// The end and what it has given go on signal by signal.
+/// The end and what it has sent go on signal by signal.
 pub fn signals_go_on<H: Host>()
     ensures end { (e : EndState H) (before : List Letter) (signal : Letter) → end_after_all H.Host e (before ++ signal ∷ []) ≡ end_after H.Host (end_after_all H.Host e before) signal }
     ensures given { (e : EndState H) (before : List Letter) (signal : Letter) → emission H.Host e (before ++ signal ∷ []) ≡ emission H.Host e before ++ given_at H.Host (end_after_all H.Host e before) signal }
 {}
 
-/// What an end has heard is what the grammar of the line hears in all its bytes, whatever ticks and takes came between, and
-/// however its host was changed.
+/// What an end has decoded is what the grammar of the line decodes in all its bytes, whatever ticks and takes came
+/// between, and however its host was changed.
 pub fn hears_what_the_grammar_hears<H: Host>()
     ensures signals { (setup : Settings) (host : H) (signals : List Letter)
         → Stands setup.check 250 (bytes_among signals) (hearings H.Host (new_end setup host) signals) (end_after_all H.Host (new_end setup host) signals).receiver }
@@ -33,17 +33,17 @@ pub fn hears_what_the_grammar_hears<H: Host>()
         → Stands setup.check 250 (bytes_come moves) (hearings_over H.Host (new_end setup host) moves) (end_after_moves H.Host (new_end setup host) moves).receiver }
 {}
 
-/// What an end gives, over signals and changes of its host, is whole frames, responses and ENQs, with at the end perhaps the
-/// begin of one more, and nothing else; its frames carry the messages that the host handed out, in their order, each perhaps
-/// several times running (manual topic: full-duplex protocol).
+/// What an end sends, over signals and changes of its host, is whole frames, responses and ENQs, with perhaps the
+/// beginning of one more at the end, and nothing else. Its frames carry the messages that the host handed out, in their
+/// order, each perhaps several times in a row (manual topic: full-duplex protocol).
 pub fn what_is_given_is_df1<H: Host>()
     ensures { (setup : Settings) (host : H) (moves : List (Move H)) → H.Host.holds_bodies host → HoldBodies H.Host moves
         → IsDf1 setup.check (messages_over H.Host (new_end setup host) moves) (bytes_given H.Host (new_end setup host) moves) }
 {}
 
-/// At each byte that arrives at an end a whole frame is heard exactly where the grammar of the line, over all bytes that
-/// arrived so far, hears one at its last. An end stands for what arrived from its beginning on, over every signal, and a
-/// change of the host changes nothing of it.
+/// At each byte that arrives at an end a whole frame is received exactly if the grammar of the line, over all bytes
+/// that arrived so far, decodes one at its last. An end stands for what arrived since it was new, over every signal,
+/// and a change of the host changes nothing of this.
 pub fn arrivals_are_heard<H: Host>()
     ensures none { (check : CheckKind) → HeardByGrammar check [] }
     ensures more { (check : CheckKind) (arrivals : List Arrival) (e : EndState H) (b : ℕ) → StandsFor check (bytes_arrived arrivals) e → HeardByGrammar check arrivals
@@ -59,9 +59,9 @@ pub fn last_response_is_by_the_acts<H: Host>()
     ensures goes_on { (e : EndState H) (signals : List Letter) → (end_after_all H.Host e signals).mouth.last ≡ fold response_after e.mouth.last (acts H.Host e signals) }
 {}
 
-/// A message is handed out where the fate of the one before was told, and its own fate is told once, after that. Where the
-/// host and the sender agree on whether a message is out, as at a new end over a host with none out, they do so after
-/// every signal, so each fate is told of a message that is out.
+/// A message is handed out after the fate of the one before was reported, and its own fate is reported once, after
+/// that. If the host and the sender agree on whether a message is outstanding, as at a new end over a host with none
+/// outstanding, they do so after every signal. So each fate is reported of a message that is outstanding.
 pub fn a_fate_is_told_once<H: Host>()
     ensures in_turn { (e : EndState H) (signals : List Letter) → InTurn (has_message e.sender) (events H.Host e signals) }
     ensures start { (setup : Settings) (host : H) → has_message (new_end setup host).sender ≡ false }
@@ -69,7 +69,7 @@ pub fn a_fate_is_told_once<H: Host>()
         → H.Host.is_out (end_after_all H.Host e signals).host ≡ has_message (end_after_all H.Host e signals).sender }
 {}
 
-/// Of every end that is reached: a frame that is begun is the sender's, and short, and what is sent or handed out fits.
+/// In every reachable end, a frame that is started is the sender's, and short, and what is sent or handed out fits.
 pub fn parts_stay_joined<H: Host>()
     ensures joined { (e : EndState H) → Reached H.Host e → Joined e.mouth e.sender }
     ensures short { (e : EndState H) → Reached H.Host e → IsShort e.mouth }
@@ -77,9 +77,9 @@ pub fn parts_stay_joined<H: Host>()
     ensures holds { (e : EndState H) → Reached H.Host e → H.Host.holds_bodies e.host }
 {}
 
-/// Of every end that is reached: a take gives a byte exactly where something is to be given, and leaves fewer then, of at
-/// most 511; else it changes nothing. Takes until one gives nothing give at most 511 bytes, come to one end, and leave
-/// nothing to be given, however many more takes follow.
+/// In every reachable end, a take returns a byte exactly if something is to be sent, and then leaves fewer, of at most
+/// 511; otherwise it changes nothing. Takes until one returns nothing return at most 511 bytes, lead to one end, and
+/// leave nothing to be sent, however many more takes follow.
 pub fn a_drain_ends<H: Host>()
     ensures quiet { (e : EndState H) → IsNone (out_at_take H.Host e) → (next_place H.Host e ≡ None) × (end_after_take H.Host e ≡ e) }
     ensures fewer { (e : EndState H) → Reached H.Host e → IsSome (out_at_take H.Host e) → most_left H.Host (end_after_take H.Host e) + 1 ≤ most_left H.Host e }

@@ -1,25 +1,26 @@
-//! One end of a full-duplex link, over any host: the receiver, the sender and what is to be given, joined.
+//! One end of a full-duplex link, over any host: it joins the receiver, the sender and what is to be sent.
 //!
-//! A byte that was heard has its act's effect first: an accepted message goes to the host, and the response of the act
-//! waits to be given. An ACK or a NAK goes to the sender, and a fate that it decides is told to the host at once.
+//! A received byte first has the effect of its act: an accepted message goes to the host, and the response of the act
+//! waits to be sent. An ACK or a NAK goes to the sender, and a fate that it decides is reported to the host at once.
 //!
-//! A tick is the sender's first and the host's second. Where the sender asks, an ENQ is wished; where it gives its
-//! message up, that is told to the host. An ENQ that was wished and not begun is dropped when the sender leaves Waiting.
+//! A tick goes to the sender first and to the host second. If the sender asks, an ENQ becomes pending; if it gives its
+//! message up, that is reported to the host. A pending ENQ that was not started is dropped when the sender leaves
+//! Waiting.
 //!
-//! A take gives the first of these that is there:
+//! A take returns the first of these that is there:
 //!
-//! 1. the second byte of a pair whose first was given;
-//! 2. inside a frame, a response that waits, where embedding is on and the last unit had a gap;
+//! 1. the second byte of a pair whose first was sent;
+//! 2. inside a frame, a response that waits, if embedding is on and the last unit had a gap;
 //! 3. inside a frame, its next unit;
 //! 4. a response that waits;
-//! 5. an ENQ that is wished;
+//! 5. an ENQ that is pending;
 //! 6. the frame of a sender that is in Sending;
 //! 7. the frame of a new message of the host.
 //!
-//! With the last byte of a frame the sender begins to wait (manual topic: full-duplex protocol).
+//! With the last byte of a frame the sender starts to wait (manual topic: full-duplex protocol).
 //!
-//! An end stands for the bytes that arrived at it: a whole frame is heard exactly where the grammar of the line hears one
-//! at the last of all these bytes, whatever else happened to the end and to its host.
+//! An end stands for the bytes that arrived at it: a whole frame is received exactly if the grammar of the line decodes
+//! one at the last of all these bytes, whatever else happened to the end and to its host.
 #![tactic(auto)]
 
 ghost use Rattle.std.specs.Prelude.{◌≡◌, ◌≤◌, ◌+◌, ◌↔◌, ◌∷◌, ◌++◌, [], ℕ, List, length, is_none, IsSome, IsTrue};
@@ -54,7 +55,7 @@ use parts::{drop_wish, fill, hear_peer, is_whole, note_out, respond, take_in, te
 pub use serving::{Served, serve};
 use std::marker::Model;
 
-/// How an end is set up.
+/// The setup of an end.
 #[derive(Clone, Copy, Debug, PartialEq, Eq)]
 pub struct Setup {
     /// The check of its frames.
@@ -87,7 +88,7 @@ impl<H: Host + Drop> Model for End<H> {
 }
 
 impl<H: Host + Drop> End<H> {
-    /// An end over a host that has heard and given nothing.
+    /// Returns an end, over a host, that has received and sent nothing.
     pub fn new(setup: Setup, host: H) -> End<H>
         requires { 1 ≤ setup.limits.ack_ticks }
         ensures value { result ≡ new_end setup host }
@@ -102,14 +103,14 @@ impl<H: Host + Drop> End<H> {
         }
     }
 
-    /// The host.
+    /// Returns the host.
     pub fn host(&self) -> &H
         ensures { result.now ≡ self.now.host }
     {
         &self.host
     }
 
-    /// The host, to be changed in any way.
+    /// Returns the host, to be changed in any way.
     pub fn host_mut(&mut self) -> &mut H
         ensures* writes_back { sem 𝓛 (Lends (the_row H.row H.Host) H.row self.entry result (with_host self.old)) }
         ensures value { result.now ≡ self.old.host }
@@ -118,9 +119,9 @@ impl<H: Host + Drop> End<H> {
         &mut self.host
     }
 
-    /// Takes a byte that was heard, in constant time, and says what the end made of it. `did` is there exactly at
-    /// Accept, `news` is what the host answered to a fate that was decided here, `whole` says whether a good frame was
-    /// heard, and `station` is 0. It is inlined, since most bytes mean nothing, and such a byte costs a caller no call.
+    /// Takes a received byte, in constant time, and returns what the end made of it. `did` is there exactly at Accept,
+    /// and `news` is the host's answer to a fate that was decided here. `whole` says whether a good frame was received,
+    /// and `station` is 0. It is inlined, since most bytes mean nothing, and such a byte costs a caller no call.
     #[inline(always)]
     pub fn on_byte(&mut self, b: u8) -> Step
         ensures state { self.new ≡ end_after_byte H.Host self.old b }
@@ -140,9 +141,9 @@ impl<H: Host + Drop> End<H> {
         }
     }
 
-    /// A unit of time has passed: the sender's tick first, the host's second. `gone` is replaced by the commands that
-    /// are unanswered from this tick on. The answer is Ask exactly where the sender asks, Failed with what the host
-    /// answered exactly where the message was given up, and else Still.
+    /// Lets a unit of time pass: the sender's tick first, the host's second. `gone` is replaced by the commands that
+    /// are unanswered from this tick on. Returns Ask exactly if the sender asks, Failed with the host's answer exactly
+    /// if the message was given up, and Still otherwise.
     pub fn on_tick(&mut self, gone: &mut ArrayVec<u32, 16>) -> Turn
         ensures state { self.new ≡ end_after_tick H.Host self.old }
         ensures turn { result ≡ turn_at_tick H.Host self.old }
@@ -156,8 +157,8 @@ impl<H: Host + Drop> End<H> {
         turn
     }
 
-    /// Gives the next byte, in constant time but for the beginning of a frame: None exactly where nothing is to be given.
-    /// It is inlined, as what it calls at each byte is, so that a byte costs no call.
+    /// Returns the next byte to transmit, in constant time except at the start of a frame: None exactly if nothing is
+    /// to be sent. It is inlined, as what it calls at each byte is, so that a byte costs no call.
     #[inline(always)]
     pub fn take(&mut self) -> Option<Out>
         ensures state { self.new ≡ end_after_take H.Host self.old }
@@ -172,7 +173,7 @@ impl<H: Host + Drop> End<H> {
         }
     }
 
-    /// Whether `take` would give nothing.
+    /// Returns whether `take` would return None.
     pub fn quiet(&self) -> bool
         ensures none_there { result ≡ is_none (next_place H.Host self.now) }
         ensures gives_none { result ≡ is_none (out_at_take H.Host self.now) }
@@ -185,8 +186,8 @@ impl<H: Host + Drop> End<H> {
             }
     }
 
-    /// The body of the frame that ended at the last byte heard, at most 250 bytes, whether it is good, too short or with
-    /// a wrong check; empty after every other byte.
+    /// Returns the body of the frame that ended at the last byte received, at most 250 bytes, whether it is good, too
+    /// short or with a wrong check; otherwise empty.
     pub fn body(&self) -> &[u8]
         ensures body { result.now ≡ body_at self.now.receiver }
         ensures lent { (check : CheckKind) (bytes : List ℕ) → StandsFor check bytes self.now → ReadOff (full_duplex check 250) bytes (lent check 250) result.now }
@@ -195,14 +196,14 @@ impl<H: Host + Drop> End<H> {
         self.receiver.body()
     }
 
-    /// The body of the transmission that was begun last, empty where none was.
+    /// Returns the body of the transmission that was started last, empty if there was none.
     pub fn sending(&self) -> &[u8]
         ensures { result.now ≡ self.now.sending }
     {
         &self.sending
     }
 
-    /// Whether it has a message of its host that was neither acknowledged nor given up.
+    /// Returns whether it has a message of its host that was neither acknowledged nor given up.
     pub fn holds_message(&self) -> bool
         ensures { result ≡ holds_message self.now }
     {
@@ -212,7 +213,7 @@ impl<H: Host + Drop> End<H> {
         }
     }
 
-    /// Gives an act at the last byte heard its effect, and says what the end made of it. It isn't inlined, since it is
+    /// Applies an act at the last byte received, and returns what the end made of it. It isn't inlined, since it is
     /// called at few bytes.
     #[inline(never)]
     fn answer_to(&mut self, act: Act) -> Step
@@ -236,8 +237,8 @@ impl<H: Host + Drop> End<H> {
         }
     }
 
-    /// Begins a frame, since nothing else is to be given, and gives its first byte. It isn't inlined, since few bytes begin
-    /// a frame.
+    /// Starts a frame, since nothing else is to be sent, and returns its first byte, or None if there is no message. It
+    /// isn't inlined, since few bytes start a frame.
     #[inline(never)]
     fn begin_and_give(&mut self) -> Option<Out>
         requires { chosen self.old.mouth ≡ None }
@@ -249,7 +250,7 @@ impl<H: Host + Drop> End<H> {
         self.give()
     }
 
-    /// Begins the frame of a sender that sends, or else that of a new message of the host.
+    /// Starts the frame of a sender that sends, or else that of a new message of the host.
     fn begin_next(&mut self)
         requires { chosen self.old.mouth ≡ None }
         ensures state { self.new ≡ begun_next H.Host self.old }
@@ -271,7 +272,7 @@ impl<H: Host + Drop> End<H> {
         }
     }
 
-    /// Gives the next byte of what there is.
+    /// Returns the next byte of what there is.
     #[inline(always)]
     fn give(&mut self) -> Option<Out>
         ensures state { self.new ≡ given_next self.old }

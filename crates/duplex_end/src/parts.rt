@@ -1,4 +1,4 @@
-//! What the parts of an end make of an act, of a fate, of a tick and of a byte that was given.
+//! What the parts of an end make of an act, of a fate, of a tick and of a byte that was sent.
 
 ghost use Rattle.std.specs.Prelude.{◌≡◌, ◌≤◌, length, IsTrue};
 ghost use Rattle.df1_base.specs.Host.{IsBody};
@@ -25,8 +25,7 @@ pub(crate) fn take_in<H: Host>(host: &mut H, act: Act, body: &[u8]) -> Option<Di
     }
 }
 
-/// Hands a body to the host. It isn't inlined, since a byte at which none is accepted would pay for the room that this
-/// one takes on the stack.
+/// Hands a body to the host. It isn't inlined, since a byte at which none is accepted would pay for its stack space.
 #[inline(never)]
 fn hand_over<H: Host>(host: &mut H, body: &[u8]) -> Did
     requires body { IsBody body.now }
@@ -37,7 +36,7 @@ fn hand_over<H: Host>(host: &mut H, body: &[u8]) -> Did
     host.accept(body)
 }
 
-/// Puts in the response of an act.
+/// Puts the response of an act into the transmitter.
 pub(crate) fn respond(mouth: &mut Mouth, act: Act)
     ensures { mouth.new ≡ responded act mouth.old }
 {
@@ -50,7 +49,7 @@ pub(crate) fn respond(mouth: &mut Mouth, act: Act)
     }
 }
 
-/// Lets the sender hear an ACK or a NAK, and says which fate that decides.
+/// Passes an ACK or a NAK to the sender, and returns the fate that this decides, if any.
 pub(crate) fn hear_peer(sender: &mut Sender, act: Act) -> Option<Fate>
     ensures state { sender.new ≡ sender_after act sender.old }
     ensures fate { result ≡ fate_at act sender.old }
@@ -62,7 +61,7 @@ pub(crate) fn hear_peer(sender: &mut Sender, act: Act) -> Option<Fate>
     }
 }
 
-/// Drops the wish for an ENQ where the sender leaves Waiting.
+/// Drops the pending ENQ if the sender leaves Waiting.
 pub(crate) fn drop_wish(mouth: &mut Mouth, before: Phase, after: Phase)
     ensures { mouth.new ≡ dropped before after mouth.old }
 {
@@ -72,7 +71,7 @@ pub(crate) fn drop_wish(mouth: &mut Mouth, before: Phase, after: Phase)
     }
 }
 
-/// Tells a fate to the host.
+/// Reports a fate to the host.
 pub(crate) fn tell<H: Host>(host: &mut H, fate: Option<Fate>) -> News
     ensures news { result ≡ news_of H.Host fate host.old }
     ensures after { host.new ≡ host_told H.Host fate host.old }
@@ -83,7 +82,7 @@ pub(crate) fn tell<H: Host>(host: &mut H, fate: Option<Fate>) -> News
     }
 }
 
-/// Whether a whole frame is heard at this act.
+/// Returns whether a whole frame is received at this act.
 pub(crate) fn is_whole(act: Act) -> bool
     ensures { result ≡ is_whole_act act }
 {
@@ -93,7 +92,7 @@ pub(crate) fn is_whole(act: Act) -> bool
     }
 }
 
-/// The sender's part of a tick.
+/// Does the sender's part of a tick.
 pub(crate) fn tick_sender<H: Host>(sender: &mut Sender, mouth: &mut Mouth, host: &mut H) -> Turn
     ensures sender { sender.new ≡ on_tick sender.old }
     ensures mouth { mouth.new ≡ asked (tick_turn sender.old) mouth.old }
@@ -110,7 +109,7 @@ pub(crate) fn tick_sender<H: Host>(sender: &mut Sender, mouth: &mut Mouth, host:
     }
 }
 
-/// Lets the sender wait where the last byte of a transmission was given.
+/// Lets the sender wait if the last byte of a transmission was sent.
 #[inline(always)]
 pub(crate) fn note_out(sender: &mut Sender, out: Option<Out>)
     requires { IsTrue (ends_here out) → phase_of sender.old ≡ Phase.Sending }
@@ -123,7 +122,7 @@ pub(crate) fn note_out(sender: &mut Sender, out: Option<Out>)
     }
 }
 
-/// Makes a copy of a body.
+/// Copies a body into `into`.
 pub(crate) fn fill(into: &mut ArrayVec<u8, 250>, body: &[u8])
     requires { length body.now ≤ 250 }
     ensures { into.new.items ≡ body.now }

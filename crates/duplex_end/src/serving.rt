@@ -1,5 +1,5 @@
-//! An end that is driven by the signals of a port: a byte is heard, a tick passes, and what is wished is given to the port
-//! before its next signal is taken (manual topic: full-duplex protocol).
+//! An end that is driven by the signals of a port: a byte is received, a tick passes, and the requested bytes are put
+//! to the port before its next signal is taken (manual topic: full-duplex protocol).
 ghost use Rattle.std.specs.Prelude.{◌≡◌, ◌≢◌, ◌∷◌, ◌++◌, [], List, IfSome, true};
 ghost use Rattle.df1_base.specs.Outside.{Rose};
 ghost use Rattle.df1_base.specs.Signals.{goes_on};
@@ -11,7 +11,7 @@ use crate::End;
 use arrayvec::ArrayVec;
 use df1_base::{Failed, Host, Port, Signal};
 
-/// At most so many bytes are given by takes until there is none.
+/// The most bytes that takes return until there is none.
 const DRAIN: usize = 511;
 
 /// How a serving ended.
@@ -29,10 +29,11 @@ pub enum Served {
     Long,
 }
 
-/// Takes the signals of a port until it gives End, Bad or Long, or fails, and puts the bytes that the end gives at each,
-/// all of them before the next is taken. `Ended`, `Bad` and `Long` come exactly at these signals; `InFailed` only where
-/// the port's count for `next` rose, and `OutFailed` only where that for `put` did, with a first part of what was to be
-/// given at the last signal. At `InFailed` the port holds no signal of what it took. It takes no memory.
+/// Takes the signals of a port until it returns End, Bad or Long, or fails, and puts the bytes that the end sends at
+/// each, all of them before the next signal is taken. `Ended`, `Bad` and `Long` are returned exactly at these signals.
+/// `InFailed` is returned only if the port's count for `next` rose, and the port then holds no signal of what it took.
+/// `OutFailed` is returned only if the count for `put` rose, with a first part put of what was to be sent at the last
+/// signal. It takes no memory.
 pub fn serve<P: Port, H: Host + Drop>(port: &mut P, end: &mut End<H>) -> Served
     ensures served { result ≢ Served.OutFailed → (signals : List OneSignal)
         × P.came port.old signals port.new × Serves H.Host end.old signals end.new (P.sent port.old) (P.sent port.new) }
@@ -60,7 +61,7 @@ pub fn serve<P: Port, H: Host + Drop>(port: &mut P, end: &mut End<H>) -> Served
     }
 }
 
-/// Lets the end hear a signal that others may follow, and replaces `given` by the bytes that it gives at it.
+/// Passes to the end a signal that others may follow, and replaces `given` by the bytes that it sends at it.
 fn hear<H: Host + Drop>(end: &mut End<H>, signal: Signal, given: &mut ArrayVec<u8, DRAIN>)
     requires { goes_on signal ≡ true }
     ensures { (heard : Hears H.Host end.old (signal ∷ []) end.new) × (given.new.items ≡ bytes_given H.Host end.old heard.letters) }
@@ -83,7 +84,7 @@ fn hear<H: Host + Drop>(end: &mut End<H>, signal: Signal, given: &mut ArrayVec<u
     }
 }
 
-/// Takes until there is nothing to give, into an empty `given`.
+/// Takes until there is nothing to send, into an empty `given`.
 fn drain<H: Host + Drop>(end: &mut End<H>, given: &mut ArrayVec<u8, DRAIN>)
     requires { given.old.items ≡ [] }
     ensures { (heard : Hears H.Host end.old (signal_of.Drain ∷ []) end.new) × (given.new.items ≡ bytes_given H.Host end.old heard.letters) }

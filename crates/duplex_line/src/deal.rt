@@ -1,4 +1,4 @@
-//! Events at one end of the line, or with the bytes from it.
+//! Events at one end of the line, or on the bytes from it.
 
 ghost use Rattle.std.specs.Prelude.{◌≡◌, ◌+◌, ◌≤◌, ◌<◌, ◌++◌, [], OnOk, IsOk, IsTrue, map, length, replicate};
 ghost use Rattle.duplex_line.specs.Acts.{Deed, Take, Deliver, Lose, Foreign, Tick, LineEndState, after_deeds, line_state, lines_over, given_over, tick_lines, after_tick};
@@ -20,7 +20,7 @@ use script_parts::Event;
 use script_statement::{Bytes, Who};
 use std::alloc::Global;
 
-/// The end at the other end of the line.
+/// Returns the end at the other side of the line.
 fn other(who: Who) -> Who
     ensures { result ≡ other who }
 {
@@ -31,8 +31,8 @@ fn other(who: Who) -> Who
     }
 }
 
-/// Does an event at the end `near`, or with the bytes from it. The lines are those that are told and then that of the bytes
-/// which were given last.
+/// Performs an event at the end `near`, or on the bytes from it. The lines are the reported ones, followed by that of
+/// the bytes that were sent last.
 pub(crate) fn deal(
     alloc: Global,
     event: &Event,
@@ -86,7 +86,7 @@ pub(crate) fn deal(
     }
 }
 
-/// Takes up to `n` bytes, and keeps them, where none are kept.
+/// Takes up to `n` bytes, and keeps them; none are kept before.
 fn give(
     alloc: Global,
     who: Who,
@@ -102,7 +102,7 @@ fn give(
     take_all(alloc, near, n, &mut sent.bytes)
 }
 
-/// Takes up to `n` bytes, which stand behind those that are there.
+/// Takes up to `n` bytes, and appends them to those that are there.
 fn take_all(alloc: Global, near: &mut LineEnd, n: u32, bytes: &mut Bytes) -> Result<(), NoMemory>
     ensures near { OnOk result (near.new ≡ near_over near.old (replicate n Take)) }
     ensures bytes { OnOk result (bytes.new ≡ bytes.old ++ given_over near.old (replicate n Take)) }
@@ -116,7 +116,7 @@ fn take_all(alloc: Global, near: &mut LineEnd, n: u32, bytes: &mut Bytes) -> Res
     Ok(())
 }
 
-/// Up to `n` bytes of the queue arrive at the other end.
+/// Delivers up to `n` bytes of the queue to the other end.
 fn deliver(
     alloc: Global,
     to: Who,
@@ -142,7 +142,7 @@ fn deliver(
     Ok(())
 }
 
-/// Up to `n` bytes of the queue are lost.
+/// Loses up to `n` bytes of the queue.
 fn lose(near: &mut LineEnd, n: u32)
     ensures { near.new ≡ near_over near.old (replicate n Lose) }
 {
@@ -154,7 +154,8 @@ fn lose(near: &mut LineEnd, n: u32)
     }
 }
 
-/// Foreign bytes arrive at the other end. It isn't inlined, and nor is `pass`: a take and a delivery would pay for their room.
+/// Delivers foreign bytes to the other end. It isn't inlined, and nor is `pass`: a take and a delivery would pay for
+/// their stack space.
 #[inline(never)]
 fn intrude(
     alloc: Global,
@@ -177,7 +178,7 @@ fn intrude(
     Ok(())
 }
 
-/// `n` units of time pass.
+/// Lets `n` ticks pass.
 #[inline(never)]
 fn pass(who: Who, near: &mut LineEnd, n: u32, lines: &mut Page) -> Result<(), NoMemory>
     ensures near { OnOk result (near.new ≡ near_over near.old (replicate n Tick)) }
@@ -190,7 +191,7 @@ fn pass(who: Who, near: &mut LineEnd, n: u32, lines: &mut Page) -> Result<(), No
     Ok(())
 }
 
-/// A unit of time passes: first the sender's line is told, then the unanswered commands, which replace those in `gone`.
+/// Lets a tick pass: first the sender's line is reported, then the unanswered commands, which replace those in `gone`.
 fn tick(
     who: Who,
     near: &mut LineEnd,

@@ -1,4 +1,4 @@
-//! An end of the line with its node, and the queue of the bytes that it gave.
+//! An end of the line with its node, and the queue of the bytes that it sent.
 
 ghost use Rattle.std.specs.Prelude.{◌≡◌, [], ◌++◌, IfOk, OnOk, None, slice_get};
 ghost use Rattle.duplex_receiver.specs.Receiver.{body_at};
@@ -21,7 +21,8 @@ use std::alloc::Global;
 use std::collections::VecDeque;
 use std::marker::Model;
 
-/// An end, and the bytes on their way from it to the other end, with memory for what is known of the end of a transmission.
+/// An end, and the bytes on their way from it to the other end, with memory for what is known of the end of a
+/// transmission.
 #[derive(Drop)]
 pub(crate) struct LineEnd {
     end: End<Node>,
@@ -42,7 +43,7 @@ impl Model for LineEnd {
 }
 
 impl LineEnd {
-    /// An end with an empty queue.
+    /// Returns an end with an empty queue.
     pub fn new(alloc: Global, end: End<Node>) -> LineEnd
         ensures { result ≡ record { end = end; lane = [] } }
     {
@@ -53,8 +54,8 @@ impl LineEnd {
         }
     }
 
-    /// Issues a command in the name of the source `src`, or else of the node itself. The payload has 1 to 245 bytes, bit 6 of
-    /// its CMD is clear, and the end has issued fewer than 65,535 commands.
+    /// Issues a command with the SRC `src`, or with the node's own address if that is None. The payload has 1 to 245
+    /// bytes, bit 6 of its CMD is clear, and the end has issued fewer than 65,535 commands.
     pub fn issue(&mut self, src: Option<u8>, dst: u8, payload: &[u8]) -> Result<(), NoMemory>
         requires { issue_fault self.old.end.host.initiator payload.now ≡ None }
         ensures { OnOk result (self.new ≡ after_issue self.old src dst payload.now) }
@@ -71,7 +72,7 @@ impl LineEnd {
         }
     }
 
-    /// Gives the next byte, which joins the back of the queue, and answers it: None exactly where there is none.
+    /// Sends the next byte, which joins the back of the queue, and returns it; None if there is none.
     #[inline(always)]
     pub fn take(&mut self, alloc: Global) -> Result<Option<u8>, NoMemory>
         ensures state { OnOk result (self.new ≡ after_take self.old) }
@@ -85,7 +86,7 @@ impl LineEnd {
         Ok(Some(out.byte))
     }
 
-    /// Takes the head off the queue: None exactly where the queue is empty.
+    /// Removes the head of the queue: None if the queue is empty.
     pub fn leave(&mut self) -> Option<Cell>
         ensures state { self.new ≡ after_leaving self.old }
         ensures cell { result ≡ slice_get self.old.lane 0 }
@@ -110,7 +111,7 @@ impl LineEnd {
         }
     }
 
-    /// Takes a byte that arrives, and says what the end made of it.
+    /// Passes an arriving byte to the end, and returns what the end made of it.
     #[inline(always)]
     pub fn hear(&mut self, cell: &Cell) -> Step
         ensures state { self.new ≡ after_cell self.old cell.now }
@@ -119,14 +120,14 @@ impl LineEnd {
         self.end.on_byte(cell.byte)
     }
 
-    /// The body of the frame that ended at the last byte heard, empty where none did.
+    /// Returns the body of the frame that ended at the last byte received; otherwise empty.
     pub fn body(&self) -> &[u8]
         ensures { result.now ≡ body_at self.now.end.receiver }
     {
         self.end.body()
     }
 
-    /// A unit of time passes. `gone` is replaced by the commands that are unanswered from this tick on.
+    /// Lets a tick pass. `gone` is replaced by the commands that are unanswered from this tick on.
     pub fn tick(&mut self, gone: &mut ArrayVec<u32, 16>) -> Turn
         ensures state { self.new ≡ after_tick self.old }
         ensures turn { result ≡ turn_at_tick node_host self.old.end }
@@ -135,14 +136,14 @@ impl LineEnd {
         self.end.on_tick(gone)
     }
 
-    /// The initiator of the node.
+    /// Returns the initiator of the node.
     pub fn initiator(&self) -> &Initiator
         ensures { result.now ≡ self.now.end.host.initiator }
     {
         self.end.host().initiator()
     }
 
-    /// The data tables of the node.
+    /// Returns the data tables of the node.
     pub fn tables(&self) -> &Tables
         ensures { result.now ≡ tables_of self.now }
     {
@@ -150,7 +151,7 @@ impl LineEnd {
     }
 }
 
-/// An end by its plan, with nothing heard, given or issued.
+/// Makes an end from its plan, which has received, sent and issued nothing.
 pub(crate) fn side_of(alloc: Global, check: Check, plan: &EndPlan) -> Result<LineEnd, NoMemory>
     requires { IsPlanOf plan.now.who plan.now }
     ensures { IfOk result (λ side. side ≡ first_side check plan.now) }

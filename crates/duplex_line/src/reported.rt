@@ -1,4 +1,4 @@
-//! What is told of a run: the lines of its report, and how often an end was deceived.
+//! What is reported of a run: the lines of its report, and how often an end was deceived.
 
 ghost use Rattle.std.specs.Prelude.{◌≡◌, ◌+◌, ◌≤◌, ◌<◌, ◌^◌, ◌++◌, [], OnOk, OnErr};
 ghost use Rattle.std.specs.List.{flat_map};
@@ -22,8 +22,8 @@ pub(crate) struct Reported {
 }
 
 impl Reported {
-    /// Writes the lines, if there are any, and drops them. `Failed` comes where the sink failed; then it holds a first part of
-    /// their text, and not all.
+    /// Writes the lines, if there are any, and drops them. Returns `Failed` if the sink failed; then the sink holds
+    /// only a first part of their text.
     #[inline(always)]
     pub fn print<K: Sink>(&mut self, sink: &mut K) -> Result<(), Failed>
         ensures none { OnOk result (self.new.lines ≡ []) }
@@ -41,8 +41,8 @@ impl Reported {
         self.print_some(sink)
     }
 
-    /// The same, where there are some. It isn't inlined, since an event of which nothing is told would pay for the registers that
-    /// this one saves.
+    /// Does the same if there are lines. It isn't inlined, since an event that reports nothing would pay for the
+    /// registers that this one saves.
     #[inline(never)]
     fn print_some<K: Sink>(&mut self, sink: &mut K) -> Result<(), Failed>
         ensures none { OnOk result (self.new.lines ≡ []) }
@@ -60,8 +60,8 @@ impl Reported {
     }
 }
 
-/// A byte arrives at an end: first the line of the act is told, then the news. Most bytes mean nothing, and there is nothing to
-/// tell of them.
+/// Delivers a byte to an end: first the line of the act is reported, then the news. Most bytes mean nothing, and
+/// nothing is reported for them.
 #[inline(always)]
 pub(crate) fn arrive(
     alloc: Global,

@@ -1,4 +1,4 @@
-//! The bytes that an end gave last, before their line stands among the others.
+//! The bytes that an end sent last, before their line is added to the others.
 
 ghost use Rattle.std.specs.Prelude.{◌≡◌, ◌<◌, [], length, OnOk, OnErr};
 ghost use Rattle.std.specs.List.{flat_map};
@@ -12,8 +12,8 @@ use script_statement::{Bytes, Who};
 use std::alloc::Global;
 use std::mem;
 
-/// The bytes that an end gave at one event, none where none are kept. Their memory serves for those of the next event, where their
-/// line is written before.
+/// The bytes that an end sent at one event; empty if none are kept. Their memory serves for those of the next event if
+/// their line is written before.
 #[derive(Drop)]
 pub(crate) struct Sent {
     pub who: Who,
@@ -21,7 +21,7 @@ pub(crate) struct Sent {
 }
 
 impl Sent {
-    /// None.
+    /// Returns no bytes.
     pub fn new(alloc: Global) -> Sent
         ensures { result.bytes ≡ [] }
     {
@@ -31,7 +31,7 @@ impl Sent {
         }
     }
 
-    /// Puts their line behind the others, if there are any.
+    /// Appends their line to the others, if there are any.
     pub fn settle(&mut self, alloc: Global, lines: &mut Page) -> Result<(), NoMemory>
         ensures none { OnOk result (self.new.bytes ≡ []) }
         ensures lines { OnOk result (lines.new ≡ with_sent lines.old self.old) }
@@ -42,8 +42,8 @@ impl Sent {
         self.put_behind(alloc, lines)
     }
 
-    /// Puts their line behind the others. It isn't inlined, since an event that finds none would pay for the room that this one
-    /// takes on the stack.
+    /// Appends their line to the others. It isn't inlined, since an event that finds none would pay for its stack
+    /// space.
     #[cold]
     #[inline(never)]
     fn put_behind(&mut self, alloc: Global, lines: &mut Page) -> Result<(), NoMemory>
@@ -58,8 +58,8 @@ impl Sent {
         })
     }
 
-    /// Writes their line, if there are any, and drops them. `Failed` comes where the sink failed; then it holds a first part of
-    /// the line, and not all.
+    /// Writes their line, if there are any, and drops them. Returns `Failed` if the sink failed; then the sink holds
+    /// only a first part of the line.
     pub fn print<K: Sink>(&mut self, sink: &mut K) -> Result<(), Failed>
         ensures none { OnOk result (self.new.bytes ≡ []) }
         ensures ok { OnOk result (Put (K.held sink.old) (K.held sink.new) (flat_map line_text (sent_lines self.old.who self.old.bytes))) }

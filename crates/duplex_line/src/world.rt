@@ -1,4 +1,4 @@
-//! The world of a script: both ends, what is on its way between them, and what is told so far.
+//! The world of a script: both ends, what is on its way between them, and what was reported so far.
 
 ghost use Rattle.std.specs.Prelude.{◌≡◌, ◌≤◌, ◌++◌, [], IfOk, OnOk, OnErr, IsOk, IsTrue, None, Some, MatchOption};
 ghost use Rattle.std.specs.List.{flat_map};
@@ -21,7 +21,7 @@ use script_statement::Who;
 use std::alloc::Global;
 use std::marker::Model;
 
-/// Two ends with their nodes, and the bytes on their way between them. After want of memory it is only dropped.
+/// Two ends with their nodes, and the bytes on their way between them. After want of memory it may only be dropped.
 #[derive(Drop)]
 pub struct DuplexWorld {
     alloc: Global,
@@ -50,7 +50,7 @@ impl Model for DuplexWorld {
 }
 
 impl DuplexWorld {
-    /// The world before the first event of a script.
+    /// Returns the world before the first event of a script.
     pub fn new(alloc: Global, script: &Script) -> Result<DuplexWorld, NoMemory>
         requires { IsPlayable script.now }
         ensures { IfOk result (λ world. world ≡ begun script.now) }
@@ -71,7 +71,7 @@ impl DuplexWorld {
         })
     }
 
-    /// Does an event: one that may happen, at the end a or b, which issues at most 65,535 commands; the sum of the
+    /// Performs an event that may happen, at the end a or b, which issues at most 65,535 commands; the sum of the
     /// events, with this one, is at most 5,000,000. Takes, deliveries and losses end at the first that has nothing to
     /// do. Losing and altering take no memory. It is inlined, since an event may be one byte alone.
     #[inline(always)]
@@ -105,7 +105,7 @@ impl DuplexWorld {
         }
     }
 
-    /// The initiator of an end: None exactly where the line has no such end, which is anyone but a and b.
+    /// Returns the initiator of an end; None for every end other than a and b.
     pub fn initiator(&self, who: Who) -> Option<&Initiator>
         ensures { MatchOption result (initiator_of self.now.state who ≡ None) (λ initiator. initiator_of self.now.state who ≡ Some initiator.now) }
     {
@@ -116,8 +116,8 @@ impl DuplexWorld {
         }
     }
 
-    /// Writes the lines of the report that stand since the last such call, and drops them. `Failed` comes where the sink
-    /// failed; then it holds a first part of their text, and not all, and the world is only dropped.
+    /// Writes the lines of the report that were added since the last such call, and drops them. Returns `Failed` if the
+    /// sink failed: then the sink holds only a first part of their text, and the world may only be dropped.
     pub fn print_lines<K: Sink>(&mut self, sink: &mut K) -> Result<(), Failed>
         ensures state { OnOk result (self.new ≡ printed self.old) }
         ensures ok { OnOk result (Put (K.held sink.old) (K.held sink.new) (flat_map line_text self.old.lines)) }
@@ -131,7 +131,7 @@ impl DuplexWorld {
         self.sent.print(sink)
     }
 
-    /// The record of what happened: the lines, the words that aren't 0, and how often an end was deceived.
+    /// Returns the record of what happened: the lines, the words that aren't 0, and how often an end was deceived.
     pub fn finish(self) -> Result<Record, NoMemory>
         ensures { IfOk result (λ r. r ≡ record_from self.state self.lines) }
     {
@@ -150,7 +150,7 @@ impl DuplexWorld {
         })
     }
 
-    /// The words of both ends that aren't 0.
+    /// Returns the words of both ends that aren't 0.
     fn words(&self) -> Result<Words, NoMemory>
         ensures { IfOk result (λ words. words ≡ all_words self.now.state) }
     {
@@ -161,7 +161,7 @@ impl DuplexWorld {
     }
 }
 
-/// The end at which an event happens, or from which its bytes come.
+/// Returns the end at which an event happens, or from which its bytes come.
 fn place(event: &Event) -> Who
     ensures { result ≡ who_of event.now }
 {
@@ -174,7 +174,7 @@ fn place(event: &Event) -> Who
     }
 }
 
-/// How many events an event counts.
+/// Returns how many events an event counts.
 fn count(event: &Event) -> u32
     requires { IsPossible event.now }
     ensures { result ≡ count_of event.now }

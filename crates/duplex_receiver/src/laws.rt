@@ -1,4 +1,4 @@
-//! What holds of every list of things heard. The functions do nothing.
+//! What holds of every list of decoded items. The functions do nothing.
 
 ghost use Rattle.std.specs.Prelude.{◌≡◌, ◌∷◌, ◌++◌, [], ℕ, List, map, if◌then◌else◌};
 ghost use Rattle.df1_base.specs.declared.link.Act.{Act};
@@ -9,7 +9,7 @@ ghost use Rattle.duplex_receiver.specs.Hearing.{Hears, act_after, accepted_of, i
 
 use df1_check::Check;
 
-/// The things heard at the bytes of a line are the answers of the grammar at the one split of all these bytes.
+/// The items decoded at the bytes of a line are the answers of the grammar at the one split of all these bytes.
 pub fn hears_what_the_grammar_answers(check: Check)
     ensures { (N : ℕ) (bytes : List ℕ) (hearings : List Hearing) → Hears check N bytes hearings
         → ReadOff (full_duplex check N) bytes (answers (full_duplex check N)) (map (λ h. h.heard) hearings) }

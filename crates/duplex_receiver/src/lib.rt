@@ -1,16 +1,16 @@
-//! The full-duplex receiver: a decoder of the line joined with the filter for repeats, over any host.
+//! The full-duplex receiver: a decoder of the line joined with the duplicate filter, over any host.
 //!
-//! | Heard | Act | Response |
+//! | Received | Act | Response |
 //! |---|---|---|
 //! | a good frame whose key is the kept key | repeat | ACK |
 //! | another good frame, room | accept; the key is kept | ACK |
 //! | another good frame, no room | refuse; the key isn't kept | NAK |
 //! | a frame that is damaged: wrong check, too short, too long, broken off | damaged | NAK |
-//! | a frame given up for a new one | forgot | none; the last response becomes NAK |
+//! | a frame abandoned for a new one | forgot | none; the last response becomes NAK |
 //! | ACK, NAK, ENQ | the peer's ACK, NAK, ENQ | at ENQ the last response again |
 //! | a stray byte or pair, or nothing | nothing | none |
 //!
-//! The last response is NAK at first. The host is asked for room only where the key isn't the kept one (manual topic:
+//! The last response is NAK at first. The host is asked for room only if the key isn't the kept one (manual topic:
 //! full-duplex protocol).
 #![tactic(auto)]
 
@@ -55,7 +55,7 @@ impl<const N: usize> Model for Receiver<N> {
 }
 
 impl<const N: usize> Receiver<N> {
-    /// A receiver that has heard nothing and keeps no key, of a line with this check.
+    /// Returns a receiver that has received nothing and keeps no key, of a line with this check.
     pub fn new(check: Check) -> Self
         requires { N ≤ 250 }
         ensures value { result ≡ record { decoding = record { check = check; standing = Outside }; kept = None } }
@@ -67,9 +67,9 @@ impl<const N: usize> Receiver<N> {
         }
     }
 
-    /// Takes a byte, and says what the receiver makes of it, in constant time. At Accept the host has room for the body,
-    /// which is lent until the next byte; to hand it over and to answer as the table says is the end's part. It is inlined,
-    /// since at most bytes there is nothing to do.
+    /// Takes a byte, and returns what the receiver makes of it, in constant time. At Accept the host has room for the
+    /// body, which is lent until the next byte; the end has to hand it over and to answer as the table says. It is
+    /// inlined, since at most bytes there is nothing to do.
     #[inline(always)]
     pub fn on_byte<H: Host>(&mut self, b: u8, host: &H) -> Act
         ensures state { self.new ≡ after_byte (H.room_for host.now) N self.old b }
@@ -86,8 +86,8 @@ impl<const N: usize> Receiver<N> {
         act_on(&mut self.filter, heard, self.decoder.body(), host)
     }
 
-    /// The body of the frame that ended at the last byte, at most N bytes, whether it is good, too short or with a wrong
-    /// check; empty after every other byte.
+    /// Returns the body of the frame that ended at the last byte, at most N bytes, whether it is good, too short or
+    /// with a wrong check; otherwise empty.
     pub fn body(&self) -> &[u8]
         ensures body { result.now ≡ body_at self.now }
         ensures fits { length result.now ≤ N }
@@ -98,7 +98,7 @@ impl<const N: usize> Receiver<N> {
     }
 }
 
-/// What is made of something heard, with the body that is lent there.
+/// Returns what is made of a decoded item, with the body that is lent there.
 #[inline(always)]
 fn act_on<H: Host>(filter: &mut Filter, heard: Option<Heard>, body: &[u8], host: &H) -> Act
     requires { heard ≡ Some Heard.Good → IsBody body.now }
@@ -119,8 +119,8 @@ fn act_on<H: Host>(filter: &mut Filter, heard: Option<Heard>, body: &[u8], host:
     }
 }
 
-/// A message with the kept key is a repeat; another is accepted, and its key kept, where there is room, else refused. It
-/// isn't inlined, since few bytes end a message.
+/// Judges a message: one with the kept key is a repeat; another is accepted, and its key kept, if there is room, and
+/// refused otherwise. It isn't inlined, since few bytes end a message.
 #[inline(never)]
 fn judge<H: Host>(filter: &mut Filter, body: &[u8], host: &H) -> Act
     requires { IsBody body.now }

@@ -15,7 +15,7 @@ use script_parts::{Event, Lane, WordOf};
 use script_statement::{Bytes, EndLetter, EndName, SetupStatement, Statement, Verb};
 
 impl DuplexReader {
-    /// Takes a statement, and answers its event, if it is one.
+    /// Accepts a statement, and returns its event, if it is one.
     pub(crate) fn apply(&mut self, statement: Statement) -> Result<Option<Event>, NoMemory>
         ensures { IfOk result (λ event. the_draft self.old statement ≡ (self.new, event)) }
     {
@@ -30,8 +30,8 @@ impl DuplexReader {
         }
     }
 
-    /// Takes a statement that says what happens `n` times at an end or at its queue, as `take` takes it: its event is
-    /// `times_event`. False comes exactly where the sum of events would pass its most, and then nothing is changed.
+    /// Accepts a statement of what happens `n` times at an end or at its queue, as by `take`: its event is
+    /// `times_event`. Returns false exactly if the sum of events would exceed its maximum; then nothing changes.
     pub fn take_times(&mut self, n: u32) -> bool
         ensures taken { result ≡ true → (side : End) (verb : Happening) → after_statement self.old (Statement.Times side verb (Some n)) ≡ Ok (self.new, Some (the_times side verb n)) }
         ensures refused { result ≡ false → (side : End) (verb : Happening) → after_statement self.old (Statement.Times side verb (Some n)) ≡ Err TheFlaw.Events }
@@ -46,7 +46,7 @@ impl DuplexReader {
         true
     }
 
-    /// Takes a statement that gives the first value of a word, as `take` takes it; it is no event.
+    /// Accepts a statement that sets the first value of a word, as by `take`; it is no event.
     pub fn take_word(
         &mut self,
         side: EndLetter,
@@ -75,8 +75,8 @@ impl DuplexReader {
         Ok(())
     }
 
-    /// Takes a statement that issues a command with this payload at an end, as `take` takes it, and answers its event. The flaw is
-    /// Spent where the end may issue no more, and else Events where the sum of events would pass its most.
+    /// Accepts a statement that issues a command with this payload at an end, as by `take`, and returns its event. The
+    /// flaw is Spent if the end may issue no more, and otherwise Events if the sum of events would exceed its maximum.
     pub fn take_issue(&mut self, side: EndLetter, payload: Bytes) -> Result<Event, Flaw>
         ensures { MatchResult result (λ event. after_statement self.old (Statement.Issue side (Some payload)) ≡ Ok (self.new, Some event))
             (λ flaw. after_statement self.old (Statement.Issue side (Some payload)) ≡ Err flaw) }
@@ -93,7 +93,7 @@ impl DuplexReader {
         Ok(self.command(side, None, payload))
     }
 
-    /// Takes a statement that is a line of an end.
+    /// Accepts a statement that is a line of an end.
     fn take_line(&mut self, statement: Statement) -> Result<(), NoMemory>
         requires { the_setup_test statement ≡ true }
         ensures { OnOk result (self.new ≡ settled self.old statement) }
@@ -104,7 +104,7 @@ impl DuplexReader {
         Ok(())
     }
 
-    /// Takes a line of an end. A file and a word alone take memory.
+    /// Accepts a line of an end. Only a file and a word take memory.
     #[inline(never)]
     fn set_up(&mut self, end: EndName, line: SetupStatement) -> Result<(), NoMemory>
         ensures { OnOk result (self.new ≡ settled self.old (Statement.Setup end line)) }
@@ -116,7 +116,7 @@ impl DuplexReader {
         }
     }
 
-    /// What a statement that is no line of an end changes beside the stage and the sum of events.
+    /// Applies what a statement that is no line of an end changes besides the stage and the sum of events.
     fn settle(&mut self, statement: &Statement)
         requires { the_setup_test statement.now ≡ false }
         ensures { self.new ≡ settled self.old statement.now }
@@ -140,7 +140,7 @@ impl DuplexReader {
         }
     }
 
-    /// The event that a statement is.
+    /// Returns the event of a statement.
     fn event_of(&self, statement: Statement) -> Option<Event>
         ensures { result ≡ the_event self.now statement }
     {
@@ -173,7 +173,7 @@ impl DuplexReader {
         }
     }
 
-    /// The event that issues a command at an end, for the other one, in the name of a source or else in its own.
+    /// Returns the event that issues a command at an end, for the other one, with this SRC or otherwise with its own.
     fn command(&self, side: EndLetter, src: Option<u8>, payload: Bytes) -> Event
         ensures { result ≡ the_command self.now side src payload }
     {
@@ -185,7 +185,8 @@ impl DuplexReader {
         }
     }
 
-    /// The event that issues a command at an end in the name of a source, where its source and its payload are there.
+    /// Returns the event that issues a command at an end with an explicit SRC, if its source and its payload are
+    /// present.
     fn command_from(
         &self,
         side: EndLetter,
@@ -197,7 +198,7 @@ impl DuplexReader {
         Some(self.command(side, Some(src?), payload?))
     }
 
-    /// The address of an end.
+    /// Returns the address of an end.
     fn address_of(&self, side: EndLetter) -> u8
         ensures { result ≡ the_address self.now side }
     {
@@ -208,14 +209,14 @@ impl DuplexReader {
     }
 }
 
-/// Whether a statement is a line of an end.
+/// Returns whether a statement is a line of an end.
 fn sets_up(statement: &Statement) -> bool
     ensures { result ≡ the_setup_test statement.now }
 {
     matches!(statement, Statement::Setup { .. })
 }
 
-/// The event that happens `n` times at an end, or at its queue.
+/// Returns the event that happens `n` times at an end, or at its queue.
 pub fn times_event(side: EndLetter, verb: Verb, n: u32) -> Event
     ensures { result ≡ the_times side verb n }
 {
@@ -233,7 +234,7 @@ pub fn times_event(side: EndLetter, verb: Verb, n: u32) -> Event
     }
 }
 
-/// The queue of an end.
+/// Returns the queue of an end.
 fn lane_of(side: EndLetter) -> Lane
     ensures { result ≡ lane_from side }
 {

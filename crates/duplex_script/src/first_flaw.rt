@@ -8,7 +8,7 @@ use end_settings::Role;
 use script_statement::{EndName, Statement};
 
 impl DuplexReader {
-    /// The first flaw that a statement has, in the order of the flaws.
+    /// Returns the first flaw that a statement has, in the order of the flaws.
     pub(crate) fn flaw_of(&self, statement: &Statement) -> Option<Flaw>
         ensures { result ≡ the_flaw self.now statement.now }
     {
@@ -29,7 +29,8 @@ impl DuplexReader {
         }
     }
 
-    /// It names an end or an event that full duplex hasn't, a key that isn't for its ends, or a file that isn't declared.
+    /// Returns whether the statement names an end or an event that full duplex hasn't, a key that isn't for its ends,
+    /// or a file that isn't declared.
     fn is_missing(&self, statement: &Statement) -> bool
         ensures { result ≡ the_missing self.now statement.now }
     {
@@ -44,7 +45,8 @@ impl DuplexReader {
         }
     }
 
-    /// A number, a word or a length is out of its range, or a compatibility file is of another type than bit or integer.
+    /// Returns whether a number, a word or a length is out of its range, or a compatibility file is of another type
+    /// than bit or integer.
     fn is_out_of_range(&self, statement: &Statement) -> bool
         ensures { result ≡ the_range_test self.now statement.now }
     {
@@ -63,7 +65,7 @@ impl DuplexReader {
         }
     }
 
-    /// An earlier line gave the key, the file or the word.
+    /// Returns whether an earlier line set the key, the file or the word.
     fn is_twice(&self, statement: &Statement) -> bool
         ensures { result ≡ the_twice self.now statement.now }
     {
@@ -77,7 +79,7 @@ impl DuplexReader {
         }
     }
 
-    /// It is a command of an end that may issue no more.
+    /// Returns whether the statement is a command of an end that may issue no more.
     fn is_spent(&self, statement: &Statement) -> bool
         ensures { result ≡ the_spent self.now statement.now }
     {
@@ -90,7 +92,7 @@ impl DuplexReader {
     }
 }
 
-/// A statement may not stand here.
+/// Returns whether a statement may not stand here.
 fn is_misplaced(stage: Stage, statement: &Statement) -> bool
     ensures { result ≡ the_misplaced stage statement.now }
 {
@@ -102,7 +104,7 @@ fn is_misplaced(stage: Stage, statement: &Statement) -> bool
     }
 }
 
-/// How many events a statement counts.
+/// Returns how many events a statement counts.
 pub(crate) fn steps_of(statement: &Statement) -> usize
     ensures { result ≡ the_steps statement.now }
 {

@@ -11,13 +11,13 @@ use script_parts::{Ends, Event, Events, Script};
 use script_statement::{EVENTS, EndLetter, Items, Statement, Who};
 use std::alloc::Global;
 
-/// The address of end a, where no line sets it.
+/// The address of end a, if no line sets it.
 pub(crate) const NODE_OF_A: u8 = 0;
 
-/// The address of end b, where no line sets it.
+/// The address of end b, if no line sets it.
 pub(crate) const NODE_OF_B: u8 = 1;
 
-/// A reader of statements, which keeps what they say but for the events. After a fault it is only dropped.
+/// A reader of statements, which keeps what they say except the events. After a fault it may only be dropped.
 #[derive(Drop)]
 pub struct DuplexReader {
     pub stage: Stage,
@@ -28,7 +28,7 @@ pub struct DuplexReader {
 }
 
 impl DuplexReader {
-    /// A reader of which no statement was fed.
+    /// Returns a reader that was fed no statement.
     pub fn new(alloc: Global) -> Self
         ensures { result ≡ fresh }
     {
@@ -41,8 +41,8 @@ impl DuplexReader {
         }
     }
 
-    /// Takes the next statement, and answers its event, if it is one. Where something is wrong with it, the first flaw is
-    /// told. One that is refused takes no memory.
+    /// Accepts the next statement, and returns its event, if it is one. If something is wrong with the statement,
+    /// returns the first flaw; then it takes no memory.
     pub fn take(&mut self, statement: Statement) -> Result<Option<Event>, StatementFault>
         ensures refused { (flaw : TheFlaw) → after_statement self.old statement ≡ Err flaw → result ≡ Err (StatementFault.Flawed flaw) }
         ensures value { MatchResult result (λ event. after_statement self.old statement ≡ Ok (self.new, event))
@@ -54,7 +54,7 @@ impl DuplexReader {
         }
     }
 
-    /// What is known of an end.
+    /// Returns what is known of an end.
     pub(crate) fn end(&self, side: EndLetter) -> &EndDraft
         ensures { result.now ≡ the_end self.now side }
     {
@@ -64,7 +64,7 @@ impl DuplexReader {
         }
     }
 
-    /// The script of the statements so far, but for its events.
+    /// Returns the script of the statements so far, without its events.
     pub fn setup(&self, alloc: Global) -> Result<Script, NoMemory>
         ensures { IfOk result (λ script. script ≡ script_with self.now []) }
     {
@@ -77,7 +77,7 @@ impl DuplexReader {
     }
 }
 
-/// The plans of the ends a and b.
+/// Returns the plans of the ends a and b.
 fn ends_of(alloc: Global, a: &EndDraft, b: &EndDraft) -> Result<Ends, NoMemory>
     ensures { IfOk result (λ ends. ends ≡ the_ends a.now b.now) }
 {

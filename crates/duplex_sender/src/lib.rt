@@ -1,17 +1,17 @@
-//! The full-duplex sender: what one message goes through until it is delivered or given up.
+//! The full-duplex sender: what happens to one message until it is delivered or given up.
 //!
-//! | Heard while waiting | What happens |
+//! | Received while waiting | What happens |
 //! |---|---|
 //! | ACK | delivered; idle |
 //! | NAK, fewer than `max_naks` counted | counted; the frame is sent again |
 //! | NAK, `max_naks` counted | undelivered; idle |
 //! | a tick, more than one left | one fewer left |
-//! | the last tick, fewer than `max_enqs` counted | counted; an ENQ is wished; `ack_ticks` left again |
+//! | the last tick, fewer than `max_enqs` counted | counted; an ENQ becomes pending; `ack_ticks` left again |
 //! | the last tick, `max_enqs` counted | undelivered; idle |
 //!
-//! A wait begins, with `ack_ticks` ticks left, when the last byte of the frame was taken. NAKs and ENQs are counted per
+//! A wait starts, with `ack_ticks` ticks left, when the last byte of the frame was taken. NAKs and ENQs are counted per
 //! message, from 0 when it is loaded; sending it again keeps the counts. While the sender is idle or sending, nothing
-//! that is heard and no tick changes it (manual topic: full-duplex protocol).
+//! that is received and no tick changes it (manual topic: full-duplex protocol).
 #![tactic(auto)]
 
 ghost use Rattle.std.specs.Prelude.{◌≡◌, ◌≤◌, length};
@@ -22,32 +22,32 @@ use arrayvec::ArrayVec;
 use df1_base::Fate;
 use std::marker::Model;
 
-/// How long a sender waits, and how often it tries.
+/// The limits of a sender: how long it waits, and how often it tries.
 #[derive(Clone, Copy, Debug, PartialEq, Eq)]
 pub struct Limits {
     /// The ticks of a wait for a response, at least 1.
     pub ack_ticks: u32,
-    /// How many NAKs are answered by sending a message again.
+    /// The maximum number of retransmissions of a message after a NAK.
     pub max_naks: u32,
-    /// How many ENQs are sent for a message.
+    /// The maximum number of ENQs for a message.
     pub max_enqs: u32,
 }
 
-/// Where a sender stands.
+/// The phase of a sender.
 #[derive(Clone, Copy, Debug, PartialEq, Eq)]
 pub enum Phase {
     /// It has no message.
     Idle,
-    /// The frame of its message is being given.
+    /// The frame of its message is being sent.
     Sending,
-    /// The frame was given, and no response to it was heard yet.
+    /// The frame was sent, and no response to it was received yet.
     Waiting,
 }
 
-/// What a tick did to a sender.
+/// The effect of a tick on a sender.
 #[derive(Clone, Copy, Debug, PartialEq, Eq)]
 pub enum SendTurn {
-    /// Nothing that is told.
+    /// Nothing to report.
     Still,
     /// The wait is over: the last response is to be asked for, by an ENQ.
     Ask,
@@ -82,7 +82,7 @@ impl Model for Sender {
 }
 
 impl Sender {
-    /// A sender without a message.
+    /// Returns a sender without a message.
     pub fn new(limits: Limits) -> Sender
         requires { 1 ≤ limits.ack_ticks }
         ensures { result ≡ idle limits }
@@ -94,7 +94,7 @@ impl Sender {
         }
     }
 
-    /// Where the sender stands.
+    /// Returns the phase of the sender.
     pub fn phase(&self) -> Phase
         ensures { result ≡ phase_of self.now }
     {
@@ -105,7 +105,7 @@ impl Sender {
         }
     }
 
-    /// The body of its message, at most 250 bytes, and empty where it is idle.
+    /// Returns the body of its message, at most 250 bytes, and empty if the sender is idle.
     pub fn body(&self) -> &[u8]
         ensures body { result.now ≡ body_of self.now }
         ensures fits { length result.now ≤ 250 }
@@ -116,7 +116,7 @@ impl Sender {
         }
     }
 
-    /// Gives a message of 6 to 250 bytes to an idle sender, which sends it from now on.
+    /// Loads a message of 6 to 250 bytes into an idle sender, which sends it from now on.
     pub fn load(&mut self, body: &[u8])
         requires idle { phase_of self.old ≡ Phase.Idle }
         requires body { IsBody body.now }
@@ -128,7 +128,7 @@ impl Sender {
         self.progress = Progress::Sending { naks: 0, enqs: 0 };
     }
 
-    /// The last byte of the frame was taken, and the wait for its response begins.
+    /// Starts the wait for a response; the last byte of the frame was taken.
     pub fn sent_last(&mut self)
         requires { phase_of self.old ≡ Phase.Sending }
         ensures { self.new ≡ sent_last self.old }
@@ -142,7 +142,7 @@ impl Sender {
         }
     }
 
-    /// An ACK was heard. The answer is Delivered exactly where the sender was waiting, and else None.
+    /// Takes an ACK. Returns Delivered exactly if the sender was waiting, and None otherwise.
     pub fn on_ack(&mut self) -> Option<Fate>
         ensures state { self.new ≡ on_ack self.old }
         ensures fate { result ≡ ack_fate self.old }
@@ -154,8 +154,8 @@ impl Sender {
         Some(Fate::Delivered)
     }
 
-    /// A NAK was heard. The answer is Undelivered exactly where the sender was waiting and had counted `max_naks` before,
-    /// and else None.
+    /// Takes a NAK. Returns Undelivered exactly if the sender was waiting and had counted `max_naks` before, and None
+    /// otherwise.
     pub fn on_nak(&mut self) -> Option<Fate>
         ensures state { self.new ≡ on_nak self.old }
         ensures fate { result ≡ nak_fate self.old }
@@ -175,8 +175,8 @@ impl Sender {
         }
     }
 
-    /// A tick has passed. The answer is Ask or Failed exactly at the last tick of a wait, with fewer than `max_enqs`
-    /// counted before or with `max_enqs`, and else Still.
+    /// Takes a tick. Returns Ask or Failed exactly at the last tick of a wait: Ask with fewer than `max_enqs` counted
+    /// before, Failed with `max_enqs`. Returns Still otherwise.
     pub fn on_tick(&mut self) -> SendTurn
         ensures state { self.new ≡ on_tick self.old }
         ensures turn { result ≡ tick_turn self.old }

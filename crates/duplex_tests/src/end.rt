@@ -1,4 +1,4 @@
-//! One end with a host that has one message to send and takes every message.
+//! Tests of one end with a host that has one message to send and accepts every message.
 use arrayvec::ArrayVec;
 use df1_base::{Act, Did, Fate, Host, News, Turn};
 use df1_check::Check;
@@ -148,7 +148,7 @@ pub(crate) fn end_with_embedding() -> End<OneCommand> {
     )
 }
 
-/// The end gives these bytes.
+/// Checks that the end sends these bytes.
 fn gives(rt: &impl Abort, end: &mut End<OneCommand>, bytes: &[u8]) {
     for b in bytes {
         assert!(rt; !end.quiet());
@@ -157,7 +157,7 @@ fn gives(rt: &impl Abort, end: &mut End<OneCommand>, bytes: &[u8]) {
     }
 }
 
-/// The act at the last of these bytes, with the host's news.
+/// Returns the act at the last of these bytes, with the host's news.
 fn hears(end: &mut End<OneCommand>, bytes: &[u8]) -> (Act, Option<Did>, News) {
     let mut last = (Act::Nothing, None, News::Nothing);
     for b in bytes {

@@ -1,4 +1,4 @@
-//! Tests of an end of a full-duplex line and of its parts: sender, receiver, the order of what it gives.
+//! Tests of an end of a full-duplex line and of its parts: sender, receiver, the order of the bytes that it sends.
 #![tactic(auto)]
 
 #[cfg(test)]

@@ -1,4 +1,4 @@
-//! What a receiver makes of the things it hears, beside a host with and without room.
+//! Tests of a receiver's acts on the items that it decodes, beside a host with and without room.
 use arrayvec::ArrayVec;
 use df1_base::{Act, Did, Fate, Host, News};
 use df1_check::Check;
@@ -106,7 +106,7 @@ const FRAME: [u8; 19] = [
     0x10, 0x03, 0x6D,
 ];
 
-/// The act at the last of the bytes.
+/// Returns the act at the last of the bytes.
 fn last_act(receiver: &mut Receiver<250>, bytes: &[u8], host: &Gate) -> Act {
     let mut act = Act::Nothing;
     for b in bytes {

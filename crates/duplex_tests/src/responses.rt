@@ -1,4 +1,4 @@
-//! Which byte goes out next, with responses in frames and without.
+//! Tests of which byte is sent next, with responses inside frames and without.
 use df1_base::{Out, Resp};
 use df1_check::Check;
 use embedded_response::Mouth;
@@ -6,7 +6,7 @@ use std::process::Abort;
 
 const BODY: [u8; 8] = [0x01, 0x00, 0x06, 0x00, 0x01, 0x00, 0x00, 0x55];
 
-// A byte that goes out, with the number 1 where it is the frame's last, or a byte of the body.
+// Returns a byte that is sent, with the number 1 if it is the frame's last, or a byte of the body.
 fn out(byte: u8, last: bool, body: bool) -> Option<Out> {
     Some(Out {
         byte,

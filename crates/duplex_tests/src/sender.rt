@@ -1,4 +1,4 @@
-//! Messages that are delivered and given up, at small limits.
+//! Tests of messages that are delivered and given up, at small limits.
 use df1_base::Fate;
 use duplex_sender::{Limits, Phase, SendTurn, Sender};
 

@@ -1,11 +1,11 @@
-//! An end over ports.
+//! Tests of an end over ports.
 use crate::end::{COMMAND_FRAME, REPLY_FRAME, end_with_embedding};
 use df1_base::{BytesIn, BytesOut, FeedPort, PortMem, Signal};
 use duplex_end::{Served, serve};
 use std::alloc::Global;
 use std::test::Fail;
 
-/// Signals, the calls of `next` and of `put` that fail, how a serving of them ends, and how many bytes of the command's
+/// Signals, the calls of `next` and of `put` that fail, the result of serving them, and how many bytes of the command's
 /// frame were put.
 #[derive(Drop)]
 struct Case {
@@ -69,7 +69,7 @@ fn what_is_given_is_put_until_the_port_stops(rt: HostRuntime) -> Result<(), Fail
 
 #[test]
 fn a_raw_line_is_answered_at_each_byte(rt: HostRuntime) -> Result<(), Fail> {
-    // The command goes out at the first byte; the reply is acknowledged, and then an ENQ is answered so too.
+    // The command is sent at the first byte; the reply is acknowledged, and then an ENQ is answered in the same way.
     let mut line = Vec::new(rt.alloc());
     line.extend_from_slice(&[0x10, 0x06])?;
     line.extend_from_slice(&REPLY_FRAME)?;

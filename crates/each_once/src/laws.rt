@@ -3,20 +3,21 @@ ghost use Rattle.std.specs.Prelude.{◌≡◌, ℕ, List, All, slice_index};
 ghost use Rattle.each_once.specs.BySource.{AreOnceOf, AreAllOf};
 ghost use Rattle.each_once.specs.Direction.{Happening, direction_after, AreSomeOf};
 
-/// A law: whatever happens to the bytes and whatever responses the sender hears, the accepted messages are some of those
-/// that were taken up, in their order, each taking up once at most (manual topic: message packets).
+/// A law: whatever happens to the bytes and whatever responses the sender receives, the accepted messages are some of
+/// those that were taken up, in their order, each one at most once (manual topic: message packets).
 pub fn accepted_messages_were_taken_up()
     ensures { (happenings : List Happening) → AreSomeOf (direction_after happenings).accepted (direction_after happenings).taken_up }
 {}
 
-/// A law: where all commands are of one source, what is some of those of each source in order is some of all, in order: no
+/// A law: if all commands are of one source, some of those of each source in order are some of all, in order: no
 /// command overtakes another.
 pub fn commands_of_one_source_stay_in_order()
     ensures { (some all : List (List ℕ)) (source : ℕ) → All (λ body. slice_index body 1 ≡ source) all → AreOnceOf some all
         → AreSomeOf some all }
 {}
 
-/// A law: where all commands are of one source, what is all of them, those of each source in order, is the list of them.
+/// A law: if all commands are of one source, what is all of them, with those of each source in order, is the list of
+/// them.
 pub fn all_commands_of_one_source_are_the_list()
     ensures { (some all : List (List ℕ)) (source : ℕ) → All (λ body. slice_index body 1 ≡ source) all → AreAllOf some all
         → some ≡ all }

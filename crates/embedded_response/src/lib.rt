@@ -1,14 +1,15 @@
-//! Which byte an end of a full-duplex link gives next, and the responses that stand inside a frame.
+//! `Mouth`, the transmitter of a full-duplex end: which byte it sends next, and the responses that stand inside a
+//! frame.
 //!
-//! The first of these that is there is given:
+//! It sends the first of these that is there:
 //!
-//! 1. the second byte of a pair whose first was given;
-//! 2. inside a frame, a response that waits, where embedding is on and the last unit had a gap;
+//! 1. the second byte of a pair whose first was sent;
+//! 2. inside a frame, a response that waits, if embedding is on and the last unit had a gap;
 //! 3. inside a frame, its next unit;
 //! 4. a response that waits;
-//! 5. an ENQ that is wished.
+//! 5. an ENQ that is pending.
 //!
-//! A newer response replaces one that still waits. NAK is given as 10 15 (manual topic: full-duplex protocol).
+//! A newer response replaces one that still waits. NAK is sent as 10 15 (manual topic: full-duplex protocol).
 #![tactic(auto)]
 
 ghost use Rattle.std.specs.Prelude.{◌≡◌, ◌≤◌, ◌↔◌, [], length, not, is_none, if◌then◌else◌, IsNone, IsSome, IsTrue, None, Some, ◌+◌};
@@ -20,7 +21,7 @@ use df1_check::Check;
 use df1_frame::{Framer, Unit};
 use std::marker::Model;
 
-/// What an end has to give, byte by byte.
+/// The transmitter: what an end has to send, byte by byte.
 #[derive(Drop)]
 pub struct Mouth {
     check: Check,
@@ -46,7 +47,8 @@ impl Model for Mouth {
 }
 
 impl Mouth {
-    /// A mouth with nothing to give, whose frames have this check. Where `embed` is off, responses wait for a frame's end.
+    /// Returns a transmitter with nothing to send, whose frames have this check. If `embed` is off, responses wait for
+    /// a frame's end.
     pub fn new(check: Check, embed: bool) -> Mouth
         ensures { result ≡ nothing check embed }
     {
@@ -85,21 +87,21 @@ impl Mouth {
         self.waiting = Some(self.last);
     }
 
-    /// Wishes for an ENQ.
+    /// Makes an ENQ pending.
     pub fn ask(&mut self)
         ensures { self.new ≡ ask self.old }
     {
         self.asking = true;
     }
 
-    /// Drops the wish for an ENQ.
+    /// Drops the pending ENQ.
     pub fn unask(&mut self)
         ensures { self.new ≡ unask self.old }
     {
         self.asking = false;
     }
 
-    /// Begins the frame of a body of at most 250 bytes, where no frame is begun. Its transmission has the next number;
+    /// Starts the frame of a body of at most 250 bytes, when no frame is started. Its transmission has the next number;
     /// the number stops at the last value of u64.
     pub fn frame(&mut self, body: &[u8])
         requires none_begun { self.old.left ≡ [] }
@@ -111,7 +113,7 @@ impl Mouth {
         self.begun = self.begun.saturating_add(1);
     }
 
-    /// Whether a frame is begun and not ended.
+    /// Returns whether a frame is started and not ended.
     pub fn in_frame(&self) -> bool
         ensures value { result ≡ is_begun self.now }
         ensures begun { IsTrue (not result) ↔ (self.now.left ≡ []) }
@@ -119,7 +121,7 @@ impl Mouth {
         !self.framer.done()
     }
 
-    /// Whether nothing is to be given. At most 511 bytes are.
+    /// Returns whether nothing is to be sent. At most 511 bytes are left.
     #[tactic(auto, using(crate::proofs::GivingLemmas::chosen_none, crate::proofs::GivingLemmas::taken_none))]
     #[inline(always)]
     pub fn idle(&self) -> bool
@@ -131,8 +133,8 @@ impl Mouth {
         self.second.is_none() && ended && self.waiting.is_none() && !self.asking
     }
 
-    /// Gives the next byte: None exactly where no half-given pair, response, ENQ or frame is left. It is inlined, since a byte
-    /// that is handed over in memory costs more than all else here.
+    /// Returns the next byte: None exactly if no half-sent pair, response, ENQ or frame is left. It is inlined, since a
+    /// byte that is returned in memory costs more than all else here.
     #[inline(always)]
     pub fn take(&mut self) -> Option<Out>
         ensures after { self.new ≡ (take self.old).0 }
@@ -160,13 +162,13 @@ impl Mouth {
     }
 }
 
-/// Each byte that is given leaves one fewer, and none is given exactly where none is left.
+/// Each byte that is returned leaves one fewer, and none is returned exactly if none is left.
 pub fn each_take_counts()
     ensures fewer { (g : Giving) → IsSome (take g).1 → bytes_left g ≡ bytes_left (take g).0 + 1 }
     ensures none { (g : Giving) → IsNone (take g).1 ↔ (bytes_left g ≡ 0) }
 {}
 
-/// Takes the response that waits, where it may be given.
+/// Takes the response that waits, if it may be sent.
 #[inline(always)]
 fn take_if(waiting: &mut Option<Resp>, may: bool) -> Option<Resp>
     ensures taken { result ≡ (if may then waiting.old else None) }
@@ -175,7 +177,7 @@ fn take_if(waiting: &mut Option<Resp>, may: bool) -> Option<Resp>
     if may { waiting.take() } else { None }
 }
 
-/// Gives the first byte of a pair without marks, and keeps the second.
+/// Returns the first byte of a pair without marks, and keeps the second.
 #[inline(always)]
 fn begin_pair(second: &mut Option<u8>, code: u8) -> Out
     ensures out { result ≡ plain 16 }
@@ -185,7 +187,7 @@ fn begin_pair(second: &mut Option<u8>, code: u8) -> Out
     unmarked(DLE)
 }
 
-/// Gives the first byte of a unit, and keeps the second of a pair, where none is kept.
+/// Returns the first byte of a unit, and keeps the second of a pair, when none is kept.
 #[inline(always)]
 fn begin_unit(second: &mut Option<u8>, unit: Unit, number: u64) -> Out
     requires { second.old ≡ None }

@@ -25,12 +25,12 @@ pub struct EndDraft {
     pub block: Option<Bytes>,
     pub files: GivenFiles,
     pub words: GivenWords,
-    /// How many commands it may still issue.
+    /// The number of commands it may still issue.
     pub commands_left: u32,
 }
 
 impl EndDraft {
-    /// An end of which no line told anything.
+    /// Returns an end of which no line said anything.
     pub fn new(alloc: Global) -> Self
         ensures { result ≡ fresh_end }
     {
@@ -44,7 +44,7 @@ impl EndDraft {
         }
     }
 
-    /// Whether a line names a key that an end of this kind hasn't, or a file that isn't declared.
+    /// Returns whether a line names a key that an end of this kind hasn't, or a file that isn't declared.
     pub fn lacks(&self, role: Role, line: &SetupStatement) -> bool
         ensures { result ≡ the_lacks role self.now line.now }
     {
@@ -58,8 +58,8 @@ impl EndDraft {
         }
     }
 
-    /// Whether a number, a word or a length of a line is out of its range, or a compatibility file is of another type than
-    /// bit or integer.
+    /// Returns whether a number, a word or a length of a line is out of its range, or a compatibility file is of
+    /// another type than bit or integer.
     pub fn exceeds(&self, line: &SetupStatement) -> bool
         ensures { result ≡ the_exceeds self.now line.now }
     {
@@ -79,7 +79,7 @@ impl EndDraft {
         }
     }
 
-    /// Whether an earlier line gave the key, the file or the word.
+    /// Returns whether an earlier line set the key, the file or the word.
     pub fn repeats(&self, line: &SetupStatement) -> bool
         ensures { result ≡ the_repeats self.now line.now }
     {
@@ -97,7 +97,7 @@ impl EndDraft {
         }
     }
 
-    /// Takes a line of the end `who`. Where there is no memory for it, the draft is only dropped.
+    /// Accepts a line of the end `who`. If there is no memory for it, the draft may only be dropped.
     pub fn take(&mut self, who: Who, line: SetupStatement) -> Result<(), NoMemory>
         ensures { OnOk result (self.new ≡ with_line who self.old line) }
     {
@@ -121,9 +121,9 @@ impl EndDraft {
         Ok(())
     }
 
-    /// Takes a line that gives the first value of a word, as `take` takes it, if nothing is wrong with it. Else the first flaw
-    /// is told: `Missing` where no line declares the file, `Value` where the file hasn't the word, `Twice` where an earlier line
-    /// gave the word. One that is refused takes no memory.
+    /// Accepts a line that sets the first value of a word, as by `take`, if nothing is wrong with it. Otherwise returns
+    /// the first flaw: `Missing` if no line declares the file, `Value` if the file hasn't the word, `Twice` if an
+    /// earlier line set the word. A refused line takes no memory.
     pub fn take_word(&mut self, word: WordOf) -> Result<(), StatementFault>
         ensures refused { (flaw : TheFlaw) → after_word self.old word ≡ Err flaw → result ≡ Err (StatementFault.Flawed flaw) }
         ensures value { MatchResult result (λ _. after_word self.old word ≡ Ok self.new) (λ fault. IsFlawed fault (after_word self.old word)) }
@@ -147,21 +147,21 @@ impl EndDraft {
         self.commands_left = self.commands_left.saturating_sub(1);
     }
 
-    /// The address of the end, which is `standard` where no line sets it.
+    /// Returns the address of the end, which is `standard` if no line sets it.
     pub fn node(&self, standard: u8) -> u8
         ensures { result ≡ the_node self.now standard }
     {
         self.settings.chosen(Key::Node, standard) as u8
     }
 
-    /// The declared file that a line names.
+    /// Returns the declared file that a line names.
     fn declared(&self, file: Option<u16>) -> Option<FileSpec>
         ensures { result ≡ the_declared self.now file }
     {
         self.files.file(file?)
     }
 
-    /// The plan of the end, whose address is `standard` where no line sets it.
+    /// Returns the plan of the end, whose address is `standard` if no line sets it.
     pub fn plan(&self, alloc: Global, who: Who, standard: u8) -> Result<EndPlan, NoMemory>
         ensures { IfOk result (λ plan. plan ≡ the_plan who standard self.now) }
     {
@@ -180,7 +180,7 @@ impl EndDraft {
     }
 }
 
-/// A copy of a block, which is empty where no line gives one.
+/// Returns a copy of a block, which is empty if no line sets one.
 fn block_of(alloc: Global, block: &Option<Bytes>) -> Result<Bytes, NoMemory>
     ensures { IfOk result (λ bytes. bytes ≡ unwrap_or block.now []) }
 {

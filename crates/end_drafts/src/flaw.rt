@@ -2,17 +2,18 @@
 
 use df1_base::NoMemory;
 
-/// What is wrong with a statement. Where several fit, the first of these is told.
+/// What is wrong with a statement. If several flaws fit, the first of these is reported.
 #[derive(Clone, Copy, Debug, PartialEq, Eq)]
 pub enum Flaw {
-    /// It may not stand here.
+    /// The statement may not stand here.
     Place,
-    /// It names an end that the mode hasn't, a station that no earlier line declares, a key that isn't for that end, or a file
-    /// that no earlier line declares.
+    /// The statement names an end that the mode hasn't, a station that no earlier line declares, a key that isn't for
+    /// that end, or a file that no earlier line declares.
     Missing,
-    /// A number, a word or a length is out of its range, or a compatibility file is of another type than bit or integer.
+    /// A number, a word or a length is out of its range, or a compatibility file is of another type than bit or
+    /// integer.
     Value,
-    /// An earlier line gave this key, file, station or word.
+    /// An earlier line set this key, file, station or word.
     Twice,
     /// It is the 65,536th command of an end.
     Spent,

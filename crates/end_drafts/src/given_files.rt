@@ -1,4 +1,4 @@
-//! Data files, in the order in which they were declared, and which numbers they have.
+//! Data files, in the order of their declarations, and which numbers they have.
 ghost use Rattle.std.specs.Prelude.{◌≡◌, ◌<◌, ◌^◌, ◌==◌, [], ◌∷◌, ◌++◌, ℕ, None, Some, IfOk, OnOk, OnErr, find, length, slice_index_or, if◌then◌else◌};
 ghost use Rattle.std.specs.List.{list_any};
 
@@ -30,7 +30,7 @@ impl Model for GivenFiles {
 }
 
 impl GivenFiles {
-    /// No files.
+    /// Returns no files.
     pub fn new(alloc: Global) -> Self
         ensures { result ≡ [] }
     {
@@ -40,28 +40,28 @@ impl GivenFiles {
         }
     }
 
-    /// How many files there are.
+    /// Returns how many files there are.
     pub fn len(&self) -> usize
         ensures { result ≡ length self.now }
     {
         self.files.len()
     }
 
-    /// The first file of this number.
+    /// Returns the first file of this number.
     pub fn file(&self, number: u16) -> Option<FileSpec>
         ensures { result ≡ find (λ spec. spec.number == number) self.now }
     {
         first_at(&self.numbers, usize::from(number))
     }
 
-    /// Whether a file has this number.
+    /// Returns whether a file has this number.
     pub fn has(&self, number: u16) -> bool
         ensures { result ≡ list_any (λ spec. spec.number == number) self.now }
     {
         self.file(number).is_some()
     }
 
-    /// Puts a file at the end. Where there is no memory for it, the files are unchanged.
+    /// Appends a file. Without memory for it, the files are unchanged.
     pub fn push(&mut self, spec: FileSpec) -> Result<(), NoMemory>
         ensures ok { OnOk result (self.new ≡ self.old ++ spec ∷ []) }
         ensures err { OnErr result (self.new ≡ self.old) }
@@ -77,7 +77,7 @@ impl GivenFiles {
         }
     }
 
-    /// A copy of the files, as a list.
+    /// Returns a copy of the files, as a list.
     pub fn copied(&self, alloc: Global) -> Result<Specs, NoMemory>
         ensures { IfOk result (λ files. files ≡ self.now) }
     {
@@ -85,7 +85,7 @@ impl GivenFiles {
     }
 }
 
-/// The file that stands at a number of a table, if one does.
+/// Returns the file at a number of a table, if there is one.
 fn first_at(numbers: &[Option<FileSpec>], number: usize) -> Option<FileSpec>
     ensures { result ≡ slice_index_or numbers.now number None }
 {

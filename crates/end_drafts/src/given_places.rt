@@ -1,4 +1,4 @@
-//! Which places have been given, of words of an end: a table with a mark for each.
+//! Which places of words of an end have been set: a table with a mark for each.
 ghost use Rattle.std.specs.Prelude.{◌≡◌, ◌+◌, ◌<◌, ◌≤◌, ◌^◌, ◌==◌, ◌||◌, ℕ, [], map, false, slice_index_or, vec_len, OnOk, OnErr};
 ghost use Rattle.end_drafts.specs.Places.{AreSame, HasMore, is_marked};
 
@@ -6,7 +6,8 @@ use df1_base::NoMemory;
 use std::alloc::Global;
 use std::marker::Model;
 
-/// Places: the number of a file, and the index of a word in it. Contracts see a row for each file, with a mark for each word.
+/// Places: the number of a file, and the index of a word in it. Contracts see a row for each file, with a mark for each
+/// word.
 #[derive(Drop)]
 pub(crate) struct GivenPlaces {
     alloc: Global,
@@ -22,7 +23,7 @@ impl Model for GivenPlaces {
 }
 
 impl GivenPlaces {
-    /// No places.
+    /// Returns no places.
     pub fn new(alloc: Global) -> Self
         ensures { result ≡ [] }
     {
@@ -32,7 +33,7 @@ impl GivenPlaces {
         }
     }
 
-    /// Whether a place was given.
+    /// Returns whether a place was set.
     pub fn has(&self, file: u16, index: u32) -> bool
         ensures { result ≡ is_marked self.now file index }
     {
@@ -42,7 +43,7 @@ impl GivenPlaces {
         }
     }
 
-    /// Gives a place. Where there is no memory for its mark, the same places are given as before.
+    /// Marks a place as set. Without memory for its mark, the same places are set as before.
     pub fn give(&mut self, file: u16, index: u32) -> Result<(), NoMemory>
         ensures ok { OnOk result (HasMore self.old self.new file index) }
         ensures err { OnErr result (AreSame self.old self.new) }
@@ -54,7 +55,7 @@ impl GivenPlaces {
     }
 }
 
-/// Whether the mark of an index is set.
+/// Returns whether the mark of an index is set.
 fn is_set(row: &[bool], index: usize) -> bool
     ensures { result ≡ slice_index_or row.now index false }
 {
@@ -64,7 +65,7 @@ fn is_set(row: &[bool], index: usize) -> bool
     }
 }
 
-/// Adds rows without marks until there are so many.
+/// Adds rows without marks up to this count.
 fn add_rows(rows: &mut Vec<Vec<bool>>, alloc: Global, count: usize) -> Result<(), NoMemory>
     ensures reached { OnOk result (count ≤ vec_len rows.new) }
     ensures same { AreSame (map (λ row. row.items) rows.old.items) (map (λ row. row.items) rows.new.items) }

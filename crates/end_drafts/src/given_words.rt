@@ -1,4 +1,4 @@
-//! First values of words, in the order in which they were given, and which places they have.
+//! First values of words, in the order in which they were set, and which places they have.
 ghost use Rattle.std.specs.Prelude.{◌≡◌, [], ◌∷◌, ◌++◌, IfOk, OnOk, OnErr};
 ghost use Rattle.std.specs.List.{list_any};
 ghost use Rattle.end_drafts.specs.Places.{is_at};
@@ -10,7 +10,7 @@ use script_statement::Items;
 use std::alloc::Global;
 use std::marker::Model;
 
-/// Words of one end, which contracts see as a list; a look-up of a place doesn't go over the list.
+/// Words of one end, which contracts see as a list; a look-up of a place doesn't scan the list.
 #[derive(Drop)]
 pub struct GivenWords {
     words: Vec<WordOf>,
@@ -31,7 +31,7 @@ impl Model for GivenWords {
 }
 
 impl GivenWords {
-    /// No words.
+    /// Returns no words.
     pub fn new(alloc: Global) -> Self
         ensures { result ≡ [] }
     {
@@ -41,14 +41,14 @@ impl GivenWords {
         }
     }
 
-    /// Whether a value was given for this word of this file.
+    /// Returns whether a value was set for this word of this file.
     pub fn has(&self, file: u16, index: u32) -> bool
         ensures { result ≡ list_any (is_at file index) self.now }
     {
         self.places.has(file, index)
     }
 
-    /// Puts a word at the end. Where there is no memory for it, the words are unchanged.
+    /// Appends a word. Without memory for it, the words are unchanged.
     pub fn push(&mut self, word: WordOf) -> Result<(), NoMemory>
         ensures ok { OnOk result (self.new ≡ self.old ++ word ∷ []) }
         ensures err { OnErr result (self.new ≡ self.old) }
@@ -63,7 +63,7 @@ impl GivenWords {
         }
     }
 
-    /// A copy of the words, as a list.
+    /// Returns a copy of the words, as a list.
     pub fn copied(&self, alloc: Global) -> Result<Words, NoMemory>
         ensures { IfOk result (λ words. words ≡ self.now) }
     {

@@ -1,5 +1,5 @@
-//! What the lines of a script say of one end, in either mode: its settings, its compatibility file, its block, its data
-//! files and the first values of its words; what may be wrong with a further line, and the plan that they make.
+//! What the lines of a script say of one end, in either mode: its settings, compatibility file, block, data files and
+//! the first values of its words; what may be wrong with a further line, and the plan that they make.
 #![tactic(auto)]
 
 mod end_draft;

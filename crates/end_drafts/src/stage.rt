@@ -4,21 +4,21 @@ ghost use Rattle.end_drafts.specs.Stages.{is_fresh as the_fresh_test, is_set_up 
 
 use script_statement::Statement;
 
-/// What kinds of lines were there.
+/// The kinds of lines so far.
 #[derive(Clone, Copy, Debug, PartialEq, Eq)]
 pub enum Stage {
-    /// No line of a form was there.
+    /// No line of a form so far.
     Fresh,
-    /// Settings, stations, files and words were there, and no event.
+    /// Settings, stations, files and words so far, and no event.
     Settings,
-    /// An event was there.
+    /// An event so far.
     Events,
-    /// `end` was there.
+    /// `end` so far.
     Ended,
 }
 
 impl Stage {
-    /// The stage after a statement.
+    /// Returns the stage after a statement.
     pub fn after(statement: &Statement) -> Stage
         ensures { result ≡ stage_after statement.now }
     {
@@ -37,14 +37,14 @@ impl Stage {
         }
     }
 
-    /// Whether no line of a form was there.
+    /// Returns whether there was no line of a form.
     pub fn is_fresh(self) -> bool
         ensures { result ≡ the_fresh_test self }
     {
         matches!(self, Stage::Fresh)
     }
 
-    /// Whether an event was there, or `end`, so that no setting, station, file or word may follow.
+    /// Returns whether there was an event, or `end`, so that no setting, station, file or word may follow.
     pub fn is_set_up(self) -> bool
         ensures { result ≡ the_set_up_test self }
     {

@@ -1,4 +1,4 @@
-//! The keys of an end, and the table with a row for each. Another key is a variant, a place in `KEYS`, and a row.
+//! The keys of an end, and the table with a row for each. A new key needs a variant, a place in `KEYS`, and a row.
 ghost use Rattle.std.specs.Prelude.{◌≡◌};
 ghost use Rattle.end_settings.specs.Table.{key_named, row_of};
 
@@ -11,31 +11,31 @@ pub enum Key {
     AckTicks,
     /// Whether responses may stand inside messages.
     Embed,
-    /// ENQs after which a message is given up.
+    /// The number of ENQs after which a message is given up.
     MaxEnqs,
-    /// NAKs at which a message is sent again, and the next gives it up.
+    /// The maximum number of retransmissions after a NAK.
     MaxNaks,
-    /// Sendings again of a master's message.
+    /// The maximum number of retransmissions of a master's message.
     MaxResends,
-    /// Sendings of a slave's message.
+    /// The maximum number of transmissions of a slave's message.
     MaxSends,
-    /// Its address, DST of what is sent to it.
+    /// Its address: DST of what is sent to it.
     Node,
-    /// How many commands of one source may be out.
+    /// The number of commands of one source that may be outstanding.
     PerSource,
-    /// Ticks until a poll counts as not answered.
+    /// Ticks until a poll counts as unanswered.
     PollTicks,
     /// Ticks until a command counts as unanswered.
     ReplyTicks,
-    /// How many replies may wait.
+    /// The number of replies that may wait.
     Room,
     /// TNS of its first command.
     Tns,
-    /// How many commands may be out.
+    /// The number of commands that may be outstanding.
     Window,
 }
 
-/// How many keys there are.
+/// The number of keys.
 pub(crate) const COUNT: usize = 13;
 
 /// All keys, in the order of the names' bytes.
@@ -55,13 +55,13 @@ pub const KEYS: [Key; COUNT] = [
     Key::Window,
 ];
 
-/// The highest count of ticks.
+/// The maximum number of ticks.
 const TICKS: u32 = 1_000_000;
 
-/// The most commands that an end may have out.
+/// The maximum number of outstanding commands of an end.
 const OUT: u32 = 16;
 
-/// An end of a full-duplex link alone.
+/// Only an end of a full-duplex link.
 const DUPLEX: Roles = Roles {
     duplex: true,
     master: false,
@@ -77,7 +77,7 @@ const ISSUERS: Roles = Roles {
     routed_station: true,
 };
 
-/// The ends that are no station: an address is set, and ticks are counted, at these alone.
+/// The ends that aren't stations: only they have an address setting and count ticks.
 const NO_STATION: Roles = Roles {
     duplex: true,
     master: true,
@@ -85,7 +85,7 @@ const NO_STATION: Roles = Roles {
     routed_station: false,
 };
 
-/// A master alone.
+/// Only a master.
 const MASTER: Roles = Roles {
     duplex: false,
     master: true,
@@ -93,7 +93,7 @@ const MASTER: Roles = Roles {
     routed_station: false,
 };
 
-/// A station alone.
+/// Only a station.
 const STATION: Roles = Roles {
     duplex: false,
     master: false,
@@ -109,7 +109,7 @@ const ALL: Roles = Roles {
     routed_station: true,
 };
 
-/// What the table says of a key.
+/// The contents of a key's row.
 #[derive(Clone, Copy)]
 struct Row {
     name: &'static str,
@@ -135,7 +135,7 @@ impl Row {
 }
 
 impl Key {
-    /// The table.
+    /// Returns its row of the table.
     fn row(self) -> Row
         ensures name { result.name.now ≡ (row_of self).name }
         ensures roles { result.roles ≡ (row_of self).roles }
@@ -171,28 +171,28 @@ impl Key {
         self.row().name
     }
 
-    /// Which kinds of end have it.
+    /// Returns the kinds of end that have it.
     pub fn roles(self) -> Roles
         ensures { result ≡ (row_of self).roles }
     {
         self.row().roles
     }
 
-    /// The values that it may have.
+    /// Returns the values that it may have.
     pub fn values(self) -> Values
         ensures { result ≡ (row_of self).values }
     {
         self.row().values
     }
 
-    /// Its value where nothing sets it.
+    /// Returns its default, its value if nothing sets it.
     pub fn first(self) -> First
         ensures { result ≡ (row_of self).first }
     {
         self.row().first
     }
 
-    /// The key of a name.
+    /// Returns the key of a name.
     pub fn named(name: &[u8]) -> Option<Key>
         ensures { result ≡ key_named name.now }
     {
@@ -202,7 +202,7 @@ impl Key {
     }
 }
 
-/// The numbers from the least to the most.
+/// Returns the numbers from the least to the most.
 fn number(least: u32, most: u32) -> Values
     ensures { result ≡ Values.Number least most }
 {

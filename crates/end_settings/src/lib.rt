@@ -1,5 +1,5 @@
-//! The keys of an end, each with one row of a table: its name, the kinds of end that have it, its values and its first one;
-//! and the settings that lines of a script or a plan give.
+//! The keys of an end, each with one row of a table: its name, the kinds of end that have it, its values and its
+//! default; and the settings in the lines of a script or a plan.
 #![tactic(auto)]
 
 mod key;

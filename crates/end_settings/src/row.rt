@@ -1,4 +1,4 @@
-//! What a row of the table of keys says.
+//! The contents of a row of the table of keys.
 ghost use Rattle.std.specs.Prelude.{◌≡◌};
 ghost use Rattle.end_settings.specs.Rows.{first_in, fitting as the_fitting, is_of as the_test};
 
@@ -15,7 +15,7 @@ pub enum Role {
     RoutedStation,
 }
 
-/// Which kinds of end have a key.
+/// The kinds of end that have a key.
 #[derive(Clone, Copy, Debug, PartialEq, Eq)]
 pub struct Roles {
     pub duplex: bool,
@@ -25,7 +25,7 @@ pub struct Roles {
 }
 
 impl Roles {
-    /// Whether an end of this kind is among them.
+    /// Returns whether an end of this kind is among them.
     pub fn has(self, role: Role) -> bool
         ensures { result ≡ the_test role self }
     {
@@ -38,7 +38,7 @@ impl Roles {
     }
 }
 
-/// The values that a key may have, which all are numbers.
+/// The values that a key may have, all of them numbers.
 #[derive(Clone, Copy, Debug, PartialEq, Eq)]
 pub enum Values {
     /// `off` and `on`, which are 0 and 1.
@@ -48,7 +48,7 @@ pub enum Values {
 }
 
 impl Values {
-    /// The number, where it is one of these values.
+    /// Returns the number if it is one of these values.
     pub fn fitting(self, number: Option<u32>) -> Option<u32>
         ensures { result ≡ the_fitting self number }
     {
@@ -63,7 +63,7 @@ impl Values {
     }
 }
 
-/// What the value of a key is at first, where nothing sets it.
+/// The default of a key, its value if nothing sets it.
 #[derive(Clone, Copy, Debug, PartialEq, Eq)]
 pub enum First {
     /// The address that the end has at first.
@@ -73,7 +73,7 @@ pub enum First {
 }
 
 impl First {
-    /// The value, of an end that has this address at first.
+    /// Returns the value, for an end that has this address at first.
     pub fn value(self, address: u8) -> u32
         ensures { result ≡ first_in address self }
     {

@@ -7,15 +7,15 @@ ghost use Rattle.end_settings.specs.Given.{chosen as the_chosen, no_settings, va
 use crate::key::{COUNT, Key};
 use std::marker::Model;
 
-/// A key, with the value that it is to have: None where what was told is none of its values.
+/// A key, with the value that it is to have: None if what was given is none of its values.
 #[derive(Clone, Copy, Debug, PartialEq, Eq)]
 pub struct Setting {
     pub key: Key,
     pub value: Option<u32>,
 }
 
-/// The settings of an end: of each key a value that it may have, or None where none was given. Contracts see the values in the
-/// order of the keys.
+/// The settings of an end: for each key a value that it may have, or None if none was given. Contracts see the values
+/// in the order of the keys.
 #[derive(Drop)]
 pub struct Settings {
     values: [Option<u32>; COUNT],
@@ -33,7 +33,7 @@ impl Model for Settings {
 }
 
 impl Settings {
-    /// No settings.
+    /// Creates settings with no values.
     pub fn new() -> Self
         ensures { result ≡ no_settings }
     {
@@ -42,7 +42,7 @@ impl Settings {
         }
     }
 
-    /// The value that was given to a key.
+    /// Returns the value that was given to a key.
     pub fn value(&self, key: Key) -> Option<u32>
         ensures value { result ≡ value_of self.now key }
         ensures fits { IfFits (row_of key).values result }
@@ -50,14 +50,15 @@ impl Settings {
         self.values[key as usize]
     }
 
-    /// Takes a setting. A number that is none of the key's values counts as None.
+    /// Stores a setting. A number that is none of the key's values counts as None.
     pub fn set(&mut self, setting: Setting)
         ensures { self.new ≡ with_setting self.old setting }
     {
         self.values[setting.key as usize] = setting.key.values().fitting(setting.value);
     }
 
-    /// The value of a key: the one that was given, else that at first, of an end that has this address at first.
+    /// Returns the value of a key: the one that was given, otherwise its default, for an end that has this address at
+    /// first.
     pub fn chosen(&self, key: Key, address: u8) -> u32
         ensures value { result ≡ the_chosen self.now address key }
         ensures fits { Fits (row_of key).values result }

@@ -1,12 +1,12 @@
-//! A script that is cut before its `end` is whole is refused.
+//! A test that a script that is cut before its `end` is complete is refused.
 use df1_base::{BytesIn, BytesOut};
 use df1_shelf::ShelfMem;
 use df1_tool::run;
 use std::process::Abort;
 use std::test::Fail;
 
-/// A line of the script: its text; after how many of its bytes what is there is a statement, and what is written then; what is written for the
-/// whole line.
+/// A line of the script: its text; the lengths at which its beginning is a statement, each with what is written then;
+/// what is written for the whole line. whole line.
 type Line = (&'static str, &'static [(usize, &'static str)], &'static str);
 
 const LINES: [Line; 5] = [
@@ -49,7 +49,7 @@ const LINES: [Line; 5] = [
     ("en", &[], ""),
 ];
 
-/// What is written for a line of which so many bytes are there, and whether they are a statement.
+/// Returns what is written for the first `count` bytes of a line, or None if they are not a statement.
 fn cut_to(statements: &[(usize, &'static str)], count: usize) -> Option<&'static str> {
     for (at, told) in statements {
         if *at == count {

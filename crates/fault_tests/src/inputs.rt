@@ -1,9 +1,9 @@
-//! Each read of a run in turn fails.
+//! A test in which each read of a run in turn fails.
 use crate::runs::{CHECK, DISSECT, Failing, ISSUE, POLLED, REPLAY, Run};
 use std::process::Abort;
 use std::test::Fail;
 
-/// Where read number k fails, k - 1 bytes were taken, and what they have written is written.
+/// Checks that if read number k fails, k - 1 bytes were taken, and what they cause to be written is written.
 fn each_read_fails<R: Abort + AllocGlobal>(rt: &R, of: &Run) -> Result<(), Fail> {
     let input = of.input(rt.alloc())?;
     for taken in 0..input.len() + 1 {

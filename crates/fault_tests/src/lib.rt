@@ -1,4 +1,5 @@
-//! Tests of devices that fail: each read and each write of a run in turn, inputs that are cut, and shelves and notes that fail.
+//! Tests of devices that fail: each read and each write of a run in turn, truncated inputs, and shelves and notes that
+//! fail.
 #![tactic(auto)]
 
 #[cfg(test)]

@@ -1,9 +1,9 @@
-//! Each write of a run in turn fails, and each write of its note.
+//! A test in which each write of a run in turn fails, and each write of its note.
 use crate::runs::{CHECK, DISSECT, Failing, ISSUE, POLLED, REPLAY, Run, VECTORS};
 use std::process::Abort;
 use std::test::Fail;
 
-/// A run where nothing fails writes all, and ends with its status and its note.
+/// Checks that a run in which nothing fails writes everything, and ends with its status and its note.
 fn nothing_fails<R: Abort + AllocGlobal>(rt: &R, of: &Run) -> Result<(), Fail> {
     let failing = Failing {
         read: 0,
@@ -17,7 +17,7 @@ fn nothing_fails<R: Abort + AllocGlobal>(rt: &R, of: &Run) -> Result<(), Fail> {
     Ok(())
 }
 
-/// Where write number k fails, the first k - 1 bytes are written, and no write is tried again.
+/// Checks that if write number k fails, the first k - 1 bytes are written, and no write is retried.
 fn each_write_fails<R: Abort + AllocGlobal>(rt: &R, of: &Run) -> Result<(), Fail> {
     let all = of.all(rt.alloc())?;
     for count in 0..all.len() {

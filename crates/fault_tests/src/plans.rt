@@ -1,12 +1,12 @@
-//! A shelf that fails, and a plan that is too long.
+//! Tests of a shelf that fails, and of a plan that is too long.
 use df1_base::{BytesIn, BytesOut};
 use df1_shelf::ShelfMem;
 use df1_tool::run;
 use std::process::Abort;
 use std::test::Fail;
 
-/// Runs `serve p raw` over an enquiry and the plan `p` of so many bytes, a comment: status and note. Where `fails` is set, its fetch fails. The
-/// input and the output are as at entry.
+/// Runs `serve p raw` over an ENQ and the plan `p`, a comment of so many bytes, and compares status and note. If
+/// `fails` is set, reading the plan fails. The input and the output are unchanged.
 fn served<R: Abort + AllocGlobal>(
     rt: &R,
     size: usize,

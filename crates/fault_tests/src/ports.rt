@@ -1,4 +1,4 @@
-//! An end over a port, of which each call of `next` or of `put` in turn fails.
+//! Tests of an end over a port, of which each call of `next` or of `put` in turn fails.
 use df1_base::{FileType, PortMem, Signal};
 use df1_check::Check;
 use df1_node::{FileSpec, Node, NodeSetup, Station, Tables};
@@ -19,7 +19,7 @@ const REPLY: [u8; 15] = [
     0x10, 0x06, 0x10, 0x02, 0x00, 0x01, 0x4F, 0x00, 0x34, 0x12, 0x34, 0x12, 0x10, 0x03, 0x24,
 ];
 
-/// The end of node 1, with the word 1234 in N7:0.
+/// Returns the end of node 1, with the word 1234 in N7:0.
 fn end(alloc: Global) -> Result<End<Node>, Fail> {
     let file = FileSpec {
         number: 7,
@@ -50,7 +50,7 @@ fn end(alloc: Global) -> Result<End<Node>, Fail> {
     Ok(End::new(setup, node))
 }
 
-/// The signals of a raw line on which the command comes.
+/// Returns the signals of a raw line on which the command arrives.
 fn signals(alloc: Global) -> Result<Vec<Signal>, Fail> {
     let mut signals = Vec::new(alloc);
     for b in COMMAND {
@@ -63,7 +63,7 @@ fn signals(alloc: Global) -> Result<Vec<Signal>, Fail> {
 #[test]
 fn where_next_fails_all_that_was_given_is_put(rt: HostRuntime) -> Result<(), Fail> {
     let signals = signals(rt.alloc())?;
-    // The reply is given at the last drain, behind which the end of the signals comes.
+    // The reply is sent at the last drain, which is followed by the end of the signals.
     for call in 1..36u64 {
         let put = if call == 35 { 15 } else { 0 };
         let mut port = PortMem::new(rt.alloc(), &signals, 99, &[call], &[])?;

@@ -1,4 +1,5 @@
-//! Runs that end well where no device fails: what each part of the input has written once it is read, and what is written at the end.
+//! Runs that end well if no device fails: what is written once each part of the input is read, and what is written at
+//! the end.
 use df1_base::{BytesIn, BytesOut};
 use df1_shelf::ShelfMem;
 use df1_tool::{Ran, run};
@@ -8,7 +9,7 @@ use std::test::Fail;
 /// A part of an input, and what is written for it.
 pub(crate) type Part = (&'static [u8], &'static [u8]);
 
-/// A run: its words, the plan `p`, the parts of its input, what is written at the input's end, and the status.
+/// A run: its words, the plan `p`, the parts of its input, what is written at the input's end, the status and the note.
 #[derive(Clone, Copy, Drop)]
 pub(crate) struct Run {
     pub(crate) words: &'static [&'static str],
@@ -70,7 +71,7 @@ pub(crate) const POLLED: Run = Run {
     note: "",
 };
 
-/// A dissection of a stray byte, an ACK, a frame and the begin of another.
+/// A dissection of a stray byte, an ACK, a frame and the start of another.
 pub(crate) const DISSECT: Run = Run {
     words: &["dissect", "full", "bcc"],
     plan: "",
@@ -145,7 +146,7 @@ pub(crate) const VECTORS: Run = Run {
     note: "",
 };
 
-/// Which call of each device fails, if one does: 0 for none.
+/// The call of each device that fails, if one does: 0 for none.
 #[derive(Clone, Copy, Drop)]
 pub(crate) struct Failing {
     pub(crate) read: u64,
@@ -154,7 +155,7 @@ pub(crate) struct Failing {
 }
 
 impl Run {
-    /// The input, whole.
+    /// Returns the whole input.
     pub(crate) fn input(&self, alloc: Global) -> Result<Vec<u8>, Fail> {
         let mut input = Vec::new(alloc);
         for (bytes, _) in self.parts {
@@ -163,7 +164,7 @@ impl Run {
         Ok(input)
     }
 
-    /// What is written for the first bytes of the input, so many.
+    /// Returns what is written for the first `taken` bytes of the input.
     pub(crate) fn written(&self, alloc: Global, taken: usize) -> Result<Vec<u8>, Fail> {
         let mut written = Vec::new(alloc);
         let mut left = taken;
@@ -177,14 +178,14 @@ impl Run {
         Ok(written)
     }
 
-    /// What is written for the whole input.
+    /// Returns what is written for the whole input.
     pub(crate) fn all(&self, alloc: Global) -> Result<Vec<u8>, Fail> {
         let mut all = self.written(alloc, usize::MAX)?;
         all.extend_from_slice(self.last)?;
         Ok(all)
     }
 
-    /// The run of the program, one byte at a call, where these calls fail.
+    /// Runs the program, one byte per call, with these calls failing.
     pub(crate) fn ran(
         &self,
         alloc: Global,

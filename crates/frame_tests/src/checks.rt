@@ -1,4 +1,4 @@
-//! The checks of known bytes, whole and byte by byte.
+//! Tests of the checks of known bytes, at once and byte by byte.
 use df1_check::{CRC_TABLE, Check, Running, bcc, crc};
 
 #[test]

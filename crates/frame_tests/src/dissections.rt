@@ -1,4 +1,4 @@
-//! Captures of each side with their text and their counts, and the names of messages.
+//! Tests of captures of each side with their text and their counts, and of the names of messages.
 
 use df1_base::BytesOut;
 use df1_check::{Check, bcc};
@@ -7,10 +7,10 @@ use std::alloc::{AllocError, Global};
 use std::process::Abort;
 use std::test::Fail;
 
-/// The most bytes of a capture.
+/// The maximum length of a capture, in bytes.
 const LIMIT: u64 = 268_435_456;
 
-/// A capture: its side and check, its bytes, its text, and how many things are heard, are bad, and bytes are left.
+/// A capture: its side and check, its bytes, its text, and how many things are decoded, are bad, and bytes are left.
 struct Capture {
     side: Side,
     check: Check,
@@ -136,14 +136,15 @@ fn each_capture_has_its_text_and_its_counts(rt: HostRuntime) -> Result<(), Fail>
     Ok(())
 }
 
-/// Hears a piece.
+/// Decodes a piece.
 fn hear_piece(rt: &impl Abort, reader: &mut Reader, piece: &[u8]) {
     assert!(rt; reader.fed() <= 1000);
     assert!(rt; piece.len() <= 1000);
     reader.hear_all(piece);
 }
 
-/// Hears a capture in two pieces with an empty one between, and compares how many things are heard, are bad, and bytes left.
+/// Decodes a capture in two pieces with an empty one between, and compares how many things are decoded, are bad, and
+/// bytes are left.
 fn hear_in_pieces(
     rt: &impl Abort,
     reader: &mut Reader,
@@ -222,7 +223,7 @@ fn a_sink_that_fails_holds_a_first_part(rt: HostRuntime) -> Result<(), Fail> {
     Ok(())
 }
 
-/// CMD, and what follows TNS, and how the two are told.
+/// CMD, what follows TNS, and the text of the two.
 const NAMES: [(u8, &[u8], &str); 24] = [
     (0x06, b"\x00\xE2", "cmd=06 sts=00 tns=0001 echo 00E2"),
     (0x06, b"\x03", "cmd=06 sts=00 tns=0001 status 03"),
@@ -324,7 +325,7 @@ fn each_message_has_its_name(rt: HostRuntime) -> Result<(), Fail> {
     Ok(())
 }
 
-/// The frame of a message from station 0 to station 1, with TNS 1 and no byte that is DLE.
+/// Returns the frame of a message from station 0 to station 1, with TNS 1 and no byte that is DLE.
 fn frame_of(alloc: Global, cmd: u8, rest: &[u8]) -> Result<Vec<u8>, AllocError> {
     let mut body = Vec::from_slice(alloc, b"\x01\x00")?;
     body.push(cmd)?;

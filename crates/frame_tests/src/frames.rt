@@ -1,9 +1,9 @@
-//! Frames of either check, as they are heard and as they are given.
+//! Tests of frames of either check, decoded and encoded.
 use df1_check::Check;
 use df1_frame::{Decoder, Framer, Heard};
 use std::process::Abort;
 
-// Feeds the bytes, and compares what is heard, each with the place of its byte from 1. Lends the decoder.
+// Feeds the bytes, and compares the decoded items, each with the position of its byte from 1.
 fn hear(rt: &impl Abort, decoder: &mut Decoder<250>, bytes: &[u8], wanted: &[(usize, Heard)]) {
     let mut told = 0usize;
     for (place, b) in bytes.iter().enumerate() {
@@ -68,7 +68,7 @@ fn hears_responses_in_frames_and_restarts(rt: HostRuntime) {
     hear(&rt, &mut decoder, &bytes, &wanted);
 }
 
-// Feeds a frame of this many zero bytes, and answers what is heard at its last byte.
+// Feeds a frame of this many zero bytes, and returns what is decoded at its last byte.
 fn frame_of_zeros(rt: &impl Abort, len: u16) -> Option<Heard> {
     let mut decoder = Decoder::<250>::new(Check::Bcc);
     hear(rt, &mut decoder, &[0x10, 0x02], &[]);
@@ -112,7 +112,7 @@ fn takes_the_bytes_before_a_dle_at_once(rt: HostRuntime) {
     assert!(rt; decoder.body().is_empty());
 }
 
-// Feeds a frame of zero bytes in two runs of these lengths, and answers what is heard at its last byte.
+// Feeds a frame of zero bytes in two runs of these lengths, and returns what is decoded at its last byte.
 fn frame_of_runs(rt: &impl Abort, first: usize, second: usize) -> Option<Heard> {
     let zeros = [0x00; 250];
     assert!(rt; first <= 250);

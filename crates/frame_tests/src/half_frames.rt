@@ -1,9 +1,9 @@
-//! Messages, polls and pairs of a half-duplex line, as each side hears them and as they are given.
+//! Tests of messages, polls and pairs of a half-duplex line, as each side decodes and sends them.
 use df1_check::Check;
 use half_frame::{EOT, HalfFramer, MasterEar, MasterHeard, Sent, SlaveEar, SlaveHeard};
 use std::process::Abort;
 
-// Feeds a slave's ear the bytes, and compares what is heard, each with the place of its byte from 1.
+// Feeds a slave's decoder the bytes, and compares the decoded items, each with the position of its byte from 1.
 fn slave_hears(
     rt: &impl Abort,
     ear: &mut SlaveEar<250>,
@@ -20,7 +20,7 @@ fn slave_hears(
     assert_eq!(rt; told, wanted.len());
 }
 
-// The same of the master's ear.
+// Does the same with the master's decoder.
 fn master_hears(
     rt: &impl Abort,
     ear: &mut MasterEar<250>,
@@ -144,7 +144,7 @@ fn the_master_hears_messages_and_pairs(rt: HostRuntime) {
     master_hears(&rt, &mut ear, &bytes, &wanted);
 }
 
-// Gives a slave and the master a message of this many zero bytes, and answers what each hears at its last byte.
+// Feeds a slave and the master a message of this many zero bytes, and returns what each decodes at its last byte.
 fn messages_of_zeros(rt: &impl Abort, len: u16) -> (Option<SlaveHeard>, Option<MasterHeard>) {
     let mut slave = SlaveEar::<250>::new(Check::Bcc);
     let mut master = MasterEar::<250>::new(Check::Bcc);

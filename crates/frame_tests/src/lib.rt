@@ -1,4 +1,4 @@
-//! Tests of what stands on the line: the checks, the frames and messages of either kind of line, and the dissection of a
+//! Tests of the bytes on the line: the checks, the frames and messages of either kind of line, and the dissection of a
 //! capture.
 #![tactic(auto)]
 

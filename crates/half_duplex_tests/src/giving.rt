@@ -1,11 +1,11 @@
-//! What a half-duplex end gives, with the marks of its bytes.
+//! Tests of the bytes that a half-duplex end sends, with their marks.
 use df1_base::Out;
 use df1_check::Check;
 use half_frame::HalfFramer;
 use half_mouth::HalfMouth;
 use std::process::Abort;
 
-// Takes this byte, with the number 1 where it is the last of a transmission, or a byte of its body.
+// Takes this byte, with the number 1 if it is the last of a transmission, or a byte of its body.
 fn take_byte(rt: &impl Abort, mouth: &mut HalfMouth, byte: u8, last: bool, body: bool) {
     let out = Out {
         byte,

@@ -1,4 +1,4 @@
-//! Tests of the ends of a half-duplex line: a slave, the master, what either gives, and a router behind the master.
+//! Tests of the ends of a half-duplex line: a slave, the master, what they send, and a router behind the master.
 #![tactic(auto)]
 
 #[cfg(test)]

@@ -1,4 +1,5 @@
-//! A master with a host that has one message to send, for station 3, and takes every message while it has room.
+//! Tests of a master with a host that has one message to send, for station 3, and accepts every message while it has
+//! room.
 use arrayvec::ArrayVec;
 use df1_base::{Act, Did, Fate, Host, News, Out, Turn};
 use df1_check::Check;
@@ -32,7 +33,7 @@ const NAK: [u8; 2] = [0x10, 0x15];
 
 const EOT: [u8; 2] = [0x10, 0x04];
 
-/// A host that hands the command out once, takes messages while it has room, and tells each tick.
+/// A host that hands the command out once, accepts messages while it has room, and reports each tick.
 #[derive(Drop)]
 pub(crate) struct OneCommand {
     waits: bool,
@@ -145,7 +146,7 @@ impl Host for OneCommand {
     ghost bodies_at_clear = { λ _ _. tt };
 }
 
-/// Waits of two ticks, and a message is given again once.
+/// Waits of two ticks, and one retransmission of a message.
 const SETUP: MasterSetup = MasterSetup {
     check: Check::Bcc,
     ack_ticks: 2,
@@ -153,7 +154,7 @@ const SETUP: MasterSetup = MasterSetup {
     poll_ticks: 2,
 };
 
-/// A host with room and with no message out, which perhaps has one to send.
+/// Returns a host with room and no message outstanding, which may have one to send.
 pub(crate) fn host_of(waits: bool) -> OneCommand {
     OneCommand {
         waits,
@@ -162,22 +163,22 @@ pub(crate) fn host_of(waits: bool) -> OneCommand {
     }
 }
 
-/// A master of the stations 3 and 5, over a host.
+/// Returns a master of the stations 3 and 5, over a host.
 pub(crate) fn master_over<H: Host + Drop>(host: H) -> Master<H> {
     Master::new(SETUP, &[3, 5], host)
 }
 
-/// A master of the stations 3 and 5, over a host that perhaps has a message to send.
+/// Returns a master of the stations 3 and 5, over a host that may have a message to send.
 fn master_of_two(waits: bool) -> Master<OneCommand> {
     master_over(host_of(waits))
 }
 
-/// A master of no stations.
+/// Returns a master of no stations.
 fn master_of_none() -> Master<OneCommand> {
     Master::new(SETUP, &[], host_of(true))
 }
 
-/// The master gives these bytes, and then no more.
+/// Checks that the master sends these bytes, and then no more.
 pub(crate) fn gives<H: Host + Drop>(rt: &impl Abort, master: &mut Master<H>, bytes: &[u8]) {
     for b in bytes {
         assert!(rt; !master.quiet());
@@ -188,7 +189,7 @@ pub(crate) fn gives<H: Host + Drop>(rt: &impl Abort, master: &mut Master<H>, byt
     assert_eq!(rt; master.take(), None);
 }
 
-/// What the last of these bytes is told as, with what the host did and answered.
+/// Returns the act at the last of these bytes, with what the host did and answered.
 pub(crate) fn hears<H: Host + Drop>(
     master: &mut Master<H>,
     bytes: &[u8],
@@ -201,7 +202,7 @@ pub(crate) fn hears<H: Host + Drop>(
     last
 }
 
-/// What a tick is told as, with how many commands are unanswered from it on.
+/// Returns the turn at a tick, with the number of commands that are unanswered from it on.
 pub(crate) fn ticks<H: Host + Drop>(master: &mut Master<H>) -> (Turn, usize) {
     let mut gone = ArrayVec::new();
     gone.push(9);

@@ -1,5 +1,5 @@
-//! A router between the stations 3 and 5, over a host that has one message to send and takes every message while it has
-//! room: alone, call by call, and behind a master.
+//! Tests of a router between the stations 3 and 5, over a host that has one message to send and accepts every message
+//! while it has room: alone, call by call, and behind a master.
 ghost use Rattle.df1_base.specs.Host.{IsBody};
 
 use crate::master::{
@@ -29,12 +29,12 @@ enum Body {
     Carried,
     /// From station 3 for the inner host.
     Reply,
-    /// What the inner host has to send.
+    /// The message that the inner host has to send.
     Command,
 }
 
 impl Body {
-    /// Its bytes.
+    /// Returns the bytes of the body.
     fn bytes(self) -> &'static [u8]
         ensures { IsBody result.now }
     {
@@ -46,7 +46,7 @@ impl Body {
     }
 }
 
-/// A call of a router, with what it has to answer.
+/// A call of a router, with the expected answer.
 #[derive(Clone, Copy)]
 enum Call {
     /// There is no room for the body.
@@ -57,20 +57,20 @@ enum Call {
     Gives(Body),
     /// The router isn't ready, and hands out nothing.
     GivesNone,
-    /// The fate is answered so.
+    /// The router answers the fate with this news.
     Told(Fate, News),
-    /// The inner host's tick tells its command.
+    /// The inner host's tick reports its command.
     Tick,
     /// What waits is dropped.
     Clear,
 }
 
-/// A router between the stations 3 and 5, before a host that perhaps has a message to send.
+/// Returns a router between the stations 3 and 5, in front of a host that may have a message to send.
 fn router_of(waits: bool) -> Router<OneCommand> {
     Router::new(&[3, 5], host_of(waits))
 }
 
-/// The router answers the call so.
+/// Checks that the router answers the call as expected.
 fn answers(rt: &impl Abort, router: &mut Router<OneCommand>, call: Call) {
     match call {
         Call::Refuses(body) => assert!(rt; !router.has_room(body.bytes())),

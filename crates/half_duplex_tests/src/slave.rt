@@ -1,4 +1,4 @@
-//! A slave of station 3, over a host that has one reply to hand out and may have room.
+//! Tests of a slave of station 3, over a host that has one reply to hand out and may have room.
 use arrayvec::ArrayVec;
 use df1_base::{Act, Did, Fate, Host, News, Out, Step};
 use df1_check::Check;
@@ -34,7 +34,7 @@ const NAK: [u8; 2] = [0x10, 0x15];
 
 const EOT: [u8; 2] = [0x10, 0x04];
 
-/// A host that hands the reply out once, and executes each message that it takes.
+/// A host that hands the reply out once, and executes each message that it accepts.
 #[derive(Drop)]
 struct OneReply {
     waits: bool,
@@ -148,7 +148,7 @@ impl Host for OneReply {
     ghost bodies_at_clear = { λ _ _. tt };
 }
 
-/// A slave of station 3 whose host has the reply to hand out.
+/// Returns a slave of station 3 whose host has the reply to hand out.
 fn slave_with_reply(has_room: bool) -> Slave<OneReply> {
     Slave::new(
         SlaveSetup {
@@ -165,7 +165,7 @@ fn slave_with_reply(has_room: bool) -> Slave<OneReply> {
     )
 }
 
-/// The slave gives these bytes.
+/// Checks that the slave sends these bytes.
 fn gives(rt: &impl Abort, slave: &mut Slave<OneReply>, bytes: &[u8]) {
     for b in bytes {
         assert!(rt; !slave.quiet());
@@ -174,14 +174,14 @@ fn gives(rt: &impl Abort, slave: &mut Slave<OneReply>, bytes: &[u8]) {
     }
 }
 
-/// The slave gives these bytes, and then nothing.
+/// Checks that the slave sends these bytes, and then nothing.
 fn gives_all(rt: &impl Abort, slave: &mut Slave<OneReply>, bytes: &[u8]) {
     gives(rt, slave, bytes);
     assert!(rt; slave.quiet());
     assert_eq!(rt; slave.take(), None);
 }
 
-/// The step at the last of these bytes.
+/// Returns the step at the last of these bytes.
 fn hears(slave: &mut Slave<OneReply>, bytes: &[u8]) -> Step {
     let mut last = plain(Act::Nothing, News::Nothing);
     for b in bytes {
@@ -190,7 +190,7 @@ fn hears(slave: &mut Slave<OneReply>, bytes: &[u8]) -> Step {
     last
 }
 
-/// A step at which no whole message was heard.
+/// Returns a step at which no whole message was received.
 fn plain(act: Act, news: News) -> Step {
     Step {
         act,
@@ -224,7 +224,7 @@ fn each_sending_of_a_reply_is_a_transmission(rt: HostRuntime) {
     for number in 1..3 {
         hears(&mut slave, &POLL_3);
         for (place, b) in REPLY_MESSAGE.iter().enumerate() {
-            // The body is six bytes behind DLE STX, none of which is doubled.
+            // The body is the six bytes after DLE STX, none of which is doubled.
             let wanted = Out {
                 byte: *b,
                 last_of: (place + 1 == REPLY_MESSAGE.len()).then_some(number),
@@ -233,7 +233,7 @@ fn each_sending_of_a_reply_is_a_transmission(rt: HostRuntime) {
             assert_eq!(rt; slave.take(), Some(wanted));
         }
     }
-    // A response and EOT are none.
+    // A response and EOT are not transmissions.
     hears(&mut slave, &COMMAND_MESSAGE);
     for b in ACK {
         let wanted = Out {

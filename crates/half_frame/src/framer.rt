@@ -20,11 +20,12 @@ const MAX_BYTES: usize = 3 + 2 + 2 * MAX_BODY + 2 + 2;
 pub struct Sent {
     /// The byte.
     pub byte: u8,
-    /// It is by itself a byte of the body. Neither byte of a doubled DLE is.
+    /// Whether it is by itself a byte of the body. Neither byte of a doubled DLE is.
     pub of_body: bool,
 }
 
-/// A message, a poll or a pair under way. Contracts see the list of the bytes that are still to be given, with their marks.
+/// A message, a poll or a pair under way. Contracts see the list of the bytes that are still to be sent, with their
+/// marks.
 #[derive(Drop)]
 pub struct HalfFramer {
     bytes: ArrayVec<Sent, MAX_BYTES>,
@@ -41,7 +42,7 @@ impl Model for HalfFramer {
 }
 
 impl HalfFramer {
-    /// A master's message to the station `stn`, which is neither 16 nor 255, with a body of at most 250 bytes.
+    /// Returns a master's message to the station `stn`, which is neither 16 nor 255, with a body of at most 250 bytes.
     pub fn message(stn: u8, body: &[u8], check: Check) -> HalfFramer
         requires not_dle { stn ≢ 16 }
         requires not_all { stn ≢ 255 }
@@ -62,7 +63,7 @@ impl HalfFramer {
         HalfFramer { bytes, given: 0 }
     }
 
-    /// A master's poll of the station `stn`, which is neither 16 nor 255.
+    /// Returns a master's poll of the station `stn`, which is neither 16 nor 255.
     pub fn poll(stn: u8) -> HalfFramer
         requires not_dle { stn ≢ 16 }
         requires not_all { stn ≢ 255 }
@@ -76,7 +77,7 @@ impl HalfFramer {
         HalfFramer { bytes, given: 0 }
     }
 
-    /// A slave's message with a body of at most 250 bytes.
+    /// Returns a slave's message with a body of at most 250 bytes.
     pub fn reply(body: &[u8], check: Check) -> HalfFramer
         requires { length body.now ≤ 250 }
         ensures { result ≡ reply_sent check body.now }
@@ -86,7 +87,7 @@ impl HalfFramer {
         HalfFramer { bytes, given: 0 }
     }
 
-    /// A DLE and this code by themselves, as DLE ACK.
+    /// Returns a DLE and this code by themselves, as DLE ACK.
     pub fn pair(c: u8) -> HalfFramer
         ensures { result ≡ unmarked_of (pair_bytes c) }
     {
@@ -96,7 +97,7 @@ impl HalfFramer {
         HalfFramer { bytes, given: 0 }
     }
 
-    /// Gives the next byte: None exactly after the last.
+    /// Returns the next byte: None exactly after the last.
     pub fn next_byte(&mut self) -> Option<u8>
         ensures given { result ≡ slice_get (bytes_of self.old) 0 }
         ensures left { self.new ≡ drop 1 self.old }
@@ -107,7 +108,7 @@ impl HalfFramer {
         }
     }
 
-    /// Gives the next byte with its mark: None exactly after the last.
+    /// Returns the next byte with its mark: None exactly after the last.
     pub fn next_sent(&mut self) -> Option<Sent>
         ensures given { result ≡ slice_get self.old 0 }
         ensures left { self.new ≡ drop 1 self.old }
@@ -117,7 +118,7 @@ impl HalfFramer {
         Some(sent)
     }
 
-    /// Whether no byte is left. At most 509 bytes are.
+    /// Returns whether no byte is left. At most 509 bytes are left.
     pub fn done(&self) -> bool
         ensures done { IsTrue result ↔ (self.now ≡ []) }
         ensures most { length self.now ≤ 509 }
@@ -126,7 +127,8 @@ impl HalfFramer {
     }
 }
 
-/// Without their marks the bytes that are sent are those of the message, the poll or the pair. The function does nothing.
+/// Without their marks, the bytes that are sent are those of the message, the poll or the pair. The function does
+/// nothing.
 pub fn marks_change_no_byte(check: Check)
     ensures message { (stn : ℕ) (body : List ℕ) → bytes_of (message_sent check stn body) ≡ message_bytes check stn body }
     ensures reply { (body : List ℕ) → bytes_of (reply_sent check body) ≡ reply_bytes check body }

@@ -1,4 +1,4 @@
-//! What can be heard on a half-duplex line, by a slave and by the master, and the pairs that mean it.
+//! What can be decoded on a half-duplex line, by a slave and by the master, and the pairs that mean it.
 
 ghost use Rattle.std.specs.Prelude.{◌≡◌};
 ghost use Rattle.half_frame.specs.SlaveGrammar.{pair_heard as slave_pair_heard, poll_heard as heard_at_poll};
@@ -9,12 +9,12 @@ use df1_base::{ACK, NAK};
 use df1_check::bcc;
 use df1_frame::SHORT_NAK;
 
-/// What a slave hears at a byte of the master's.
+/// What a slave decodes at a byte of the master's.
 #[derive(Clone, Copy, Debug, PartialEq, Eq)]
 pub enum SlaveHeard {
     /// A message to this station, with a body of at least 6 bytes, for which there is room, and with the right check.
     Addressed(u8),
-    /// DLE SOH, this station and DLE STX: a message to it has begun.
+    /// DLE SOH, this station and DLE STX: a message to it has started.
     Header(u8),
     /// A poll of this station with the right BCC.
     Poll(u8),
@@ -32,7 +32,7 @@ pub enum SlaveHeard {
     StrayPair(u8),
 }
 
-/// What the master hears at a byte of a slave's.
+/// What the master decodes at a byte of a slave's.
 #[derive(Clone, Copy, Debug, PartialEq, Eq)]
 pub enum MasterHeard {
     /// A message with a body of at least 6 bytes, for which there is room, and with the right check.
@@ -51,7 +51,7 @@ pub enum MasterHeard {
     StrayPair(u8),
 }
 
-/// What a pair with this code, which begins nothing, says to a slave.
+/// Returns what a pair with this code, which starts nothing, says to a slave.
 pub(crate) fn slave_pair(code: u8) -> SlaveHeard
     ensures { result ≡ slave_pair_heard code }
 {
@@ -62,7 +62,7 @@ pub(crate) fn slave_pair(code: u8) -> SlaveHeard
     }
 }
 
-/// What a poll of this station with this BCC says to a slave.
+/// Returns what a poll of this station with this BCC says to a slave.
 pub(crate) fn poll(stn: u8, check: u8) -> SlaveHeard
     ensures { result ≡ heard_at_poll stn check }
 {
@@ -73,7 +73,7 @@ pub(crate) fn poll(stn: u8, check: u8) -> SlaveHeard
     }
 }
 
-/// What a pair with this code, which begins nothing, says to the master.
+/// Returns what a pair with this code, which starts nothing, says to the master.
 pub(crate) fn master_pair(code: u8) -> MasterHeard
     ensures { result ≡ master_pair_heard code }
 {

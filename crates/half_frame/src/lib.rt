@@ -2,12 +2,12 @@
 //!
 //! A master's message is DLE SOH, the station's number, DLE STX, the body with each DLE doubled, DLE ETX, and the
 //! check: one byte (BCC) or two (CRC-16, low byte first), never doubled. The check covers the station too, and the CRC
-//! STX and ETX. A poll is DLE ENQ, the station's number, and its BCC, whatever the line's check. A slave's message is
-//! DLE STX, the body, DLE ETX and the check, and no station stands in it. There are no responses inside a message.
+//! also STX and ETX. A poll is DLE ENQ, the station's number, and its BCC, whatever the line's check. A slave's message
+//! is DLE STX, the body, DLE ETX and the check, without a station. There are no responses inside a message.
 //!
-//! What a slave hears of the master's bytes, and what the master hears of the slaves', are two grammars: every list of
-//! bytes splits in exactly one way into items of each and an unfinished front of one. Inside a message a pair that
-//! begins an item ends the message as damaged, and begins that item.
+//! What a slave decodes of the master's bytes, and what the master decodes of the slaves', are two grammars: every list
+//! of bytes splits in exactly one way into items of each and an unfinished front of one. Inside a message a pair that
+//! starts an item ends the message as damaged, and starts that item.
 #![tactic(auto)]
 
 mod framer;

@@ -1,4 +1,4 @@
-//! The master's ear: the slaves' bytes go in one by one, and at each it says what the master hears.
+//! The master's receiver: it takes the slaves' bytes one by one, and returns what the master decodes at each.
 
 ghost use Rattle.std.specs.Prelude.{◌≡◌, ◌≤◌, ℕ, List, [], ◌∷◌, ◌++◌, length, take, Option};
 ghost use Rattle.df1_check.specs.declared.Check.{Check as CheckKind};
@@ -34,9 +34,10 @@ enum MasterPlace {
     InText(TextPlace),
 }
 
-/// Takes the slaves' bytes one by one, and says what the master hears at each. It has room for a body of N bytes.
+/// The master's receiver, which takes the slaves' bytes one by one, and returns what is decoded at each. It has room
+/// for a body of N bytes.
 ///
-/// Each byte takes constant time, but that a text's begin blanks what was held of the body before.
+/// Each byte takes constant time, except that a text's start blanks what was held of the body before.
 #[derive(Drop)]
 pub struct MasterEar<const N: usize> {
     check: Check,
@@ -55,7 +56,7 @@ impl<const N: usize> Model for MasterEar<N> {
 }
 
 impl<const N: usize> MasterEar<N> {
-    /// An ear that has taken no byte, of a line with this check. N is at most 4,096.
+    /// Returns a receiver that has taken no byte, of a line with this check. N is at most 4,096.
     pub fn new(check: Check) -> Self
         requires { N ≤ 4096 }
         ensures stands { ReadOff (master_hears check N) [] (listening check N) result }
@@ -68,8 +69,8 @@ impl<const N: usize> MasterEar<N> {
         }
     }
 
-    /// Takes a byte, and says what is heard at it: None exactly where nothing is. It is inlined, since a caller that looks at
-    /// each byte would else get each answer through memory.
+    /// Takes a byte, and returns what is decoded at it: None exactly if there is nothing. It is inlined, since a caller
+    /// that looks at each byte would otherwise get each answer through memory.
     #[inline(always)]
     pub fn feed(&mut self, b: u8) -> Option<MasterHeard>
         ensures stands { (check : CheckKind) (bytes : List ℕ) → ReadOff (master_hears check N) bytes (listening check N) self.old
@@ -85,8 +86,8 @@ impl<const N: usize> MasterEar<N> {
         self.advance(b)
     }
 
-    /// Takes the bytes before the first DLE where it stands in a body or outside, and none elsewhere, and says how many. In a
-    /// body nothing is heard at them; outside each is heard as Stray.
+    /// Takes the bytes before the first DLE if the receiver is in a body or outside, and none otherwise, and returns
+    /// how many. In a body nothing is decoded at them; outside, each is decoded as Stray.
     pub fn feed_run(&mut self, bytes: &[u8]) -> usize
         ensures count { result ≡ master_run_len self.old.standing bytes.now }
         ensures stands { (check : CheckKind) (before : List ℕ) → ReadOff (master_hears check N) before (listening check N) self.old
@@ -121,7 +122,7 @@ impl<const N: usize> MasterEar<N> {
         heard
     }
 
-    /// The body of a Good that was heard at the last byte fed; empty after every other byte.
+    /// Returns the body of a Good that was decoded at the last byte fed; otherwise empty.
     pub fn body(&self) -> &[u8]
         ensures lent { (check : CheckKind) (bytes : List ℕ) → ReadOff (master_hears check N) bytes (listening check N) self.now
             → ReadOff (master_hears check N) bytes (lent check N) result.now }
@@ -134,7 +135,7 @@ impl<const N: usize> MasterEar<N> {
         }
     }
 
-    /// How many bytes are held, at most N, of a body that is being read or that is lent.
+    /// Returns how many bytes are held, at most N, of a body that is being read or that is lent.
     pub fn held(&self) -> usize
         ensures held { (check : CheckKind) (bytes : List ℕ) → ReadOff (master_hears check N) bytes (listening check N) self.now
             → ReadOff (master_hears check N) bytes (held_of check N) result }
@@ -147,7 +148,7 @@ impl<const N: usize> MasterEar<N> {
         }
     }
 
-    /// Whether a message is begun, by its first pair, and not ended.
+    /// Returns whether a message is started, by its first pair, and not ended.
     pub fn inside(&self) -> bool
         ensures inside { (check : CheckKind) (bytes : List ℕ) → ReadOff (master_hears check N) bytes (listening check N) self.now
             → ReadOff (master_hears check N) bytes has_begun result }
@@ -166,7 +167,7 @@ impl<const N: usize> MasterEar<N> {
     }
 }
 
-/// What a byte leads to, and what is heard at it.
+/// Returns what a byte leads to, and what is decoded at it.
 #[inline(always)]
 fn step<const N: usize>(
     place: MasterPlace,
@@ -224,7 +225,7 @@ fn in_text<const N: usize>(
     }
 }
 
-/// Where a pair leads that ended what was there.
+/// Returns the place after a pair that ended what was there.
 fn begun_by<const N: usize>(gathered: &mut Gathered<N>, check: Check, code: u8) -> MasterPlace
     ensures { standing_of result gathered.new ≡ begun_by check code }
 {

@@ -1,4 +1,5 @@
-//! What holds of every list of bytes that the master hears, and of messages and pairs in it. The functions do nothing.
+//! What holds of every list of bytes that the master receives, and of messages and pairs in it. The functions do
+//! nothing.
 
 ghost use Rattle.std.specs.Prelude.{◌≡◌, ◌≢◌, ◌≤◌, ℕ, List, [], ◌∷◌, ◌++◌, length, get_or, take, Option, Some, None};
 ghost use Rattle.df1_check.specs.declared.Check.TheVariants as check;
@@ -14,7 +15,7 @@ ghost use Rattle.half_frame.specs.Runs.{master_run_len};
 
 use df1_check::Check;
 
-/// Every list of bytes splits in exactly one way into what the master hears, and has one answer for each byte.
+/// Every list of bytes splits in exactly one way into what the master decodes, and has one answer for each byte.
 pub fn one_split_at_the_master(check: Check)
     ensures exists { (N : ℕ) (bytes : List ℕ) → (items : List Item) × (front : Front) × Splits (master_hears check N) bytes items front }
     ensures only { (N : ℕ) (bytes : List ℕ) (items others : List Item) (front rest : Front) →
@@ -23,7 +24,7 @@ pub fn one_split_at_the_master(check: Check)
         Splits (master_hears check N) bytes items front → length (answers (master_hears check N) items front) ≡ length bytes }
 {}
 
-/// What the master hears at the bytes so far stays, whatever follows, so the cut into pieces can't matter.
+/// What the master decodes at the bytes so far stays, whatever follows, so the division into pieces doesn't matter.
 pub fn heard_stays_at_the_master(check: Check)
     ensures stays { (N : ℕ) (bytes more : List ℕ) (so_far : List (Option MasterHeard)) → ReadOff (master_hears check N) bytes (answers (master_hears check N)) so_far →
         (later : List (Option MasterHeard)) × (length later ≡ length more) × ReadOff (master_hears check N) (bytes ++ more) (answers (master_hears check N)) (so_far ++ later) }
@@ -31,14 +32,14 @@ pub fn heard_stays_at_the_master(check: Check)
         → ReadOff (master_hears check N) (front ++ b ∷ []) (last_heard (master_hears check N)) (get_or all (length front) None) }
 {}
 
-/// A run has the bytes before the first DLE where the master's ear stands in a body or outside, and none elsewhere: in a body
-/// nothing is heard at them, and outside each is heard as Stray.
+/// A run has the bytes before the first DLE if the master's receiver is in a body or outside, and none otherwise. In a
+/// body nothing is decoded at them; outside, each is decoded as Stray.
 pub fn heard_in_a_run_at_the_master()
     ensures { (N : ℕ) (d : Listening) (bytes : List ℕ) → let run : List ℕ = take (master_run_len d.standing bytes) bytes in
         (steps (next N) d run).1 ≡ heard_in_run heard.Stray (is_inside d.standing) run }
 {}
 
-/// A slave's message with a body of 6 to N bytes, after whole items, is heard as good at its last byte, and nothing
+/// A slave's message with a body of 6 to N bytes, after whole items, is decoded as good at its last byte, and nothing
 /// else, whatever follows. After its last byte its body is lent.
 pub fn reply_round_trip(check: Check)
     ensures heard { (N : ℕ) (before body : List ℕ) (items : List Item) → Splits (master_hears check N) before items Nothing → 6 ≤ length body → length body ≤ N
@@ -50,8 +51,8 @@ pub fn reply_round_trip(check: Check)
         × ReadOff (master_hears check N) (before ++ reply_bytes check body ++ more) (answers (master_hears check N)) (answers (master_hears check N) items Nothing ++ reply_answers check body ++ later) }
 {}
 
-/// A pair that begins no message, after whole items, is heard at its second byte, whatever follows: DLE ACK as Ack, DLE
-/// NAK as Nak, DLE EOT as Eot, and any other as a stray pair.
+/// A pair that starts no message, after whole items, is decoded at its second byte, whatever follows: DLE ACK as Ack,
+/// DLE NAK as Nak, DLE EOT as Eot, and any other as a stray pair.
 pub fn pair_round_trip_at_the_master(check: Check)
     ensures heard { (N code : ℕ) (before : List ℕ) (items : List Item) → Splits (master_hears check N) before items Nothing → code ≢ 2
         → ReadOff (master_hears check N) (before ++ pair_bytes code) (answers (master_hears check N)) (answers (master_hears check N) items Nothing ++ pair_answers code) }
@@ -63,7 +64,7 @@ pub fn pair_round_trip_at_the_master(check: Check)
     ensures eot { pair_answers 4 ≡ None ∷ Some heard.Eot ∷ [] }
 {}
 
-/// A slave's message, and one that the begin of the next cuts off, after an EOT.
+/// A slave's message, and one that the start of the next cuts off, after an EOT.
 pub fn worked_replies()
     ensures block { reply_bytes check.Bcc (0x00 ∷ 0x03 ∷ 0x4F ∷ 0x00 ∷ 0x01 ∷ 0x00 ∷ []) ≡ 0x10 ∷ 0x02 ∷ 0x00 ∷ 0x03 ∷ 0x4F ∷ 0x00 ∷ 0x01 ∷ 0x00 ∷ 0x10 ∷ 0x03 ∷ 0xAD ∷ [] }
     ensures cut_off { ReadOff (master_hears check.Bcc 250) (0x10 ∷ 0x04 ∷ 0x10 ∷ 0x02 ∷ 0x00 ∷ 0x10 ∷ 0x02 ∷ []) (answers (master_hears check.Bcc 250))

@@ -1,4 +1,4 @@
-//! A slave's ear: the master's bytes go in one by one, and at each it says what the slave hears.
+//! A slave's receiver: it takes the master's bytes one by one, and returns what the slave decodes at each.
 
 ghost use Rattle.std.specs.Prelude.{◌≡◌, ◌≤◌, ℕ, List, [], ◌∷◌, ◌++◌, length, take, false, Option};
 ghost use Rattle.df1_check.specs.declared.Check.{Check as CheckKind};
@@ -47,9 +47,10 @@ enum SlavePlace {
     InText(u8, TextPlace),
 }
 
-/// Takes the master's bytes one by one, and says what a slave hears at each. It has room for a body of N bytes.
+/// A slave's receiver, which takes the master's bytes one by one, and returns what is decoded at each. It has room for
+/// a body of N bytes.
 ///
-/// Each byte takes constant time, but that a text's begin blanks what was held of the body before.
+/// Each byte takes constant time, except that a text's start blanks what was held of the body before.
 #[derive(Drop)]
 pub struct SlaveEar<const N: usize> {
     check: Check,
@@ -68,7 +69,7 @@ impl<const N: usize> Model for SlaveEar<N> {
 }
 
 impl<const N: usize> SlaveEar<N> {
-    /// An ear that has taken no byte, of a line with this check. N is at most 4,096.
+    /// Returns a receiver that has taken no byte, of a line with this check. N is at most 4,096.
     pub fn new(check: Check) -> Self
         requires { N ≤ 4096 }
         ensures stands { ReadOff (slave_hears check N) [] (listening check N) result }
@@ -81,8 +82,8 @@ impl<const N: usize> SlaveEar<N> {
         }
     }
 
-    /// Takes a byte, and says what is heard at it: None exactly where nothing is. It is inlined, since a caller that looks at
-    /// each byte would else get each answer through memory.
+    /// Takes a byte, and returns what is decoded at it: None exactly if there is nothing. It is inlined, since a caller
+    /// that looks at each byte would otherwise get each answer through memory.
     #[inline(always)]
     pub fn feed(&mut self, b: u8) -> Option<SlaveHeard>
         ensures stands { (check : CheckKind) (bytes : List ℕ) → ReadOff (slave_hears check N) bytes (listening check N) self.old
@@ -98,8 +99,8 @@ impl<const N: usize> SlaveEar<N> {
         self.advance(b)
     }
 
-    /// Takes the bytes before the first DLE where it stands in a body or outside, and none elsewhere, and says how many. In a
-    /// body nothing is heard at them; outside each is heard as Stray.
+    /// Takes the bytes before the first DLE if the receiver is in a body or outside, and none otherwise, and returns
+    /// how many. In a body nothing is decoded at them; outside, each is decoded as Stray.
     pub fn feed_run(&mut self, bytes: &[u8]) -> usize
         ensures count { result ≡ slave_run_len self.old.standing bytes.now }
         ensures stands { (check : CheckKind) (before : List ℕ) → ReadOff (slave_hears check N) before (listening check N) self.old
@@ -134,7 +135,7 @@ impl<const N: usize> SlaveEar<N> {
         heard
     }
 
-    /// The body of an Addressed that was heard at the last byte fed; empty after every other byte.
+    /// Returns the body of an Addressed that was decoded at the last byte fed; otherwise empty.
     pub fn body(&self) -> &[u8]
         ensures lent { (check : CheckKind) (bytes : List ℕ) → ReadOff (slave_hears check N) bytes (listening check N) self.now
             → ReadOff (slave_hears check N) bytes (lent check N) result.now }
@@ -147,7 +148,7 @@ impl<const N: usize> SlaveEar<N> {
         }
     }
 
-    /// How many bytes are held, at most N, of a body that is being read or that is lent.
+    /// Returns how many bytes are held, at most N, of a body that is being read or that is lent.
     pub fn held(&self) -> usize
         ensures held { (check : CheckKind) (bytes : List ℕ) → ReadOff (slave_hears check N) bytes (listening check N) self.now
             → ReadOff (slave_hears check N) bytes (held_of check N) result }
@@ -160,7 +161,7 @@ impl<const N: usize> SlaveEar<N> {
         }
     }
 
-    /// Whether a message or a poll is begun, by its first pair, and not ended.
+    /// Returns whether a message or a poll is started, by its first pair, and not ended.
     pub fn inside(&self) -> bool
         ensures inside { (check : CheckKind) (bytes : List ℕ) → ReadOff (slave_hears check N) bytes (listening check N) self.now
             → ReadOff (slave_hears check N) bytes has_begun result }
@@ -179,7 +180,7 @@ impl<const N: usize> SlaveEar<N> {
     }
 }
 
-/// What a byte leads to, and what is heard at it.
+/// Returns what a byte leads to, and what is decoded at it.
 #[inline(always)]
 fn step<const N: usize>(
     place: SlavePlace,
@@ -257,7 +258,7 @@ fn header<const N: usize>(
     }
 }
 
-/// Begins to gather a body, after what its check covers before it: the station, and the CRC covers STX too.
+/// Starts to gather a body, after what its check covers before it: the station, and the CRC covers STX too.
 fn cover_station<const N: usize>(gathered: &mut Gathered<N>, check: Check, stn: u8)
     ensures { gathered.new ≡ record { bytes = []; long = false; running = taken check (station_head check stn) } }
 {
@@ -286,7 +287,7 @@ fn in_text<const N: usize>(
     }
 }
 
-/// Where a pair leads that ended what was there.
+/// Returns the place after a pair that ended what was there.
 fn begun_by<const N: usize>(gathered: &Gathered<N>, code: u8) -> SlavePlace
     ensures { standing_of result gathered.now ≡ begun_by code }
 {

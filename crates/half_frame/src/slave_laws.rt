@@ -1,4 +1,5 @@
-//! What holds of every list of bytes that a slave hears, and of messages, polls and pairs in it. The functions do nothing.
+//! What holds of every list of bytes that a slave receives, and of messages, polls and pairs in it. The functions do
+//! nothing.
 
 ghost use Rattle.std.specs.Prelude.{◌≡◌, ◌≢◌, ◌≤◌, ℕ, List, [], ◌∷◌, ◌++◌, length, get_or, take, Option, Some, None};
 ghost use Rattle.df1_check.specs.declared.Check.TheVariants as check;
@@ -14,7 +15,7 @@ ghost use Rattle.half_frame.specs.Runs.{slave_run_len};
 
 use df1_check::Check;
 
-/// Every list of bytes splits in exactly one way into what a slave hears, and has one answer for each byte.
+/// Every list of bytes splits in exactly one way into what a slave decodes, and has one answer for each byte.
 pub fn one_split_at_a_slave(check: Check)
     ensures exists { (N : ℕ) (bytes : List ℕ) → (items : List Item) × (front : Front) × Splits (slave_hears check N) bytes items front }
     ensures only { (N : ℕ) (bytes : List ℕ) (items others : List Item) (front rest : Front) →
@@ -23,7 +24,7 @@ pub fn one_split_at_a_slave(check: Check)
         Splits (slave_hears check N) bytes items front → length (answers (slave_hears check N) items front) ≡ length bytes }
 {}
 
-/// What a slave hears at the bytes so far stays, whatever follows, so the cut into pieces can't matter.
+/// What a slave decodes at the bytes so far stays, whatever follows, so the division into pieces doesn't matter.
 pub fn heard_stays_at_a_slave(check: Check)
     ensures stays { (N : ℕ) (bytes more : List ℕ) (so_far : List (Option SlaveHeard)) → ReadOff (slave_hears check N) bytes (answers (slave_hears check N)) so_far →
         (later : List (Option SlaveHeard)) × (length later ≡ length more) × ReadOff (slave_hears check N) (bytes ++ more) (answers (slave_hears check N)) (so_far ++ later) }
@@ -31,15 +32,15 @@ pub fn heard_stays_at_a_slave(check: Check)
         → ReadOff (slave_hears check N) (front ++ b ∷ []) (last_heard (slave_hears check N)) (get_or all (length front) None) }
 {}
 
-/// A run has the bytes before the first DLE where a slave's ear stands in a body or outside, and none elsewhere: in a body
-/// nothing is heard at them, and outside each is heard as Stray.
+/// A run has the bytes before the first DLE if a slave's receiver is in a body or outside, and none otherwise. In a
+/// body nothing is decoded at them; outside, each is decoded as Stray.
 pub fn heard_in_a_run_at_a_slave()
     ensures { (N : ℕ) (d : Listening) (bytes : List ℕ) → let run : List ℕ = take (slave_run_len d.standing bytes) bytes in
         (steps (next N) d run).1 ≡ heard_in_run heard.Stray (is_inside d.standing) run }
 {}
 
-/// A message to a station with a body of 6 to N bytes, after whole items, is heard as its header at its fifth byte and
-/// as addressed at its last byte, and nothing else, whatever follows. After its last byte its body is lent.
+/// A message to a station with a body of 6 to N bytes, after whole items, is decoded as its header at its fifth byte
+/// and as addressed at its last byte, and nothing else, whatever follows. After its last byte its body is lent.
 pub fn message_round_trip(check: Check)
     ensures heard { (N stn : ℕ) (before body : List ℕ) (items : List Item) → Splits (slave_hears check N) before items Nothing → 6 ≤ length body → length body ≤ N
         → ReadOff (slave_hears check N) (before ++ message_bytes check stn body) (answers (slave_hears check N)) (answers (slave_hears check N) items Nothing ++ message_answers check stn body) }
@@ -50,7 +51,7 @@ pub fn message_round_trip(check: Check)
         × ReadOff (slave_hears check N) (before ++ message_bytes check stn body ++ more) (answers (slave_hears check N)) (answers (slave_hears check N) items Nothing ++ message_answers check stn body ++ later) }
 {}
 
-/// A poll of a station, after whole items, is heard as that at its last byte, and nothing else, whatever follows.
+/// A poll of a station, after whole items, is decoded as that at its last byte, and nothing else, whatever follows.
 pub fn poll_round_trip(check: Check)
     ensures heard { (N stn : ℕ) (before : List ℕ) (items : List Item) → Splits (slave_hears check N) before items Nothing
         → ReadOff (slave_hears check N) (before ++ poll_bytes stn) (answers (slave_hears check N)) (answers (slave_hears check N) items Nothing ++ poll_answers stn) }
@@ -59,8 +60,8 @@ pub fn poll_round_trip(check: Check)
         × ReadOff (slave_hears check N) (before ++ poll_bytes stn ++ more) (answers (slave_hears check N)) (answers (slave_hears check N) items Nothing ++ poll_answers stn ++ later) }
 {}
 
-/// A pair that begins no item, after whole items, is heard at its second byte, whatever follows: DLE ACK as Ack, DLE NAK
-/// as Reset, and any other as a stray pair.
+/// A pair that starts no item, after whole items, is decoded at its second byte, whatever follows: DLE ACK as Ack, DLE
+/// NAK as Reset, and any other as a stray pair.
 pub fn pair_round_trip_at_a_slave(check: Check)
     ensures heard { (N code : ℕ) (before : List ℕ) (items : List Item) → Splits (slave_hears check N) before items Nothing → code ≢ 1 → code ≢ 5
         → ReadOff (slave_hears check N) (before ++ pair_bytes code) (answers (slave_hears check N)) (answers (slave_hears check N) items Nothing ++ pair_answers code) }

@@ -1,4 +1,4 @@
-//! A message's text while it comes, the same in both directions: from DLE STX to its check.
+//! A message's text while it arrives, the same in both directions: from DLE STX to its check.
 
 ghost use Rattle.std.specs.Prelude.{◌≡◌, [], ◌∷◌};
 ghost use Rattle.df1_check.specs.declared.Check.{Check as CheckKind};
@@ -28,13 +28,13 @@ pub(crate) enum TextPlace {
 pub(crate) enum Progress {
     /// The text goes on here.
     Goes(TextPlace),
-    /// It has ended with its check: true where the body has 6 to N bytes and the check is right.
+    /// It has ended with its check: true if the body has 6 to N bytes and the check is right.
     Ends(bool),
     /// It was broken off by a DLE and this byte.
     Breaks(u8),
 }
 
-/// What a byte leads to.
+/// Returns what a byte leads to.
 pub(crate) fn step<const N: usize>(
     place: TextPlace,
     gathered: &mut Gathered<N>,
@@ -87,7 +87,7 @@ fn first_check<const N: usize>(gathered: &Gathered<N>, check: Check, b: u8) -> P
     }
 }
 
-/// Whether the body has 6 to N bytes and these are its check bytes.
+/// Returns whether the body has 6 to N bytes and these are its check bytes.
 fn is_good<const N: usize>(gathered: &Gathered<N>, check: Check, bytes: &[u8]) -> bool
     ensures { result ≡ is_good_frame (verdict check gathered.now bytes.now) }
 {

@@ -9,9 +9,9 @@ ghost use Rattle.half_line.specs.Prompt.{HasTurns, IsUndisturbed};
 ghost use Rattle.half_line.specs.Complete.{IsComplete};
 ghost use Rattle.half_line.specs.Example.{polled_write, the_command, the_reply, two_stations, first_echo, first_echoed, second_echo, second_echoed};
 
-/// A law: a run that nothing disturbs and that ends with no reply left at a station exists, and in it no end is deceived, and
-/// all commands are executed and answered; a write to a station is one, whose reply a poll fetches (manual topic: half-duplex
-/// protocol).
+/// A law: there is a run that nothing disturbs and that ends with no reply left at a station; in it no end is deceived,
+/// and all commands are executed and answered. A write to a station, whose reply a poll fetches, is such a run (manual
+/// topic: half-duplex protocol).
 #[tactic(auto, unfolding(crate::specs::Run::record_of))]
 pub fn a_polled_write_is_executed_and_answered()
     ensures playable { IsHalfPlayable polled_write }
@@ -22,8 +22,8 @@ pub fn a_polled_write_is_executed_and_answered()
     ensures answered { answers_in M (record_of polled_write).lines ≡ (1, the_reply) ∷ [] }
 {}
 
-/// A law: so is a run in which two commands are out at two stations; the polls come to the station of the second first, so its
-/// answer comes first (manual topic: half-duplex protocol).
+/// A law: so is a run in which two commands are outstanding at two stations; the station of the second is polled first,
+/// so its answer comes first (manual topic: half-duplex protocol).
 #[tactic(auto, unfolding(crate::specs::Run::record_of))]
 pub fn commands_of_two_stations_are_executed_and_answered()
     ensures playable { IsHalfPlayable two_stations }
@@ -34,19 +34,22 @@ pub fn commands_of_two_stations_are_executed_and_answered()
     ensures answered { answers_in M (record_of two_stations).lines ≡ (2, second_echoed) ∷ (1, first_echoed) ∷ [] }
 {}
 
-/// A law: where each station has room for as many replies as the master may have commands out, and where the master waits more
-/// ticks for a reply than as many times the number of its stations, in a run that loses, alters and adds no byte, in which few
-/// ticks come while something is under way, and which ends with nothing under way and no reply left at a station, no end is
-/// deceived; each station executes all commands that were issued to it, each once, those of each source in their order; the
-/// master accepts its replies to them in that order; and each command is told as answered, by its own reply (manual topic:
-/// half-duplex protocol).
+/// A law: let each station have room for as many replies as the master may have commands outstanding, and let the
+/// master wait more ticks for a reply than that number times the number of its stations. In a run that loses, alters
+/// and adds no byte, in which few ticks come while something is under way, and which ends with nothing under way and no
+/// reply left at a station:
+///
+/// - no end is deceived;
+/// - each station executes all commands that were issued to it, each once, those of each source in their order;
+/// - the master accepts its replies to them in that order;
+/// - each command is reported as answered, by its own reply (manual topic: half-duplex protocol).
 #[tactic(auto, unfolding(crate::specs::Run::record_of))]
 pub fn an_undisturbed_polled_run_is_complete()
     ensures { (script : Script) → IsHalfPlayable script → IsUndisturbed script → IsComplete script (record_of script) }
 {}
 
-/// A law: a master that may have one command out waits long enough for each station's turn, in every script (manual topic:
-/// half-duplex protocol).
+/// A law: a master that may have one command outstanding waits long enough for each station's turn, in every script
+/// (manual topic: half-duplex protocol).
 pub fn one_command_has_its_turn()
     ensures { (script : Script) → IsHalfPlayable script → (plan_of_m script).window ≡ 1 → HasTurns script }
 {}

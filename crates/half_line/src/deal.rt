@@ -22,7 +22,7 @@ use script_parts::Event;
 use script_statement::Who;
 use std::alloc::Global;
 
-/// Does an event at the master.
+/// Performs an event at the master.
 pub(crate) fn deal_at_master<H: MasterHost + Drop>(
     alloc: Global,
     event: &Event,
@@ -52,7 +52,7 @@ pub(crate) fn deal_at_master<H: MasterHost + Drop>(
     }
 }
 
-/// Does an event at the station of this number, or with the bytes between it and the master.
+/// Performs an event at the station of this number, or on the bytes between it and the master.
 pub(crate) fn deal_at_station<H: MasterHost + Drop>(
     alloc: Global,
     event: &Event,

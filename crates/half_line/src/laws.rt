@@ -16,26 +16,26 @@ ghost use Rattle.half_line.specs.Issues.{bodies_of, commands_of_m};
 ghost use Rattle.half_line.specs.Prompt.{is_quiet};
 ghost use Rattle.half_line.specs.Run.{last_state, start};
 
-/// A law: at each byte that arrives at a station in a run, what is told whole, and the station that it names, is what the
-/// grammar of the master's bytes, over all bytes that arrived at that station so far, hears at the last of them; and the
-/// same at the master over all bytes that arrived from all stations, in the order in which they did. So a deception is a
-/// message by the grammar, which nobody sent so (manual topic: half-duplex protocol).
+/// A law: take a byte that arrives at a station in a run. What is reported as a whole message there, and the station
+/// that it names, is what the grammar of the master's bytes decodes at the last of all bytes that arrived at that
+/// station so far. The same holds at the master for all bytes that arrived from all stations, in the order in which
+/// they did. So a deception is a message by the grammar that nobody sent as such (manual topic: half-duplex protocol).
 pub fn whole_messages_are_heard_by_the_grammar()
     ensures at_stations { (script : Script) (place : ℕ) → HeardAtStation script.check (station_arrivals_in place (start script) script.events) }
     ensures at_master { (script : Script) → HeardAtMaster script.check (master_arrivals_in (start script) script.events) }
 {}
 
-/// A law: what is heard at a byte that comes after the events of a script, be it a message, a poll, ACK, NAK, EOT, damage or
-/// nothing, is what the grammar hears at the last of all bytes that arrived at that end, and so at each byte of a run, since
-/// a script may end before any of them (manual topic: half-duplex protocol).
+/// A law: what is received at a byte that comes after the events of a script (a message, a poll, ACK, NAK, EOT, damage
+/// or nothing) is what the grammar decodes at the last of all bytes that arrived at that end. So it is at each byte of
+/// a run, since a script may end before any of them (manual topic: half-duplex protocol).
 pub fn all_is_heard_by_the_grammar()
     ensures at_stations { (script : Script) (place : ℕ) (side : LineStationState) (b : ℕ) → slice_get (last_state script).stations place ≡ Some side
         → StationHears script.check (bytes_at_station (station_arrivals_in place (start script) script.events) ++ b ∷ []) (heard_at_station side.slave b) }
     ensures at_master { (script : Script) (b : ℕ) → MasterHears script.check (bytes_at_master (master_arrivals_in (start script) script.events) ++ b ∷ []) (heard_at_master (last_state script).master b) }
 {}
 
-/// A law: in every run, whatever is heard, the commands that the master has issued are those of the script (manual topic:
-/// message packets).
+/// A law: in every run, whatever is received, the commands that the master has issued are those of the script (manual
+/// topic: message packets).
 pub fn commands_are_issued()
     ensures { (script : Script) → bodies_of (last_state script).master ≡ commands_of_m script }
 {}
@@ -45,8 +45,9 @@ pub fn the_first_state_is_quiet()
     ensures { (script : Script) → IsTrue (is_quiet (start script)) }
 {}
 
-/// A law: with a node alone behind the master, as in a replay, no message is carried to a station: what is told at a byte that
-/// arrives, at the master or at a station, is what is told of any end (manual topic: half-duplex protocol).
+/// A law: with a node alone as the master's host, as in a replay, no message is carried to a station: what is reported
+/// at a byte that arrives, at the master or at a station, is what is reported of any end (manual topic: half-duplex
+/// protocol).
 pub fn a_node_alone_carries_nothing()
     ensures { (way : Way) (s : LinkState NodeState) (cell : LaneCell) → cell_lines plain_node way s cell ≡ step_lines (hearer way s.side) (step_of plain_node way s cell) (body_heard plain_node way s cell) }
 {}

@@ -50,7 +50,7 @@ impl Model for LineStation {
 }
 
 impl LineStation {
-    /// A station with empty queues.
+    /// Returns a station with empty queues.
     pub fn new(alloc: Global, number: u8, slave: Slave<Node>) -> LineStation
         ensures { result ≡ record { number = number; slave = slave; to_it = []; from_it = [] } }
     {
@@ -63,14 +63,14 @@ impl LineStation {
         }
     }
 
-    /// Its number.
+    /// Returns its number.
     pub fn number(&self) -> u8
         ensures { result ≡ self.now.number }
     {
         self.number
     }
 
-    /// A byte of the master, given while it sent this body, joins the back of the queue to the station.
+    /// Appends a byte that the master sent while it transmitted this body to the queue to the station.
     pub fn join(&mut self, alloc: Global, out: &Out, sending: &[u8]) -> Result<(), NoMemory>
         ensures { OnOk result (self.new ≡ joined (cell_of sending.now out.now ∷ []) self.old) }
     {
@@ -79,8 +79,7 @@ impl LineStation {
         Ok(())
     }
 
-    /// Gives the next byte, which joins the back of the queue to the master, and answers it: None exactly where there is
-    /// none.
+    /// Sends the next byte, which joins the back of the queue to the master, and returns it; None if there is none.
     pub fn take(&mut self, alloc: Global) -> Result<Option<u8>, NoMemory>
         ensures state { OnOk result (self.new ≡ after_take self.old) }
         ensures byte { IfOk result (λ byte. byte ≡ byte_taken self.old) }
@@ -93,7 +92,7 @@ impl LineStation {
         Ok(Some(out.byte))
     }
 
-    /// Takes the head off the queue that goes this way: None exactly where the queue is empty.
+    /// Removes the head of the queue of this direction: None if the queue is empty.
     pub fn leave(&mut self, way: Way) -> Option<Cell>
         ensures state { self.new ≡ side_moved way self.old Lose }
         ensures cell { result ≡ slice_get (lane_of way self.old) 0 }
@@ -104,7 +103,7 @@ impl LineStation {
         }
     }
 
-    /// Alters the head of the queue that goes this way, if there is one, by exclusive or with `mask`.
+    /// Alters the head of the queue of this direction, if there is one, by exclusive or with `mask`.
     pub fn alter(&mut self, way: Way, mask: u8)
         ensures { self.new ≡ side_moved way self.old (Alter mask) }
     {
@@ -121,7 +120,7 @@ impl LineStation {
         cell.spend(&mut self.spare);
     }
 
-    /// The station takes a byte that arrives, and says what it made of it.
+    /// Passes an arriving byte to the station, and returns what the station made of it.
     pub fn hear(&mut self, byte: u8) -> Step
         ensures state { self.new ≡ station_heard self.old byte }
         ensures step { result ≡ slave_of.step_at_byte node_host self.old.slave byte }
@@ -129,15 +128,15 @@ impl LineStation {
         self.slave.on_byte(byte)
     }
 
-    /// The body of the message that was heard whole at the last byte, to whatever station; empty where none was.
+    /// Returns the body of the whole message that was received at the last byte, for any station; otherwise empty.
     pub fn body(&self) -> &[u8]
         ensures { result.now ≡ body_of self.now.slave }
     {
         self.slave.body()
     }
 
-    /// The node issues a command in its own name. The payload has 1 to 245 bytes, bit 6 of its CMD is clear, and the node has
-    /// issued fewer than 65,535 commands.
+    /// Lets the node issue a command with its own address as SRC. The payload has 1 to 245 bytes, bit 6 of its CMD is
+    /// clear, and the node has issued fewer than 65,535 commands.
     pub fn issue(&mut self, dst: u8, payload: &[u8]) -> Result<(), NoMemory>
         requires { issue_fault self.old.slave.host.initiator payload.now ≡ None }
         ensures { OnOk result (self.new ≡ side_issued self.old dst payload.now) }
@@ -145,14 +144,14 @@ impl LineStation {
         issue_in_name(self.slave.host_mut(), None, dst, payload)
     }
 
-    /// The initiator of the node.
+    /// Returns the initiator of the node.
     pub fn initiator(&self) -> &Initiator
         ensures { result.now ≡ self.now.slave.host.initiator }
     {
         self.slave.host().initiator()
     }
 
-    /// The data tables of the node.
+    /// Returns the data tables of the node.
     pub fn tables(&self) -> &Tables
         ensures { result.now ≡ tables_of self.now }
     {
@@ -169,7 +168,7 @@ fn alter(lane: &mut VecDeque<Cell>, spare: &mut Spare, mask: u8)
     }
 }
 
-/// A station by its plan, with nothing heard or given.
+/// Makes a station from its plan, which has received and sent nothing.
 pub(crate) fn side_of(alloc: Global, check: Check, plan: &EndPlan) -> Result<LineStation, NoMemory>
     requires plan { IsStationPlan plan.now }
     requires number { IsStationNumber plan.now.node }

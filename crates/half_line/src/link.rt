@@ -1,4 +1,4 @@
-//! Events at a station, or with the bytes between it and the master.
+//! Events at a station, or on the bytes between it and the master.
 
 ghost use Rattle.std.specs.Prelude.{◌≡◌, ◌+◌, ◌≤◌, ◌<◌, ◌^◌, ◌++◌, ℕ, OnOk, length, map, replicate};
 ghost use Rattle.replay_report.specs.Report.{sent_lines};
@@ -20,7 +20,7 @@ use report_lines::{tell_act, tell_news, tell_routed};
 use script_statement::{Bytes, Who};
 use std::alloc::Global;
 
-/// The station of this number gives up to `n` bytes, and they are told where there is one.
+/// Sends up to `n` bytes of the station of this number, and reports them if there is at least one.
 pub(crate) fn give<H: MasterHost + Drop>(
     alloc: Global,
     number: u8,
@@ -38,7 +38,7 @@ pub(crate) fn give<H: MasterHost + Drop>(
     lines.push_sent(Who::S(number), bytes)
 }
 
-/// Takes up to `n` bytes, and puts them behind the others.
+/// Takes up to `n` bytes, and appends them to the others.
 fn take_all<H: MasterHost + Drop>(
     alloc: Global,
     side: &mut LineStation,
@@ -59,7 +59,7 @@ fn take_all<H: MasterHost + Drop>(
     Ok(())
 }
 
-/// Up to `n` bytes of the queue that goes this way arrive.
+/// Delivers up to `n` bytes of the queue of this direction.
 pub(crate) fn deliver<H: MasterHost + Drop>(
     alloc: Global,
     way: Way,
@@ -85,7 +85,7 @@ pub(crate) fn deliver<H: MasterHost + Drop>(
     Ok(())
 }
 
-/// Up to `n` bytes of the queue that goes this way are lost.
+/// Loses up to `n` bytes of the queue of this direction.
 pub(crate) fn lose<H: MasterHost + Drop>(way: Way, side: &mut LineStation, n: u32)
     ensures { (master : MasterState H) (deceived : ℕ) → link_state master side.new deceived
         ≡ after_link_deeds (behind H.Host H.MasterHost.own) (link_state master side.old deceived) (replicate n (OnLane way Lose)) }
@@ -98,7 +98,7 @@ pub(crate) fn lose<H: MasterHost + Drop>(way: Way, side: &mut LineStation, n: u3
     }
 }
 
-/// Foreign bytes arrive where the bytes arrive that go this way.
+/// Delivers foreign bytes to the end to which this direction leads.
 pub(crate) fn intrude<H: MasterHost + Drop>(
     alloc: Global,
     way: Way,
@@ -121,7 +121,7 @@ pub(crate) fn intrude<H: MasterHost + Drop>(
     Ok(())
 }
 
-/// A byte arrives at the end to which this way goes.
+/// Delivers a byte to the end to which this direction leads.
 fn arrive<H: MasterHost + Drop>(
     alloc: Global,
     way: Way,
@@ -143,7 +143,7 @@ fn arrive<H: MasterHost + Drop>(
     }
 }
 
-/// A byte arrives at a station: first the line of the act is told, then the news.
+/// Delivers a byte to a station: first the line of the act is reported, then the news.
 fn arrive_at_station<H: MasterHost + Drop>(
     alloc: Global,
     side: &mut LineStation,
@@ -173,7 +173,7 @@ fn arrive_at_station<H: MasterHost + Drop>(
     tell_news(who, step.news, &mut reported.lines)
 }
 
-/// A byte arrives at the master: first the line of the act is told, then the news.
+/// Delivers a byte to the master: first the line of the act is reported, then the news.
 fn arrive_at_master<H: MasterHost + Drop>(
     alloc: Global,
     master: &mut Master<H>,
@@ -195,7 +195,7 @@ fn arrive_at_master<H: MasterHost + Drop>(
     tell_news(Who::M, step.news, &mut reported.lines)
 }
 
-/// Tells an act of the master. It is inlined, since at most bytes there is nothing to tell.
+/// Reports an act of the master. It is inlined, since at most bytes there is nothing to report.
 #[inline(always)]
 fn tell_at_master<H: MasterHost + Drop>(
     alloc: Global,
@@ -212,7 +212,8 @@ fn tell_at_master<H: MasterHost + Drop>(
     }
 }
 
-/// Tells a message that the master accepted. It isn't inlined, since a byte at which none is accepted would pay for it.
+/// Reports a message that the master accepted. It isn't inlined, since a byte at which none is accepted would pay for
+/// it.
 #[inline(never)]
 fn tell_accepted<H: MasterHost + Drop>(
     alloc: Global,
@@ -230,7 +231,7 @@ fn tell_accepted<H: MasterHost + Drop>(
     }
 }
 
-/// Tells a message that the master accepted and that its host carries, by what the host did with it.
+/// Reports a message that the master accepted and that its host carries, by what the host did with it.
 fn tell_carried(
     alloc: Global,
     did: Option<Did>,

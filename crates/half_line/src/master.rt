@@ -1,4 +1,4 @@
-//! The master of the line: what it issues, gives and is told of time.
+//! The events at the master of the line: what it issues and sends, and its ticks.
 
 ghost use Rattle.std.specs.Prelude.{◌≡◌, ◌∷◌, ◌++◌, ℕ, List, [], IfOk, OnOk, None, map, replicate, option_map, option_to_list};
 ghost use Rattle.replay_report.specs.Report.{sent_lines};
@@ -19,8 +19,8 @@ use report_lines::{tell_gone, tell_turn};
 use script_statement::{Bytes, Who};
 use std::alloc::Global;
 
-/// The master issues a command in the name of the source `src`, or else in its own. The payload has 1 to 245 bytes, bit 6 of
-/// its CMD is clear, and the master has issued fewer than 65,535 commands.
+/// Lets the master issue a command with the SRC `src`, or with its own address if that is None. The payload has 1 to
+/// 245 bytes, bit 6 of its CMD is clear, and the master has issued fewer than 65,535 commands.
 pub(crate) fn issue<H: MasterHost + Drop>(
     master: &mut Master<H>,
     src: Option<u8>,
@@ -33,7 +33,7 @@ pub(crate) fn issue<H: MasterHost + Drop>(
     master.host_mut().issue(src, dst, payload)
 }
 
-/// The master gives up to `n` bytes, and they are told where there is one.
+/// Sends up to `n` bytes of the master, and reports them if there is at least one.
 pub(crate) fn give<H: MasterHost + Drop>(
     alloc: Global,
     master: &mut Master<H>,
@@ -50,7 +50,7 @@ pub(crate) fn give<H: MasterHost + Drop>(
     lines.push_sent(Who::M, bytes)
 }
 
-/// Takes up to `n` bytes, and puts them behind the others.
+/// Takes up to `n` bytes, and appends them to the others.
 fn take_all<H: MasterHost + Drop>(
     alloc: Global,
     master: &mut Master<H>,
@@ -73,7 +73,7 @@ fn take_all<H: MasterHost + Drop>(
     Ok(())
 }
 
-/// Gives the next byte, which joins the queue to each station, and answers it: None exactly where there is none.
+/// Sends the next byte, which joins the queue to each station, and returns it; None if there is none.
 fn take<H: MasterHost + Drop>(
     alloc: Global,
     master: &mut Master<H>,
@@ -90,7 +90,7 @@ fn take<H: MasterHost + Drop>(
     Ok(Some(out.byte))
 }
 
-/// A byte of the master, given while it sent this body, joins the queue to each station.
+/// Appends a byte that the master sent while it transmitted this body to the queue to each station.
 fn join_all(
     alloc: Global,
     out: &Out,
@@ -105,7 +105,7 @@ fn join_all(
     Ok(())
 }
 
-/// `n` units of time pass at the master.
+/// Lets `n` ticks pass at the master.
 pub(crate) fn pass<H: MasterHost + Drop>(
     master: &mut Master<H>,
     n: u32,
@@ -121,7 +121,7 @@ pub(crate) fn pass<H: MasterHost + Drop>(
     Ok(())
 }
 
-/// A unit of time passes: first the message that was given up is told, then the unanswered commands.
+/// Lets a tick pass: first the message that was given up is reported, then the unanswered commands.
 fn tick<H: MasterHost + Drop>(master: &mut Master<H>, lines: &mut Page) -> Result<(), NoMemory>
     ensures master { OnOk result (master.new ≡ master_after_tick H.Host master.old) }
     ensures lines { OnOk result (lines.new ≡ lines.old ++ master_lines (behind H.Host H.MasterHost.own) master.old Tick) }

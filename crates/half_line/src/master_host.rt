@@ -1,4 +1,5 @@
-//! What stands behind the master of a line: a node, or a router before one, which carries messages from station to station.
+//! The host of the master of a line: a node, or a router in front of one, which carries messages from station to
+//! station.
 
 ghost use Rattle.std.specs.Prelude.{◌≡◌, None, OnOk, unwrap_or};
 ghost use Rattle.df1_node.specs.Initiator.{issue_fault};
@@ -8,7 +9,7 @@ use df1_base::{Host, NoMemory};
 use df1_node::{IssueFault, Node};
 use station_router::Router;
 
-/// A host with a node within, which executes and issues the commands. It may carry messages from station to station.
+/// A host that contains a node, which executes and issues the commands. It may carry messages from station to station.
 pub trait MasterHost: Host {
     ghost use Rattle.std.specs.Prelude.{◌≡◌, ℕ, List, Bool, None, OnOk, unwrap_or};
     ghost use Rattle.df1_node.specs.Initiator.{issue_fault};
@@ -19,20 +20,22 @@ pub trait MasterHost: Host {
 
     ghost with_node: { Self → NodeState → Self };
 
-    /// Whether the host carries a body to a station: it isn't the node's.
+    /// Whether the host carries a body to a station instead of handing it to the node.
     ghost carries: { Self → List ℕ → Bool };
 
-    /// The node within.
+    /// Returns the node within.
     fn node(&self) -> &Node
         ensures { result.now ≡ node self.now };
 
-    /// The node issues a command in the name of the source `src`, or else in its own. The payload has 1 to 245 bytes, bit 6 of
-    /// its CMD is clear, and the node has issued fewer than 65,535 commands (manual topic: message packets).
+    /// Lets the node issue a command with the SRC `src`, or with its own address if that is None. The payload has 1 to
+    /// 245 bytes, bit 6 of its CMD is clear, and the node has issued fewer than 65,535 commands (manual topic: message
+    /// packets).
     fn issue(&mut self, src: Option<u8>, dst: u8, payload: &[u8]) -> Result<(), NoMemory>
         requires { issue_fault (node self.old).initiator payload.now ≡ None }
         ensures { OnOk result (self.new ≡ with_node self.old (after_node_issue (node self.old) (unwrap_or src (node self.old).initiator.node) dst payload.now)) };
 
-    /// Whether the host carries a body to a station: DST, its first byte, is the number of one (manual topic: addressing).
+    /// Returns whether the host carries a body to a station: DST, its first byte, is the number of one (manual topic:
+    /// addressing).
     fn carries(&self, body: &[u8]) -> bool
         ensures { result ≡ carries self.now body.now };
 }
@@ -82,8 +85,8 @@ impl<H: MasterHost + Drop> MasterHost for Router<H> {
     }
 }
 
-/// A node issues a command in the name of the source `src`, or else in its own: the payload has 1 to 245 bytes, bit 6 of its CMD
-/// is clear, and the node has issued fewer than 65,535 commands.
+/// Lets a node issue a command with the SRC `src`, or with its own address if that is None. The payload has 1 to 245
+/// bytes, bit 6 of its CMD is clear, and the node has issued fewer than 65,535 commands.
 pub(crate) fn issue_in_name(
     node: &mut Node,
     src: Option<u8>,

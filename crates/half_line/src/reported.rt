@@ -1,4 +1,4 @@
-//! What is told of a run: the lines of its report, and how often an end was deceived.
+//! What is reported of a run: the lines of its report, and how often an end was deceived.
 
 use replay_report::Page;
 

@@ -8,7 +8,7 @@ use half_master::MasterSetup;
 use half_slave::SlaveSetup;
 use script_parts::EndPlan;
 
-/// How the master of a plan is set up, on a line whose messages end with this check.
+/// Returns the setup of the master of a plan, on a line whose messages end with this check.
 pub(crate) fn master_setup(check: Check, plan: &EndPlan) -> MasterSetup
     ensures { result ≡ the_master_setup check plan.now }
 {
@@ -20,7 +20,7 @@ pub(crate) fn master_setup(check: Check, plan: &EndPlan) -> MasterSetup
     }
 }
 
-/// How the station of a plan is set up: its number is its address.
+/// Returns the setup of the station of a plan: its number is its address.
 pub(crate) fn slave_setup(check: Check, plan: &EndPlan) -> SlaveSetup
     ensures { result ≡ the_slave_setup check plan.now }
 {

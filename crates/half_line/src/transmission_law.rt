@@ -3,10 +3,10 @@ ghost use Rattle.script_parts.specs.declared.script.Script.{Script};
 ghost use Rattle.script_parts.specs.HalfPlayable.{IsHalfPlayable};
 ghost use Rattle.half_line.specs.Transmissions.{AreAllInOrder};
 
-/// A law: in every run, also in one that deceives an end, and so at each point of it, each way between the master and a
-/// station: the last bytes of transmissions that arrived, and behind them those that are on their way, have numbers that rise
-/// strictly, each of a transmission that the end began; and with the last byte of transmission n goes the body of that
-/// transmission (manual topic: half-duplex protocol).
+/// A law: in every run, even one that deceives an end, and so at each point of it, this holds of each direction between
+/// the master and a station. The last bytes of transmissions that arrived, followed by those on their way, have
+/// strictly rising numbers, each of a transmission that the end started. The last byte of transmission n carries the
+/// body of that transmission (manual topic: half-duplex protocol).
 pub fn transmissions_are_in_order()
     ensures { (script : Script) → IsHalfPlayable script → AreAllInOrder script }
 {}

@@ -1,11 +1,11 @@
-//! The two ways between the master and a station.
+//! The two directions between the master and a station.
 
 ghost use Rattle.std.specs.Prelude.{◌≡◌};
 ghost use Rattle.half_line.specs.Run.{station_between as the_station_between, way_from as the_way_from};
 
 use script_statement::Who;
 
-/// Which way bytes go between the master and a station.
+/// The direction of bytes between the master and a station.
 #[derive(Clone, Copy)]
 pub enum Way {
     /// From the master to the station.
@@ -14,7 +14,7 @@ pub enum Way {
     ToMaster,
 }
 
-/// Which way the bytes of an end go.
+/// Returns the direction of the bytes of an end.
 pub(crate) fn way_from(from: Who) -> Way
     ensures { result ≡ the_way_from from }
 {
@@ -24,7 +24,7 @@ pub(crate) fn way_from(from: Who) -> Way
     }
 }
 
-/// The number of the station of a queue; 0 where neither end is a station.
+/// Returns the number of the station of a queue; 0 if neither end is a station.
 pub(crate) fn station_between(from: Who, to: Who) -> u8
     ensures { result ≡ the_station_between from to }
 {

@@ -1,4 +1,4 @@
-//! The world of a script: the master, its stations, what is on its way between them, and what is told so far.
+//! The world of a script: the master, its stations, what is on its way between them, and what was reported so far.
 
 ghost use Rattle.std.specs.Prelude.{◌≡◌, ◌≤◌, ◌+◌, ◌++◌, ℕ, List, [], length, map, None, Some, IfOk, MatchOption, OnOk, OnErr, IsOk, IsTrue};
 ghost use Rattle.std.specs.List.{flat_map, All};
@@ -34,8 +34,8 @@ use station_router::Router;
 use std::alloc::Global;
 use std::marker::Model;
 
-/// A master and its stations with their nodes, and the bytes on their way between them. Behind the master stands a node, or a
-/// router before one. After want of memory it is only dropped.
+/// A master and its stations with their nodes, and the bytes on their way between them. The host of the master is a
+/// node, or a router in front of one. After want of memory the world may only be dropped.
 #[derive(Drop)]
 pub struct HalfWorld<H: MasterHost + Drop> {
     alloc: Global,
@@ -62,7 +62,7 @@ impl<H: MasterHost + Drop> Model for HalfWorld<H> {
 }
 
 impl HalfWorld<Node> {
-    /// The world before the first event of a script, with the node of the master's plan behind the master.
+    /// Returns the world before the first event of a script, with the node of the master's plan as the master's host.
     pub fn new(alloc: Global, script: &Script) -> Result<HalfWorld<Node>, NoMemory>
         requires { IsHalfPlayable script.now }
         ensures { IfOk result (λ world. world ≡ begun script.now) }
@@ -73,8 +73,8 @@ impl HalfWorld<Node> {
 }
 
 impl HalfWorld<Router<Node>> {
-    /// The world before the first event of a script, with a router between all stations of the script behind the master, and
-    /// behind that the node of the master's plan (manual topic: half-duplex protocol).
+    /// Returns the world before the first event of a script, with a router between all stations of the script as the
+    /// master's host, and behind it the node of the master's plan (manual topic: half-duplex protocol).
     pub fn routed(alloc: Global, script: &Script) -> Result<HalfWorld<Router<Node>>, NoMemory>
         requires { AreHalfEnds script.now.ends }
         ensures { IfOk result (λ world. world ≡ begun_with script.now (new_router (numbers_in script.now.ends) (first_node (plan_of_m script.now)))) }
@@ -86,7 +86,7 @@ impl HalfWorld<Router<Node>> {
 }
 
 impl<H: MasterHost + Drop> HalfWorld<H> {
-    /// The world before the first event of a script, with this host behind the master.
+    /// Returns the world before the first event of a script, with this host behind the master.
     pub fn over(alloc: Global, script: &Script, host: H) -> Result<HalfWorld<H>, NoMemory>
         requires { AreHalfEnds script.now.ends }
         ensures { IfOk result (λ world. world ≡ begun_with script.now host) }
@@ -106,10 +106,10 @@ impl<H: MasterHost + Drop> HalfWorld<H> {
         })
     }
 
-    /// Does an event: one that may happen at the master, at a station or between them; the master issues at most 65,535
-    /// commands, and the sum of the events, with this one, is at most 5,000,000. Takes, deliveries and losses end at the
-    /// first that has nothing to do. Losing and altering take no memory. It isn't inlined, since a caller that has either kind
-    /// of line would pay for its room on the other.
+    /// Performs an event, which may happen at the master, at a station or between them. The master issues at most
+    /// 65,535 commands, and the sum of the events, with this one, is at most 5,000,000. Takes, deliveries and losses
+    /// end at the first that has nothing to do. Losing and altering take no memory. It isn't inlined, since a caller
+    /// that has either kind of line would pay for its stack space on the other.
     #[inline(never)]
     pub fn step(&mut self, event: &Event) -> Result<(), NoMemory>
         requires { IsNext (behind H.Host H.MasterHost.own) self.old event.now }
@@ -140,10 +140,10 @@ impl<H: MasterHost + Drop> HalfWorld<H> {
         }
     }
 
-    /// The node of the station of this number issues a command to a node in its own name; where no station has the number,
-    /// nothing is issued. The payload has 1 to 245 bytes, bit 6 of its CMD is clear, and the station has issued fewer than
-    /// 65,535 commands. It counts as one event, and the sum of the events, with this one, is at most 5,000,000 (manual topic:
-    /// message packets).
+    /// Lets the node of the station of this number issue a command to a node with its own address as SRC; if no station
+    /// has the number, nothing is issued. The payload has 1 to 245 bytes, bit 6 of its CMD is clear, and the station
+    /// has issued fewer than 65,535 commands. It counts as one event, and the sum of the events, with this one, is at
+    /// most 5,000,000 (manual topic: message packets).
     pub fn issue_at(&mut self, number: u8, dst: u8, payload: &[u8]) -> Result<(), NoMemory>
         requires { MayIssueAt self.old number payload.now }
         ensures { OnOk result (self.new ≡ issued_at self.old number dst payload.now) }
@@ -155,7 +155,7 @@ impl<H: MasterHost + Drop> HalfWorld<H> {
         }
     }
 
-    /// The initiator of the master or of a station: None exactly where the line has no such end.
+    /// Returns the initiator of the master or of a station; None if the line has no such end.
     pub fn initiator(&self, who: Who) -> Option<&Initiator>
         ensures { MatchOption result (initiator_of (behind H.Host H.MasterHost.own) self.now.state who ≡ None) (λ initiator. initiator_of (behind H.Host H.MasterHost.own) self.now.state who ≡ Some initiator.now) }
     {
@@ -166,8 +166,8 @@ impl<H: MasterHost + Drop> HalfWorld<H> {
         }
     }
 
-    /// Writes the lines of the report that stand since the last such call, and drops them. `Failed` comes where the sink
-    /// failed; then it holds a first part of their text, and not all, and the world is only dropped.
+    /// Writes the lines of the report that were added since the last such call, and drops them. Returns `Failed` if the
+    /// sink failed: then the sink holds only a first part of their text, and the world may only be dropped.
     pub fn print_lines<K: Sink>(&mut self, sink: &mut K) -> Result<(), Failed>
         ensures state { OnOk result (self.new ≡ printed self.old) }
         ensures ok { OnOk result (Put (K.held sink.old) (K.held sink.new) (flat_map line_text self.old.lines)) }
@@ -182,7 +182,7 @@ impl<H: MasterHost + Drop> HalfWorld<H> {
         Ok(())
     }
 
-    /// The record of what happened: the lines, the words that aren't 0, and how often an end was deceived.
+    /// Returns the record of what happened: the lines, the words that aren't 0, and how often an end was deceived.
     pub fn finish(self) -> Result<Record, NoMemory>
         ensures { IfOk result (λ r. r ≡ record_from (behind H.Host H.MasterHost.own) self.state self.lines) }
     {
@@ -195,7 +195,7 @@ impl<H: MasterHost + Drop> HalfWorld<H> {
         })
     }
 
-    /// The words of the master and of the stations, in their order, that aren't 0.
+    /// Returns the words of the master and of the stations, in their order, that aren't 0.
     fn words(&self) -> Result<Words, NoMemory>
         ensures { IfOk result (λ words. words ≡ all_words (behind H.Host H.MasterHost.own) self.now.state) }
     {
@@ -206,7 +206,7 @@ impl<H: MasterHost + Drop> HalfWorld<H> {
     }
 }
 
-/// The node of the plan of a script's master, which has executed and issued nothing.
+/// Makes the node of the plan of a script's master, which has executed and issued nothing.
 fn master_node(alloc: Global, script: &Script) -> Result<Node, NoMemory>
     requires { AreHalfEnds script.now.ends }
     ensures { IfOk result (λ node. node ≡ first_node (plan_of_m script.now)) }
@@ -217,7 +217,7 @@ fn master_node(alloc: Global, script: &Script) -> Result<Node, NoMemory>
     node_of(alloc, plan)
 }
 
-/// The numbers of a script's stations, at most 32.
+/// Returns the numbers of a script's stations, at most 32.
 fn station_numbers(script: &Script) -> ArrayVec<u8, 32>
     requires { AreHalfEnds script.now.ends }
     ensures { result.items ≡ numbers_in script.now.ends }
@@ -228,7 +228,7 @@ fn station_numbers(script: &Script) -> ArrayVec<u8, 32>
     numbers_of(plans)
 }
 
-/// The initiator of the station with this number: None exactly where there is no such station.
+/// Returns the initiator of the station with this number; None if there is no such station.
 fn station_initiator(stations: &[LineStation], number: u8) -> Option<&Initiator>
     ensures { MatchOption result (initiator_at stations.now (place_in stations.now number) ≡ None) (λ initiator. initiator_at stations.now (place_in stations.now number) ≡ Some initiator.now) }
 {
@@ -246,7 +246,7 @@ fn push_stations(stations: &[LineStation], words: &mut Words) -> Result<(), NoMe
     Ok(())
 }
 
-/// The numbers of the stations of these plans, at most 32.
+/// Returns the numbers of the stations of these plans, at most 32.
 fn numbers_of(plans: &[EndPlan]) -> ArrayVec<u8, 32>
     requires { length plans.now ≤ 32 }
     ensures { result.items ≡ map (λ (plan : Plan). plan.node) plans.now }
@@ -258,7 +258,7 @@ fn numbers_of(plans: &[EndPlan]) -> ArrayVec<u8, 32>
     numbers
 }
 
-/// The stations of these plans, with nothing heard or given.
+/// Makes the stations of these plans, which have received and sent nothing.
 fn sides_of(alloc: Global, check: Check, plans: &[EndPlan]) -> Result<Vec<LineStation>, NoMemory>
     requires plans { All IsStationPlan plans.now }
     requires numbers { All (λ (plan : Plan). IsStationNumber plan.node) plans.now }
@@ -271,15 +271,15 @@ fn sides_of(alloc: Global, check: Check, plans: &[EndPlan]) -> Result<Vec<LineSt
     Ok(sides)
 }
 
-/// The place of the station with this number, among at most 32.
+/// Returns the index of the station with this number, among at most 32.
 fn place_of(stations: &[LineStation], number: u8) -> Option<usize>
     ensures { result ≡ place_in stations.now number }
 {
     stations.iter().position(|side| side.number() == number)
 }
 
-/// The number of the station at which an event happens, or between which and the master its bytes are; None where it
-/// happens at the master.
+/// Returns the number of the station at which an event happens, or between which and the master its bytes are; None if
+/// it happens at the master.
 fn station_at(event: &Event) -> Option<u8>
     ensures { result ≡ the_station_at event.now }
 {
@@ -293,7 +293,7 @@ fn station_at(event: &Event) -> Option<u8>
     }
 }
 
-/// The number of a station.
+/// Returns the number of a station.
 fn number_of(who: Who) -> Option<u8>
     ensures { result ≡ the_number_of who }
 {
@@ -303,8 +303,8 @@ fn number_of(who: Who) -> Option<u8>
     }
 }
 
-/// How many events an event counts, with so many stations: a byte of the master counts one for each, and one where there is
-/// none.
+/// Returns how many events an event counts, with so many stations: a byte of the master counts one for each, and one if
+/// there is none.
 fn count(event: &Event, stations: usize) -> u32
     requires { (numbers : List ℕ) × (length numbers ≡ stations) × IsHalfPossible numbers event.now × (half_count_of numbers event.now ≤ most_events) }
     ensures { (numbers : List ℕ) → length numbers ≡ stations → result ≡ half_count_of numbers event.now }

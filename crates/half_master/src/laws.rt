@@ -26,15 +26,15 @@ ghost use Rattle.half_master.specs.Emission.{Letter, Take, master_after, given_a
 
 use df1_base::Host;
 
-/// The master and what it has given go on signal by signal.
+/// The master and what it has sent go on signal by signal.
 pub fn signals_go_on<H: Host>()
     ensures master { (e : MasterState H) (before : List Letter) (signal : Letter) → master_after_all H.Host e (before ++ signal ∷ []) ≡ master_after H.Host (master_after_all H.Host e before) signal }
     ensures given { (e : MasterState H) (before : List Letter) (signal : Letter) → emission H.Host e (before ++ signal ∷ []) ≡ emission H.Host e before ++ given_at H.Host (master_after_all H.Host e before) signal }
 {}
 
-/// What a master hears at a byte that arrives, be it a message, a response or nothing, is what the grammar of the line,
-/// over all bytes that arrived so far, hears at the last of them; a whole message is told exactly there. A master stands
-/// for what arrived from its beginning on, over every signal, and a change of the host changes nothing of it.
+/// What a master decodes at a byte that arrives (a message, a response or nothing) is what the grammar of the line,
+/// over all bytes that arrived so far, decodes at the last of them. A whole message is reported exactly there. A master
+/// stands for what arrived since it was new, over every signal, and a change of the host changes nothing of this.
 pub fn arrivals_are_heard<H: Host>()
     ensures none { (check : CheckKind) → HeardByGrammar check [] }
     ensures more { (check : CheckKind) (arrivals : List Arrival) (e : MasterState H) (b : ℕ) → StandsFor check (bytes_arrived arrivals) e → HeardByGrammar check arrivals
@@ -45,10 +45,11 @@ pub fn arrivals_are_heard<H: Host>()
     ensures changes { (check : CheckKind) (bytes : List ℕ) (e : MasterState H) (host : H) → StandsFor check bytes e → StandsFor check bytes (with_host e host) }
 {}
 
-/// A message is handed out where none is out. It is given once, and again at most `max_resends` times, until its fate is
-/// told, once: Delivered, or Undelivered exactly after all these times. One for no station is told Undelivered where it is
-/// handed out. Where the host and the master agree on whether a message is out, as at a new master over a host with none
-/// out, they do so after every signal, so each fate is told of a message that is out.
+/// A message is handed out if none is outstanding. It is sent once, and again at most `max_resends` times, until its
+/// fate is reported, once: Delivered, or Undelivered exactly after all these times. One for no station is reported
+/// Undelivered where it is handed out. If the host and the master agree on whether a message is outstanding, as at a
+/// new master over a host with none outstanding, they do so after every signal. So each fate is reported of a message
+/// that is outstanding.
 pub fn a_fate_is_told_once<H: Host>()
     ensures in_turn { (e : MasterState H) (signals : List Letter) → IsWithin e.setup.max_resends e.phase → InTurn e.setup.max_resends (out_of e.phase) (events H.Host e signals) }
     ensures start { (setup : Settings) (numbers : List ℕ) (host : H) → IsWithin setup.max_resends (new_master setup numbers host).phase × (out_of (new_master setup numbers host).phase ≡ None) }
@@ -57,23 +58,27 @@ pub fn a_fate_is_told_once<H: Host>()
         → H.Host.is_out (master_after_all H.Host e signals).host ≡ is_some (out_of (master_after_all H.Host e signals).phase) }
 {}
 
-/// A fate is told exactly so: Delivered at an ACK, while the message that is out waits for one; and Undelivered at a NAK
-/// while it waits, and at the last tick of the wait, where it was given once and `max_resends` times again; and where a
-/// message is handed out for no station of the list. Whether it waits, and how often it was given, is read off what was
-/// heard, the ticks and the last bytes of transmissions since the fate that was told before, also where the host was
-/// changed.
+/// A fate is reported in exactly these cases:
+///
+/// - Delivered at an ACK, while the outstanding message waits for one;
+/// - Undelivered at a NAK while it waits, and at the last tick of the wait, if it was sent once and `max_resends` times
+///   again;
+/// - Undelivered where a message is handed out for no station of the list.
+///
+/// Whether it waits, and how often it was sent, is read off what was received, the ticks and the last bytes of
+/// transmissions since the fate that was reported before, also if the host was changed.
 pub fn fates_are_told_exactly_so<H: Host>()
     ensures delivered { (past : Past) (e : MasterState H) (signal : Letter) → Came H.Host past e → (fate_at H.Host e signal ≡ Some Delivered) ↔ IsDelivered e past.course signal }
     ensures given_up { (past : Past) (e : MasterState H) (signal : Letter) → Came H.Host past e → (fate_at H.Host e signal ≡ Some Undelivered) ↔ IsGivenUp H.Host e past.course signal }
     ensures told { (e : MasterState H) (signal : Letter) → fates_in (events_at H.Host e signal) ≡ option_to_list (fate_at H.Host e signal) }
 {}
 
-/// A message that is given, for the first time or again, is one transmission more, and nothing else is: no poll and no
-/// ACK. What is sent is the body of the transmission that was begun last. While the count of transmissions hasn't stopped at
-/// the last value of u64, a byte that is marked with a number, as the last byte of a transmission or one of its body, is
-/// given while the body of the transmission of that number is sent. Last bytes are given with the numbers 1, 2, 3 and so on, to
-/// that of the last transmission or the one before. Each message to a station that the host handed out is
-/// transmitted, in order, once or several times running.
+/// A message that is sent, for the first time or again, is one transmission more, and nothing else is: no poll and no
+/// ACK. What is sent is the body of the transmission that was started last. While the count of transmissions hasn't
+/// stopped at the last value of u64, a byte that is marked with a number, as the last byte of a transmission or one of
+/// its body, is sent while the body of the transmission of that number is sent. Last bytes are sent with the numbers 1,
+/// 2, 3 and so on, up to that of the last transmission or the one before. Each message to a station that the host
+/// handed out is transmitted, in order, once or several times in a row.
 pub fn transmissions_are_counted<H: Host>()
     ensures begun { (e : MasterState H) (signals : List Letter) → (master_after_all H.Host e signals).mouth.begun ≡ begun_after e.mouth.begun (events H.Host e signals) }
     ensures sending { (e : MasterState H) (signals : List Letter) → (master_after_all H.Host e signals).sending ≡ sending_after e.sending (events H.Host e signals) }
@@ -86,10 +91,10 @@ pub fn transmissions_are_counted<H: Host>()
     ensures running { (past : Past) (e : MasterState H) → Came H.Host past e → AreSendingsOf (transmissions past.events) (handed_out past.events) }
 {}
 
-/// What a master gave, whatever it heard and also where its host was changed, is whole messages of its transmissions, in
-/// order, each with a right check and to the station that its first byte names, polls with a right check, and ACKs, and at
-/// the end perhaps a part of one of these: a slave hears nothing else in it. What happened and was given over the signals of a
-/// new master is such a past.
+/// What a master sent, whatever it received and also if its host was changed, is whole messages of its transmissions,
+/// in order, polls and ACKs, and at the end perhaps a part of one of these. Each message has a right check and goes to
+/// the station that its first byte names, and each poll has a right check. A slave decodes nothing else in it. What
+/// happened and was sent over the signals of a new master is such a past.
 pub fn what_is_given_is_df1<H: Host>()
     ensures wire { (past : Past) (e : MasterState H) → Came H.Host past e → IsGivenByMaster e.setup.check (handed_out past.events) (bytes_given past.gave) }
     ensures signals { (setup : Settings) (numbers : List ℕ) (host : H) (signals : List Letter) → HasTicks setup → AreStations numbers → H.Host.holds_bodies host
@@ -97,9 +102,9 @@ pub fn what_is_given_is_df1<H: Host>()
 {}
 
 /// Each station has its own filter: the key that is kept for the station at a place is the one that a filter keeps over
-/// the messages of this station alone, each heard after a poll of it. Of these messages the host is handed those that are
-/// accepted, each once: a repeat of the last accepted one is passed over, and one that was refused is not remembered; and a
-/// message is accepted from a polled station alone. The numbers of the list stay.
+/// the messages of this station alone, each received after a poll of it. Of these messages the host is handed those
+/// that are accepted, each once. A repeat of the last accepted one is not handed over, one that was refused is not
+/// remembered, and a message is accepted from a polled station alone. The numbers of the list are unchanged.
 pub fn each_station_has_its_own_key<H: Host>()
     ensures kept { (e : MasterState H) (place : ℕ) (signals : List Letter) → kept_at (master_after_all H.Host e signals).stations place ≡ fold kept_after (kept_at e.stations place) (offers H.Host e place signals) }
     ensures start { (setup : Settings) (numbers : List ℕ) (host : H) (place : ℕ) → kept_at (new_master setup numbers host).stations place ≡ last_key [] }
@@ -110,20 +115,21 @@ pub fn each_station_has_its_own_key<H: Host>()
     ensures numbers { (e : MasterState H) (signal : Letter) → numbers_of (master_after H.Host e signal).stations ≡ numbers_of e.stations }
 {}
 
-/// Of every master that is reached: its stations are such as a list may have, the one that is polled next and the one that
-/// was polled have their places in it, and a message that waits for its ACK is one to a station; the host holds bodies.
+/// In every reachable master, the stations are such as a list may have, and the one that is polled next and the one
+/// that was polled have their places in it. A message that waits for its ACK is one to a station, and the host holds
+/// bodies.
 pub fn parts_fit<H: Host>()
     ensures fits { (e : MasterState H) → Reached H.Host e → Fits e.stations e.next e.phase e.mouth e.sending }
     ensures holds { (e : MasterState H) → Reached H.Host e → H.Host.holds_bodies e.host }
 {}
 
-/// Of every master that is reached: as long as a byte is left to be given, the wait that follows has all its ticks.
+/// In every reachable master, as long as a byte is left to be sent, the wait that follows has all its ticks.
 pub fn a_wait_begins_with_all_ticks<H: Host>()
     ensures { (e : MasterState H) → Reached H.Host e → is_done e.mouth ≡ false → HasAllTicks e.setup e.phase }
 {}
 
-/// Of every master that is reached: a take that gives a byte leaves fewer to be given, of at most 511. Takes until one
-/// gives nothing give at most 511 bytes, come to one end, and leave no byte to be given.
+/// In every reachable master, a take that returns a byte leaves fewer to be sent, of at most 511. Takes until one
+/// returns nothing return at most 511 bytes, lead to one end, and leave no byte to be sent.
 pub fn a_drain_ends<H: Host>()
     ensures fewer { (e : MasterState H) → Reached H.Host e → IsSome (out_at_take H.Host e) → most_left H.Host (master_after_take H.Host e) + 1 ≤ most_left H.Host e }
     ensures most { (e : MasterState H) → Reached H.Host e → most_left H.Host e ≤ 511 }

@@ -1,25 +1,25 @@
-//! The master of a half-duplex link, over any host: it gives the host's messages, and polls the stations of its list in
+//! The master of a half-duplex link, over any host: it sends the host's messages, and polls the stations of its list in
 //! turn for theirs.
 //!
 //! | State | Event | What it does |
 //! |---|---|---|
-//! | idle | take, host ready | a message of the host is given; then it waits for ACK with `ack_ticks` |
+//! | idle | take, host ready | a message of the host is sent; then it waits for ACK with `ack_ticks` |
 //! | idle | tick, host not ready | the host's tick; then a poll of the next station; then it waits with `poll_ticks` |
 //! | idle | tick, host ready | nothing |
-//! | waits for ACK | ACK | told Delivered; idle |
-//! | waits for ACK | NAK, or the last tick | the message is given again, at most `max_resends` times; else told Undelivered; idle |
+//! | waits for ACK | ACK | reported Delivered; idle |
+//! | waits for ACK | NAK, or the last tick | the message is sent again, at most `max_resends` times; otherwise reported Undelivered; idle |
 //! | waits after a poll | EOT, or the last tick | idle |
-//! | waits after a poll | a message of the polled station | by that station's own filter: a repeat, or accepted, then ACK is given, then idle; without room refused, no byte, and it waits on |
+//! | waits after a poll | a message of the polled station | by that station's own filter, a duplicate or accepted: ACK is sent, then idle; if there is no room, refused: no byte is sent, and it waits on |
 //! | waits after a poll | a damaged message, or one of another station | waits on |
 //!
-//! The stations are polled in the order of the list, over and over, the first at first. A wait begins, with all its
-//! ticks, when the last byte of the message or poll was taken; a tick before its last makes it one shorter. While bytes
-//! are given, everything that is heard and every tick is passed over, and so is whatever the table doesn't name. Ticks
-//! other than those of the second row aren't passed to the host. A message whose first byte is the number of no station
-//! is told Undelivered, and the master stays idle (manual topic: half-duplex protocol).
+//! The stations are polled in the order of the list, over and over, starting with the first. A wait starts, with all
+//! its ticks, when the last byte of the message or poll was taken; a tick before its last makes it one shorter. While
+//! bytes are being sent, everything that is received and every tick is ignored, and so is whatever the table doesn't
+//! name. Only the ticks of the second row are passed to the host. A message whose first byte is the number of no
+//! station is reported Undelivered, and the master stays idle (manual topic: half-duplex protocol).
 //!
-//! A master stands for the bytes that arrived at it: what it hears at a byte is what the grammar of the line hears at
-//! the last of all these bytes, whatever else happened to the master and to its host.
+//! A master stands for the bytes that arrived at it: what it decodes at a byte is what the grammar of the line decodes
+//! at the last of all these bytes, whatever else happened to the master and to its host.
 #![tactic(auto)]
 
 ghost use Rattle.std.specs.Prelude.{◌≡◌, ◌≤◌, ◌+◌, ◌↔◌, ◌∷◌, ◌++◌, [], ℕ, List, length, Option, Some, slice_get, is_some, IfSome, IsNone, IsSome, IsTrue};
@@ -59,14 +59,14 @@ use std::marker::Model;
 pub use table::{Effect, Phase};
 use table::{heard_after_poll, heard_of_message, on_tick, with_left};
 
-/// How a master is set up.
+/// The setup of a master.
 #[derive(Clone, Copy, Debug, PartialEq, Eq)]
 pub struct MasterSetup {
     /// The check of its messages.
     pub check: Check,
     /// The ticks of a wait for ACK, at least 1.
     pub ack_ticks: u32,
-    /// How often a message is given again.
+    /// How often a message is sent again.
     pub max_resends: u32,
     /// The ticks of a wait after a poll, at least 1.
     pub poll_ticks: u32,
@@ -97,8 +97,8 @@ impl<H: Host + Drop> Model for Master<H> {
 }
 
 impl<H: Host + Drop> Master<H> {
-    /// A master of these stations, over a host, that has heard and given nothing. The stations are at most 32, each
-    /// another, and none is 16 or 255.
+    /// Returns a master of these stations, over a host, that has received and sent nothing. There are at most 32
+    /// stations, all different, and none is 16 or 255.
     pub fn new(setup: MasterSetup, stations: &[u8], host: H) -> Master<H>
         requires ack_ticks { 1 ≤ setup.ack_ticks }
         requires poll_ticks { 1 ≤ setup.poll_ticks }
@@ -118,14 +118,14 @@ impl<H: Host + Drop> Master<H> {
         }
     }
 
-    /// The host.
+    /// Returns the host.
     pub fn host(&self) -> &H
         ensures { result.now ≡ self.now.host }
     {
         &self.host
     }
 
-    /// The host, to be changed in any way.
+    /// Returns the host, to be changed in any way.
     pub fn host_mut(&mut self) -> &mut H
         ensures* writes_back { sem 𝓛 (Lends (the_row H.row H.Host) H.row self.entry result (with_host self.old)) }
         ensures value { result.now ≡ self.old.host }
@@ -134,9 +134,9 @@ impl<H: Host + Drop> Master<H> {
         &mut self.host
     }
 
-    /// Takes a byte that was heard, in constant time but where a message is begun again, and says what the master made of
-    /// it. `did` is there exactly at Accept, `news` is what the host answered to a fate that was decided here, `whole`
-    /// says whether a good message was heard, whatever was made of it, and `station` is 0.
+    /// Takes a received byte, in constant time except where a message is started again, and returns what the master
+    /// made of it. `did` is there exactly at Accept, and `news` is the host's answer to a fate that was decided here.
+    /// `whole` says whether a good message was received, whatever was made of it, and `station` is 0.
     pub fn on_byte(&mut self, b: u8) -> Step
         ensures state { self.new ≡ master_after_byte H.Host self.old b }
         ensures step { result ≡ step_at_byte H.Host self.old b }
@@ -157,9 +157,9 @@ impl<H: Host + Drop> Master<H> {
         }
     }
 
-    /// A unit of time has passed, in constant time but where a message is begun again. `gone` is replaced by the commands
-    /// that are unanswered from this tick on, none where the host has no tick. The answer is Failed, with what the host
-    /// answered, exactly where a message was given up, and else Still.
+    /// Lets a unit of time pass, in constant time except where a message is started again. `gone` is replaced by the
+    /// commands that are unanswered from this tick on, none if the host has no tick. Returns Failed, with the host's
+    /// answer, exactly if a message was given up, and Still otherwise.
     pub fn on_tick(&mut self, gone: &mut ArrayVec<u32, 16>) -> Turn
         ensures state { self.new ≡ master_after_tick H.Host self.old }
         ensures turn { result ≡ turn_at_tick H.Host self.old }
@@ -173,8 +173,9 @@ impl<H: Host + Drop> Master<H> {
         turn_of(effect, news)
     }
 
-    /// Gives the next byte, in constant time but for the beginning of a message. The answer is None exactly where no byte
-    /// is left to be given and no message is begun: one whose first byte is the number of no station is told as undelivered.
+    /// Returns the next byte to transmit, in constant time except at the start of a message. Returns None exactly if no
+    /// byte is left to be sent and no message is started. A message whose first byte is the number of no station is
+    /// reported as undelivered.
     pub fn take(&mut self) -> Option<Out>
         ensures state { self.new ≡ master_after_take H.Host self.old }
         ensures out { result ≡ out_at_take H.Host self.old }
@@ -186,7 +187,7 @@ impl<H: Host + Drop> Master<H> {
         self.mouth.take()
     }
 
-    /// Whether no byte is left to be given and the master isn't idle with a host that is ready.
+    /// Returns whether no byte is left to be sent and the master isn't idle with a host that is ready.
     pub fn quiet(&self) -> bool
         ensures value { result ≡ is_quiet H.Host self.now }
         ensures gives_none { IsTrue result → IsNone (out_at_take H.Host self.now) }
@@ -194,7 +195,7 @@ impl<H: Host + Drop> Master<H> {
         self.mouth.idle() && !(self.phase.is_idle() && self.host.ready())
     }
 
-    /// The body of the message that was heard whole at the last byte, at most 250 bytes; empty after every other byte.
+    /// Returns the body of the message that was received whole at the last byte, at most 250 bytes; otherwise empty.
     pub fn body(&self) -> &[u8]
         ensures body { result.now ≡ body_of self.now }
         ensures lent { (check : CheckKind) (bytes : List ℕ) → StandsFor check bytes self.now → ReadOff (master_hears check 250) bytes (lent check 250) result.now }
@@ -203,21 +204,21 @@ impl<H: Host + Drop> Master<H> {
         self.ear.body()
     }
 
-    /// Whether it has a station of this number. A message to any other node is given up where its turn comes.
+    /// Returns whether it has a station of this number. A message to any other node is given up when its turn comes.
     pub fn has_station(&self, number: u8) -> bool
         ensures { result ≡ is_listed self.now.stations number }
     {
         is_listed(&self.stations, number)
     }
 
-    /// The body of the transmission that was begun last, empty where none was. A poll is no transmission.
+    /// Returns the body of the transmission that was started last, empty if there was none. A poll is no transmission.
     pub fn sending(&self) -> &[u8]
         ensures { result.now ≡ self.now.sending }
     {
         &self.sending
     }
 
-    /// Whether it has a message of its host that was neither acknowledged nor given up.
+    /// Returns whether it has a message of its host that was neither acknowledged nor given up.
     pub fn holds_message(&self) -> bool
         ensures { result ≡ holds_message self.now }
     {
@@ -227,7 +228,7 @@ impl<H: Host + Drop> Master<H> {
         }
     }
 
-    /// The station whose poll is being given, or which is to answer it.
+    /// Returns the station whose poll is being sent, or which is to answer it.
     pub fn polled_station(&self) -> Option<u8>
         ensures { result ≡ polled_station self.now }
     {
@@ -237,7 +238,7 @@ impl<H: Host + Drop> Master<H> {
         }
     }
 
-    /// How many bytes the ear holds, at most 250.
+    /// Returns how many bytes the receiver holds, at most 250.
     pub fn holds(&self) -> usize
         ensures held { (check : CheckKind) (bytes : List ℕ) → StandsFor check bytes self.now → ReadOff (master_hears check 250) bytes (held_of check 250) result }
         ensures value { result ≡ held_at self.now.ear.standing }
@@ -246,7 +247,7 @@ impl<H: Host + Drop> Master<H> {
         self.ear.held()
     }
 
-    /// What is done about a thing that was heard at the last byte.
+    /// Returns what is done about an item that was decoded at the last byte.
     fn effect_heard(&self, heard: Option<MasterHeard>) -> Effect
         requires { heard ≡ Some MasterHeard.Good → 6 ≤ length (body_of self.now) }
         ensures { result ≡ effect_heard H.Host self.now heard }
@@ -263,7 +264,7 @@ impl<H: Host + Drop> Master<H> {
         }
     }
 
-    /// What is done about a tick.
+    /// Returns what is done about a tick.
     fn effect_of_tick(&self) -> Effect
         ensures { result ≡ effect_at_tick H.Host self.now }
     {
@@ -274,7 +275,7 @@ impl<H: Host + Drop> Master<H> {
         }
     }
 
-    /// Does what an effect does to all but the host.
+    /// Applies an effect to all but the host.
     fn perform(&mut self, effect: Effect)
         requires { Suits self.old.stations self.old.mouth self.old.sending (body_of self.old) effect }
         ensures { self.new ≡ performed self.old effect }
@@ -293,7 +294,7 @@ impl<H: Host + Drop> Master<H> {
         }
     }
 
-    /// Begins to give the message once more, after it was given again `resent` times with this.
+    /// Starts to send the message; `resent` counts its retransmissions, this one included.
     fn transmit(&mut self, resent: u32)
         requires { IsMessage self.old.sending }
         ensures { self.new ≡ transmitted self.old resent }
@@ -305,7 +306,7 @@ impl<H: Host + Drop> Master<H> {
         };
     }
 
-    /// Begins to give DLE ACK, after which the master is idle.
+    /// Starts to send DLE ACK, after which the master is idle.
     fn acknowledge(&mut self)
         ensures { self.new ≡ acknowledged self.old }
     {
@@ -313,7 +314,7 @@ impl<H: Host + Drop> Master<H> {
         self.phase = Phase::Idle;
     }
 
-    /// Begins to give a poll of the next station, if there is one.
+    /// Starts to send a poll of the next station, if there is one.
     fn poll_next(&mut self)
         ensures { self.new ≡ polled self.old (slice_get self.old.stations self.old.next) }
     {
@@ -327,7 +328,7 @@ impl<H: Host + Drop> Master<H> {
         }
     }
 
-    /// Whether the host's next message is to be begun: nothing else is to be given, and it is ready.
+    /// Returns whether the host's next message is to be started: nothing else is to be sent, and the host is ready.
     fn may_begin(&self) -> bool
         ensures value { result ≡ is_some (message_next H.Host self.now) }
         ensures next { IsTrue result → message_next H.Host self.now ≡ H.Host.next_body self.now.host }
@@ -337,7 +338,7 @@ impl<H: Host + Drop> Master<H> {
         self.mouth.idle() && self.phase.is_idle() && self.host.ready()
     }
 
-    /// Begins the host's next message where nothing else is to be given.
+    /// Starts the host's next message if nothing else is to be sent.
     fn prepare(&mut self)
         ensures state { self.new ≡ begun H.Host self.old }
         ensures no_more { most_left H.Host self.new ≤ most_left H.Host self.old }
@@ -349,7 +350,7 @@ impl<H: Host + Drop> Master<H> {
         }
     }
 
-    /// Begins to give a message of the host, or tells it as undelivered where it is for no station.
+    /// Starts to send a message of the host, or reports it as undelivered if it is for no station.
     fn begin_message(&mut self, body: ArrayVec<u8, 250>)
         requires { IsBody body.items }
         ensures { self.new ≡ begun_with H.Host self.old body.items }

@@ -1,4 +1,4 @@
-//! What an effect does to the host, and what is told of it.
+//! What an effect does to the host, and what is reported of it.
 
 ghost use Rattle.std.specs.Prelude.{◌≡◌, ℕ, IsSome, IsTrue};
 ghost use Rattle.df1_base.specs.Host.{IsBody};
@@ -22,7 +22,7 @@ pub(crate) fn take_in<H: Host>(host: &mut H, effect: Effect, body: &[u8]) -> Opt
     }
 }
 
-/// Has the host's next message handed out.
+/// Has the host hand out its next message.
 pub(crate) fn hand_out<H: Host>(host: &mut H) -> ArrayVec<u8, 250>
     requires { IsSome (H.Host.next_body host.old) }
     ensures next { H.Host.next_body host.old ≡ Some result.items }
@@ -34,7 +34,7 @@ pub(crate) fn hand_out<H: Host>(host: &mut H) -> ArrayVec<u8, 250>
     body
 }
 
-/// Tells the host the fate of its message, where one is decided.
+/// Reports to the host the fate of its message, if one is decided.
 pub(crate) fn tell<H: Host>(host: &mut H, effect: Effect) -> News
     ensures news { result ≡ news_of H.Host (fate_of effect) host.old }
     ensures after { host.new ≡ host_told H.Host (fate_of effect) host.old }
@@ -46,7 +46,8 @@ pub(crate) fn tell<H: Host>(host: &mut H, effect: Effect) -> News
     }
 }
 
-/// The host's tick, which comes with a poll alone. `gone` is replaced by the commands that are unanswered from it on.
+/// Passes the host its tick, which comes with a poll alone. `gone` is replaced by the commands that are unanswered from
+/// it on.
 pub(crate) fn tick_host<H: Host>(host: &mut H, effect: Effect, gone: &mut ArrayVec<u32, 16>)
     ensures after { host.new ≡ host_ticked H.Host effect host.old }
     ensures gone { gone.new.items ≡ gone_of H.Host effect host.old }
@@ -57,7 +58,7 @@ pub(crate) fn tick_host<H: Host>(host: &mut H, effect: Effect, gone: &mut ArrayV
     }
 }
 
-/// What a byte is told as: an ACK or a NAK whatever was done about it.
+/// Returns what a byte is reported as: an ACK or a NAK whatever was done about it.
 pub(crate) fn act_of(effect: Effect, heard: Option<MasterHeard>) -> Act
     ensures { result ≡ act_of effect heard }
 {
@@ -70,7 +71,7 @@ pub(crate) fn act_of(effect: Effect, heard: Option<MasterHeard>) -> Act
     }
 }
 
-/// What a thing that is heard is told as where it isn't a message.
+/// Returns what a decoded item that isn't a message is reported as.
 fn act_heard(heard: Option<MasterHeard>) -> Act
     ensures { result ≡ act_heard heard }
 {
@@ -81,7 +82,7 @@ fn act_heard(heard: Option<MasterHeard>) -> Act
     }
 }
 
-/// Whether a whole message was heard.
+/// Returns whether a whole message was received.
 pub(crate) fn is_whole(heard: Option<MasterHeard>) -> bool
     ensures { result ≡ is_good heard }
 {
@@ -91,7 +92,7 @@ pub(crate) fn is_whole(heard: Option<MasterHeard>) -> bool
     }
 }
 
-/// What a tick is told as, with what the host answered to a fate.
+/// Returns what a tick is reported as, with the host's answer to a fate.
 pub(crate) fn turn_of(effect: Effect, news: News) -> Turn
     ensures { result ≡ turn_told effect news }
 {

@@ -1,4 +1,4 @@
-//! The stations of a master's list, each with its own filter for repeats.
+//! The stations of a master's list, each with its own duplicate filter.
 
 ghost use Rattle.std.specs.Prelude.{◌≡◌, ◌<◌, ◌≤◌, length};
 ghost use Rattle.pccc_envelope.specs.Envelope.{key_of as key_of_body};
@@ -26,7 +26,7 @@ impl Default for Station {
     }
 }
 
-/// The stations with these numbers, at most 32, of which no key is kept.
+/// Returns the stations with these numbers, at most 32, of which no key is kept.
 pub(crate) fn listed(numbers: &[u8]) -> ArrayVec<Station, 32>
     requires { length numbers.now ≤ 32 }
     ensures { result.items ≡ listed numbers.now }
@@ -41,7 +41,7 @@ pub(crate) fn listed(numbers: &[u8]) -> ArrayVec<Station, 32>
     stations
 }
 
-/// Whether a station of the list has this number.
+/// Returns whether a station of the list has this number.
 pub(crate) fn is_listed(stations: &[Station], number: u8) -> bool
     ensures { result ≡ is_listed stations.now number }
 {
@@ -58,7 +58,7 @@ pub(crate) fn keep(stations: &mut ArrayVec<Station, 32>, place: usize, body: &[u
     station.kept.keep(key_of(body));
 }
 
-/// The place after this one, of a list of at most 32; after the last comes the first.
+/// Returns the place after this one, of a list of at most 32; after the last comes the first.
 pub(crate) fn place_after(stations: &[Station], place: usize) -> usize
     requires at { place < length stations.now }
     requires few { length stations.now ≤ 32 }

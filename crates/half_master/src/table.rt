@@ -1,4 +1,4 @@
-//! The phases of a master, and what it does in each about a thing that is heard and about a tick.
+//! The phases of a master, and what it does in each about a decoded item and about a tick.
 
 ghost use Rattle.std.specs.Prelude.{◌≡◌, ◌<◌, ◌≤◌, ℕ, length, slice_get, IsTrue};
 ghost use Rattle.df1_base.specs.Host.{IsBody};
@@ -10,16 +10,16 @@ use df1_base::Host;
 use half_frame::MasterHeard;
 use pccc_envelope::key_of;
 
-/// What a master does once no byte is left to be given.
+/// The phase of a master: what it does once no byte is left to be sent.
 #[derive(Clone, Copy)]
 pub enum Phase {
-    /// Nothing: a message or a poll may be begun.
+    /// Nothing: a message or a poll may be started.
     Idle,
     /// It waits for the ACK of its message.
     WaitsForAck {
         /// The ticks that are left.
         left: u32,
-        /// How often the message was given again.
+        /// How often the message was sent again.
         resent: u32,
     },
     /// It waits for the answer of a station that it polled.
@@ -31,24 +31,24 @@ pub enum Phase {
     },
 }
 
-/// What a master does about a thing that is heard, or about a tick.
+/// What a master does about a decoded item, or about a tick.
 #[derive(Clone, Copy)]
 pub enum Effect {
     /// Nothing.
     Nothing,
     /// It waits on, with so many ticks left.
     Waits(u32),
-    /// Its message was acknowledged: that is told, and it is idle.
+    /// Its message was acknowledged: that is reported, and it is idle.
     Delivered,
-    /// It gives its message again, so often with this time.
+    /// It sends its message again, as the retransmission of this number.
     Again(u32),
-    /// Its message is given up: that is told, and it is idle.
+    /// Its message is given up: that is reported, and it is idle.
     GivenUp,
     /// The wait after a poll is over: it is idle.
     PollOver,
     /// A message of the polled station, at this place, is accepted and acknowledged.
     Accepted(usize),
-    /// A message of the polled station came again, and is acknowledged again.
+    /// A duplicate message of the polled station arrived, and is acknowledged again.
     Repeated,
     /// There is no room for a message of the polled station: it waits on.
     Refused,
@@ -59,7 +59,7 @@ pub enum Effect {
 }
 
 impl Phase {
-    /// Whether it is idle.
+    /// Returns whether it is idle.
     pub(crate) fn is_idle(&self) -> bool
         ensures { result ≡ is_idle_phase self.now }
     {
@@ -70,7 +70,7 @@ impl Phase {
     }
 }
 
-/// The same phase with so many ticks left.
+/// Returns the same phase with so many ticks left.
 pub(crate) fn with_left(left: u32, phase: Phase) -> Phase
     ensures { result ≡ with_left left phase }
 {
@@ -81,7 +81,7 @@ pub(crate) fn with_left(left: u32, phase: Phase) -> Phase
     }
 }
 
-/// A message that wasn't acknowledged is given again, at most `max_resends` times, and else given up.
+/// Returns what is done without an ACK: the message is sent again, at most `max_resends` times, and otherwise given up.
 fn unacknowledged(setup: MasterSetup, resent: u32) -> Effect
     ensures { result ≡ unacknowledged setup resent }
 {
@@ -92,7 +92,7 @@ fn unacknowledged(setup: MasterSetup, resent: u32) -> Effect
     }
 }
 
-/// What is heard in a wait for ACK.
+/// Returns what is done about an item that is decoded in a wait for ACK.
 pub(crate) fn heard_of_message(
     setup: MasterSetup,
     resent: u32,
@@ -107,7 +107,8 @@ pub(crate) fn heard_of_message(
     }
 }
 
-/// What is heard in a wait after a poll of the station at this place, with the body that is lent.
+/// Returns what is done about an item that is decoded in a wait after a poll of the station at this place, with the
+/// body that is lent.
 pub(crate) fn heard_after_poll<H: Host>(
     stations: &[Station],
     place: usize,
@@ -127,7 +128,7 @@ pub(crate) fn heard_after_poll<H: Host>(
     }
 }
 
-/// A message is judged beside the key of the polled station where it is that station's, and else passed over.
+/// Judges a message by the key of the polled station if it is that station's, and ignores it otherwise.
 fn answer<H: Host>(station: &Station, place: usize, body: &[u8], host: &H) -> Effect
     requires { IsBody body.now }
     ensures { result ≡ answered (H.room_for host.now) place (Some station.now) body.now }
@@ -144,7 +145,7 @@ fn answer<H: Host>(station: &Station, place: usize, body: &[u8], host: &H) -> Ef
     }
 }
 
-/// A tick.
+/// Returns what is done about a tick.
 pub(crate) fn on_tick(setup: MasterSetup, phase: Phase, ready: bool) -> Effect
     ensures { result ≡ effect_of_tick setup ready phase }
 {

@@ -1,8 +1,9 @@
-//! What an end of a half-duplex link gives, byte by byte: one thing at a time, a message, a poll, EOT or a response.
+//! `HalfMouth`, the transmitter of a half-duplex end, which sends one thing at a time: a message, a poll, EOT or a
+//! response.
 //!
-//! A sending of a message is a transmission, and transmissions are numbered from 1 in the order in which they begin. The
-//! last byte of a transmission is marked with its number, and so is each byte that is by itself a byte of the body. A
-//! poll, EOT and a response are no transmissions (manual topic: half-duplex protocol).
+//! A sending of a message is a transmission, and transmissions are numbered from 1 in the order in which they start.
+//! The last byte of a transmission is marked with its number, and so is each byte that is by itself a byte of the body.
+//! A poll, EOT and a response are no transmissions (manual topic: half-duplex protocol).
 #![tactic(auto)]
 
 ghost use Rattle.std.specs.Prelude.{◌≡◌, ◌≤◌, ◌+◌, ◌↔◌, length, drop, slice_get, not, ◌==◌, IsNone, IsSome, IsTrue};
@@ -14,7 +15,8 @@ use df1_base::Out;
 use half_frame::{HalfFramer, Sent};
 use std::marker::Model;
 
-/// What an end has to give. Contracts see the bytes that are left of it, and the number of its transmission.
+/// The transmitter: what an end has to send. Contracts see the bytes that are left of it, and the number of its
+/// transmission.
 #[derive(Drop)]
 pub struct HalfMouth {
     framer: Option<HalfFramer>,
@@ -33,7 +35,7 @@ impl Model for HalfMouth {
 }
 
 impl HalfMouth {
-    /// A mouth with nothing to give.
+    /// Returns a transmitter with nothing to send.
     pub fn new() -> HalfMouth
         ensures { result ≡ nothing }
     {
@@ -44,8 +46,8 @@ impl HalfMouth {
         }
     }
 
-    /// Begins a message. Its transmission has the next number; the number stops at the last value of u64. What was left is
-    /// given up.
+    /// Starts a message. Its transmission has the next number; the number stops at the last value of u64. What was left
+    /// is given up.
     pub fn transmit(&mut self, framer: HalfFramer)
         ensures { self.new ≡ transmit self.old framer }
     {
@@ -54,7 +56,7 @@ impl HalfMouth {
         self.framer = Some(framer);
     }
 
-    /// Begins a poll, EOT or a response. What was left is given up.
+    /// Starts a poll, EOT or a response. What was left is given up.
     pub fn give(&mut self, framer: HalfFramer)
         ensures { self.new ≡ give self.old framer }
     {
@@ -62,7 +64,7 @@ impl HalfMouth {
         self.framer = Some(framer);
     }
 
-    /// Whether nothing is left to be given. At most 509 bytes are.
+    /// Returns whether nothing is left to be sent. At most 509 bytes are left.
     pub fn idle(&self) -> bool
         ensures value { result ≡ is_done self.now }
         ensures gives { IsTrue result ↔ IsNone (take self.now).1 }
@@ -71,7 +73,7 @@ impl HalfMouth {
         !is_left(&self.framer)
     }
 
-    /// Gives the next byte: None exactly where none is left.
+    /// Returns the next byte: None exactly if none is left.
     pub fn take(&mut self) -> Option<Out>
         ensures after { self.new ≡ (take self.old).0 }
         ensures out { result ≡ (take self.old).1 }
@@ -87,13 +89,13 @@ impl HalfMouth {
     }
 }
 
-/// Each byte that is given leaves one fewer, and none is given exactly where none is left.
+/// Each byte that is returned leaves one fewer, and none is returned exactly if none is left.
 pub fn each_take_counts()
     ensures fewer { (g : Giving) → IsSome (take g).1 → bytes_left g ≡ bytes_left (take g).0 + 1 }
     ensures none { (g : Giving) → IsNone (take g).1 ↔ (bytes_left g ≡ 0) }
 {}
 
-/// Whether a byte is left.
+/// Returns whether a byte is left.
 fn is_left(framer: &Option<HalfFramer>) -> bool
     ensures left { result ≡ not (length (left_of framer.now) == 0) }
     ensures most { length (left_of framer.now) ≤ 509 }
@@ -104,7 +106,7 @@ fn is_left(framer: &Option<HalfFramer>) -> bool
     }
 }
 
-/// The next byte with its mark, if one is left.
+/// Returns the next byte with its mark, if one is left.
 fn next_sent(framer: &mut Option<HalfFramer>) -> Option<Sent>
     ensures given { result ≡ slice_get (left_of framer.old) 0 }
     ensures left { left_of framer.new ≡ drop 1 (left_of framer.old) }

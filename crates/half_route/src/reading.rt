@@ -15,9 +15,10 @@ pub struct RouteScript {
     pub script: Script,
 }
 
-/// Reads the script of a route, all of the text: at most 16,777,216 bytes in lines of at most 1,024 bytes, as `read_profile` reads
-/// it for a route. `At` comes exactly where the text is none, with its first faulty line and the first cause that fits it. In a script
-/// that was read the events may all happen, and the master's address is that of no station (manual topic: half-duplex protocol).
+/// Reads the script of a route, which is the whole text: at most 16,777,216 bytes in lines of at most 1,024 bytes, as
+/// `read_profile` does for a route. Returns `At`, with the first faulty line and the first cause that fits it, exactly
+/// if the text isn't one. In a script that was read all events may happen, and the master's address is not that of a
+/// station (manual topic: half-duplex protocol).
 pub fn read_route(alloc: Global, text: &[u8]) -> Result<RouteScript, ScriptFault>
     ensures exact { MatchResult result (λ route. script_for Purpose.Route text.now ≡ Ok route.script) (λ fault. IsRefused fault (script_for Purpose.Route text.now)) }
     ensures playable { IfOk result (λ route. IsRoutePlayable route.script) }

@@ -19,14 +19,15 @@ use std::alloc::Global;
 /// The record of a route's run.
 #[derive(Drop)]
 pub struct RouteRecord {
-    /// The lines of the report, the words that aren't 0 in the end, and the count of deceptions.
+    /// The lines of the report, the words that aren't 0 at the end, and the count of deceptions.
     pub report: Record,
 }
 
-/// Runs a script that was read for a route, and answers the record of its run. Where no end was deceived, each command was executed
-/// once at most by the end that it is for, those of one end for another in their order; each reply that is told is what an end
-/// answered to a command of the end that has it: to that very command, or, of a stray one, to one that was given up (manual topic:
-/// half-duplex protocol).
+/// Runs a script that was read for a route, and returns the record of its run. If no end was deceived:
+///
+/// - each command was executed at most once, by the end that it is for, those of one end for another in order;
+/// - each reply that is reported is the answer of an end to a command of the end that has it: to that very command, or,
+///   for a stray reply, to one that was given up (manual topic: half-duplex protocol).
 pub fn route(alloc: Global, script: &RouteScript) -> Result<RouteRecord, NoMemory>
     requires { IsRoutePlayable script.now.script }
     ensures exact { IfOk result (λ made. made.report ≡ route_of script.now.script) }
@@ -41,7 +42,7 @@ pub fn route(alloc: Global, script: &RouteScript) -> Result<RouteRecord, NoMemor
     })
 }
 
-/// Does an event of a route: a station issues a command, or one of those that happen on every half-duplex line.
+/// Executes an event of a route: a station issues a command, or an event that happens on every half-duplex line.
 fn step(world: &mut HalfWorld<Router<Node>>, event: &Event) -> Result<(), NoMemory>
     requires { IsNext world.old event.now }
     ensures { OnOk result (world.new ≡ after_event world.old event.now) }
@@ -57,8 +58,8 @@ fn step(world: &mut HalfWorld<Router<Node>>, event: &Event) -> Result<(), NoMemo
     }
 }
 
-/// Writes the report of a route's run. `Failed` comes only where the sink failed; then it holds a first part of the text, and not
-/// all.
+/// Writes the report of a route's run. Returns `Failed` only if the sink failed; then it holds a first part of the
+/// text, and not all.
 pub fn print_route<K: Sink>(record_of: &RouteRecord, sink: &mut K) -> Result<(), Failed>
     ensures ok { OnOk result (Put (K.held sink.old) (K.held sink.new) (the_report record_of.now.report)) }
     ensures missing { OnErr result (WroteLess (K.held sink.old) (K.held sink.new) (the_report record_of.now.report)) }

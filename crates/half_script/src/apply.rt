@@ -13,7 +13,7 @@ use std::alloc::Global;
 const HIGHEST_ADDRESS: u32 = 255;
 
 impl HalfReader {
-    /// Takes a statement, and answers its event, if it is one.
+    /// Accepts a statement, and returns its event, if it is one.
     pub(crate) fn apply(
         &mut self,
         alloc: Global,
@@ -33,7 +33,7 @@ impl HalfReader {
         }
     }
 
-    /// Takes a statement that is a line of an end.
+    /// Accepts a statement that is a line of an end.
     fn take_line(&mut self, statement: Statement) -> Result<(), NoMemory>
         requires { the_setup_test statement ≡ true }
         ensures { OnOk result (self.new ≡ settled self.old statement) }
@@ -44,7 +44,7 @@ impl HalfReader {
         Ok(())
     }
 
-    /// Takes a line of an end. A file and a word alone take memory.
+    /// Accepts a line of an end. Only a file and a word take memory.
     #[inline(never)]
     fn set_up(&mut self, end: EndName, line: SetupStatement) -> Result<(), NoMemory>
         ensures { OnOk result (self.new ≡ settled self.old (Statement.Setup end line)) }
@@ -56,8 +56,8 @@ impl HalfReader {
         }
     }
 
-    /// What a statement that is no line of an end changes beside the stage and the sum of events. A station alone takes
-    /// memory.
+    /// Applies what a statement that is no line of an end changes besides the stage and the sum of events. Only a
+    /// station takes memory.
     fn settle(&mut self, alloc: Global, statement: &Statement) -> Result<(), NoMemory>
         requires { the_setup_test statement.now ≡ false }
         ensures { OnOk result (self.new ≡ settled self.old statement.now) }
@@ -76,7 +76,7 @@ impl HalfReader {
         Ok(())
     }
 
-    /// The event that a statement is.
+    /// Returns the event of a statement.
     fn event_of(&self, statement: Statement) -> Option<Event>
         ensures { result ≡ the_event (numbers self.now) statement }
     {
@@ -86,7 +86,7 @@ impl HalfReader {
         }
     }
 
-    /// An event, where its station is declared and its values are there.
+    /// Returns an event, if its station is declared and its values are present.
     fn happening(&self, event: HalfEvent) -> Option<Event>
         ensures { result ≡ the_happening (numbers self.now) event }
     {
@@ -114,14 +114,14 @@ impl HalfReader {
         }
     }
 
-    /// A station, where it is declared.
+    /// Returns a station, if it is declared.
     fn who(&self, station: u32) -> Option<Who>
         ensures { result ≡ the_who (numbers self.now) station }
     {
         self.stations.declared(station).map(Who::S)
     }
 
-    /// The queue of a way, where its station is declared.
+    /// Returns the queue of a direction, if its station is declared.
     fn lane(&self, way: Way) -> Option<Lane>
         ensures { result ≡ the_lane (numbers self.now) way }
     {
@@ -138,14 +138,14 @@ impl HalfReader {
     }
 }
 
-/// Whether a statement is a line of an end.
+/// Returns whether a statement is a line of an end.
 fn sets_up(statement: &Statement) -> bool
     ensures { result ≡ the_setup_test statement.now }
 {
     matches!(statement, Statement::Setup { .. })
 }
 
-/// A command of the master, in the name of a source or else in its own.
+/// Returns a command of the master, with this SRC or otherwise with its own.
 fn issue(src: Option<u8>, dst: Option<u8>, payload: Option<Bytes>) -> Option<Event>
     ensures { result ≡ issued src dst payload }
 {
@@ -157,14 +157,14 @@ fn issue(src: Option<u8>, dst: Option<u8>, payload: Option<Bytes>) -> Option<Eve
     })
 }
 
-/// A command of the master in the name of a source, where there is one.
+/// Returns a command of the master with this SRC, if there is one.
 fn issue_from(src: Option<u8>, dst: Option<u8>, payload: Option<Bytes>) -> Option<Event>
     ensures { result ≡ issued_from src dst payload }
 {
     issue(Some(src?), dst, payload)
 }
 
-/// A command of an end, in its own name.
+/// Returns a command of an end with its own SRC.
 fn issue_by(who: Option<Who>, dst: Option<u8>, payload: Option<Bytes>) -> Option<Event>
     ensures { result ≡ issued_by who dst payload }
 {
@@ -176,7 +176,7 @@ fn issue_by(who: Option<Who>, dst: Option<u8>, payload: Option<Bytes>) -> Option
     })
 }
 
-/// A number, where it can be an address.
+/// Returns a number, if it can be an address.
 fn address_of(number: u32) -> Option<u8>
     ensures { result ≡ the_address number }
 {
@@ -187,35 +187,35 @@ fn address_of(number: u32) -> Option<u8>
     }
 }
 
-/// An end gives bytes.
+/// Returns the event that an end sends bytes.
 fn take(who: Option<Who>, n: Option<u32>) -> Option<Event>
     ensures { result ≡ taken who n }
 {
     Some(Event::Take { who: who?, n: n? })
 }
 
-/// Ticks pass at the master.
+/// Returns the event that ticks pass at the master.
 fn tick(n: Option<u32>) -> Option<Event>
     ensures { result ≡ ticked n }
 {
     Some(Event::Tick { who: Who::M, n: n? })
 }
 
-/// Bytes of a queue arrive.
+/// Returns the event that bytes of a queue arrive.
 fn deliver(lane: Option<Lane>, n: Option<u32>) -> Option<Event>
     ensures { result ≡ delivered lane n }
 {
     Some(Event::Deliver { lane: lane?, n: n? })
 }
 
-/// Bytes of a queue are lost.
+/// Returns the event that bytes of a queue are lost.
 fn lose(lane: Option<Lane>, n: Option<u32>) -> Option<Event>
     ensures { result ≡ lost lane n }
 {
     Some(Event::Lose { lane: lane?, n: n? })
 }
 
-/// The head of a queue is altered.
+/// Returns the event that the head of a queue is altered.
 fn alter(lane: Option<Lane>, mask: Option<u8>) -> Option<Event>
     ensures { result ≡ altered lane mask }
 {
@@ -225,7 +225,7 @@ fn alter(lane: Option<Lane>, mask: Option<u8>) -> Option<Event>
     })
 }
 
-/// Foreign bytes arrive.
+/// Returns the event that foreign bytes arrive.
 fn foreign(lane: Option<Lane>, bytes: Option<Bytes>) -> Option<Event>
     ensures { result ≡ heard lane bytes }
 {

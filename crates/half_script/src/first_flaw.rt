@@ -12,7 +12,7 @@ use end_settings::{Key, Role};
 use script_statement::{EndName, HalfEvent, SetupStatement, Statement, Way};
 
 impl HalfReader {
-    /// The first flaw that a statement has, in the order of the flaws.
+    /// Returns the first flaw that a statement has, in the order of the flaws.
     pub(crate) fn flaw_of(&self, statement: &Statement) -> Option<Flaw>
         ensures { result ≡ the_flaw self.now statement.now }
     {
@@ -33,8 +33,8 @@ impl HalfReader {
         }
     }
 
-    /// It names an end or an event that half duplex hasn't, a station that isn't declared, an end to which no command of a station
-    /// gets, a key that isn't for that end, or a file that isn't declared.
+    /// Returns whether the statement names an end or an event that half duplex hasn't, a station that isn't declared,
+    /// an end out of a station's reach, a key that isn't for that end, or a file that isn't declared.
     fn is_missing(&self, statement: &Statement) -> bool
         ensures { result ≡ the_missing self.now statement.now }
     {
@@ -53,7 +53,7 @@ impl HalfReader {
         }
     }
 
-    /// An event names a station that isn't declared.
+    /// Returns whether an event names a station that isn't declared.
     fn names_none(&self, event: &HalfEvent) -> bool
         ensures { result ≡ the_name_test self.now event.now }
     {
@@ -63,7 +63,8 @@ impl HalfReader {
         }
     }
 
-    /// A command of a station is for neither another station nor the master, or the master carries none.
+    /// Returns whether a command of a station is for neither another station nor the master, or the master carries
+    /// none.
     fn leads_nowhere(&self, event: &HalfEvent) -> bool
         ensures { result ≡ the_way_test self.now event.now }
     {
@@ -75,22 +76,22 @@ impl HalfReader {
         }
     }
 
-    /// Whether a station can send to this number: it is that of another station, or the master's address.
+    /// Returns whether a station can send to this number: it is that of another station, or the master's address.
     fn is_reached(&self, station: u32, to: u32) -> bool
         ensures { result ≡ the_reach_test (numbers self.now) (the_master_node self.now) station to }
     {
         (self.stations.has(to) && to != station) || to == u32::from(self.master_node())
     }
 
-    /// The address of the master.
+    /// Returns the address of the master.
     fn master_node(&self) -> u8
         ensures { result ≡ the_master_node self.now }
     {
         self.master.node(NODE)
     }
 
-    /// A number, a word or a length is out of its range, the station is the 33rd, a master that carries messages would have the
-    /// address of a station, or a compatibility file is of another type than bit or integer.
+    /// Returns whether a number, a word or a length is out of its range, the station is the 33rd, a master that carries
+    /// messages would get a station's address, or a compatibility file is of another type than bit or integer.
     fn is_out_of_range(&self, statement: &Statement) -> bool
         ensures { result ≡ the_range_test self.now statement.now }
     {
@@ -107,8 +108,8 @@ impl HalfReader {
         }
     }
 
-    /// A number, a word or a length of a line of an end is out of its range, or a compatibility file is of another type than bit or
-    /// integer.
+    /// Returns whether a number, a word or a length of a line of an end is out of its range, or a compatibility file is
+    /// of another type than bit or integer.
     fn exceeds(&self, end: EndName, line: &SetupStatement) -> bool
         ensures { result ≡ the_excess_test self.now end line.now }
     {
@@ -118,7 +119,7 @@ impl HalfReader {
         }
     }
 
-    /// The number of a station is the address of a master that carries messages.
+    /// Returns whether the number of a station is the address of a master that carries messages.
     fn is_masters(&self, number: Option<u8>) -> bool
         ensures { result ≡ the_master_test self.now number }
     {
@@ -128,7 +129,7 @@ impl HalfReader {
         }
     }
 
-    /// A line gives a master that carries messages the number of a station as its address.
+    /// Returns whether a line sets the address of a master that carries messages to the number of a station.
     fn names_station(&self, end: EndName, line: &SetupStatement) -> bool
         ensures { result ≡ the_station_test self.now end line.now }
     {
@@ -141,7 +142,7 @@ impl HalfReader {
         }
     }
 
-    /// An earlier line gave the key, the station, the file or the word.
+    /// Returns whether an earlier line set the key, the station, the file or the word.
     fn is_twice(&self, statement: &Statement) -> bool
         ensures { result ≡ the_twice self.now statement.now }
     {
@@ -156,7 +157,7 @@ impl HalfReader {
         }
     }
 
-    /// It is a command of an end that may issue no more.
+    /// Returns whether the statement is a command of an end that may issue no more.
     fn is_spent(&self, statement: &Statement) -> bool
         ensures { result ≡ the_spent self.now statement.now }
     {
@@ -174,7 +175,7 @@ impl HalfReader {
         }
     }
 
-    /// How many events a statement counts.
+    /// Returns how many events a statement counts.
     pub(crate) fn steps_of(&self, statement: &Statement) -> usize
         ensures { result ≡ the_steps self.now statement.now }
     {
@@ -184,7 +185,7 @@ impl HalfReader {
         }
     }
 
-    /// How many events an event counts: each byte of the master goes into the queue of each station.
+    /// Returns how many events an event counts: each byte of the master goes into the queue of each station.
     fn event_steps(&self, event: &HalfEvent) -> usize
         ensures { result ≡ the_event_steps (numbers self.now) event.now }
     {
@@ -205,7 +206,7 @@ impl HalfReader {
         }
     }
 
-    /// How many events a byte of the master counts.
+    /// Returns how many events a byte of the master counts.
     fn weight(&self) -> usize
         ensures value { result ≡ master_weight (numbers self.now) }
         ensures most { result ≤ 32 }
@@ -214,7 +215,7 @@ impl HalfReader {
     }
 }
 
-/// A number, or 0.
+/// Returns a number, or 0.
 fn number_of(n: Option<u32>) -> usize
     ensures value { result ≡ unwrap_or n 0 }
     ensures most { result < 2 ^ 32 }
@@ -222,7 +223,7 @@ fn number_of(n: Option<u32>) -> usize
     n.unwrap_or(0) as usize
 }
 
-/// A statement may not stand here.
+/// Returns whether a statement may not stand here.
 fn is_misplaced(stage: Stage, statement: &Statement) -> bool
     ensures { result ≡ the_misplaced stage statement.now }
 {
@@ -233,7 +234,7 @@ fn is_misplaced(stage: Stage, statement: &Statement) -> bool
     }
 }
 
-/// The kind of an end, on a line whose master carries messages or not.
+/// Returns the kind of an end, on a line whose master carries messages or not.
 fn role_of(routes: bool, end: EndName) -> Role
     ensures { result ≡ the_role routes end }
 {
@@ -245,7 +246,7 @@ fn role_of(routes: bool, end: EndName) -> Role
     }
 }
 
-/// The station that an event names, if it names one.
+/// Returns the station that an event names, if it names one.
 fn named_by(event: &HalfEvent) -> Option<u32>
     ensures { result ≡ the_name event.now }
 {
@@ -262,7 +263,7 @@ fn named_by(event: &HalfEvent) -> Option<u32>
     }
 }
 
-/// The station that a way joins with the master.
+/// Returns the station that a direction joins with the master.
 fn station_of(way: Way) -> u32
     ensures { result ≡ the_station way }
 {
@@ -271,7 +272,7 @@ fn station_of(way: Way) -> u32
     }
 }
 
-/// Whether a number or a length of an event is out of its range.
+/// Returns whether a number or a length of an event is out of its range.
 fn is_outside(event: &HalfEvent) -> bool
     ensures { result ≡ the_outside event.now }
 {

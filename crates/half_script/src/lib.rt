@@ -1,6 +1,6 @@
 //! What the lines of a half-duplex script say, one after another: which stations there are, how the master and each
-//! station are set up, and the events between them; and what may be wrong with a further line. The master may carry messages between
-//! the stations: then these issue commands too, and have keys for it.
+//! station are set up, and the events between them; and what may be wrong with a further line. If the master carries
+//! messages between the stations, these issue commands too, and have keys for it.
 #![tactic(auto)]
 
 mod apply;

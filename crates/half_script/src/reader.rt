@@ -12,11 +12,11 @@ use script_parts::{Ends, Event, Events, Script};
 use script_statement::{EVENTS, EndName, Items, Statement, Who};
 use std::alloc::Global;
 
-/// The address of the master, where no line sets it.
+/// The address of the master, if no line sets it.
 pub(crate) const NODE: u8 = 0;
 
-/// A reader of the statements of a half-duplex script, behind `set mode half` where a line says so, which keeps what they say but for
-/// the events. After a fault it is only dropped.
+/// A reader of the statements of a half-duplex script, after `set mode half` if a line says so, which keeps what they
+/// say except the events. After a fault it may only be dropped.
 #[derive(Drop)]
 pub struct HalfReader {
     pub stage: Stage,
@@ -29,8 +29,8 @@ pub struct HalfReader {
 }
 
 impl HalfReader {
-    /// A reader of which no statement was fed but `set mode half`; `routes` says whether the master carries messages between the
-    /// stations.
+    /// Returns a reader that was fed no statement but `set mode half`; `routes` says whether the master carries
+    /// messages between the stations.
     pub fn new(alloc: Global, routes: bool) -> Self
         ensures { result ≡ fresh_reader routes }
     {
@@ -44,8 +44,8 @@ impl HalfReader {
         }
     }
 
-    /// Takes the next statement, and answers its event, if it is one. Where something is wrong with it, the first flaw is
-    /// told. One that is refused takes no memory.
+    /// Accepts the next statement, and returns its event, if it is one. If something is wrong with the statement,
+    /// returns the first flaw; then it takes no memory.
     pub fn take(
         &mut self,
         alloc: Global,
@@ -61,7 +61,7 @@ impl HalfReader {
         }
     }
 
-    /// What is known of an end, where there is such an end.
+    /// Returns what is known of an end, if there is such an end.
     pub(crate) fn end(&self, end: EndName) -> Option<&EndDraft>
         ensures { option_map (λ draft. draft.now) result ≡ draft_at self.now end }
     {
@@ -75,7 +75,7 @@ impl HalfReader {
         }
     }
 
-    /// The script of the statements so far, but for its events.
+    /// Returns the script of the statements so far, without its events.
     pub fn setup(&self, alloc: Global) -> Result<Script, NoMemory>
         ensures { IfOk result (λ script. script ≡ script_with self.now []) }
     {
@@ -87,7 +87,7 @@ impl HalfReader {
         })
     }
 
-    /// The plans of the master and of the stations.
+    /// Returns the plans of the master and of the stations.
     fn ends(&self, alloc: Global) -> Result<Ends, NoMemory>
         ensures { IfOk result (λ ends. ends ≡ the_ends self.now) }
     {

@@ -1,4 +1,4 @@
-//! The stations that lines declared, in the order in which they are polled, and what is known of each.
+//! The stations that lines declared, in the order of their polls, and what is known of each.
 ghost use Rattle.std.specs.Prelude.{◌≡◌, ◌≤◌, ◌++◌, [], OnOk, find, length, option_map, position};
 ghost use Rattle.script_parts.specs.HalfPlayable.{is_declared};
 ghost use Rattle.half_script.specs.Stations.{declared as the_declared, has_number, line_taken, numbers_in, plans_of, with_station, with_station_command, with_station_line};
@@ -21,7 +21,7 @@ pub struct StationDraft {
     pub end: EndDraft,
 }
 
-/// Stations, which contracts see as a list; a look-up of a number doesn't go over the list.
+/// Stations, which contracts see as a list; a look-up of a number doesn't scan the list.
 #[derive(Drop)]
 pub struct Stations {
     list: Vec<StationDraft>,
@@ -42,7 +42,7 @@ impl Model for Stations {
 }
 
 impl Stations {
-    /// No stations.
+    /// Returns an empty list of stations.
     pub fn new(alloc: Global) -> Self
         ensures { result ≡ [] }
     {
@@ -52,7 +52,7 @@ impl Stations {
         }
     }
 
-    /// How many stations there are.
+    /// Returns how many stations there are.
     pub fn len(&self) -> usize
         ensures value { result ≡ length self.now }
         ensures most { result ≤ 32 }
@@ -60,21 +60,21 @@ impl Stations {
         self.list.len()
     }
 
-    /// Where the first station of this number stands.
+    /// Returns the index of the first station of this number.
     fn place(&self, number: u32) -> Option<usize>
         ensures { result ≡ position (has_number number) self.now }
     {
         self.places.get(&number).copied()
     }
 
-    /// Whether a station has this number.
+    /// Returns whether a station has this number.
     pub fn has(&self, number: u32) -> bool
         ensures { result ≡ is_declared (numbers_in self.now) number }
     {
         self.places.contains_key(&number)
     }
 
-    /// The first station of this number.
+    /// Returns the first station of this number.
     pub fn find(&self, number: u32) -> Option<&StationDraft>
         ensures { option_map (λ station. station.now) result ≡ find (has_number number) self.now }
     {
@@ -84,7 +84,7 @@ impl Stations {
         }
     }
 
-    /// The number, where a station has it.
+    /// Returns the number, if a station has it.
     pub fn declared(&self, number: u32) -> Option<u8>
         ensures { result ≡ the_declared (numbers_in self.now) number }
     {
@@ -94,8 +94,8 @@ impl Stations {
         }
     }
 
-    /// Puts a station at the end, of which no line told anything; where there are 32, the stations stay as they are. Where
-    /// there is no memory for it, the stations are only dropped.
+    /// Appends a station of which no line said anything; if there are 32, the stations are unchanged. If there is no
+    /// memory for it, the stations may only be dropped.
     pub fn push(&mut self, alloc: Global, number: u8) -> Result<(), NoMemory>
         ensures { OnOk result (self.new ≡ with_station self.old number) }
     {
@@ -118,8 +118,8 @@ impl Stations {
         }
     }
 
-    /// Takes a line of the first station of this number, if there is one. Where there is no memory for it, the stations are
-    /// only dropped.
+    /// Accepts a line of the first station of this number, if there is one. If there is no memory for it, the stations
+    /// may only be dropped.
     pub fn take(&mut self, number: u32, line: SetupStatement) -> Result<(), NoMemory>
         ensures { OnOk result (self.new ≡ with_station_line self.old number line) }
     {
@@ -138,7 +138,7 @@ impl Stations {
         }
     }
 
-    /// The plans of the stations, behind those of other ends.
+    /// Appends the plans of the stations to those of other ends.
     pub fn add_plans(&self, alloc: Global, ends: &mut Ends) -> Result<(), NoMemory>
         ensures { OnOk result (ends.new ≡ ends.old ++ plans_of self.now) }
     {
@@ -154,7 +154,7 @@ impl Stations {
 }
 
 impl StationDraft {
-    /// Takes a line of the station.
+    /// Accepts a line of the station.
     fn take(&mut self, line: SetupStatement) -> Result<(), NoMemory>
         ensures taken { OnOk result (self.new ≡ line_taken self.old line) }
         ensures number { self.new.number ≡ self.old.number }

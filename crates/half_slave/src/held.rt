@@ -10,14 +10,14 @@ use half_frame::SlaveHeard;
 /// A message of the host that a slave holds.
 #[derive(Clone, Copy)]
 pub struct Held {
-    /// How often it was sent to its last byte.
+    /// How often it was sent completely.
     pub sent: u32,
-    /// The last byte of its last sending was taken, and no header and no poll was heard since.
+    /// Whether the last byte of its last sending was taken, and no header and no poll was received since.
     pub wait_open: bool,
 }
 
 impl Held {
-    /// A message that has just been loaded.
+    /// Returns a message that has just been loaded.
     pub(crate) fn loaded() -> Held
         ensures { result ≡ loaded }
     {
@@ -48,7 +48,7 @@ fn closes_wait(heard: Option<SlaveHeard>) -> bool
     }
 }
 
-/// Counts a sending, and opens the wait, where this byte is the last of a transmission and a message is still held.
+/// Counts a sending and opens the wait, if this byte is the last of a transmission and a message is still held.
 pub(crate) fn count_sending(held: Option<Held>, out: Option<Out>) -> Option<Held>
     ensures { result ≡ after_out out held }
 {
@@ -71,7 +71,7 @@ fn ends_transmission(out: Option<Out>) -> bool
     }
 }
 
-/// At a poll a message that was sent `max_sends` times is given up.
+/// Returns the fate at a poll: a message that was sent `max_sends` times is given up.
 pub(crate) fn fate_at_poll(held: Option<Held>, max_sends: u32) -> Option<Fate>
     ensures { result ≡ fate_at_poll max_sends held }
 {
@@ -83,7 +83,7 @@ pub(crate) fn fate_at_poll(held: Option<Held>, max_sends: u32) -> Option<Fate>
     }
 }
 
-/// An ACK delivers a message whose wait is open.
+/// Returns the fate at an ACK: a message whose wait is open is delivered.
 pub(crate) fn fate_at_ack(held: Option<Held>) -> Option<Fate>
     ensures { result ≡ fate_at_ack held }
 {
@@ -95,7 +95,7 @@ pub(crate) fn fate_at_ack(held: Option<Held>) -> Option<Fate>
     }
 }
 
-/// A reset gives up the message that is held.
+/// Returns the fate at a reset: the message that is held is given up.
 pub(crate) fn fate_at_reset(held: Option<Held>) -> Option<Fate>
     ensures { result ≡ fate_at_reset held }
 {

@@ -22,15 +22,16 @@ ghost use Rattle.half_frame.specs.SlaveGives.{IsGivenBySlave};
 
 use df1_base::Host;
 
-/// The slave and what it has given go on signal by signal.
+/// The slave and what it has sent go on signal by signal.
 pub fn signals_go_on<H: Host>()
     ensures slave { (s : SlaveState H) (before : List Letter) (signal : Letter) → slave_after_all H.Host s (before ++ signal ∷ []) ≡ slave_after H.Host (slave_after_all H.Host s before) signal }
     ensures given { (s : SlaveState H) (before : List Letter) (signal : Letter) → emission H.Host s (before ++ signal ∷ []) ≡ emission H.Host s before ++ given_at (slave_after_all H.Host s before) signal }
 {}
 
-/// What a slave hears at a byte that arrives, be it a message, a poll, a response or nothing, is what the grammar of the
-/// master's bytes, over all bytes that arrived so far, hears at the last of them; a whole message is told exactly there. A
-/// slave stands for what arrived from its beginning on, over every signal, and a change of the host changes nothing of it.
+/// What a slave decodes at a byte that arrives (a message, a poll, a response or nothing) is what the grammar of the
+/// master's bytes, over all bytes that arrived so far, decodes at the last of them. A whole message is reported exactly
+/// there. A slave stands for what arrived since it was new, over every signal, and a change of the host changes nothing
+/// of this.
 pub fn arrivals_are_heard<H: Host>()
     ensures none { (check : CheckKind) → HeardByGrammar check [] }
     ensures more { (check : CheckKind) (arrivals : List Arrival) (s : SlaveState H) (b : ℕ) → StandsFor check (bytes_arrived arrivals) s → HeardByGrammar check arrivals
@@ -41,18 +42,20 @@ pub fn arrivals_are_heard<H: Host>()
     ensures changes { (check : CheckKind) (bytes : List ℕ) (s : SlaveState H) (host : H) → StandsFor check bytes s → StandsFor check bytes (with_host s host) }
 {}
 
-/// Of the messages to its station a slave hands over those that are accepted, each once: a repeat of the last accepted one
-/// is passed over, and one that was refused is not remembered. It keeps the key of the last accepted one.
+/// Of the messages to its station a slave hands over those that are accepted, each once. A repeat of the last accepted
+/// one is not handed over, and one that was refused is not remembered. The slave keeps the key of the last accepted
+/// one.
 pub fn messages_are_accepted_once<H: Host>()
     ensures start { (setup : Settings) (host : H) → (new_slave setup host).kept ≡ last_key [] }
     ensures handed { (s : SlaveState H) (before : List (List ℕ)) (signals : List Letter) → s.kept ≡ last_key before → before ++ handed_over H.Host s signals ≡ fold with_offer before (offers H.Host s signals) }
     ensures kept { (s : SlaveState H) (before : List (List ℕ)) (signals : List Letter) → s.kept ≡ last_key before → (slave_after_all H.Host s signals).kept ≡ last_key (before ++ handed_over H.Host s signals) }
 {}
 
-/// A message is handed out where the fate of the one before was told, it is sent at most `max_sends` times, and its own
-/// fate is told once, after that: undelivered exactly at a poll that is answered, where it was sent `max_sends` times, and
-/// at a reset. Where the host and the slave agree on whether a message is out, as at a new slave over a
-/// host with none out, they do so after every signal, so each fate is told of a message that is out.
+/// A message is handed out after the fate of the one before was reported, and it is sent at most `max_sends` times. Its
+/// own fate is reported once, after that: undelivered exactly at a poll that is answered, if it was sent `max_sends`
+/// times, and at a reset. If the host and the slave agree on whether a message is outstanding, as at a new slave over a
+/// host with none outstanding, they do so after every signal. So each fate is reported of a message that is
+/// outstanding.
 pub fn a_fate_is_told_once<H: Host>()
     ensures start { (setup : Settings) (host : H) → 1 ≤ setup.max_sends → setup.max_sends < 2 ^ 32 → Counted (new_slave setup host) }
     ensures goes_on { (s : SlaveState H) (signal : Letter) → Counted s → Counted (slave_after H.Host s signal) }
@@ -63,8 +66,8 @@ pub fn a_fate_is_told_once<H: Host>()
         → H.Host.is_out (slave_after_all H.Host s signals).host ≡ is_some (slave_after_all H.Host s signals).held }
 {}
 
-/// An ACK counts exactly while a message is held, the last byte of its last sending was taken, and no header and no poll
-/// was heard since, also where one was heard while that sending was being given.
+/// An ACK counts exactly while a message is held, the last byte of its last sending was taken, and no header and no
+/// poll was received since. One that was received while that sending was being transmitted makes no difference.
 pub fn an_ack_counts_in_the_wait<H: Host>()
     ensures delivers { (s : SlaveState H) (b : ℕ) → (fate_at (listened s b) (heard_at s b) ≡ Some Delivered) ↔ ((heard_at s b ≡ Some Ack) × (is_waiting s.held ≡ true)) }
     ensures start { (setup : Settings) (host : H) → is_waiting (new_slave setup host).held ≡ (is_some (new_slave setup host).held && false) }
@@ -72,18 +75,18 @@ pub fn an_ack_counts_in_the_wait<H: Host>()
         → is_waiting (slave_after_all H.Host s signals).held ≡ (is_some (slave_after_all H.Host s signals).held && since_sending H.Host before s signals) }
 {}
 
-/// Bytes that were begun, and a response that waits, are given before a poll begins anything: no byte that is heard changes
-/// what is being given while something is to be given.
+/// Bytes that were started, and a response that waits, are sent before a poll starts anything: while something is to be
+/// sent, no received byte changes what is being sent.
 pub fn what_was_begun_is_given<H: Host>()
     ensures { (s : SlaveState H) (b : ℕ) → is_quiet s ≡ false → (slave_after_byte H.Host s b).mouth ≡ s.mouth }
 {}
 
-/// Transmissions are numbered from 1 in the order in which they begin, by a count that stops at the last value of u64. What
-/// is sent is the body of the one that was begun last, also when its fate is told meanwhile; and while the count hasn't
-/// stopped, a byte that is marked with a number, as the last byte of a transmission or one of its body, is given while the
-/// body of the transmission of that number is sent. Last bytes are given with the numbers 1, 2, 3 and so on, to that of the
-/// last transmission or the one before. Each message that the host handed out is transmitted, in order, once or several times
-/// running.
+/// Transmissions are numbered from 1 in the order in which they start, by a count that stops at the last value of u64.
+/// What is sent is the body of the one that was started last, also when its fate is reported meanwhile. While the count
+/// hasn't stopped, a byte that is marked with a number, as the last byte of a transmission or one of its body, is sent
+/// while the body of the transmission of that number is sent. Last bytes are sent with the numbers 1, 2, 3 and so on,
+/// up to that of the last transmission or the one before. Each message that the host handed out is transmitted, in
+/// order, once or several times in a row.
 pub fn transmissions_are_counted<H: Host>()
     ensures begun { (past : Past) (s : SlaveState H) → Came H.Host past s → s.mouth.begun ≡ count_of (transmissions past.events) }
     ensures sending { (past : Past) (s : SlaveState H) → Came H.Host past s → s.sending ≡ last_body (transmissions past.events) }
@@ -94,24 +97,23 @@ pub fn transmissions_are_counted<H: Host>()
     ensures running { (past : Past) (s : SlaveState H) → Came H.Host past s → AreSendingsOf (transmissions past.events) (handed_out past.events) }
 {}
 
-/// What a slave gave, whatever it heard and also where its host was changed, is whole messages of its transmissions, in
-/// order, each with a right check, and ACKs, NAKs and EOTs, and at the end perhaps a part of one of these: the master hears
-/// nothing else in it. What happened and was given over the signals of a new slave is such a past.
+/// What a slave sent, whatever it received and also if its host was changed, is whole messages of its transmissions, in
+/// order, each with a right check, and ACKs, NAKs and EOTs, and at the end perhaps a part of one of these. The master
+/// decodes nothing else in it. What happened and was sent over the signals of a new slave is such a past.
 pub fn what_is_given_is_df1<H: Host>()
     ensures wire { (past : Past) (s : SlaveState H) → Came H.Host past s → IsGivenBySlave s.setup.check (handed_out past.events) (bytes_given past.gave) }
     ensures signals { (setup : Settings) (host : H) (signals : List Letter) → H.Host.holds_bodies host
         → Came H.Host (record { events = events H.Host (new_slave setup host) signals; gave = emission H.Host (new_slave setup host) signals }) (slave_after_all H.Host (new_slave setup host) signals) }
 {}
 
-/// Of every slave that is reached: what is being given is short, a message that is held is a body, and the host holds
-/// bodies.
+/// In every reachable slave, what is being sent is short, a message that is held is a body, and the host holds bodies.
 pub fn what_is_held_fits<H: Host>()
     ensures { (s : SlaveState H) → Reached H.Host s → Fits H.Host s }
 {}
 
-/// A take gives a byte exactly where something is to be given, and leaves one fewer then; else it changes nothing. Takes
-/// until one gives nothing give as many bytes as are left, come to one slave, and leave nothing to be given, however many
-/// more takes follow. Of every slave that is reached at most 511 bytes are left.
+/// A take returns a byte exactly if something is to be sent, and then leaves one fewer; otherwise it changes nothing.
+/// Takes until one returns nothing return as many bytes as are left, lead to one slave, and leave nothing to be sent,
+/// however many more takes follow. In every reachable slave at most 511 bytes are left.
 pub fn a_drain_ends<H: Host>()
     ensures quiet { (s : SlaveState H) → IsNone (out_at_take s) → (is_quiet s ≡ true) × (slave_after_take s ≡ s) }
     ensures fewer { (s : SlaveState H) → IsSome (out_at_take s) → left_to_give (slave_after_take s) + 1 ≡ left_to_give s }

@@ -1,30 +1,31 @@
-//! A slave of a half-duplex link, over any host: what it hears of the master, and what it gives when it is polled.
+//! A slave of a half-duplex link, over any host: what it decodes from the master's bytes, and what it sends, polled or in
+//! response.
 //!
-//! It gives one thing at a time: a message of its host, DLE EOT where it has none, or a response to a message of the
-//! master. Bytes that were begun are given to their end. A response that becomes due meanwhile waits, and a newer one
-//! replaces it. It holds at most one message of the host, from the poll that loads it until its fate is told.
+//! It sends one thing at a time: a message of its host, DLE EOT if it has none, or a response to a message of the
+//! master. What was started is sent completely. A response that becomes due meanwhile waits, and a newer one replaces
+//! it. The slave holds at most one message of the host, from the poll that loads it until its fate is reported.
 //!
-//! | Heard | What the slave does |
+//! | Received | What the slave does |
 //! |---|---|
-//! | a message to this station with the key of the last accepted one | a repeat: ACK waits to be given |
-//! | another message to this station, room | accepted: the host takes it, its key is kept, ACK waits to be given |
-//! | another message to this station, no room | refused: NAK waits to be given; the key isn't kept |
+//! | a message to this station with the key of the last accepted one | a duplicate: ACK waits to be sent |
+//! | another message to this station, the host has room | accepted: the host takes it, its key is kept, ACK waits to be sent |
+//! | another message to this station, the host has no room | refused: NAK waits to be sent; the key isn't kept |
 //! | a damaged message to this station | silence |
-//! | a poll of this station, bytes still to be given | nothing |
+//! | a poll of this station, bytes still to be sent | nothing |
 //! | the same, a message held that was sent fewer than `max_sends` times | sends it again |
-//! | the same, a message held that was sent `max_sends` times | told undelivered and dropped; then as below |
+//! | the same, a message held that was sent `max_sends` times | reported undelivered and dropped; then as below |
 //! | the same, none held, the host ready | loads its next message and sends it |
-//! | the same, none held, the host not ready | gives DLE EOT |
-//! | ACK, the wait open | the message held is told delivered and dropped |
-//! | a reset (NAK) | the message held is told undelivered and dropped; then the host drops what waits |
+//! | the same, none held, the host not ready | sends DLE EOT |
+//! | ACK, the wait open | the message held is reported delivered and dropped |
+//! | a reset (NAK) | the message held is reported undelivered and dropped; then the host drops what waits |
 //! | anything else | nothing |
 //!
-//! A response that waits is among the bytes still to be given. A sending counts when its last byte was taken. With that
-//! byte the wait opens, if the message is still held. The wait closes at the next header or poll, right or wrong, whatever
-//! station it names, and where the message is dropped (manual topic: half-duplex protocol).
+//! A response that waits is among the bytes still to be sent. A sending counts when its last byte was taken. With that
+//! byte the wait opens, if the message is still held. The wait closes when the message is dropped, and at the next
+//! header or poll, right or wrong, whatever station it names (manual topic: half-duplex protocol).
 //!
-//! A slave stands for the bytes that arrived at it: what it hears at a byte is what the grammar of the master's bytes
-//! hears at the last of all these bytes, whatever else happened to the slave and to its host.
+//! A slave stands for the bytes that arrived at it: what it decodes at a byte is what the grammar of the master's bytes
+//! decodes at the last of all these bytes, whatever else happened to the slave and to its host.
 #![tactic(auto)]
 
 ghost use Rattle.std.specs.Prelude.{◌≡◌, ◌≢◌, ◌≤◌, ◌+◌, ◌∷◌, ◌++◌, [], ℕ, List, length, is_none, false, IsSome, IsTrue};
@@ -59,7 +60,7 @@ use pccc_envelope::duplicate_filter::Filter;
 use pccc_envelope::key_of;
 use std::marker::Model;
 
-/// How a slave is set up.
+/// The setup of a slave.
 #[derive(Clone, Copy, Debug, PartialEq, Eq)]
 pub struct SlaveSetup {
     /// Its station number, neither 16 nor 255.
@@ -92,7 +93,7 @@ impl<H: Host + Drop> Model for Slave<H> {
 }
 
 impl<H: Host + Drop> Slave<H> {
-    /// A slave over a host that has heard and given nothing.
+    /// Returns a slave, over a host, that has received and sent nothing.
     pub fn new(setup: SlaveSetup, host: H) -> Slave<H>
         requires not_dle { setup.station ≢ 16 }
         requires not_all { setup.station ≢ 255 }
@@ -112,14 +113,14 @@ impl<H: Host + Drop> Slave<H> {
         }
     }
 
-    /// The host.
+    /// Returns the host.
     pub fn host(&self) -> &H
         ensures { result.now ≡ self.now.host }
     {
         &self.host
     }
 
-    /// The host, to be changed in any way.
+    /// Returns the host, to be changed in any way.
     pub fn host_mut(&mut self) -> &mut H
         ensures* writes_back { sem 𝓛 (Lends (the_row H.row H.Host) H.row self.entry result (with_host self.old)) }
         ensures value { result.now ≡ self.old.host }
@@ -128,9 +129,9 @@ impl<H: Host + Drop> Slave<H> {
         &mut self.host
     }
 
-    /// Takes a byte that was heard, in constant time but for the beginning of a message, and says what the slave made of
-    /// it. `did` is there exactly at Accept, `news` is what the host answered to a fate that was told here, `whole` says
-    /// whether a whole message was heard, to whatever station, and `station` is that station, 0 where none was.
+    /// Takes a received byte, in constant time except at the start of a message, and returns what the slave made of it.
+    /// `did` is there exactly at Accept, and `news` is the host's answer to a fate that was reported here. `whole` says
+    /// whether a whole message was received, to whatever station, and `station` is that station, 0 if there was none.
     pub fn on_byte(&mut self, b: u8) -> Step
         ensures state { self.new ≡ slave_after_byte H.Host self.old b }
         ensures step { result ≡ step_at_byte H.Host self.old b }
@@ -142,7 +143,7 @@ impl<H: Host + Drop> Slave<H> {
         self.on_heard(heard)
     }
 
-    /// Gives the next byte, in constant time: None exactly where nothing is to be given.
+    /// Returns the next byte to transmit, in constant time: None exactly if nothing is to be sent.
     pub fn take(&mut self) -> Option<Out>
         ensures state { self.new ≡ slave_after_take self.old }
         ensures out { result ≡ out_at_take self.old }
@@ -156,7 +157,7 @@ impl<H: Host + Drop> Slave<H> {
         out
     }
 
-    /// Whether `take` would give nothing.
+    /// Returns whether `take` would return None.
     pub fn quiet(&self) -> bool
         ensures none_left { result ≡ is_quiet self.now }
         ensures gives_none { result ≡ is_none (out_at_take self.now) }
@@ -164,8 +165,8 @@ impl<H: Host + Drop> Slave<H> {
         self.mouth.idle() && self.responds.is_none()
     }
 
-    /// The body of the whole message that ended at the last byte heard, to whatever station, of 6 to 250 bytes; empty
-    /// after every other byte.
+    /// Returns the body of the whole message that ended at the last byte received, to whatever station, of 6 to 250
+    /// bytes; otherwise empty.
     pub fn body(&self) -> &[u8]
         ensures body { result.now ≡ body_of self.now }
         ensures lent { (check : CheckKind) (bytes : List ℕ) → StandsFor check bytes self.now → ReadOff (slave_hears check 250) bytes (lent check 250) result.now }
@@ -174,21 +175,21 @@ impl<H: Host + Drop> Slave<H> {
         self.ear.body()
     }
 
-    /// The body of the transmission that was begun last, empty where none was.
+    /// Returns the body of the transmission that was started last, empty if there was none.
     pub fn sending(&self) -> &[u8]
         ensures { result.now ≡ self.now.sending }
     {
         &self.sending
     }
 
-    /// Whether it has a message of its host that was neither acknowledged nor given up.
+    /// Returns whether it has a message of its host that was neither acknowledged nor given up.
     pub fn holds_message(&self) -> bool
         ensures { result ≡ holds_message self.now }
     {
         self.held.is_some()
     }
 
-    /// Hears a byte; a header or a poll closes the wait.
+    /// Decodes a byte; a header or a poll closes the wait.
     fn listen(&mut self, b: u8) -> Option<SlaveHeard>
         ensures state { self.new ≡ listened self.old b }
         ensures heard { result ≡ heard_at self.old b }
@@ -220,7 +221,7 @@ impl<H: Host + Drop> Slave<H> {
         }
     }
 
-    /// The act at a damaged message to this station, or to another.
+    /// Returns the act at a damaged message to this station, or to another.
     fn damaged_act(&self, stn: u8) -> Act
         ensures { result ≡ act_at H.Host self.now (Some (Damaged stn)) }
     {
@@ -251,7 +252,7 @@ impl<H: Host + Drop> Slave<H> {
         }
     }
 
-    /// Passes over a repeat, and accepts or refuses another message.
+    /// Acknowledges a duplicate, and accepts or refuses another message.
     fn receive(&mut self) -> (Act, Option<Did>)
         requires { 6 ≤ length (body_of self.old) }
         ensures state { self.new ≡ received H.Host self.old (verdict H.Host self.old) }
@@ -274,7 +275,7 @@ impl<H: Host + Drop> Slave<H> {
         }
     }
 
-    /// Answers a poll of this station where nothing is to be given; another poll changes nothing.
+    /// Answers a poll of this station if nothing is to be sent; another poll changes nothing.
     fn on_poll(&mut self, stn: u8) -> News
         ensures state { self.new ≡ slave_after_heard H.Host self.old (Some (Poll stn)) }
         ensures news { result ≡ news_of H.Host (fate_at self.old (Some (Poll stn))) self.old.host }
@@ -287,7 +288,7 @@ impl<H: Host + Drop> Slave<H> {
         news
     }
 
-    /// Sends the message that is held again, or else the host's next, or else DLE EOT.
+    /// Sends the held message again, or else the host's next, or else DLE EOT.
     fn answer(&mut self)
         ensures { self.new ≡ answered H.Host self.old self.old.held }
     {
@@ -302,7 +303,7 @@ impl<H: Host + Drop> Slave<H> {
         }
     }
 
-    /// Begins a transmission of the message that is held.
+    /// Starts a transmission of the message that is held.
     fn send(&mut self)
         ensures { self.new ≡ sent self.old }
     {
@@ -320,7 +321,7 @@ impl<H: Host + Drop> Slave<H> {
         news
     }
 
-    /// Tells a fate of the message that is held, and drops it.
+    /// Reports a fate of the message that is held to the host, and drops the message.
     fn tell(&mut self, fate: Option<Fate>) -> News
         ensures state { self.new ≡ told H.Host self.old fate }
         ensures news { result ≡ news_of H.Host fate self.old.host }
@@ -335,7 +336,7 @@ impl<H: Host + Drop> Slave<H> {
     }
 }
 
-/// A step at which no whole message was heard.
+/// Returns a step at which no whole message was received.
 fn plain_step(act: Act, news: News) -> Step
     ensures { result ≡ record { act = act; did = None; news = news; whole = false; station = 0 } }
 {
@@ -348,7 +349,7 @@ fn plain_step(act: Act, news: News) -> Step
     }
 }
 
-/// Begins a response that waits, where nothing else is left to be given.
+/// Starts a response that waits, if nothing else is left to be sent.
 fn begin_response(mouth: &mut HalfMouth, responds: &mut Option<Resp>)
     ensures mouth { mouth.new ≡ mouth_at_take mouth.old responds.old }
     ensures responds { responds.new ≡ responds_at_take mouth.old responds.old }
@@ -362,7 +363,7 @@ fn begin_response(mouth: &mut HalfMouth, responds: &mut Option<Resp>)
     }
 }
 
-/// The code of a response's pair.
+/// Returns the code of a response's pair.
 fn code_of(resp: Resp) -> u8
     ensures { result ≡ response_code resp }
 {

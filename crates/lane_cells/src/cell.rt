@@ -1,5 +1,5 @@
-//! The cells of a queue: a byte on its way, with what is known of where it comes from. A cell takes 24 bytes: few bytes end
-//! a transmission, and what is known of its end stands apart.
+//! The cells of a queue: a byte on its way, with what is known of its origin. A cell takes 24 bytes: few bytes end a
+//! transmission, and what is known of its end is stored apart.
 
 ghost use Rattle.std.specs.Prelude.{◌≡◌, IfOk, None, Some, bit_xor};
 ghost use Rattle.lane_cells.specs.Cells.{bare, cell_of, ending_of};
@@ -23,7 +23,7 @@ struct Ended {
 }
 
 impl Ended {
-    /// Memory for the end of a transmission.
+    /// Allocates memory for the end of a transmission.
     fn boxed(alloc: Global) -> Result<Box<Ended>, NoMemory> {
         let ended = Ended {
             number: 0,
@@ -34,7 +34,7 @@ impl Ended {
     }
 }
 
-/// Memory for what is known of the end of a transmission, which serves again. Contracts see nothing of it.
+/// Reusable memory for what is known of the end of a transmission. Contracts see nothing of it.
 #[derive(Drop)]
 pub struct Spare {
     ended: Option<Box<Ended>>,
@@ -47,7 +47,7 @@ impl Model for Spare {
 }
 
 impl Spare {
-    /// None yet.
+    /// Returns a spare that holds no memory yet.
     pub fn new() -> Spare {
         Spare { ended: None }
     }
@@ -81,7 +81,7 @@ impl Model for Cell {
 }
 
 impl Cell {
-    /// A byte of which nothing is known.
+    /// Returns a byte of which nothing is known.
     pub fn bare(byte: u8) -> Cell
         ensures { result ≡ bare byte }
     {
@@ -91,8 +91,8 @@ impl Cell {
         }
     }
 
-    /// A byte that an end gave while it sent this body. Where it ends the transmission, what is known of that stands in the spare
-    /// memory, if there is any.
+    /// Returns a byte that an end sent while it transmitted this body. If it ends the transmission, what is known of
+    /// that is put in the spare memory, if there is any.
     #[inline(always)]
     pub fn given(
         alloc: Global,
@@ -108,7 +108,8 @@ impl Cell {
         }
     }
 
-    /// A byte that ends no transmission. Where it is a one-byte body unit of one, `body_of` is the number of that transmission.
+    /// Returns a byte that ends no transmission. If it is a one-byte body unit of one, `body_of` is the number of that
+    /// transmission.
     #[inline(always)]
     fn within(byte: u8, body_of: Option<u64>) -> Cell
         ensures { result ≡ record { byte = byte; ends = None; body_of = body_of } }
@@ -120,7 +121,7 @@ impl Cell {
         Cell { byte, marks }
     }
 
-    /// The last byte of the transmission of this number and body.
+    /// Returns the last byte of the transmission of this number and body.
     #[inline(never)]
     fn last(
         alloc: Global,
@@ -146,8 +147,8 @@ impl Cell {
         })
     }
 
-    /// Alters the byte by exclusive or with `mask`, and nothing is known of it from then on. The memory of what was known is
-    /// kept.
+    /// Alters the byte by exclusive or with `mask`; from then on nothing is known of it. The memory of what was known
+    /// is kept.
     #[inline(always)]
     pub fn alter(&mut self, mask: u8, spare: &mut Spare)
         ensures { self.new ≡ bare (bit_xor self.old.byte mask) }
@@ -165,7 +166,7 @@ impl Cell {
         }
     }
 
-    /// Whether a transmission ends there whose body is this one.
+    /// Returns whether a transmission with this body ends there.
     pub fn ends(&self, body: &[u8]) -> bool
         ensures { result ≡ is_body_sent self.now.ends body.now }
     {

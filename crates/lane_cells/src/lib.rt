@@ -1,5 +1,5 @@
-//! The cells of a queue of bytes on their way from one end of a line to another: each byte with what is known of where it
-//! comes from; and when an end that hears a whole message there is deceived (manual topics: full-duplex protocol,
+//! The cells of a queue of bytes on their way from one end of a line to another: each byte with what is known of its
+//! origin; and when an end that receives a whole message there is deceived (manual topics: full-duplex protocol,
 //! half-duplex protocol).
 #![tactic(auto)]
 

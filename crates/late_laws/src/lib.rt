@@ -1,4 +1,5 @@
-//! When a command is over: once its end can't give it any more and nothing of it is on its way, it is never executed late.
+//! When a command is over: once its end can't send it any more and nothing of it is on its way, it is never executed
+//! late.
 #![tactic(auto)]
 
 mod laws;

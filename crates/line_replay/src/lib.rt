@@ -1,5 +1,5 @@
-//! Replaying a script of either mode: it is read, its run is played over the line, and the record of what happened is printed;
-//! and the same while the script comes, byte by byte or line by line.
+//! Replays a script of either mode: reads it, plays its run over the line, and prints the record of what happened; also
+//! while the script comes in, byte by byte or line by line.
 #![tactic(auto)]
 
 mod replayer;

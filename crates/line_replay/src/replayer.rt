@@ -1,4 +1,5 @@
-//! Replaying while reading: a script comes byte by byte, and the report's lines of an event line are written where it ends.
+//! Replaying while reading: a script comes byte by byte, and the report's lines of an event line are written when it
+//! ends.
 ghost use Rattle.std.specs.Prelude.{◌≡◌, ◌≢◌, ◌≤◌, ◌+◌, ◌∷◌, ◌++◌, ℕ, List, [], Some, OnOk, OnErr, IfOk, IfErr, IsErrOf, length, position, take, ◌==◌};
 ghost use Rattle.df1_base.specs.Outside.{Rose, Put, WroteLess, Later};
 ghost use Rattle.script_parts.specs.declared.script.Event.{Event as OneEvent};
@@ -20,7 +21,7 @@ use std::alloc::Global;
 use std::marker::Model;
 use thiserror::Error;
 
-/// Why a replay went no further.
+/// Why a replay stopped.
 #[derive(Clone, Copy, Debug, PartialEq, Eq, Error)]
 pub enum StreamFault {
     /// The first faulty line of the script, counted from 1, and the first cause that fits it.
@@ -70,8 +71,8 @@ impl From<Failed> for StreamFault {
     }
 }
 
-/// A replay of a script that comes byte by byte. It keeps what the lines say but for the events, the bytes of the line that
-/// is begun, and the world. After a fault it is only dropped.
+/// A replay of a script that comes byte by byte. It keeps what the lines say except the events, the bytes of the line
+/// that has started, and the world. After a fault it may only be dropped.
 #[derive(Drop)]
 pub struct Replayer {
     alloc: Global,
@@ -92,7 +93,7 @@ impl Model for Replayer {
 }
 
 impl Replayer {
-    /// A replay of a script of which nothing has come.
+    /// Returns a replay that was fed no byte.
     pub fn new(alloc: Global) -> Replayer
         ensures { IsReplayOf [] result }
     {
@@ -103,7 +104,7 @@ impl Replayer {
         }
     }
 
-    /// How many bytes the line that is begun has so far, at most 1,024.
+    /// Returns how many bytes of the started line were fed so far, at most 1,024.
     pub fn held(&self) -> usize
         ensures value { result ≡ length self.now.text.line }
         ensures begun { (text : List ℕ) → IsReplayOf text self.now → result ≡ unfinished text }
@@ -112,7 +113,7 @@ impl Replayer {
         self.text.held()
     }
 
-    /// How many bytes it was fed, at most 16,777,216.
+    /// Returns how many bytes it was fed, at most 16,777,216.
     pub fn fed(&self) -> usize
         ensures value { result ≡ self.now.text.start + length self.now.text.line }
         ensures all { (text : List ℕ) → IsReplayOf text self.now → result ≡ length text }
@@ -121,10 +122,10 @@ impl Replayer {
         self.text.fed()
     }
 
-    /// Takes the next byte of the script. Where it ends an event line, the event happens, and the report's lines of it are
-    /// written. `At` comes where no text that begins so is a script, with its first faulty line and the first cause that
-    /// fits it; `SinkFailed` where the sink failed, which holds a first part of the lines then, and not all. With
-    /// another fault, and where there are no lines, the sink is as it was.
+    /// Accepts the next byte of the script. If it ends an event line, the event happens, and its lines of the report
+    /// are written. Returns `At` if no text with this beginning is a script, with its first faulty line and the first
+    /// cause that fits it. Returns `SinkFailed` if the sink failed: then the sink holds only a first part of the lines.
+    /// With another fault, and if there are no lines, the sink is unchanged.
     pub fn feed<K: Sink>(&mut self, b: u8, sink: &mut K) -> Result<(), StreamFault>
         requires { IsReplay self.old }
         ensures ok { (text : List ℕ) → IsReplayOf text self.old → OnOk result (IsReplayOf (text ++ b ∷ []) self.new × ShowsMore (shown text) (shown (text ++ b ∷ [])) (K.held sink.old) (K.held sink.new)) }
@@ -144,7 +145,7 @@ impl Replayer {
         }
     }
 
-    /// Takes the next bytes of the script, line by line, up to a fault.
+    /// Accepts the next bytes of the script, line by line, up to a fault.
     pub fn feed_all<K: Sink>(&mut self, bytes: &[u8], sink: &mut K) -> Result<(), StreamFault>
         requires { IsReplay self.old }
         ensures replay { OnOk result (IsReplay self.new) }
@@ -168,7 +169,7 @@ impl Replayer {
         }
     }
 
-    /// Takes the first line of the next bytes, its line feed included, and answers how many bytes it has: 0 exactly where no line
+    /// Accepts the first line of the next bytes, its line feed included, and returns its length: 0 exactly if no line
     /// feed is among the bytes, and then none is taken.
     #[inline(always)]
     fn feed_front<K: Sink>(&mut self, bytes: &[u8], sink: &mut K) -> Result<usize, StreamFault>
@@ -193,7 +194,7 @@ impl Replayer {
         }
     }
 
-    /// The same, by the words of the line. It isn't inlined, since a step would pay for the room that this one takes on the stack.
+    /// Does the same, by the words of the line. It isn't inlined, since a step would pay for its stack space.
     #[inline(never)]
     fn feed_first<K: Sink>(&mut self, bytes: &[u8], sink: &mut K) -> Result<usize, StreamFault>
         requires { IsReplay self.old }
@@ -217,7 +218,8 @@ impl Replayer {
         }
     }
 
-    /// Takes the next bytes of the script, among which no line feed is, and then a line feed, as `feed` takes them one by one.
+    /// Accepts the next bytes of the script, none of which is a line feed, and then a line feed, as by `feed` one by
+    /// one.
     fn feed_words<K: Sink>(&mut self, line: &[u8], sink: &mut K) -> Result<(), StreamFault>
         requires replay { IsReplay self.old }
         requires line { HasNoFeed line.now }
@@ -237,7 +239,7 @@ impl Replayer {
         }
     }
 
-    /// Takes the next bytes of the script, among which no line feed is.
+    /// Accepts the next bytes of the script, none of which is a line feed.
     fn feed_run(&mut self, run: &[u8]) -> Result<(), StreamFault>
         requires { HasNoFeed run.now }
         ensures ok { (text : List ℕ) → IsReplayOf text self.old → OnOk result (IsReplayOf (text ++ run.now) self.new × (shown (text ++ run.now) ≡ shown text)) }
@@ -250,10 +252,10 @@ impl Replayer {
         Ok(())
     }
 
-    /// Ends the script, after which nothing is fed: the report's lines of a last event line that no line feed ends are written,
-    /// then the words that aren't 0, and how often an end was deceived. `At` comes exactly where the whole text is no script,
-    /// with its first faulty line and the first cause that fits it; `SinkFailed` where the sink failed, which holds a first
-    /// part then, and not all.
+    /// Ends the script, after which nothing is fed. Writes the report's lines of a last event line that no line feed
+    /// ends, then the words that aren't 0, and how often an end was deceived. Returns `At` exactly if the whole text is
+    /// not a script, with its first faulty line and the first cause that fits it. Returns `SinkFailed` if the sink
+    /// failed: then the sink holds only a first part.
     pub fn finish<K: Sink>(&mut self, sink: &mut K) -> Result<(), StreamFault>
         requires { IsReplay self.old }
         ensures ok { (text : List ℕ) → IsReplayOf text self.old → OnOk result (IsScript text × ShowsMore (shown text) (told text) (K.held sink.old) (K.held sink.new)) }
@@ -272,7 +274,7 @@ impl Replayer {
         }
     }
 
-    /// Ends the last line, and lets its event happen, if it is one.
+    /// Ends the last line, and plays its event, if it is one.
     fn end_lines<K: Sink>(&mut self, sink: &mut K) -> Result<(), StreamFault>
         requires { IsReplay self.old }
         ensures ends { OnOk result (IsEndedReplay self.new) }
@@ -292,7 +294,7 @@ impl Replayer {
         }
     }
 
-    /// Writes what follows the lines of the last event, where the script has its `end`.
+    /// Writes what follows the lines of the last event, if the script has its `end`.
     fn close<K: Sink>(&mut self, sink: &mut K) -> Result<(), StreamFault>
         requires { IsEndedReplay self.old }
         ensures ok { (text : List ℕ) → IsReplayAtEnd text self.old → OnOk result (IsScript text × ShowsMore (events_text (accepted_script text)) (told text) (K.held sink.old) (K.held sink.new)) }
@@ -330,8 +332,8 @@ impl Replayer {
         }
     }
 
-    /// Lets an event happen, and writes the report's lines of it. It is inlined, and so is all below it that a step needs: an event
-    /// that is handed over in memory costs more than most do.
+    /// Plays an event, and writes its lines of the report. It is inlined, and so is all below it that a step needs: an
+    /// event that is handed over in memory costs more than most do.
     #[inline(always)]
     fn play<K: Sink>(&mut self, event: &Event, sink: &mut K) -> Result<(), StreamFault>
         requires { IsDue self.old event.now }
@@ -355,7 +357,7 @@ impl Replayer {
         }
     }
 
-    /// Makes the world that events happen on, where there is none.
+    /// Makes the world that events happen in, if there is none.
     fn begin(&mut self) -> Result<(), NoMemory>
         requires { CanBePlayed (script_with self.old.text.reader []) }
         ensures text { self.new.text ≡ self.old.text }
@@ -367,8 +369,8 @@ impl Replayer {
         Ok(())
     }
 
-    /// Makes the world before the first event. It isn't inlined, since an event that finds a world would pay for the room
-    /// that this one takes on the stack.
+    /// Makes the world before the first event. It isn't inlined, since an event that finds a world would pay for its
+    /// stack space.
     #[cold]
     #[inline(never)]
     fn set_out(&mut self) -> Result<(), NoMemory>
@@ -382,7 +384,7 @@ impl Replayer {
     }
 }
 
-/// Lets an event happen on a world, and writes the report's lines that stand then.
+/// Plays an event on a world, and writes the report's lines that then wait.
 #[inline(always)]
 fn play_on<K: Sink>(world: &mut World, event: &Event, sink: &mut K) -> Result<(), StreamFault>
     requires { IsNext world.old event.now }
@@ -400,7 +402,7 @@ fn play_on<K: Sink>(world: &mut World, event: &Event, sink: &mut K) -> Result<()
     Ok(())
 }
 
-/// Writes the report of a world: the lines that stand, the words that aren't 0, and how often an end was deceived.
+/// Writes the report of a world: the waiting lines, the words that aren't 0, and how often an end was deceived.
 fn print_rest<K: Sink>(world: World, sink: &mut K) -> Result<(), StreamFault>
     ensures ok { OnOk result (Put (K.held sink.old) (K.held sink.new) (report (record_from world (lines_in world)))) }
     ensures missing { IsErrOf result StreamFault.SinkFailed → WroteLess (K.held sink.old) (K.held sink.new) (report (record_from world (lines_in world))) }
@@ -415,7 +417,7 @@ fn print_rest<K: Sink>(world: World, sink: &mut K) -> Result<(), StreamFault>
     Ok(())
 }
 
-/// Where the first line feed stands.
+/// Returns the index of the first line feed.
 fn line_end(bytes: &[u8]) -> Option<usize>
     ensures { result ≡ position (λ b. b == 10) bytes.now }
 {

@@ -1,4 +1,4 @@
-//! Replaying a script that is there as a whole: the record of its run, with all that is proved of it.
+//! Replaying a complete script: the record of its run, with all that is proved of it.
 
 ghost use Rattle.std.specs.Prelude.{◌≡◌, IfOk};
 ghost use Rattle.script_parts.specs.HalfPlayable.{CanBePlayed};
@@ -18,16 +18,24 @@ use replay_report::Record;
 use script_parts::Script;
 use std::alloc::Global;
 
-/// Replays a script that can be read, and answers the record of its run. Where no end was deceived, each command of the script
-/// was executed once at most, by the station that it was issued to, and those of each source in their order, the words are those
-/// that the executed ones make, each accepted reply was the one to that very command, none is executed after a later one of its
-/// source that was executed or answered, and none after it was told as given up, once nothing was on its way. Where nothing
-/// disturbed the line, no end was deceived, and all commands were executed and answered; and so they were where a full-duplex line
-/// recovers from what the script does to the bytes. Where a full-duplex line is at rest again, and no end was deceived, each command
-/// that an end hands out from there on was executed and answered, if nothing disturbs the line from there on, or it recovers.
-/// After enough ticks at which an end had nothing to give each of its commands has its outcome; and where so many came since its
-/// last command and the last that its station executed, an end of a full-duplex line has no message and no reply left to send.
-/// Whatever was heard, what each end sent is DF1, and carries its own commands and replies. `NoMemory` comes where memory is wanting.
+/// Replays a script that can be read, and returns the record of its run; `NoMemory` for want of memory.
+///
+/// If no end was deceived:
+///
+/// - each command of the script was executed at most once, by the station that it was issued to, and those of each
+///   source in order;
+/// - the words are those that the executed commands make, and each accepted reply was the one to that very command;
+/// - no command is executed after a later one of its source that was executed or answered, and none after it was
+///   reported as given up, once nothing was on its way.
+///
+/// If nothing disturbed the line, no end was deceived, and all commands were executed and answered. The same holds if a
+/// full-duplex line recovers from what the script does to the bytes. If a full-duplex line is at rest again, and no end
+/// was deceived, each command that an end hands out from there on was executed and answered, if nothing disturbs the
+/// line from there on, or it recovers.
+///
+/// After enough ticks at which an end had nothing to send, each of its commands has its outcome. If so many came since
+/// its last command and the last that its station executed, an end of a full-duplex line has no message and no reply
+/// left to send. Whatever was received, what each end sent is DF1, and carries its own commands and replies.
 pub fn replay(alloc: Global, script: &Script) -> Result<Record, NoMemory>
     requires { CanBePlayed script.now }
     ensures record { IfOk result (λ r. r ≡ record_of script.now) }

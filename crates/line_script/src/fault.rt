@@ -1,16 +1,16 @@
-//! Why a text is no script.
+//! Why a text is not a script.
 ghost use Rattle.std.specs.Prelude.{◌≡◌};
 
 use df1_base::NoMemory;
 use thiserror::Error;
 
-/// What is wrong with a line. Where several fit, the first of these is told.
+/// What is wrong with a line. If several causes fit, the first of these is reported.
 #[derive(Clone, Copy, Debug, PartialEq, Eq, Error)]
 pub enum Cause {
     /// Byte 16,777,217 of the text is among the first 1,025 bytes of the line, its line feed counted.
     #[error("size")]
     Size,
-    /// The line has over 1,024 bytes before its line feed or the end of the text, a carriage return counted.
+    /// The line has over 1,024 bytes before its line feed or the end of the text, including a carriage return.
     #[error("long")]
     Long,
     /// The line follows `end`, and is neither blank nor a comment.
@@ -22,14 +22,15 @@ pub enum Cause {
     /// The form may not stand here.
     #[error("place")]
     Place,
-    /// It names an end that the mode hasn't, a station that no earlier line declares, a key that isn't for that end, or a file
-    /// that no earlier line declares.
+    /// The line names an end that the mode hasn't, a station that no earlier line declares, a key that isn't for that
+    /// end, or a file that no earlier line declares.
     #[error("missing")]
     Missing,
-    /// A number, a word or a length is out of its range, or a compatibility file is of another type than bit or integer.
+    /// A number, a word or a length is out of its range, or a compatibility file is of another type than bit or
+    /// integer.
     #[error("value")]
     Value,
-    /// An earlier line gave this key, file, station or word.
+    /// An earlier line set this key, file, station or word.
     #[error("twice")]
     Twice,
     /// It is the 65,536th command of an end.
@@ -43,11 +44,11 @@ pub enum Cause {
     NoEnd,
 }
 
-/// Why a text is no script.
+/// Why a text is not a script.
 #[derive(Clone, Copy, Debug, PartialEq, Eq, Error)]
 pub enum ScriptFault {
     /// The first faulty line, counted from 1, and the first cause that fits it. For `NoEnd` the line is one more than
-    /// there are.
+    /// the number of lines.
     #[error("line {line}: {cause}")]
     At { line: u32, cause: Cause },
     /// There is no memory left.

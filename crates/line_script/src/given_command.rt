@@ -1,4 +1,5 @@
-//! Lines that issue a command at a full-duplex end, in their commonest spelling: known without a list of their words.
+//! Lines that issue a command at a full-duplex end, in their most frequent spelling: recognized without a list of their
+//! words.
 ghost use Rattle.std.specs.Prelude.{◌≡◌, ◌∷◌, [], IfSome, Some, false};
 ghost use Rattle.script_statement.specs.Statements.{payload_of as the_payload, statement_of as the_statement};
 ghost use Rattle.script_statement.specs.Words.{hex_of as the_bytes, words};
@@ -16,7 +17,7 @@ pub(crate) struct GivenCommand {
     pub payload: Bytes,
 }
 
-/// The command that a line issues. None says nothing of the line.
+/// Returns the command that a line issues. None says nothing about the line.
 pub(crate) fn given_command(alloc: Global, line: &[u8]) -> Option<GivenCommand>
     ensures { IfSome result (λ command. (is_passed_over (words line.now) ≡ false)
         × (the_statement (words line.now) ≡ Some (Form.Issue command.side (Some command.payload)))) }
@@ -31,7 +32,7 @@ pub(crate) fn given_command(alloc: Global, line: &[u8]) -> Option<GivenCommand>
     }
 }
 
-/// The payload that digits spell. None says nothing of the bytes: there may be no memory.
+/// Returns the payload that digits spell. None says nothing about the bytes: there may be no memory.
 fn payload_in(alloc: Global, digits: &[u8]) -> Option<Bytes>
     ensures { IfSome result (λ payload. (the_bytes digits.now ≡ Some payload) × (the_payload payload ≡ Some payload) × (words digits.now ≡ digits.now ∷ [])) }
 {

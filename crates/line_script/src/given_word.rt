@@ -1,5 +1,5 @@
-//! Lines that give the first value of a word of a full-duplex end, in their commonest spelling: known without a list of their
-//! words.
+//! Lines that set the first value of a word of a full-duplex end, in their most frequent spelling: recognized without a
+//! list of their words.
 ghost use Rattle.std.specs.Prelude.{◌≡◌, ◌==◌, ◌∷◌, [], Some, List, ℕ, IfSome, false, position};
 ghost use Rattle.duplex_script.specs.Drafts.{word_given};
 ghost use Rattle.script_statement.specs.Statements.{statement_of as the_statement};
@@ -21,7 +21,7 @@ pub(crate) struct GivenWord {
 }
 
 impl GivenWord {
-    /// The statement that gives it.
+    /// Returns the statement that sets it.
     pub fn statement(self) -> Statement
         ensures { result ≡ word_given self.side self.file self.index self.value }
     {
@@ -36,7 +36,7 @@ impl GivenWord {
     }
 }
 
-/// The word that a line gives. None says nothing of the line.
+/// Returns the word that a line sets. None says nothing about the line.
 pub(crate) fn given_word(line: &[u8]) -> Option<GivenWord>
     ensures { IfSome result (λ word. (is_passed_over (words line.now) ≡ false)
         × (the_statement (words line.now) ≡ Some (word_given word.side word.file word.index word.value))) }
@@ -57,7 +57,8 @@ pub(crate) fn given_word(line: &[u8]) -> Option<GivenWord>
     }
 }
 
-/// The number that bytes begin with, up to a blank, and what follows the blank. None says nothing of the bytes.
+/// Returns the number that bytes begin with, up to a blank, and what follows the blank. None says nothing about the
+/// bytes.
 fn number_first(bytes: &[u8]) -> Option<(u32, &[u8])>
     ensures { IfSome result (λ cut. (word : List ℕ) × (the_number word ≡ Some cut.0) × (words bytes.now ≡ word ∷ words cut.1.now)) }
 {
@@ -65,14 +66,14 @@ fn number_first(bytes: &[u8]) -> Option<(u32, &[u8])>
     Some((number_of(&bytes[..stop])?, &bytes[stop + 1..]))
 }
 
-/// Where the first blank stands.
+/// Returns the index of the first blank.
 fn blank_in(bytes: &[u8]) -> Option<usize>
     ensures { result ≡ position (λ byte. byte == 32) bytes.now }
 {
     bytes.iter().position(|byte| *byte == b' ')
 }
 
-/// The value that four hexadecimal digits spell. None says nothing of the bytes.
+/// Returns the value that four hexadecimal digits spell. None says nothing about the bytes.
 fn value_of(bytes: &[u8]) -> Option<u16>
     ensures { IfSome result (λ value. (the_register bytes.now ≡ Some value) × (words bytes.now ≡ bytes.now ∷ [])) }
 {

@@ -1,6 +1,6 @@
-//! The script of a replay, or of a rehearsal: a text of lines that sets up the two ends of a full-duplex link, or the master and the
-//! stations of a half-duplex line, and then tells, event by event, what happens to each byte between them; and its exact
-//! reading, with the first faulty line and its cause.
+//! The script of a replay or a rehearsal, and its exact reading, with the first faulty line and its cause. A script is
+//! a text of lines: it sets up the two ends of a full-duplex link, or the master and the stations of a half-duplex
+//! line, and then says, event by event, what happens to each byte between them.
 #![tactic(auto)]
 
 mod fault;

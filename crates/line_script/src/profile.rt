@@ -12,13 +12,14 @@ use std::alloc::Global;
 pub enum Profile {
     /// A replay, of a script of either mode.
     Replay,
-    /// A route, of a half-duplex script whose master carries messages between the stations, so that these issue commands too.
+    /// A route, of a half-duplex script whose master carries messages between the stations, so that these issue
+    /// commands too.
     Route,
-    /// A rehearsal, of a full-duplex script in front of which commands of end a are put: it has none of its own.
+    /// A rehearsal, of a full-duplex script that has no commands of end a: these are put in front of it.
     Rehearse,
 }
 
-/// What the words of a line say, if they are one of the forms.
+/// Returns what the words of a line say, if they are one of the forms.
 pub(crate) fn said(
     alloc: Global,
     words: &[&[u8]],
@@ -33,7 +34,7 @@ pub(crate) fn said(
     }
 }
 
-/// What the words of a line say where the master carries messages.
+/// Returns what the words of a line say if the master carries messages.
 fn routed(alloc: Global, words: &[&[u8]]) -> Result<Option<Statement>, NoMemory>
     ensures { IfOk result (λ s. s ≡ said_by true (map (λ x. x.now) words.now)) }
 {
@@ -43,7 +44,7 @@ fn routed(alloc: Global, words: &[&[u8]]) -> Result<Option<Statement>, NoMemory>
     }
 }
 
-/// A form, unless there is none such where the master carries messages.
+/// Returns a form, unless it is excluded when the master carries messages.
 fn kept(statement: Option<Statement>) -> Option<Statement>
     ensures { result ≡ the_kept statement }
 {
@@ -53,7 +54,8 @@ fn kept(statement: Option<Statement>) -> Option<Statement>
     }
 }
 
-/// Whether there is no such form where the master carries messages: `set mode`, and a command of the master in the name of a source.
+/// Returns whether a form is excluded when the master carries messages: `set mode`, and a command of the master with an
+/// explicit SRC.
 fn is_kept_out(statement: &Statement) -> bool
     ensures { result ≡ the_outside statement.now }
 {
@@ -63,7 +65,7 @@ fn is_kept_out(statement: &Statement) -> bool
     }
 }
 
-/// A full-duplex form.
+/// Returns a full-duplex form.
 fn full_form(statement: Option<Statement>) -> Option<Statement>
     ensures { result ≡ the_full_form statement }
 {
@@ -73,7 +75,7 @@ fn full_form(statement: Option<Statement>) -> Option<Statement>
     }
 }
 
-/// Whether a form may not stand there, whatever else is wrong with it.
+/// Returns whether a form may not stand there, whatever else is wrong with it.
 pub(crate) fn is_barred(statement: &Statement, profile: Profile) -> bool
     ensures { result ≡ the_bar profile statement.now }
 {
@@ -83,7 +85,7 @@ pub(crate) fn is_barred(statement: &Statement, profile: Profile) -> bool
     }
 }
 
-/// Whether a statement has a form that only half mode has.
+/// Returns whether a statement has a form that only half mode has.
 fn is_half_form(statement: &Statement) -> bool
     ensures { result ≡ the_half_form statement.now }
 {
@@ -95,7 +97,7 @@ fn is_half_form(statement: &Statement) -> bool
     }
 }
 
-/// Whether an event names the master and a station.
+/// Returns whether an event names the master and a station.
 fn names_both(event: &HalfEvent) -> bool
     ensures { result ≡ the_both_test event.now }
 {
@@ -107,14 +109,14 @@ fn names_both(event: &HalfEvent) -> bool
     }
 }
 
-/// Whether it is the way from the master.
+/// Returns whether it is the direction from the master.
 fn is_to_station(way: Way) -> bool
     ensures { result ≡ the_way_test way }
 {
     matches!(way, Way::ToStation(_))
 }
 
-/// Whether a statement issues a command at end a.
+/// Returns whether a statement issues a command at end a.
 fn issues_at_a(statement: &Statement) -> bool
     ensures { result ≡ the_issue_test statement.now }
 {

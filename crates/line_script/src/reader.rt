@@ -1,5 +1,5 @@
-//! Reads a script line by line: each by the limits of the text and of lines, by what its words say, and by what the
-//! lines before it said.
+//! Reads a script line by line: checks each line by the limits of the text and of lines, by its words, and by the lines
+//! before it.
 ghost use Rattle.std.specs.Prelude.{◌≡◌, ◌≤◌, [], ◌∷◌, ◌+◌, MatchOption, MatchResult, IfOk, IsErr, Ok, Err, None, Some, List, map, min, length, true, false, if◌then◌else◌};
 ghost use Rattle.end_drafts.specs.Flaws.{IsFlawed};
 ghost use Rattle.line_script.specs.Readers.{after_statement, begins_half as the_half_test, fresh, fresh_for, in_mode, stage_of as the_stage};
@@ -31,24 +31,25 @@ pub const SCRIPT: usize = 16_777_216;
 /// The longest line, in bytes before its line feed.
 pub const LINE: usize = 1024;
 
-/// A reader of the lines of a script, which keeps what they say but for the events. After a fault it is only dropped.
+/// A reader of the lines of a script, which keeps what they say except the events. After a fault it may only be
+/// dropped.
 #[derive(Drop)]
 pub enum Reader {
-    /// Full duplex, as before any line.
+    /// Full duplex, also before any line.
     Full(DuplexReader),
-    /// Half duplex, since `set mode half` was the first line of a form, or from the first line on.
+    /// Half duplex, after `set mode half` as the first line of a form, or from the first line on.
     Half(HalfReader),
 }
 
 impl Reader {
-    /// A reader of which no line was fed.
+    /// Returns a reader that was fed no line.
     pub fn new(alloc: Global) -> Self
         ensures { result ≡ fresh }
     {
         Reader::Full(DuplexReader::new(alloc))
     }
 
-    /// A reader of which no line was fed, for a profile.
+    /// Returns a reader that was fed no line, for a profile.
     pub(crate) fn for_profile(alloc: Global, profile: Profile) -> Self
         ensures { result ≡ fresh_for profile }
     {
@@ -58,9 +59,9 @@ impl Reader {
         }
     }
 
-    /// Reads the next line, and answers its event, if it is one. `start` is how many bytes of the text stand before the
-    /// line, `line` has no line feed, and `is_ended` says that one follows it. Where the line is faulty, the first cause
-    /// that fits it is told.
+    /// Reads the next line, and returns its event, if it is one. `start` is the number of bytes of the text before the
+    /// line, `line` has no line feed, and `is_ended` says whether one follows it. For a faulty line, returns the first
+    /// cause that fits it.
     pub fn read(
         &mut self,
         alloc: Global,
@@ -87,7 +88,7 @@ impl Reader {
         }
     }
 
-    /// Reads the next line for a profile: for a replay as `read` does, and else by its words.
+    /// Reads the next line for a profile: for a replay as `read` does, otherwise by its words.
     pub(crate) fn read_for(
         &mut self,
         alloc: Global,
@@ -128,8 +129,8 @@ impl Reader {
         self.read_words_for(alloc, &first_words(content(line, is_ended)), profile)
     }
 
-    /// Takes the next line, which a line feed ends, as `read` reads it, if it is a step that may follow the lines so far; its
-    /// event is that of the step. None comes exactly where it is no step, or is refused, and then nothing is changed.
+    /// Accepts the next line, which a line feed ends, as by `read`, if it is a step that may follow the lines so far;
+    /// its event is that of the step. Returns None exactly if it is no step or is refused; then nothing changes.
     #[inline(always)]
     pub(crate) fn take_step(&mut self, start: usize, line: &[u8]) -> Option<TimesEvent>
         requires { start ≤ 16777216 }
@@ -148,8 +149,8 @@ impl Reader {
         }
     }
 
-    /// Takes a statement that says what happens `n` times at an end or at its queue, if it may follow the lines so far, none of which
-    /// was `end`. False comes exactly where it is refused, and then nothing is changed.
+    /// Accepts a statement of what happens `n` times at an end or at its queue, if it may follow the lines so far, none
+    /// of which was `end`. Returns false exactly if it is refused; then nothing changes.
     fn take_times(&mut self, n: u32) -> bool
         requires { the_end_test (the_stage self.old) ≡ false }
         ensures taken { result ≡ true → (side : End) (verb : Happening) → after_statement self.old (Form.Times side verb (Some n)) ≡ Ok (self.new, Some (times_event side verb n)) }
@@ -162,7 +163,7 @@ impl Reader {
         }
     }
 
-    /// Reads a line that gives the first value of a word of a full-duplex end.
+    /// Reads a line that sets the first value of a word of a full-duplex end.
     fn read_given(&mut self, alloc: Global, word: GivenWord) -> Result<Option<Event>, LineFault>
         ensures { MatchResult result (λ event. after_said self.old (Some (word_given word.side word.file word.index word.value)) ≡ Ok (self.new, event))
             (λ fault. IsFaulty fault (after_said self.old (Some (word_given word.side word.file word.index word.value)))) }
@@ -181,8 +182,8 @@ impl Reader {
         }
     }
 
-    /// Reads a line that issues a command of a full-duplex end. It isn't inlined, since the other lines would pay for the room that
-    /// this one takes on the stack.
+    /// Reads a line that issues a command of a full-duplex end. It isn't inlined, since the other lines would pay for
+    /// its stack space.
     #[inline(never)]
     fn read_issue(
         &mut self,
@@ -253,7 +254,7 @@ impl Reader {
         }
     }
 
-    /// Takes a statement, if nothing is wrong with it. One that is refused takes no memory.
+    /// Accepts a statement, if nothing is wrong with it. A refused statement takes no memory.
     fn take(&mut self, alloc: Global, statement: Statement) -> Result<Option<Event>, LineFault>
         ensures refused { (flaw : TheFlaw) → after_statement self.old statement ≡ Err flaw → result ≡ Err (LineFault.Faulty (the_cause flaw)) }
         ensures value { MatchResult result (λ event. with_cause (after_statement self.old statement) ≡ Ok (self.new, event))
@@ -269,7 +270,7 @@ impl Reader {
         }
     }
 
-    /// Takes a statement in the mode of the lines so far.
+    /// Accepts a statement in the mode of the lines so far.
     fn take_in_mode(
         &mut self,
         alloc: Global,
@@ -285,7 +286,7 @@ impl Reader {
         }
     }
 
-    /// Whether a statement chooses half duplex, as the first one.
+    /// Returns whether a statement chooses half duplex, as the first one.
     fn begins_half(&self, statement: &Statement) -> bool
         ensures { result ≡ the_half_test self.now statement.now }
     {
@@ -295,7 +296,7 @@ impl Reader {
         }
     }
 
-    /// What the lines so far allow.
+    /// Returns what the lines so far allow.
     fn stage(&self) -> Stage
         ensures { result ≡ the_stage self.now }
     {
@@ -305,7 +306,7 @@ impl Reader {
         }
     }
 
-    /// Whether a line was `end`.
+    /// Returns whether a line was `end`.
     pub(crate) fn is_ended(&self) -> bool
         ensures { result ≡ the_end_test (the_stage self.now) }
     {
@@ -315,7 +316,7 @@ impl Reader {
         }
     }
 
-    /// The script with these events, at the end of the text: `NoEnd` exactly where no line was `end`.
+    /// Returns the script with these events, at the end of the text: `NoEnd` exactly if no line was `end`.
     pub fn finish(self, alloc: Global, events: Events) -> Result<Script, LineFault>
         ensures { MatchResult result (λ script. finished self events ≡ Ok script) (λ fault. IsFaulty fault (finished self events)) }
     {
@@ -327,7 +328,7 @@ impl Reader {
         Ok(script)
     }
 
-    /// The script of the lines so far, but for its events.
+    /// Returns the script of the lines so far, without its events.
     pub fn setup(&self, alloc: Global) -> Result<Script, NoMemory>
         ensures { IfOk result (λ script. script ≡ script_with self.now []) }
     {
@@ -338,7 +339,7 @@ impl Reader {
     }
 }
 
-/// The fault of a line, by that of its statement.
+/// Returns the fault of a line, by that of its statement.
 fn line_fault(fault: StatementFault) -> LineFault
     ensures { result ≡ the_line_fault fault }
 {
@@ -348,7 +349,7 @@ fn line_fault(fault: StatementFault) -> LineFault
     }
 }
 
-/// The cause of a line, by what is wrong with its statement.
+/// Returns the cause of a line, by what is wrong with its statement.
 fn cause_of(flaw: Flaw) -> Cause
     ensures { result ≡ the_cause flaw }
 {
@@ -362,15 +363,15 @@ fn cause_of(flaw: Flaw) -> Cause
     }
 }
 
-/// Whether the byte past the longest script is among the first bytes of a line: as many as the longest line has, and
-/// one more.
+/// Returns whether the byte past the longest script is among the first bytes of a line: as many as the longest line
+/// has, and one more.
 fn reaches_limit(start: usize, line: &[u8], is_ended: bool) -> bool
     ensures { result ≡ the_limit_test (text_line start line.now is_ended) }
 {
     start <= SCRIPT && SCRIPT - start < heard(line, is_ended)
 }
 
-/// How many of the bytes of a line count there, its line feed included.
+/// Returns how many of the bytes of a line count there, its line feed included.
 fn heard(line: &[u8], is_ended: bool) -> usize
     ensures { result ≡ min 1025 (length line.now + (if is_ended then 1 else 0)) }
 {
@@ -383,7 +384,7 @@ fn heard(line: &[u8], is_ended: bool) -> usize
     }
 }
 
-/// A line without the carriage return before its line feed.
+/// Returns a line without the carriage return before its line feed.
 fn content(line: &[u8], is_ended: bool) -> &[u8]
     ensures { result.now ≡ the_content (text_line 0 line.now is_ended) }
 {
@@ -394,7 +395,7 @@ fn content(line: &[u8], is_ended: bool) -> &[u8]
     }
 }
 
-/// Whether these are the words of a blank line or a comment.
+/// Returns whether these are the words of a blank line or a comment.
 fn is_passed_over(words: &[&[u8]]) -> bool
     ensures { result ≡ the_passed (map (λ x. x.now) words.now) }
 {

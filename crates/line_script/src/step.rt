@@ -1,5 +1,5 @@
-//! Steps, the commonest lines of a full-duplex script, known without a look at the other forms: an end and the letter of a verb,
-//! a blank, and one or two digits that say how often.
+//! Steps, the most frequent lines of a full-duplex script, recognized without trying the other forms: an end and the
+//! letter of a verb, a blank, and one or two digits for the count.
 ghost use Rattle.std.specs.Prelude.{◌≡◌, ◌==◌, ◌≤◌, ◌+◌, ◌∷◌, ◌++◌, [], IfSome, Some, List, ℕ, drop, false, length, option_map, take};
 ghost use Rattle.std.specs.Option.{ForSome};
 ghost use Rattle.duplex_script.specs.Drafts.{times_event as the_times};
@@ -24,7 +24,7 @@ pub struct TimesEvent {
 }
 
 impl TimesEvent {
-    /// The event that it is.
+    /// Returns its event.
     pub fn event(self) -> Event
         ensures { result ≡ the_times self.side self.verb self.n }
     {
@@ -32,8 +32,8 @@ impl TimesEvent {
     }
 }
 
-/// The bytes before the first line feed that stands where that of a step may: behind four, five or six bytes. None comes exactly
-/// where none stands there.
+/// Returns the bytes before the first line feed at a position that a step allows: after four, five or six bytes.
+/// Returns None if there is none there.
 #[inline(always)]
 pub(crate) fn short_line(bytes: &[u8]) -> Option<&[u8]>
     ensures cut { IfSome result (λ line. (4 ≤ length line.now) × (length line.now ≤ 6) × (take (length line.now + 1) bytes.now ≡ line.now ++ 10 ∷ [])) }
@@ -47,7 +47,7 @@ pub(crate) fn short_line(bytes: &[u8]) -> Option<&[u8]>
     }
 }
 
-/// The step that a line is. It is inlined, and so is all that feeds a step: a script is mostly steps.
+/// Returns the step that a line is. It is inlined, like all that feeds a step: a script is mostly steps.
 #[inline(always)]
 pub(crate) fn step_of(line: &[u8]) -> Option<TimesEvent>
     ensures value { result ≡ step_in line.now }
@@ -64,7 +64,7 @@ pub(crate) fn step_of(line: &[u8]) -> Option<TimesEvent>
     }
 }
 
-/// The end of a full-duplex link that a letter names.
+/// Returns the end of a full-duplex link that a letter names.
 pub(crate) fn side_of(letter: u8) -> Option<EndLetter>
     ensures value { result ≡ side_in (the_end (letter ∷ [])) }
     ensures letter { ForSome result (λ side. (the_end (letter ∷ []) ≡ Some (Name.Known side)) × (is_blank letter ≡ false) × ((letter == 35) ≡ false)) }
@@ -76,7 +76,7 @@ pub(crate) fn side_of(letter: u8) -> Option<EndLetter>
     }
 }
 
-/// A number of one or two digits of which the first isn't 0: 1 to 99.
+/// Returns a number of one or two digits of which the first isn't 0: 1 to 99.
 #[tactic(auto, unfolding(script_statement::specs::Words::number_of))]
 fn count_of(word: &[u8]) -> Option<u32>
     ensures value { result ≡ count_in word.now }

@@ -1,4 +1,4 @@
-//! Reading a script byte by byte: a line is read when its line feed comes, and the last one at the end of the text.
+//! Reads a script byte by byte: a line is read when its line feed comes, and the last one at the end of the text.
 ghost use Rattle.std.specs.Prelude.{◌≡◌, ◌<◌, ◌≤◌, ◌+◌, ◌^◌, ◌∷◌, ◌++◌, ℕ, List, [], IfOk, IsErr, MatchResult, OnOk, Ok, None, Some, false, true, length, take, if◌then◌else◌};
 ghost use Rattle.std.specs.Option.{ForSome, option_to_list};
 ghost use Rattle.duplex_script.specs.Drafts.{times_event};
@@ -22,8 +22,8 @@ use df1_base::NoMemory;
 use std::alloc::Global;
 use std::marker::Model;
 
-/// A script that comes byte by byte. It keeps what the lines say but for the events, and the bytes of the line that is
-/// begun. After a fault it is only dropped.
+/// A reader of a script that comes byte by byte. It keeps what the lines say except the events, and the bytes of the
+/// line that has started. After a fault it may only be dropped.
 #[derive(Drop)]
 pub struct TextReader {
     alloc: Global,
@@ -45,7 +45,7 @@ impl Model for TextReader {
 }
 
 impl TextReader {
-    /// A reader that was fed nothing.
+    /// Returns a reader that was fed nothing.
     pub fn new(alloc: Global) -> TextReader
         ensures { StandsFor [] [] result }
     {
@@ -58,7 +58,7 @@ impl TextReader {
         }
     }
 
-    /// How many bytes the line that is begun has so far, at most 1,024.
+    /// Returns how many bytes of the started line were fed so far, at most 1,024.
     pub fn held(&self) -> usize
         ensures value { result ≡ length self.now.line }
         ensures begun { (text : List ℕ) (events : List OneEvent) → StandsFor text events self.now → result ≡ unfinished text }
@@ -67,7 +67,7 @@ impl TextReader {
         self.line.len()
     }
 
-    /// How many bytes it was fed, at most 16,777,216.
+    /// Returns how many bytes it was fed, at most 16,777,216.
     pub fn fed(&self) -> usize
         ensures value { result ≡ self.now.start + length self.now.line }
         ensures all { (text : List ℕ) (events : List OneEvent) → StandsFor text events self.now → result ≡ length text }
@@ -76,8 +76,9 @@ impl TextReader {
         self.start + self.line.len()
     }
 
-    /// Takes the next byte of the text, and answers the event of the line that it ends, if it ends one that is an event.
-    /// `At` comes where no text that begins so is a script: with the first faulty line and the first cause that fits it.
+    /// Accepts the next byte of the text, and returns the event of the line that it ends, if it ends one that is an
+    /// event. Returns `At` if no text with this beginning is a script: with the first faulty line and the first cause
+    /// that fits it.
     pub fn feed(&mut self, b: u8) -> Result<Option<Event>, ScriptFault>
         ensures { (text : List ℕ) (events : List OneEvent) → StandsFor text events self.old → MatchResult result
             (λ event. StandsFor (text ++ b ∷ []) (events ++ option_to_list event) self.new) (IsRefusedFor (text ++ b ∷ []) (script_with self.old.reader events)) }
@@ -95,7 +96,7 @@ impl TextReader {
         Ok(None)
     }
 
-    /// Takes the next bytes of the text, among which no line feed is, and then a line feed, as `feed` takes them one by one.
+    /// Accepts the next bytes of the text, none of which is a line feed, and then a line feed, as by `feed` one by one.
     pub fn feed_line(&mut self, run: &[u8]) -> Result<Option<Event>, ScriptFault>
         requires { HasNoFeed run.now }
         ensures { (text : List ℕ) (events : List OneEvent) → StandsFor text events self.old → MatchResult result
@@ -110,10 +111,10 @@ impl TextReader {
         }
     }
 
-    /// Takes the first line of the next bytes, its line feed included, as `feed` takes its bytes one by one, where no line is begun
-    /// and it is a step that may follow: a step, and how many bytes its line has. None comes exactly where a line is begun, where
-    /// the bytes begin with no step and a line feed behind it, and where no text that begins with what was fed and that line is a
-    /// script; then nothing is taken.
+    /// Accepts the first line of the next bytes, its line feed included, as by `feed` byte by byte, if no line is
+    /// started and the line is a step that may follow. Returns the step, and how many bytes its line has. Otherwise it
+    /// takes nothing and returns None: if a line is started, if the bytes don't begin with a step and a line feed, or
+    /// if no text that begins with what was fed and that line is a script.
     #[inline(always)]
     pub fn feed_step(&mut self, bytes: &[u8]) -> Option<(TimesEvent, usize)>
         ensures left { result ≡ None → self.new ≡ self.old }
@@ -136,7 +137,7 @@ impl TextReader {
         Some((step, taken))
     }
 
-    /// Takes the next bytes of the text, among which no line feed is, as `feed` takes them one by one.
+    /// Accepts the next bytes of the text, none of which is a line feed, as by `feed` one by one.
     pub fn feed_run(&mut self, run: &[u8]) -> Result<(), ScriptFault>
         requires { HasNoFeed run.now }
         ensures lines { OnOk result (self.new.reader ≡ self.old.reader) }
@@ -153,7 +154,7 @@ impl TextReader {
         }
     }
 
-    /// Reads a line that a line feed ends, where none is begun.
+    /// Reads a line that a line feed ends, if none is started.
     #[inline(never)]
     fn read_line(&mut self, line: &[u8]) -> Result<Option<Event>, ScriptFault>
         requires { self.old.line ≡ [] }
@@ -172,7 +173,7 @@ impl TextReader {
         }
     }
 
-    /// Reads the line that is begun, which a line feed ends or, where `is_ended` is false, the end of the text.
+    /// Reads the started line, which is ended by a line feed or, if `is_ended` is false, by the end of the text.
     #[inline(never)]
     fn end_line(&mut self, is_ended: bool) -> Result<Option<Event>, ScriptFault>
         requires room { self.old.start + (length self.old.line + (if is_ended then 1 else 0)) ≤ 16777216 }
@@ -196,8 +197,8 @@ impl TextReader {
         }
     }
 
-    /// Ends the text, and answers the event of its last line, where no line feed has ended that and it is an event. Nothing
-    /// is fed after it. `At` comes exactly where that line is faulty.
+    /// Ends the text, and returns the event of its last line, if no line feed has ended that line and it is an event.
+    /// Nothing is fed after it. Returns `At` exactly if that line is faulty.
     pub fn end(&mut self) -> Result<Option<Event>, ScriptFault>
         ensures { (text : List ℕ) (events : List OneEvent) → StandsFor text events self.old → MatchResult result
             (λ event. EndsFor text (events ++ option_to_list event) self.new) (IsRefusedAtEnd text (script_with self.old.reader events)) }
@@ -208,7 +209,7 @@ impl TextReader {
         self.end_line(false)
     }
 
-    /// Whether the text that has ended is a script: `NoEnd` comes exactly where no line of it was `end`.
+    /// Checks whether the text that has ended is a script: returns `NoEnd` exactly if no line of it was `end`.
     pub fn close(&self) -> Result<(), ScriptFault>
         ensures { (text : List ℕ) (events : List OneEvent) → EndsFor text events self.now → MatchResult result
             (λ _. script_of text ≡ Ok (script_with self.now.reader events)) (IsRefusedAtEnd text (script_with self.now.reader events)) }
@@ -220,14 +221,14 @@ impl TextReader {
         }
     }
 
-    /// The script of the lines so far, but for its events.
+    /// Returns the script of the lines so far, without its events.
     pub fn setup(&self) -> Result<Script, NoMemory>
         ensures { IfOk result (λ script. script ≡ script_with self.now.reader []) }
     {
         self.reader.setup(self.alloc)
     }
 
-    /// The fault of the line that is begun.
+    /// Returns the fault of the started line.
     fn refusal(&self, cause: Cause) -> ScriptFault
         ensures { result ≡ TheFault.At self.now.number cause }
     {

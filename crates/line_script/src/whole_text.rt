@@ -11,10 +11,12 @@ ghost use Rattle.line_script.specs.Refusal.{IsFaulty, IsRefused, fault_at};
 use crate::{Events, LineFault, Profile, Reader, Script, ScriptFault};
 use std::alloc::Global;
 
-/// Reads a script, all of the text: at most 16,777,216 bytes in lines of at most 1,024 bytes. `At` comes exactly where
-/// the text is none, with its first faulty line and the first cause that fits it. A script that was read has the ends a
-/// and b, or the master and at most 32 stations, set up as data tables and an end need, events that may all happen, at
-/// most 65,535 commands of each end that issues, and a sum of events of at most 4,000,000.
+/// Reads a script, all of the text: at most 16,777,216 bytes in lines of at most 1,024 bytes. Returns `At` exactly if
+/// the text is not a script, with its first faulty line and the first cause that fits it. A script that was read has:
+///
+/// - the ends a and b, or the master and at most 32 stations, set up as data tables and an end need;
+/// - events that may all happen;
+/// - at most 65,535 commands of each end that issues, and a sum of events of at most 4,000,000.
 pub fn read_script(alloc: Global, text: &[u8]) -> Result<Script, ScriptFault>
     ensures exact { MatchResult result (λ script. script_of text.now ≡ Ok script) (λ fault. IsRefused fault (script_of text.now)) }
     ensures playable { IfOk result CanBePlayed }
@@ -22,16 +24,17 @@ pub fn read_script(alloc: Global, text: &[u8]) -> Result<Script, ScriptFault>
     read_lines(alloc, text, Profile::Replay)
 }
 
-/// Reads a script for a replay, as `read_script` does, for a route or for a rehearsal. `At` comes exactly where the text is no such
-/// script, with its first faulty line and the first cause that fits it.
+/// Reads a script for a replay, as `read_script` does, for a route or for a rehearsal. Returns `At` exactly if the text
+/// is no such script, with its first faulty line and the first cause that fits it.
 ///
-/// For a route it is a half-duplex script from its first line on, with these differences. `set mode full`, `set mode half` and
-/// `mi S SRC HEX` are none of the forms. `Si T HEX` is one: the station S issues a command for T, another station or the address of
-/// the master; another T has the cause `missing`. Stations have the keys `tns` and `window`. A `station` line or a `set m.node` line
-/// by which the master would have the address of a station has the cause `value`.
+/// For a route it is a half-duplex script from its first line on, with these differences. `set mode full`, `set mode
+/// half` and `mi S SRC HEX` are not among the forms. `Si T HEX` is one: the station S issues a command for T, another
+/// station or the address of the master; another T has the cause `missing`. Stations have the keys `tns` and `window`.
+/// A `station` line or a `set m.node` line that would make the master's address that of a station has the cause
+/// `value`.
 ///
-/// For a rehearsal the forms that only half mode has are none of the forms, and a command of end a may not stand there, whatever else
-/// is wrong with it; what was read is in full mode and has no command of end a.
+/// For a rehearsal, the forms that only half mode has are not among the forms. A command of end a may not stand there,
+/// whatever else is wrong with it. A script that was read is in full mode and has no command of end a.
 pub fn read_profile(alloc: Global, text: &[u8], profile: Profile) -> Result<Script, ScriptFault>
     ensures exact { MatchResult result (λ script. script_for profile text.now ≡ Ok script) (λ fault. IsRefused fault (script_for profile text.now)) }
     ensures playable { profile ≢ Purpose.Route → IfOk result CanBePlayed }
@@ -61,7 +64,7 @@ fn read_lines(alloc: Global, text: &[u8], profile: Profile) -> Result<Script, Sc
     read_rest(alloc, reader, events, number, start, rest, profile)
 }
 
-/// Reads what stands behind the last line feed, from byte `start` and line `number` on.
+/// Reads what follows the last line feed, from byte `start` and line `number` on.
 fn read_rest(
     alloc: Global,
     mut reader: Reader,
@@ -114,7 +117,7 @@ fn read_line(
     Ok(())
 }
 
-/// The fault of a line, with the line's number.
+/// Returns the fault of a line, with the line's number.
 pub(crate) fn at(line: u32, fault: LineFault) -> ScriptFault
     ensures { result ≡ fault_at line fault }
 {
@@ -124,7 +127,7 @@ pub(crate) fn at(line: u32, fault: LineFault) -> ScriptFault
     }
 }
 
-/// The line that a text begins with, if a line feed ends one, and what follows it.
+/// Returns the line that a text begins with, if a line feed ends one, and what follows it.
 fn next_line(text: &[u8]) -> Option<(&[u8], &[u8])>
     ensures { MatchOption result (parts text.now ≡ text.now ∷ [])
         (λ cut. (parts text.now ≡ cut.0.now ∷ parts cut.1.now) × (length cut.1.now < length text.now)) }
@@ -135,7 +138,7 @@ fn next_line(text: &[u8]) -> Option<(&[u8], &[u8])>
     }
 }
 
-/// Where the first line feed stands.
+/// Returns the index of the first line feed.
 fn line_end(text: &[u8]) -> Option<usize>
     ensures { result ≡ position (λ b. b == 10) text.now }
 {

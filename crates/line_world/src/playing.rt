@@ -15,7 +15,7 @@ use replay_report::Record;
 use script_parts::Script;
 use std::alloc::Global;
 
-/// The world of a script that can be read after all of its events, with their lines standing.
+/// Returns the world of a script that can be read after all of its events, with their lines not yet written.
 pub fn play(alloc: Global, script: &Script) -> Result<World, NoMemory>
     requires { CanBePlayed script.now }
     ensures { IfOk result (λ world. world ≡ whole_world script.now) }
@@ -25,13 +25,21 @@ pub fn play(alloc: Global, script: &Script) -> Result<World, NoMemory>
     Ok(world)
 }
 
-/// Plays a script that can be read, and answers the record of its run. Where no end was deceived, each command of the script was
-/// executed once at most, by the station that it was issued to, and those of each source in their order, the words are those
-/// that the executed ones make, and each accepted reply was the one to that very command. Where nothing disturbed the line, no
-/// end was deceived, and all commands were executed and answered; and so they were where a full-duplex line recovers from what
-/// the script does to the bytes. Whatever happened on a full-duplex line that is at rest again, where no end was deceived: if
-/// nothing disturbs it from there on, or it recovers, each command that an end hands out from there on was executed and
-/// answered. Whatever was heard, what each end sent is DF1, and carries its own commands and replies.
+/// Plays a script that can be read, and returns the record of its run.
+///
+/// If no end was deceived:
+///
+/// - each command of the script was executed at most once, by the station that it was issued to, and those of each
+///   source in order;
+/// - the words are those that the executed commands make;
+/// - each accepted reply was the one to that very command.
+///
+/// If nothing disturbed the line, no end was deceived, and all commands were executed and answered. The same holds if a
+/// full-duplex line recovers from what the script does to the bytes.
+///
+/// Let a full-duplex line be at rest again, whatever happened on it, with no end deceived. Then each command that an
+/// end hands out from there on was executed and answered, if nothing disturbs the line from there on, or it recovers.
+/// Whatever was received, what each end sent is DF1, and carries its own commands and replies.
 pub fn replay(alloc: Global, script: &Script) -> Result<Record, NoMemory>
     requires { CanBePlayed script.now }
     ensures record { IfOk result (λ r. r ≡ record_of script.now) }

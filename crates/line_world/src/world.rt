@@ -15,8 +15,8 @@ use replay_report::Record;
 use script_parts::{Event, Script, Who};
 use std::alloc::Global;
 
-/// The ends of a line with their nodes, and the bytes on their way between them: two ends of a full-duplex line, or a master
-/// and its stations. After want of memory it is only dropped.
+/// The ends of a line with their nodes, and the bytes on their way between them: two ends of a full-duplex line, or a
+/// master and its stations. After want of memory it may only be dropped.
 #[derive(Drop)]
 pub enum World {
     /// A full-duplex line between two ends.
@@ -26,7 +26,7 @@ pub enum World {
 }
 
 impl World {
-    /// The world before the first event of a script, in the script's mode.
+    /// Returns the world before the first event of a script, in the script's mode.
     pub fn new(alloc: Global, script: &Script) -> Result<World, NoMemory>
         requires { CanBePlayed script.now }
         ensures { IfOk result (λ world. world ≡ begun script.now) }
@@ -38,9 +38,9 @@ impl World {
         }
     }
 
-    /// Does an event: one that may happen on this line; no end issues more than 65,535 commands, and the sum of the events,
-    /// with this one, is at most 5,000,000. Losing and altering take no memory. It is inlined, since an event may be one
-    /// byte alone.
+    /// Performs an event that may happen on this line; no end issues more than 65,535 commands, and the sum of the
+    /// events, with this one, is at most 5,000,000. Losing and altering take no memory. It is inlined, since an event
+    /// may be one byte alone.
     #[inline(always)]
     pub fn step(&mut self, event: &Event) -> Result<(), NoMemory>
         requires { IsNext self.old event.now }
@@ -53,7 +53,7 @@ impl World {
         }
     }
 
-    /// Does events that may happen one after another, as `step` does each.
+    /// Performs events that may happen one after another, as `step` does each.
     pub fn step_all(&mut self, events: &[Event]) -> Result<(), NoMemory>
         requires { AreNext self.old events.now }
         ensures { OnOk result (self.new ≡ all_played self.old events.now) }
@@ -64,8 +64,8 @@ impl World {
         Ok(())
     }
 
-    /// The initiator of an end: None exactly where the world has no such end. A full-duplex line has a and b, a half-duplex line
-    /// its master and its stations.
+    /// Returns the initiator of an end; None if the world has no such end. A full-duplex line has a and b, a
+    /// half-duplex line its master and its stations.
     pub fn initiator(&self, who: Who) -> Option<&Initiator>
         ensures { MatchOption result (initiator_of self.now who ≡ None) (λ initiator. initiator_of self.now who ≡ Some initiator.now) }
     {
@@ -75,8 +75,8 @@ impl World {
         }
     }
 
-    /// Writes the lines of the report that stand since the last such call, and drops them. `Failed` comes where the sink
-    /// failed; then it holds a first part of their text, and not all, and the world is only dropped.
+    /// Writes the lines of the report that were added since the last such call, and drops them. Returns `Failed` if the
+    /// sink failed: then the sink holds only a first part of their text, and the world may only be dropped.
     pub fn print_lines<K: Sink>(&mut self, sink: &mut K) -> Result<(), Failed>
         ensures state { OnOk result (self.new ≡ printed self.old) }
         ensures ok { OnOk result (Put (K.held sink.old) (K.held sink.new) (flat_map line_text (lines_in self.old))) }
@@ -92,7 +92,8 @@ impl World {
         }
     }
 
-    /// The record of what happened: the lines that stand, the words that aren't 0, and how often an end was deceived.
+    /// Returns the record of what happened: the lines not yet written, the words that aren't 0, and how often an end
+    /// was deceived.
     pub fn finish(self) -> Result<Record, NoMemory>
         ensures { IfOk result (λ r. r ≡ record_from self (lines_in self)) }
     {

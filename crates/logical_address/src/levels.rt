@@ -26,17 +26,17 @@ const SUB: u8 = 3;
 /// The place of a word, by levels.
 #[derive(Clone, Copy, Debug, PartialEq, Eq)]
 pub struct Levels {
-    /// The area, level 1. It is 0 where it isn't given.
+    /// The area, level 1; 0 if absent.
     pub area: u16,
     /// The number of the file, level 2.
     pub file: u16,
     /// The element, from 0, level 3.
     pub element: u16,
-    /// The sub-element, from 0, level 4. It is 0 where it isn't given.
+    /// The sub-element, from 0, level 4; 0 if absent.
     pub sub: u16,
 }
 
-/// Why bytes begin with no level address.
+/// The reason why bytes don't begin with a level address.
 #[derive(Clone, Copy, Debug, PartialEq, Eq, Error)]
 pub enum LevelFault {
     /// There is no mask byte, or a level is cut off.
@@ -50,10 +50,11 @@ pub enum LevelFault {
     TooMany,
 }
 
-/// The level address at the front of `bytes`, and how many bytes spell it, 3 to 13 (manual topic: addressing).
+/// Returns the level address at the front of `bytes`, and the number of bytes that encode it, 3 to 13 (manual topic:
+/// addressing).
 ///
-/// Else the first of these is told: there is no mask byte, `Truncated`; a bit of 4 to 7 is set in it, `TooMany`; bit 1
-/// or 2 isn't, `TooFew`; a level is cut off, `Truncated`.
+/// Otherwise returns the first of these that applies: there is no mask byte, `Truncated`; one of its bits 4 to 7 is
+/// set, `TooMany`; bit 1 or 2 is clear, `TooFew`; a level is cut off, `Truncated`.
 pub fn read_levels(bytes: &[u8]) -> Result<(Levels, usize), LevelFault>
     ensures reads { result ≡ levels_at bytes.now }
     ensures spelled { IfOk result (λ found. IsFront (SpellsLevels found.0) found.1 bytes.now) }
@@ -65,7 +66,7 @@ pub fn read_levels(bytes: &[u8]) -> Result<(Levels, usize), LevelFault>
     }
 }
 
-/// The level address at the front, and the bytes after it.
+/// Returns the level address at the front, and the bytes after it.
 fn levels_front(bytes: &[u8]) -> Result<(Levels, &[u8]), LevelFault>
     ensures reads { result_map_both (λ found. (found.0, found.1.now)) (λ fault. fault) result ≡ levels_front bytes.now }
     ensures shorter { IfOk result (λ found. length found.1.now ≤ length bytes.now) }
@@ -85,7 +86,7 @@ fn levels_front(bytes: &[u8]) -> Result<(Levels, &[u8]), LevelFault>
     }
 }
 
-/// Whether the mask has the level of this bit.
+/// Returns whether the mask has the level of this bit.
 fn has_level(mask: u8, level: u8) -> bool
     requires { level < 8 }
     ensures { result ≡ has_level mask level }
@@ -93,7 +94,7 @@ fn has_level(mask: u8, level: u8) -> bool
     (mask >> level) & 1 == 1
 }
 
-/// The levels of a mask at the front, and the bytes after them.
+/// Returns the levels of a mask at the front, and the bytes after them.
 #[tactic(auto, unfolding(crate::specs::Reading::named_front))]
 fn named_front(mask: u8, bytes: &[u8]) -> Option<(Levels, &[u8])>
     ensures reads { option_map (λ found. (found.0, found.1.now)) result ≡ named_front mask bytes.now }
@@ -114,7 +115,8 @@ fn named_front(mask: u8, bytes: &[u8]) -> Option<(Levels, &[u8])>
     ))
 }
 
-/// Replaces `into` by the shortest spelling of an address: the area and the sub-element stand only where they aren't 0.
+/// Replaces `into` by the shortest encoding of an address: the area and the sub-element are encoded only if they aren't
+/// 0.
 pub fn write_levels(at: &Levels, into: &mut ArrayVec<u8, 16>)
     ensures written { into.new.items ≡ shortest_levels at.now }
     ensures spelled { SpellsLevels at.now into.new.items }
@@ -124,7 +126,7 @@ pub fn write_levels(at: &Levels, into: &mut ArrayVec<u8, 16>)
     push_levels(at, into);
 }
 
-/// Writes the shortest spelling of an address into an empty `into`.
+/// Writes the shortest encoding of an address into an empty `into`.
 fn push_levels(at: &Levels, into: &mut ArrayVec<u8, 16>)
     requires { into.old.items ≡ [] }
     ensures { into.new.items ≡ shortest_levels at.now }
@@ -136,7 +138,7 @@ fn push_levels(at: &Levels, into: &mut ArrayVec<u8, 16>)
     push_level(at.sub, into);
 }
 
-/// The mask of the levels that are written.
+/// Returns the mask of the levels that are written.
 fn shortest_mask(at: &Levels) -> u8
     ensures { result ≡ shortest_mask at.now }
 {

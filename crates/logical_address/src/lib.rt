@@ -1,5 +1,5 @@
 //! Logical addresses and parameters: how the numbers of a file, an element and a sub-element, and the type and size of
-//! data, are spelled in a command's bytes.
+//! data, are encoded in a command's bytes.
 //!
 //! | Spelled | Bytes |
 //! |---|---|
@@ -8,7 +8,7 @@
 //! | level address | a mask byte, then a value for each of its bits 0 to 3 that is set: area, file, element, sub-element |
 //! | parameter | a flag byte, then the bytes of the kind, then the bytes of the size |
 //!
-//! The FF spelling of a value under 255 is read and never written (manual topic: addressing).
+//! The FF encoding of a value under 255 is read and never written (manual topic: addressing).
 #![tactic(auto)]
 
 mod laws;

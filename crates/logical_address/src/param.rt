@@ -1,8 +1,9 @@
 //! Parameters: the kind and the size of data.
 //!
-//! Bits 7 to 4 of the flag byte are of the kind and bits 3 to 0 of the size. The highest of the four bits clear: the
-//! others are the field itself. It set: the others say how many bytes hold the field, 1 or 2, low first. The bytes of
-//! the kind come before those of the size. Kinds: 2 bit string, 4 integer, 8 floating point, 9 array.
+//! Bits 7 to 4 of the flag byte belong to the kind and bits 3 to 0 to the size. If the highest of the four bits is
+//! clear, the others are the field itself. If it is set, they are the number of bytes of the field, 1 or 2, low byte
+//! first. The bytes of the kind come before those of the size. Kinds: 2 bit string, 4 integer, 8 floating point, 9
+//! array.
 ghost use Rattle.std.specs.Prelude.{◌≡◌, ◌<◌, ◌≤◌, ◌++◌, ◌∷◌, [], ℕ, List, length, drop, IsTrue, IfOk, IfSome, IfNone, Ok, Some};
 ghost use Rattle.std.specs.Option.{option_map, is_some, unwrap_or};
 ghost use Rattle.std.specs.Result.{result_map_both};
@@ -31,21 +32,22 @@ pub struct Param {
     pub size: u16,
 }
 
-/// Why bytes begin with no parameter.
+/// The reason why bytes don't begin with a parameter.
 #[derive(Clone, Copy, Debug, PartialEq, Eq, Error)]
 pub enum ParamFault {
     /// There is no flag byte, or a field is cut off.
     #[error("the parameter is cut off")]
     Truncated,
-    /// A field takes another number of bytes than 1 or 2.
+    /// The number of bytes of a field isn't 1 or 2.
     #[error("a field of the parameter takes another number of bytes than 1 or 2")]
     WideField,
 }
 
-/// The parameter at the front of `bytes`, and how many bytes spell it, 1 to 5 (manual topic: addressing).
+/// Returns the parameter at the front of `bytes`, and the number of bytes that encode it, 1 to 5 (manual topic:
+/// addressing).
 ///
-/// Else the first of these is told: there is no flag byte, `Truncated`; a field takes another number of bytes than 1 or
-/// 2, `WideField`; a field is cut off, `Truncated`.
+/// Otherwise returns the first of these that applies: there is no flag byte, `Truncated`; the number of bytes of a
+/// field isn't 1 or 2, `WideField`; a field is cut off, `Truncated`.
 pub fn read_param(bytes: &[u8]) -> Result<(Param, usize), ParamFault>
     ensures reads { result ≡ param_at bytes.now }
     ensures spelled { IfOk result (λ found. IsFront (SpellsParam found.0) found.1 bytes.now) }
@@ -57,7 +59,7 @@ pub fn read_param(bytes: &[u8]) -> Result<(Param, usize), ParamFault>
     }
 }
 
-/// The parameter at the front, and the bytes after it.
+/// Returns the parameter at the front, and the bytes after it.
 fn param_front(bytes: &[u8]) -> Result<(Param, &[u8]), ParamFault>
     ensures reads { result_map_both (λ found. (found.0, found.1.now)) (λ fault. fault) result ≡ param_front bytes.now }
     ensures shorter { IfOk result (λ found. length found.1.now ≤ length bytes.now) }
@@ -74,14 +76,14 @@ fn param_front(bytes: &[u8]) -> Result<(Param, &[u8]), ParamFault>
     }
 }
 
-/// Whether another number of bytes than 1 or 2 would hold the field of these four bits.
+/// Returns whether the field of these four bits has a number of bytes other than 1 or 2.
 fn is_wide(bits: u8) -> bool
     ensures { result ≡ is_wide bits }
 {
     bits >= 8 && bits != 8 + 1 && bits != 8 + 2
 }
 
-/// The field of these four bits, with its bytes at the front, and the bytes after them.
+/// Returns the field of these four bits, with its bytes at the front, and the bytes after them.
 fn field_front(bits: u8, bytes: &[u8]) -> Option<(u16, &[u8])>
     ensures reads { option_map (λ found. (found.0, found.1.now)) result ≡ field_front bits bytes.now }
     ensures shorter { IfSome result (λ found. length found.1.now ≤ length bytes.now) }
@@ -97,7 +99,7 @@ fn field_front(bits: u8, bytes: &[u8]) -> Option<(u16, &[u8])>
     }
 }
 
-/// The fields of a flag byte, with their bytes at the front, and the bytes after them.
+/// Returns the fields of a flag byte, with their bytes at the front, and the bytes after them.
 #[tactic(auto, unfolding(crate::specs::Reading::fields_front))]
 fn fields_front(flag: u8, bytes: &[u8]) -> Option<(Param, &[u8])>
     ensures reads { option_map (λ found. (found.0, found.1.now)) result ≡ fields_front flag bytes.now }
@@ -108,7 +110,7 @@ fn fields_front(flag: u8, bytes: &[u8]) -> Option<(Param, &[u8])>
     Some((Param { kind, size }, rest))
 }
 
-/// The parameter of an element of a file of this type. None exactly for a Timer, Counter or Control.
+/// Returns the parameter of an element of a file of this type, and None exactly for a Timer, Counter or Control.
 pub fn element_param(kind: FileType) -> Option<Param>
     ensures { result ≡ element_param kind }
 {
@@ -120,7 +122,7 @@ pub fn element_param(kind: FileType) -> Option<Param>
     }
 }
 
-/// The parameter of an element as it is written, and no byte where there is none.
+/// Returns the encoded parameter of an element, empty if there is none.
 fn written_element(kind: FileType) -> &'static [u8]
     ensures { result.now ≡ written_element kind }
 {
@@ -132,11 +134,11 @@ fn written_element(kind: FileType) -> &'static [u8]
     }
 }
 
-/// Replaces `into` by the parameter of an array of `count` elements of a file of this type, and of its element:
-/// `99 09 n 42` for Integer and Status, `99 09 n 22` for Bit, `99 09 n 94 08` for Float, where the size n counts the
-/// bytes of the element's parameter and of the data.
+/// Replaces `into` by the parameter of an array of `count` elements of a file of this type, and that of its element:
+/// `99 09 n 42` for Integer and Status, `99 09 n 22` for Bit, `99 09 n 94 08` for Float. The size n counts the bytes of
+/// the element's parameter and of the data.
 ///
-/// False, with `into` empty, exactly where the type is Timer, Counter or Control or the size is over 255.
+/// Returns false, with `into` empty, exactly if the type is Timer, Counter or Control or the size is over 255.
 pub fn write_array(kind: FileType, count: u16, into: &mut ArrayVec<u8, 16>) -> bool
     ensures fits { result ≡ is_some (written_array kind count) }
     ensures written { into.new.items ≡ unwrap_or (written_array kind count) [] }

@@ -9,21 +9,22 @@ ghost use Rattle.logical_address.specs.Reading.{three_at, three_front};
 use crate::value::{byte_front, optional_front, push_value, value_front};
 use arrayvec::ArrayVec;
 
-/// The place of a word, by three fields beside the type of its file.
+/// The place of a word, by three fields and the type of its file.
 #[derive(Clone, Copy, Debug, PartialEq, Eq)]
 pub struct Three {
     /// The number of the file.
     pub file: u16,
-    /// The type byte of the file, 84 to 8A in hexadecimal where it is one of the known types.
+    /// The type byte of the file, 84 to 8A in hexadecimal if it is one of the known types.
     pub kind: u8,
     /// The element, from 0.
     pub element: u16,
-    /// The sub-element, from 0: the word in its element. It is 0 where it isn't given.
+    /// The sub-element, from 0: the word in its element; 0 if absent.
     pub sub: u16,
 }
 
-/// The address at the front of `bytes`, with a sub-element where `with_sub` says so and else with the sub-element 0, and
-/// how many bytes spell it, at most 10. None exactly where it is cut off (manual topic: addressing).
+/// Returns the address at the front of `bytes`, and the number of bytes that encode it, at most 10. Reads a sub-element
+/// if `with_sub`, otherwise the sub-element is 0. Returns None exactly if the address is cut off (manual topic:
+/// addressing).
 pub fn read_three(bytes: &[u8], with_sub: bool) -> Option<(Three, usize)>
     ensures reads { result ≡ three_at with_sub bytes.now }
     ensures spelled { IfSome result (λ found. IsFront (SpellsThree with_sub found.0) found.1 bytes.now) }
@@ -33,7 +34,7 @@ pub fn read_three(bytes: &[u8], with_sub: bool) -> Option<(Three, usize)>
     Some((at, bytes.len() - rest.len()))
 }
 
-/// The address at the front, and the bytes after it.
+/// Returns the address at the front, and the bytes after it.
 #[tactic(auto, unfolding(crate::specs::Reading::three_front))]
 fn three_front(bytes: &[u8], with_sub: bool) -> Option<(Three, &[u8])>
     ensures reads { option_map (λ found. (found.0, found.1.now)) result ≡ three_front with_sub bytes.now }
@@ -54,7 +55,7 @@ fn three_front(bytes: &[u8], with_sub: bool) -> Option<(Three, &[u8])>
     ))
 }
 
-/// Replaces `into` by the shortest spelling of an address, whose sub-element is 0 where `with_sub` is false.
+/// Replaces `into` by the shortest encoding of an address, whose sub-element is 0 if `with_sub` is false.
 pub fn write_three(at: &Three, with_sub: bool, into: &mut ArrayVec<u8, 16>)
     requires { with_sub ≡ false → at.now.sub ≡ 0 }
     ensures written { into.new.items ≡ shortest_three with_sub at.now }
@@ -65,7 +66,7 @@ pub fn write_three(at: &Three, with_sub: bool, into: &mut ArrayVec<u8, 16>)
     push_three(at, with_sub, into);
 }
 
-/// Writes the shortest spelling of an address into an empty `into`.
+/// Writes the shortest encoding of an address into an empty `into`.
 fn push_three(at: &Three, with_sub: bool, into: &mut ArrayVec<u8, 16>)
     requires { into.old.items ≡ [] }
     ensures { into.new.items ≡ shortest_three with_sub at.now }

@@ -11,8 +11,8 @@ use arrayvec::ArrayVec;
 /// The byte before a value of two bytes.
 const WIDE: u8 = 0xFF;
 
-/// The value at the front of `bytes`, and how many bytes spell it, 1 or 3. None exactly where the spelling is cut off
-/// (manual topic: addressing).
+/// Returns the value at the front of `bytes`, and the number of bytes that encode it, 1 or 3. Returns None exactly if
+/// the encoding is cut off (manual topic: addressing).
 pub fn read_value(bytes: &[u8]) -> Option<(u16, usize)>
     ensures reads { result ≡ value_at bytes.now }
     ensures spelled { IfSome result (λ found. IsFront (SpellsValue found.0) found.1 bytes.now) }
@@ -22,7 +22,7 @@ pub fn read_value(bytes: &[u8]) -> Option<(u16, usize)>
     Some((value, bytes.len() - rest.len()))
 }
 
-/// The byte at the front, and the bytes after it.
+/// Returns the byte at the front, and the bytes after it.
 pub(crate) fn byte_front(bytes: &[u8]) -> Option<(u8, &[u8])>
     ensures reads { option_map (λ found. (found.0, found.1.now)) result ≡ byte_front bytes.now }
     ensures shorter { IfSome result (λ found. length found.1.now ≤ length bytes.now) }
@@ -33,7 +33,7 @@ pub(crate) fn byte_front(bytes: &[u8]) -> Option<(u8, &[u8])>
     }
 }
 
-/// The number that two bytes at the front are, low first, and the bytes after them.
+/// Returns the number encoded by two bytes at the front, low byte first, and the bytes after them.
 pub(crate) fn word_front(bytes: &[u8]) -> Option<(u16, &[u8])>
     ensures reads { option_map (λ found. (found.0, found.1.now)) result ≡ word_front bytes.now }
     ensures shorter { IfSome result (λ found. length found.1.now ≤ length bytes.now) }
@@ -44,7 +44,7 @@ pub(crate) fn word_front(bytes: &[u8]) -> Option<(u16, &[u8])>
     }
 }
 
-/// The value at the front, and the bytes after it.
+/// Returns the value at the front, and the bytes after it.
 pub(crate) fn value_front(bytes: &[u8]) -> Option<(u16, &[u8])>
     ensures reads { option_map (λ found. (found.0, found.1.now)) result ≡ value_front bytes.now }
     ensures shorter { IfSome result (λ found. length found.1.now ≤ length bytes.now) }
@@ -56,7 +56,7 @@ pub(crate) fn value_front(bytes: &[u8]) -> Option<(u16, &[u8])>
     }
 }
 
-/// The value at the front where it is given, else 0, and the bytes after it.
+/// Returns the value at the front if `is_given`, otherwise 0, and the bytes after it.
 pub(crate) fn optional_front(is_given: bool, bytes: &[u8]) -> Option<(u16, &[u8])>
     ensures reads { option_map (λ found. (found.0, found.1.now)) result ≡ optional_front is_given bytes.now }
     ensures shorter { IfSome result (λ found. length found.1.now ≤ length bytes.now) }
@@ -68,7 +68,7 @@ pub(crate) fn optional_front(is_given: bool, bytes: &[u8]) -> Option<(u16, &[u8]
     }
 }
 
-/// Writes the shortest spelling of a value at the end of `into`.
+/// Appends the shortest encoding of a value to `into`.
 pub(crate) fn push_value(value: u16, into: &mut ArrayVec<u8, 16>)
     requires { array_vec_len into.old + 3 ≤ 16 }
     ensures { into.new.items ≡ into.old.items ++ shortest_value value }
@@ -83,7 +83,7 @@ pub(crate) fn push_value(value: u16, into: &mut ArrayVec<u8, 16>)
     }
 }
 
-/// Writes a level at the end of `into`, and nothing where it is 0.
+/// Appends a level to `into`, or nothing if it is 0.
 pub(crate) fn push_level(value: u16, into: &mut ArrayVec<u8, 16>)
     requires { array_vec_len into.old + 3 ≤ 16 }
     ensures { into.new.items ≡ into.old.items ++ shortest_level value }

@@ -1,4 +1,4 @@
-//! What a station answers: a table of commands, each to a fresh station.
+//! Tests of what a station answers: a table of commands, each to a fresh station.
 use arrayvec::ArrayVec;
 use df1_base::FileType;
 use df1_node::{FileSpec, MakeFault, Station, Tables};
@@ -18,7 +18,7 @@ const COMPAT: u16 = 7;
 /// The data of the status reply.
 const BLOCK: &[u8] = b"\x01\x02";
 
-/// The words that stand in the tables at first.
+/// The initial words of the tables.
 const FIRST: Words = &[(7, 0, 0x1234), (7, 1, 0x5678)];
 
 const ANSWERS: [Answer; 35] = [
@@ -254,7 +254,7 @@ fn a_change_is_made_whole_or_not_at_all(rt: HostRuntime) -> Result<(), Fail> {
 
 #[test]
 fn no_command_writes_a_locked_file(rt: HostRuntime) -> Result<(), Fail> {
-    // Files 7, the compatibility file, and 9, which isn't there, are locked.
+    // Files 7, the compatibility file, and 9, which doesn't exist, are locked.
     let rows: [Answer; 11] = [
         (0x0F, b"\xA2\x02\x07\x89\x00\x00", 0x00, b"\x34\x12", &[]),
         (0x01, b"\x00\x00\x02", 0x00, b"\x34\x12", &[]),

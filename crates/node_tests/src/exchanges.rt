@@ -1,4 +1,4 @@
-//! Worked exchanges.
+//! Tests of worked exchanges.
 use arrayvec::ArrayVec;
 use df1_base::{Did, Fate, FileType, Host, News};
 use df1_node::{FileSpec, Initiator, IssueFault, Node, NodeSetup, Outcome, Station, Tables};
@@ -99,7 +99,8 @@ fn each_reply_stays_as_it_came(rt: HostRuntime) -> Result<(), Fail> {
     Ok(())
 }
 
-/// A file and an index, whether there is such a word in an integer file 7 of 2 words, and its two words after 5 was set there.
+/// A file and an index, whether an integer file 7 of 2 words has such a word, and its two words after that word was set
+/// to 5.
 const SET_WORDS: [(u16, u32, bool, [u16; 2]); 5] = [
     (7, 0, true, [5, 0]),
     (7, 1, true, [0, 5]),

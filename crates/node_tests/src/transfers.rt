@@ -1,4 +1,4 @@
-//! Transfers of whole files: the orders of known transfers, and what a transfer comes to, reply by reply.
+//! Tests of transfers of whole files: the orders of known transfers, and the result of a transfer, reply by reply.
 ghost use Rattle.std.specs.Prelude.{◌≡◌, ◌≤◌, ◌*◌, ◌/◌, length};
 
 use arrayvec::ArrayVec;
@@ -9,7 +9,7 @@ use std::alloc::Global;
 use std::process::Abort;
 use std::test::Fail;
 
-// Compares an order that reads, or that there is none.
+// Compares an order that reads, or checks that there is none.
 fn reads(rt: &impl Abort, file: u16, words: u16, j: u16, wanted: Option<&[u8]>)
     requires file { file ≤ 999 }
     requires words { (1 ≤ words) × (words ≤ 3000) }
@@ -63,7 +63,7 @@ fn orders_that_read_have_their_offset_the_total_and_a_size(rt: HostRuntime) {
     reads(&rt, 7, 3000, 31, None);
 }
 
-// Compares an order that writes, or that there is none.
+// Compares an order that writes, or checks that there is none.
 fn writes(rt: &impl Abort, bytes: &[u8], j: u16, wanted: Option<&[u8]>)
     requires size { (2 ≤ length bytes.now) × (length bytes.now ≤ 6000) }
     requires whole { length bytes.now ≡ 2 * (length bytes.now / 2) }
@@ -104,7 +104,7 @@ fn each_hundred_words_have_an_order(rt: HostRuntime) {
     assert_eq!(rt; order_count(3000), 30);
 }
 
-// A node that has handed out two commands, 1 and 2, and has taken these replies.
+// Returns a node that has handed out two commands, 1 and 2, and has accepted these replies.
 fn node_with(rt: &impl Abort, alloc: Global, replies: &[&[u8]]) -> Result<Node, Fail> {
     let setup = NodeSetup {
         node: 0,

@@ -1,4 +1,4 @@
-//! Several commands out at once, of several sources: tables of what is done to a node and of what it answers.
+//! Tests of several outstanding commands of several sources: tables of calls of a node and of its answers.
 ghost use Rattle.std.specs.Prelude.{◌≤◌};
 
 use arrayvec::ArrayVec;
@@ -8,16 +8,16 @@ use std::alloc::Global;
 use std::process::Abort;
 use std::test::Fail;
 
-/// What is done to a node, and what it answers.
+/// A call of a node, with its answer.
 #[derive(Clone, Copy)]
 enum Act {
-    /// A command is issued in the name of this source, and gets this number.
+    /// A command is issued with this source, and gets this number.
     Issue(u8, u32),
     /// This body is handed out next.
     Hand(&'static [u8]),
     /// Nothing is handed out.
     Hold,
-    /// This reply is taken.
+    /// This reply is accepted.
     Take(&'static [u8], Did),
     /// At a tick these commands are unanswered.
     Tick(&'static [u32]),
@@ -67,7 +67,7 @@ const SHARED: [Act; 13] = [
     Act::Hold,
 ];
 
-/// One command of each source: another source goes ahead, and two commands are unanswered at one tick.
+/// One command of each source: another source is served first, and two commands are unanswered at one tick.
 const IN_TURN: [Act; 16] = [
     Act::Issue(0, 1),
     Act::Issue(0, 2),
@@ -87,7 +87,7 @@ const IN_TURN: [Act; 16] = [
     Act::Hold,
 ];
 
-// Does it, and compares the answer.
+// Executes the call, and compares the answer.
 fn play(rt: &impl Abort, node: &mut Node, act: &Act) {
     let mut body = ArrayVec::new();
     let mut gone = ArrayVec::new();
@@ -112,7 +112,7 @@ fn play(rt: &impl Abort, node: &mut Node, act: &Act) {
     }
 }
 
-// Does it all to a node whose window is 2, and whose replies may take one tick.
+// Executes all calls on a node whose window is 2, and whose replies may take one tick.
 fn run(rt: &impl Abort, alloc: Global, per_source: usize, acts: &[Act]) -> Result<(), Fail>
     requires { (1 ≤ per_source) × (per_source ≤ 16) }
 {

@@ -1,4 +1,4 @@
-//! The laws of how long a command may stand without an outcome, and of when an end is idle. Their functions do nothing.
+//! Laws of how long a command may have no outcome, and of when an end is idle. Their functions do nothing.
 ghost use Rattle.std.specs.Prelude.{◌≡◌, true};
 ghost use Rattle.script_parts.specs.declared.script.Script.{Script};
 ghost use Rattle.script_parts.specs.HalfPlayable.{CanBePlayed};
@@ -9,38 +9,40 @@ ghost use Rattle.outcome_bounds.specs.Bounds.{OutcomesCome};
 ghost use Rattle.outcome_bounds.specs.Idle.{EndsComeToIdle, IsLeftAlone};
 ghost use Rattle.outcome_bounds.specs.Reached.{ComesToRest, IsOneTickShort, IsTwoTicksShort, lost_both_ways, no_poll_answered, two_waits};
 
-/// A law: of each run, whatever is lost, altered or foreign on the line, and deceived or not: where at least so many ticks came at an
-/// end since it issued its last command, at each of which it had nothing to give, as all its commands and the replies of its station
-/// may take, the report tells the outcome of each of its commands. For a command of a full-duplex end these are the waits for a
-/// response to its message, or `reply_ticks` if that is more; for a reply the waits for a response. For a command of a master they
-/// are the waits for an ACK, and for each of `reply_ticks` a poll's wait and one more (manual topics: full-duplex protocol,
-/// half-duplex protocol).
+/// A law: this holds in each run, whatever is lost, altered or foreign on the line, and deceived or not. The report
+/// states the outcome of each command of an end once enough ticks came since the end issued its last command, at each
+/// of which it had nothing to send. Enough is as many as all its commands and the replies of its station may take:
+///
+/// - for a command of a full-duplex end, the waits for a response to its message, or `reply_ticks` if that is more;
+/// - for a reply, the waits for a response;
+/// - for a command of a master, the waits for an ACK, and for each of `reply_ticks` a poll's wait and one more (manual
+///   topics: full-duplex protocol, half-duplex protocol).
 pub fn outcomes_come()
     ensures { (script : Script) → CanBePlayed script → OutcomesCome script (record_of script) }
 {}
 
-/// A law: the bound of a full-duplex end can't be lower: in a run with two commands and one reply the second command has no outcome
-/// one drained tick before so many have come (manual topic: full-duplex protocol).
+/// A law: the bound of a full-duplex end can't be lower: in a run with two commands and one reply the second command
+/// has no outcome one drained tick before so many have come (manual topic: full-duplex protocol).
 pub fn the_bound_is_reached()
     ensures { IsOneTickShort two_waits }
 {}
 
-/// A law: the bound of a master is near: in a run with one command it has no outcome two drained ticks before so many have come
-/// (manual topic: half-duplex protocol).
+/// A law: the bound of a master is near: in a run with one command it has no outcome two drained ticks before so many
+/// have come (manual topic: half-duplex protocol).
 pub fn the_bound_of_a_master_is_near()
     ensures { IsTwoTicksShort no_poll_answered }
 {}
 
-/// A law: of each full-duplex run, whatever is lost, altered or foreign on the line, and deceived or not: where at least so many
-/// drained ticks came at an end since it issued its last command and since its station executed its last, each command of the end
-/// has its outcome, its sender holds no message, and no reply of its station waits to be handed out (manual topic: full-duplex
-/// protocol).
+/// A law: this holds in each full-duplex run, whatever is lost, altered or foreign on the line, and deceived or not. If
+/// at least so many drained ticks came at an end since it issued its last command and since its station executed its
+/// last, each command of the end has its outcome. Its sender then holds no message, and no reply of its station waits
+/// to be handed out (manual topic: full-duplex protocol).
 pub fn ends_come_to_idle()
     ensures { (script : Script) → CanBePlayed script → EndsComeToIdle script (record_of script) }
 {}
 
-/// A law: a full-duplex line, at both of whose ends so many drained ticks came, is at rest, if nothing is under way and no decoder
-/// is inside an item (manual topic: full-duplex protocol).
+/// A law: a full-duplex line, if so many drained ticks came at both of its ends, is at rest if nothing is under way
+/// and no decoder is inside an item (manual topic: full-duplex protocol).
 pub fn a_line_comes_to_rest()
     ensures { (script : Script) → CanBePlayed script → IsLeftAlone script (record_of script) → is_at_rest (last_state script) ≡ true }
 {}

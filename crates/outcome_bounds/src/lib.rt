@@ -1,5 +1,5 @@
-//! How long a command may stand without an outcome: so many ticks at which its end had nothing to give, whatever the line does.
-//! After as many a full-duplex end that has nothing new to do is idle.
+//! Bounds for a command's time without an outcome: a number of ticks at which its end had nothing to send, whatever the
+//! line does. After as many, a full-duplex end that has nothing new to do is idle.
 #![tactic(auto)]
 
 mod laws;

@@ -1,5 +1,5 @@
-//! An end of a full-duplex link before anything happened, by its plan: how it is set up, and its node, whose data files
-//! hold the first values of their words.
+//! The initial state of an end of a full-duplex link, by its plan: its setup and its node, whose data files hold the
+//! first values of their words.
 #![tactic(auto)]
 
 mod node;

@@ -10,8 +10,8 @@ use df1_node::{FileSpec, MakeFault, Node, NodeSetup, Station, Tables};
 use script_parts::{EndPlan, WordOf};
 use std::alloc::Global;
 
-/// The node of the end of a plan: its data files with the first values of their words, and no command issued. An error
-/// is want of memory.
+/// Makes the node of the end of a plan: its data files with the first values of their words, and no command issued. The
+/// error is want of memory.
 pub fn node_of(alloc: Global, plan: &EndPlan) -> Result<Node, NoMemory>
     requires { IsPlanOf plan.now.who plan.now }
     ensures { IfOk result (λ node. node ≡ first_node plan.now) }
@@ -27,7 +27,7 @@ pub fn node_of(alloc: Global, plan: &EndPlan) -> Result<Node, NoMemory>
     Node::new(alloc, setup, station_of(alloc, plan)?)
 }
 
-/// The station of an end.
+/// Makes the station of an end.
 fn station_of(alloc: Global, plan: &EndPlan) -> Result<Station, NoMemory>
     requires { IsPlanOf plan.now.who plan.now }
     ensures { IfOk result (λ station. station ≡ first_station plan.now) }
@@ -36,7 +36,7 @@ fn station_of(alloc: Global, plan: &EndPlan) -> Result<Station, NoMemory>
     Ok(Station::new(tables, plan.compat, plan.block.as_slice()))
 }
 
-/// The data tables of an end: its files, with the first values of their words.
+/// Makes the data tables of an end: its files, with the first values of their words.
 fn tables_of(alloc: Global, plan: &EndPlan) -> Result<Tables, NoMemory>
     requires { IsPlanOf plan.now.who plan.now }
     ensures { IfOk result (λ tables. tables ≡ first_tables plan.now) }
@@ -46,7 +46,7 @@ fn tables_of(alloc: Global, plan: &EndPlan) -> Result<Tables, NoMemory>
     Ok(tables)
 }
 
-/// Data tables of these files, all words 0.
+/// Makes data tables of these files, all words 0.
 fn zero_tables(alloc: Global, files: &[FileSpec]) -> Result<Tables, NoMemory>
     requires { faults files.now ≡ None }
     ensures { IfOk result (λ tables. tables ≡ fresh files.now) }
@@ -58,7 +58,7 @@ fn zero_tables(alloc: Global, files: &[FileSpec]) -> Result<Tables, NoMemory>
     }
 }
 
-/// Gives words their first values.
+/// Sets words to their first values.
 fn set_words(tables: &mut Tables, words: &[WordOf])
     ensures { tables.new ≡ with_all tables.old words.now }
 {

@@ -1,4 +1,4 @@
-//! How an end is set up.
+//! The setup of an end.
 
 ghost use Rattle.std.specs.Prelude.{◌≡◌};
 ghost use Rattle.outset.specs.Outset.{limits_of, setup_of};
@@ -8,7 +8,7 @@ use duplex_end::Setup;
 use duplex_sender::Limits;
 use script_parts::EndPlan;
 
-/// How the end of a plan is set up, on a line whose frames end with this check.
+/// Returns the setup of the end of a plan, on a line whose frames end with this check.
 pub fn setup_of(check: Check, plan: &EndPlan) -> Setup
     ensures { result ≡ setup_of check plan.now }
 {

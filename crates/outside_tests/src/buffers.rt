@@ -1,11 +1,12 @@
-//! What a buffer hands on, and when.
+//! Tests of what a buffer writes to its sink, and when.
 
 use df1_base::{BytesOut, Failed, Sink, write_all};
 use df1_buffer::Buffered;
 use std::alloc::Global;
 use std::test::Fail;
 
-/// What the sink holds once these many bytes were written, one count after another, and the rest was flushed or not.
+/// Returns what the sink holds once these many bytes were written, one count after another, and the rest was flushed or
+/// not.
 fn handed_on(alloc: Global, counts: &[usize], flushed: bool) -> Result<usize, Fail> {
     let mut out = BytesOut::new(alloc, 16384, 4096, &[])?;
     let mut buffer = Buffered::new(&mut out);

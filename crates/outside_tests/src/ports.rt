@@ -1,4 +1,4 @@
-//! The ports, call by call.
+//! Tests of the ports, call by call.
 use df1_base::{BytesIn, BytesOut, Failed, FeedPort, Port, PortMem, Signal};
 use std::alloc::Global;
 use std::test::Fail;
@@ -11,7 +11,7 @@ struct Line {
     signals: &'static [Signal],
 }
 
-/// A port over an input that comes in pieces, and a sink with room for two bytes.
+/// Returns a port over an input that comes in pieces, and a sink with room for two bytes.
 fn port_over(
     alloc: Global,
     bytes: &[u8],
@@ -106,7 +106,7 @@ fn an_input_is_read_only_where_no_signal_is_held(rt: HostRuntime) -> Result<(), 
     }
     assert_eq!(rt; raw.next(), Err(Failed));
     assert_eq!(rt; raw.next(), Ok(Signal::End));
-    // The read that asks for the second byte of a record fails, and the next one gives it.
+    // The read that asks for the second byte of a record fails, and the next one returns it.
     let mut timed = port_over(rt.alloc(), &[0, 7, 1, 0], 1, &[2], true)?;
     assert_eq!(rt; timed.next(), Err(Failed));
     assert_eq!(rt; timed.next(), Ok(Signal::Byte(7)));

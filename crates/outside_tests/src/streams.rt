@@ -1,4 +1,4 @@
-//! The calls of each source and sink in memory, one by one.
+//! Tests of the calls of each source and sink in memory, one by one.
 use df1_base::{ByteRun, BytesIn, BytesOut, Collected, Failed, Nowhere, Sink, Source};
 use std::test::Fail;
 

@@ -1,4 +1,4 @@
-//! What a run settles as it goes on: no command is overtaken by one that was issued before it in the name of the same source.
+//! What a run settles as it proceeds: no command is overtaken by one that was issued before it with the same SRC.
 #![tactic(auto)]
 
 mod laws;

@@ -1,4 +1,4 @@
-//! Texts with their addresses, and texts that are none with the first part that isn't as it should be.
+//! Tests of texts with their addresses, and of invalid texts with the first part that is at fault.
 use arrayvec::ArrayVec;
 use data_addresses::{Address, AddressFault, read_address, write_address};
 use df1_base::FileType;

@@ -1,4 +1,4 @@
-//! Tests of addresses from their texts, of the payloads of commands at them, and of what replies tell.
+//! Tests of addresses from their texts, of the payloads of commands at them, and of the contents of replies.
 #![tactic(auto)]
 
 #[cfg(test)]

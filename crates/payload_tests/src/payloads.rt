@@ -1,4 +1,4 @@
-//! Payloads of known bytes, and what a station answers to them.
+//! Tests of payloads of known bytes, and of the answers of a station to them.
 use arrayvec::ArrayVec;
 use command_payloads::{
     PayloadFault, bit_write, echo, logical_read, logical_write, masked_write, read_modify_write,
@@ -14,7 +14,7 @@ use std::alloc::Global;
 use std::process::Abort;
 use std::test::Fail;
 
-/// The address of a text.
+/// Returns the address of a text.
 fn at(rt: &impl Abort, text: &[u8]) -> Address {
     read_address(text).expect(rt, "an address")
 }
@@ -144,7 +144,7 @@ fn what_does_not_fit_is_told(rt: HostRuntime) {
     assert_eq!(rt; bit_write(&word, true, &mut into), Err(PayloadFault::NoBit));
 }
 
-/// The data that a station with N7:0 = 1234 and N7:1 = 5678 gives.
+/// Writes the data that a station with N7:0 = 1234 and N7:1 = 5678 answers to `out`, and returns the code.
 fn answer(alloc: Global, command: &[u8], out: &mut ArrayVec<u8, 244>) -> Result<Code, MakeFault> {
     let file = FileSpec {
         number: 7,

@@ -1,4 +1,4 @@
-//! Replies of known bytes, texts of codes, and values in data.
+//! Tests of replies of known bytes, texts of codes, and values in data.
 use logical_address::Param;
 use reply_values::{float_words, floats_in, read_reply, read_typed, status_text, words_in};
 use std::test::Fail;

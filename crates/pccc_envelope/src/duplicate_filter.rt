@@ -1,7 +1,7 @@
-//! The filter that passes over a repeat of the last accepted message.
+//! The duplicate filter, which detects a repeat of the last accepted message.
 //!
 //! A sender repeats a message whose acknowledgement was lost. So a message with the key of the last accepted one is a
-//! repeat and is not accepted again. The filter keeps one key; a message that was refused leaves it as it was.
+//! repeat and is not accepted again. The filter keeps one key; a message that was refused leaves it unchanged.
 ghost use Rattle.std.specs.Prelude.{◌≡◌, ◌↔◌, ◌++◌, ◌∷◌, [], List, Some, None, IsTrue};
 ghost use Rattle.std.specs.List.{fold};
 ghost use Rattle.pccc_envelope.specs.Accepted.{Offer, is_kept, judged, kept_after, last_key, accepted, with_offer};
@@ -27,14 +27,14 @@ impl Model for Filter {
 }
 
 impl Filter {
-    /// A filter that holds no key, so nothing is a repeat.
+    /// Returns a filter that holds no key, so nothing is a repeat.
     pub fn new() -> Filter
         ensures { result ≡ None }
     {
         Filter { kept: None }
     }
 
-    /// Whether a message with this key is a repeat: exactly where it is the key that was kept last.
+    /// Returns whether a message with this key is a repeat: exactly if it is the key that was kept last.
     pub fn is_repeat(&self, key: Key) -> bool
         ensures test { result ≡ is_kept self.now key }
         ensures last { IsTrue result ↔ (self.now ≡ Some key) }
@@ -51,7 +51,7 @@ impl Filter {
 }
 
 /// A law: a filter that keeps the key of each accepted message and no other holds the key of the last accepted one,
-/// whatever was heard. So what it says of the next message is what the list of all that was accepted says of it.
+/// whatever was received. So what it says of the next message is what the list of all that was accepted says of it.
 pub fn keeps_the_last_accepted()
     ensures key { (offers : List Offer) → fold kept_after None offers ≡ last_key (accepted offers) }
     ensures verdict { (offers : List Offer) (next : Offer) → judged (fold kept_after None offers) next ≡ judged (last_key (accepted offers)) next }

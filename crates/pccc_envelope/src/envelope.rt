@@ -30,7 +30,8 @@ pub struct Envelope {
     pub tns: u16,
 }
 
-/// The envelope of a body, or None exactly where the body has under 6 bytes. What follows the envelope is not looked at.
+/// Returns the envelope of a body, or None exactly if the body has under 6 bytes. What follows the envelope is not
+/// looked at.
 pub fn read_envelope(body: &[u8]) -> Option<Envelope>
     ensures none { IsNone result ↔ (length body.now < 6) }
     ensures fields { IfSome result (λ e. e ≡ envelope_of body.now) }
@@ -64,7 +65,8 @@ pub fn write_envelope(e: &Envelope, into: &mut ArrayVec<u8, 250>)
     into.push(high);
 }
 
-/// The envelope of the reply to a command: DST and SRC changed over, bit 6 of CMD set, the status `sts`, the same TNS.
+/// Returns the envelope of the reply to a command: DST and SRC swapped, bit 6 of CMD set, the status `sts`, the same
+/// TNS.
 pub fn reply_of(e: &Envelope, sts: u8) -> Envelope
     ensures form { result ≡ reply_form e.now sts }
     ensures is_reply { (rest : List ℕ) → is_reply (spelling result ++ rest) ≡ true }
@@ -78,7 +80,7 @@ pub fn reply_of(e: &Envelope, sts: u8) -> Envelope
     }
 }
 
-/// Whether a body of at least 6 bytes is a reply, which bit 6 of its CMD says.
+/// Returns whether a body of at least 6 bytes is a reply, which bit 6 of its CMD says.
 pub fn is_reply(body: &[u8]) -> bool
     requires { 6 ≤ length body.now }
     ensures { result ≡ is_reply body.now }

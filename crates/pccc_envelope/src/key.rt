@@ -1,10 +1,10 @@
-//! The key of a message, by which a repeat of it is known.
+//! The key of a message, by which a repeat of it is recognized.
 ghost use Rattle.std.specs.Prelude.{◌≡◌, ◌≤◌, length};
 ghost use Rattle.pccc_envelope.specs.Envelope.{key_of};
 
 use crate::envelope::{CMD, SRC, TNS};
 
-/// What tells a message from the others of its line: who sent it, its command and its transaction number
+/// What distinguishes a message from the others of its line: who sent it, its command and its transaction number
 /// (manual topic: full-duplex protocol, duplicate detection).
 #[derive(Clone, Copy, Debug, PartialEq, Eq)]
 pub struct Key {
@@ -16,7 +16,7 @@ pub struct Key {
     pub tns: u16,
 }
 
-/// The key of a body of at least 6 bytes.
+/// Returns the key of a body of at least 6 bytes.
 pub fn key_of(body: &[u8]) -> Key
     requires { 6 ≤ length body.now }
     ensures { result ≡ key_of body.now }

@@ -1,8 +1,8 @@
-//! The envelope at the front of every PCCC message body, the key that tells messages apart, and the filter that passes
-//! over repeats of the last accepted message.
+//! The envelope at the front of every PCCC message body, the key that distinguishes messages, and the filter that
+//! detects repeats of the last accepted message.
 //!
-//! A body begins with the six bytes `DST SRC CMD STS TNSlow TNShigh`. A reply carries its command's envelope with DST and
-//! SRC changed over, bit 6 of CMD set and the same TNS (manual topic: message packets).
+//! A body begins with the six bytes `DST SRC CMD STS TNSlow TNShigh`. A reply carries its command's envelope with DST
+//! and SRC swapped, bit 6 of CMD set and the same TNS (manual topic: message packets).
 #![tactic(auto)]
 
 pub mod duplicate_filter;

@@ -1,4 +1,4 @@
-//! Tests of plans: what a document says, the node that a plan makes, and what is told of its commands.
+//! Tests of plans: the contents of a document, the node that a plan makes, and the outcomes of its commands.
 #![tactic(auto)]
 
 #[cfg(test)]

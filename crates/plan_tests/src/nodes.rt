@@ -1,4 +1,4 @@
-//! A node by the plan of an end.
+//! A test of a node that is made by the plan of an end.
 
 use df1_base::FileType;
 use df1_node::FileSpec;

@@ -1,4 +1,4 @@
-//! Commands of a plan that ended in each way, and the text of their outcomes.
+//! Tests of commands of a plan that ended in each way, and the text of their outcomes.
 
 use arrayvec::ArrayVec;
 use df1_base::{BytesOut, Fate, Host};
@@ -8,7 +8,7 @@ use df1_service::write_outcomes;
 use outset::node_of;
 use std::test::Fail;
 
-/// What becomes of a command.
+/// The end of a command.
 #[derive(Clone, Copy)]
 enum End {
     Waiting,

@@ -1,10 +1,10 @@
-//! Plans: what they say, and the cause of each document that is none.
+//! Tests of plans: their contents, and the cause for each invalid document.
 use df1_base::FileType;
 use df1_check::Check;
 use df1_plan::{Plan, read_plan};
 use std::process::Abort;
 
-// The plan of a document.
+// Returns the plan of a document.
 fn plan(rt: &impl Abort, alloc: std::alloc::Global, text: &str) -> Plan {
     match read_plan(alloc, text.as_bytes()) {
         Ok(plan) => plan,
@@ -59,7 +59,7 @@ fn each_key_is_read(rt: HostRuntime) {
     assert!(rt; issue[2].src == Some(0) && issue[2].payload.as_slice() == [0x06, 0x00].as_slice());
 }
 
-// The cause that a document is refused for.
+// Returns the cause for which a document is refused.
 fn cause(rt: &impl Abort, alloc: std::alloc::Global, text: &[u8]) -> String {
     match read_plan(alloc, text) {
         Ok(_) => panic!(rt; "a plan"),

@@ -1,4 +1,4 @@
-//! Read-modify-writes: sets of bits of words, which are changed one after the other, all of them or none.
+//! Read-modify-writes: sets of bits of words, which are changed one after another, all of them or none.
 ghost use Rattle.std.specs.Prelude.{◌≡◌, [], None, IsTrue};
 ghost use Rattle.data_files.specs.Effect.{is_refusal, refusal};
 ghost use Rattle.plc_commands.specs.Order.{Change};
@@ -10,7 +10,8 @@ use crate::codes::NO_SUCH_PLACE;
 use data_files::{Place, Tables, locate};
 use df1_base::Code;
 
-/// Changes the words of the sets in their order, each on what the one before left, unless one of them is refused.
+/// Changes the words of the sets in order, each starting from the result of the one before, unless one of them is
+/// refused.
 pub(crate) fn change(tables: &mut Tables, sets: &[Set]) -> Code
     ensures code { result ≡ (meaning tables.old None [] (Change sets.now)).code }
     ensures tables { tables.new ≡ (meaning tables.old None [] (Change sets.now)).tables }
@@ -26,7 +27,7 @@ pub(crate) fn change(tables: &mut Tables, sets: &[Set]) -> Code
     Code::Done
 }
 
-/// The code of the first test of the sets that fails.
+/// Returns the code of the first test of the sets that fails.
 fn first_refusal(tables: &Tables, sets: &[Set]) -> Option<Code>
     ensures { result ≡ refusal (change_tests tables.now.specs sets.now) }
 {
@@ -39,7 +40,7 @@ fn first_refusal(tables: &Tables, sets: &[Set]) -> Option<Code>
     None
 }
 
-/// The code of the first test of a set that fails.
+/// Returns the code of the first test of a set that fails.
 fn set_refusal(tables: &Tables, set: &Set) -> Option<Code>
     ensures { result ≡ refusal (set_tests tables.now.specs set.now) }
 {
@@ -63,14 +64,14 @@ fn change_word(tables: &mut Tables, set: &Set)
     tables.set(set.at.file, index, changed_word(set, old));
 }
 
-/// The word after a set.
+/// Returns the word after a set.
 fn changed_word(set: &Set, old: u16) -> u16
     ensures { result ≡ changed_word set.now old }
 {
     (old & set.and) | set.or
 }
 
-/// The word of a set.
+/// Returns the place of the word of a set.
 fn set_place(set: &Set) -> Place
     ensures { result ≡ set_place set.now }
 {

@@ -1,4 +1,4 @@
-//! How orders are executed.
+//! Execution of orders.
 ghost use Rattle.std.specs.Prelude.{◌≡◌, ◌+◌, ◌*◌, ◌≤◌, [], length, true, IsTrue};
 ghost use Rattle.df1_base.specs.declared.code.Code.TheVariants.{Done};
 ghost use Rattle.data_files.specs.Effect.{is_refusal};
@@ -14,11 +14,11 @@ use arrayvec::ArrayVec;
 use data_files::{Tables, push_words};
 use df1_base::Code;
 
-/// Executes an order that `read_plc` gave, and replaces `out` by the data of the reply (manual topics: commands, status
-/// codes). `compat` is the number of the compatibility file, a file of bits or integers, if there is one; where it names
-/// no file of the tables no address is in it. `block` is the station's status, of at most 244 bytes.
+/// Executes an order that `read_plc` returned, and replaces `out` by the data of the reply (manual topics: commands,
+/// status codes). `compat` is the number of the compatibility file, a file of bits or integers, if there is one; if the
+/// tables have no file of that number, no address is in it. `block` is the station's status, of at most 244 bytes.
 ///
-/// The first test of its command that fails refuses an order, which then changes nothing and has no data:
+/// An order is refused by the first test of its command that fails; it then changes nothing and its reply has no data:
 ///
 /// | Command | Tests |
 /// |---|---|
@@ -96,7 +96,7 @@ pub fn do_plc(
     }
 }
 
-/// Answers with these bytes.
+/// Replies with these bytes.
 fn answer(bytes: &[u8], out: &mut ArrayVec<u8, 244>) -> Code
     requires none { out.old.items ≡ [] }
     requires size { length bytes.now ≤ 244 }
@@ -107,7 +107,7 @@ fn answer(bytes: &[u8], out: &mut ArrayVec<u8, 244>) -> Code
     Code::Done
 }
 
-/// Answers with elements after the parameter of their array, unless the order is refused.
+/// Replies with elements after the parameter of their array, unless the order is refused.
 fn read_elements(tables: &Tables, window: &Window, count: u16, out: &mut ArrayVec<u8, 244>) -> Code
     requires { out.old.items ≡ [] }
     ensures code { result ≡ (read_after tables.now (array_param tables.now.specs window.now.at count) (checked (typed_read_tests tables.now.specs window.now count) (element_span tables.now.specs window.now count))).code }

@@ -1,6 +1,6 @@
-//! The fields that follow CMD and FNC. A field is read at the front of the bytes, and answers what is left; a last field
-//! is all that is left. What can't be read is refused with STS 10, and an address with too few levels with F0/02 and one
-//! with too many with F0/03.
+//! The fields that follow CMD and FNC. A field is read at the front of the bytes, and the bytes after it are returned;
+//! a last field is all remaining bytes. An address with too few levels is refused with F0/02, one with too many with
+//! F0/03, and anything else that can't be read with STS 10.
 ghost use Rattle.std.specs.Prelude.{◌≡◌, ◌≤◌, length, Ok};
 ghost use Rattle.std.specs.Result.{result_map_both};
 ghost use Rattle.plc_commands.specs.Fields as field;
@@ -13,7 +13,7 @@ use logical_address::{LevelFault, Levels, Param, read_levels, read_param};
 /// The kind of an array.
 const ARRAY: u16 = 9;
 
-/// Two bytes, low first.
+/// Reads two bytes, low byte first.
 pub(crate) fn word(bytes: &[u8]) -> Result<(u16, &[u8]), Code>
     ensures { result_map_both (λ found. (found.0, found.1.now)) (λ code. code) result ≡ field.word bytes.now }
 {
@@ -23,7 +23,7 @@ pub(crate) fn word(bytes: &[u8]) -> Result<(u16, &[u8]), Code>
     }
 }
 
-/// A level address.
+/// Reads a level address.
 pub(crate) fn levels(bytes: &[u8]) -> Result<(Levels, &[u8]), Code>
     ensures { result_map_both (λ found. (found.0, found.1.now)) (λ code. code) result ≡ field.levels bytes.now }
 {
@@ -35,7 +35,7 @@ pub(crate) fn levels(bytes: &[u8]) -> Result<(Levels, &[u8]), Code>
     }
 }
 
-/// A parameter.
+/// Reads a parameter.
 fn param(bytes: &[u8]) -> Result<(Param, &[u8]), Code>
     ensures { result_map_both (λ found. (found.0, found.1.now)) (λ code. code) result ≡ field.param bytes.now }
 {
@@ -45,8 +45,8 @@ fn param(bytes: &[u8]) -> Result<(Param, &[u8]), Code>
     }
 }
 
-/// The parameter of an element, by itself or after that of an array whose size is that of all that follows it, and
-/// whether it is of an array.
+/// Reads the parameter of an element, alone or after that of an array whose size is that of all that follows it. Also
+/// returns whether it is of an array.
 pub(crate) fn parameter(bytes: &[u8]) -> Result<((Param, bool), &[u8]), Code>
     ensures { result_map_both (λ found. (found.0, found.1.now)) (λ code. code) result ≡ field.parameter bytes.now }
 {
@@ -61,14 +61,14 @@ pub(crate) fn parameter(bytes: &[u8]) -> Result<((Param, bool), &[u8]), Code>
     Ok(((element, true), data))
 }
 
-/// All bytes that are left.
+/// Reads all remaining bytes.
 pub(crate) fn all(bytes: &[u8]) -> Result<&[u8], Code>
     ensures { result_map_both (λ found. found.now) (λ code. code) result ≡ Ok bytes.now }
 {
     Ok(bytes)
 }
 
-/// No byte.
+/// Checks that no byte remains.
 pub(crate) fn nothing(bytes: &[u8]) -> Result<(), Code>
     ensures { result ≡ field.nothing bytes.now }
 {
@@ -78,7 +78,7 @@ pub(crate) fn nothing(bytes: &[u8]) -> Result<(), Code>
     }
 }
 
-/// One byte.
+/// Reads one last byte.
 pub(crate) fn last_byte(bytes: &[u8]) -> Result<u8, Code>
     ensures { result ≡ field.last_byte bytes.now }
 {
@@ -88,7 +88,7 @@ pub(crate) fn last_byte(bytes: &[u8]) -> Result<u8, Code>
     }
 }
 
-/// Two bytes, low first.
+/// Reads two last bytes, low byte first.
 pub(crate) fn last_word(bytes: &[u8]) -> Result<u16, Code>
     ensures { result ≡ field.last_word bytes.now }
 {
@@ -98,7 +98,7 @@ pub(crate) fn last_word(bytes: &[u8]) -> Result<u16, Code>
     }
 }
 
-/// Whole words, and at least one.
+/// Reads whole words, at least one.
 pub(crate) fn words(bytes: &[u8]) -> Result<&[u8], Code>
     ensures { result_map_both (λ found. found.now) (λ code. code) result ≡ field.words bytes.now }
 {
@@ -108,7 +108,7 @@ pub(crate) fn words(bytes: &[u8]) -> Result<&[u8], Code>
     Ok(bytes)
 }
 
-/// A set of a read-modify-write.
+/// Reads a set of a read-modify-write.
 #[tactic(auto, unfolding(crate::specs::Fields::set))]
 fn set(bytes: &[u8]) -> Result<(Set, &[u8]), Code>
     ensures { result_map_both (λ found. (found.0, found.1.now)) (λ code. code) result ≡ field.set bytes.now }
@@ -119,7 +119,7 @@ fn set(bytes: &[u8]) -> Result<(Set, &[u8]), Code>
     Ok((Set { at, and, or }, rest))
 }
 
-/// Sets, and at least one.
+/// Reads sets, at least one.
 pub(crate) fn sets(bytes: &[u8]) -> Result<Sets, Code>
     requires { length bytes.now ≤ 244 }
     ensures { result ≡ field.sets bytes.now }

@@ -6,12 +6,12 @@ ghost use Rattle.plc_commands.specs.Spelling.{SpellsOrder};
 ghost use Rattle.plc_commands.specs.Reading.{order_of};
 ghost use Rattle.plc_commands.specs.Meaning.{changed_word};
 
-/// A command spells one order at most.
+/// A command encodes at most one order.
 pub fn one_order()
     ensures { (order other : Order) (cmd : ℕ) (payload : List ℕ) → SpellsOrder order cmd payload → SpellsOrder other cmd payload → order ≡ other }
 {}
 
-/// What is spelled as an order is read as it, and what is read as an order is spelled so.
+/// An encoded order is read as that order, and an order that is read is encoded so.
 pub fn spelled_orders_are_read()
     ensures read { (order : Order) (cmd : ℕ) (payload : List ℕ) → SpellsOrder order cmd payload → order_of cmd payload ≡ Ok order }
     ensures spelled { (order : Order) (cmd : ℕ) (payload : List ℕ) → ((i : ℕ) → slice_index payload i < 256) → order_of cmd payload ≡ Ok order → SpellsOrder order cmd payload }

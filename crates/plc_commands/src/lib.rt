@@ -12,8 +12,8 @@
 //! | 0F | 67 | typed write | offset, total, level address, parameter, data |
 //! | 0F | 68 | typed read | offset, total, level address, size of 2 bytes in elements |
 //!
-//! Numbers of 2 bytes are low first. Offset and total count words in the word range commands and elements in the typed
-//! ones.
+//! Numbers of 2 bytes are sent low byte first. Offset and total count words in the word range commands, and elements in
+//! the typed ones.
 #![tactic(auto)]
 
 mod change;

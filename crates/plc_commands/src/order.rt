@@ -9,7 +9,7 @@ use logical_address::{Levels, Param};
 pub struct Set {
     /// Where the word is.
     pub at: Levels,
-    /// The mask of the bits that stay.
+    /// The mask of the bits that are kept.
     pub and: u16,
     /// The mask of the bits that are set.
     pub or: u16,
@@ -32,55 +32,55 @@ impl Default for Set {
 /// An order of one of the commands.
 #[derive(Debug, Drop)]
 pub enum PlcOrder<'a> {
-    /// Gives these bytes back.
+    /// Returns these bytes.
     Echo(&'a [u8]),
     /// Reads the station's status.
     Status,
     /// Reads bytes of the compatibility file.
     Peek {
-        /// The first byte; word w is bytes 2w and 2w + 1.
+        /// The address of the first byte; word w is bytes 2w and 2w + 1.
         address: u16,
-        /// How many bytes.
+        /// The number of bytes.
         size: u8,
     },
     /// Writes words of the compatibility file.
     Poke {
-        /// The first byte.
+        /// The address of the first byte.
         address: u16,
         /// The words, each low byte first.
         bytes: &'a [u8],
     },
     /// Writes a part of a range of words.
     RangeWrite {
-        /// How many words of the range stand before the part.
+        /// The number of words of the range before the part.
         offset: u16,
-        /// How many words the range has.
+        /// The number of words of the range.
         total: u16,
-        /// Where the range begins.
+        /// The start of the range.
         at: Levels,
         /// The words, each low byte first.
         bytes: &'a [u8],
     },
     /// Reads a part of a range of words.
     RangeRead {
-        /// How many words of the range stand before the part.
+        /// The number of words of the range before the part.
         offset: u16,
-        /// How many words the range has.
+        /// The number of words of the range.
         total: u16,
-        /// Where the range begins.
+        /// The start of the range.
         at: Levels,
-        /// How many bytes are read.
+        /// The number of bytes to read.
         size: u8,
     },
-    /// Changes bits of words, one after the other, all of them or none.
+    /// Changes bits of words, one after another, all of them or none.
     Change(Sets),
     /// Writes a part of a range of elements.
     TypedWrite {
-        /// How many elements of the range stand before the part.
+        /// The number of elements of the range before the part.
         offset: u16,
-        /// How many elements the range has.
+        /// The number of elements of the range.
         total: u16,
-        /// Where the range begins.
+        /// The start of the range.
         at: Levels,
         /// The parameter of an element.
         element: Param,
@@ -91,13 +91,13 @@ pub enum PlcOrder<'a> {
     },
     /// Reads a part of a range of elements.
     TypedRead {
-        /// How many elements of the range stand before the part.
+        /// The number of elements of the range before the part.
         offset: u16,
-        /// How many elements the range has.
+        /// The number of elements of the range.
         total: u16,
-        /// Where the range begins.
+        /// The start of the range.
         at: Levels,
-        /// How many elements are read.
+        /// The number of elements to read.
         count: u16,
     },
 }
@@ -105,10 +105,10 @@ pub enum PlcOrder<'a> {
 /// A part of a range of words or elements.
 #[derive(Clone, Copy)]
 pub(crate) struct Window {
-    /// How much of the range stands before the part.
+    /// The size of the range before the part.
     pub offset: u16,
-    /// How much the range has.
+    /// The size of the range.
     pub total: u16,
-    /// Where the range begins.
+    /// The start of the range.
     pub at: Levels,
 }

@@ -11,7 +11,7 @@ use crate::span::Span;
 use data_files::{Place, Tables, locate};
 use df1_base::{Code, MAX_DATA};
 
-/// The words of a read of `size` bytes, or the code of the first test that fails.
+/// Returns the words of a read of `size` bytes, or the code of the first test that fails.
 pub(crate) fn read_span(tables: &Tables, window: &Window, size: u8) -> Result<Span, Code>
     ensures found { result ≡ checked (range_read_tests tables.now.specs window.now size) (range_span tables.now.specs window.now (size / 2) false) }
     ensures there { IfOk result (λ span. has_words tables.now.specs span.file span.first span.count ≡ true) }
@@ -26,7 +26,7 @@ pub(crate) fn read_span(tables: &Tables, window: &Window, size: u8) -> Result<Sp
     range_span(tables, window, u16::from(size / 2), false)
 }
 
-/// The words of a write of these bytes, or the code of the first test that fails.
+/// Returns the words of a write of these bytes, or the code of the first test that fails.
 pub(crate) fn write_span(tables: &Tables, window: &Window, bytes: &[u8]) -> Result<Span, Code>
     requires words { IsWords bytes.now }
     requires size { length bytes.now ≤ 244 }
@@ -37,7 +37,7 @@ pub(crate) fn write_span(tables: &Tables, window: &Window, bytes: &[u8]) -> Resu
     range_span(tables, window, (bytes.len() / 2) as u16, true)
 }
 
-/// So many words of a range, or the code of the first test that fails.
+/// Returns `count` words of a range, or the code of the first test that fails.
 fn range_span(tables: &Tables, window: &Window, count: u16, writes: bool) -> Result<Span, Code>
     ensures found { result ≡ checked (range_tests tables.now.specs window.now count writes) (range_span tables.now.specs window.now count writes) }
     ensures there { IfOk result (λ span. has_words tables.now.specs span.file span.first span.count ≡ true) }

@@ -1,4 +1,4 @@
-//! How orders are read.
+//! Reading of orders.
 ghost use Rattle.std.specs.Prelude.{◌≡◌, ◌≤◌, length, true, IfOk, IfErr, Ok};
 ghost use Rattle.std.specs.Result.{result_map_both};
 ghost use Rattle.plc_commands.specs.Order.{IsOrder, Order, seen};
@@ -10,8 +10,8 @@ use crate::codes::ILLEGAL;
 use crate::fields::{all, last_byte, last_word, levels, nothing, parameter, sets, word, words};
 use df1_base::Code;
 
-/// Layouts of commands, one a row: what a command begins with, its order, its fields in their order, and its last field,
-/// which is all that is left.
+/// Layouts of commands, one per row: the first bytes of a command, its order, its fields in order, and its last field,
+/// which is all remaining bytes.
 macro_rules! layouts {
     (
         $command:expr, $left:ident;
@@ -28,10 +28,10 @@ macro_rules! layouts {
     };
 }
 
-/// Reads the order of a command, whose payload is what follows TNS and has at most 244 bytes (manual topic: commands).
+/// Reads the order of a command, whose payload is the bytes after TNS, at most 244 (manual topic: commands).
 ///
-/// The first field that can't be read refuses the order, an address with too few levels with F0/02, one with too many
-/// with F0/03, and all else with STS 10, another CMD or FNC or a missing FNC among it.
+/// The order is refused by the first field that can't be read: an address with too few levels with F0/02, one with too
+/// many with F0/03, and everything else, including another CMD or FNC or a missing FNC, with STS 10.
 pub fn read_plc(cmd: u8, payload: &[u8]) -> Result<PlcOrder<'_>, Code>
     requires { length payload.now ≤ 244 }
     ensures reads { result_map_both seen (λ code. code) result ≡ order_of cmd payload.now }
@@ -43,7 +43,7 @@ pub fn read_plc(cmd: u8, payload: &[u8]) -> Result<PlcOrder<'_>, Code>
     read_by_layout(cmd, payload)
 }
 
-/// The order of a command, by the layout that the command begins with.
+/// Returns the order of a command, by the layout that matches its first bytes.
 #[tactic(auto, unfolding(crate::specs::Reading::unprotected_read, crate::specs::Reading::unprotected_write, crate::specs::Reading::range_write, crate::specs::Reading::range_read, crate::specs::Reading::change, crate::specs::Reading::typed_write, crate::specs::Reading::typed_read))]
 fn read_by_layout(cmd: u8, payload: &[u8]) -> Result<PlcOrder<'_>, Code>
     requires { length payload.now ≤ 244 }

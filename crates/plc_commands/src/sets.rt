@@ -5,7 +5,7 @@ use crate::Set;
 use arrayvec::ArrayVec;
 use std::marker::Model;
 
-/// Up to 34 sets in their order, which are as many as a message has room for.
+/// Up to 34 sets in order, as many as fit in a message.
 #[derive(Debug, Drop)]
 pub struct Sets {
     items: ArrayVec<Set, 34>,
@@ -26,7 +26,7 @@ impl Model for Sets {
 }
 
 impl Sets {
-    /// No sets.
+    /// Creates an empty list of sets.
     pub(crate) fn new() -> Sets
         ensures { result ≡ [] }
     {
@@ -35,7 +35,7 @@ impl Sets {
         }
     }
 
-    /// The sets in their order.
+    /// Returns the sets in order.
     pub fn as_slice(&self) -> &[Set]
         ensures { result.now ≡ self.now }
     {

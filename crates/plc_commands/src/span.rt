@@ -9,18 +9,18 @@ use arrayvec::ArrayVec;
 use data_files::{Tables, push_words, words_of};
 use df1_base::Code;
 
-/// So many words of a file, from an index on.
+/// `count` words of a file, starting at an index.
 #[derive(Clone, Copy)]
 pub(crate) struct Span {
     /// The number of the file.
     pub file: u16,
     /// The index of the first word.
     pub first: u32,
-    /// How many words.
+    /// The number of words.
     pub count: u32,
 }
 
-/// Writes the words at the end of `out`, unless the order is refused.
+/// Appends the words to `out`, unless the order is refused.
 pub(crate) fn read_words(
     tables: &Tables,
     span: Result<Span, Code>,
@@ -42,7 +42,7 @@ pub(crate) fn read_words(
     }
 }
 
-/// The words.
+/// Returns the words.
 pub(crate) fn words_in(tables: &Tables, span: Span) -> &[u16]
     requires { has_words tables.now.specs span.file span.first span.count ≡ true }
     ensures words { result.now ≡ words_at tables.now span.file span.first span.count }
@@ -51,7 +51,7 @@ pub(crate) fn words_in(tables: &Tables, span: Span) -> &[u16]
     tables.range(span.file, span.first, span.count).unwrap()
 }
 
-/// Replaces the words by those of data, unless the order is refused.
+/// Replaces the words by those of `bytes`, unless the order is refused.
 pub(crate) fn write_words(tables: &mut Tables, span: Result<Span, Code>, bytes: &[u8]) -> Code
     requires there { IfOk span (λ s. has_words tables.old.specs s.file s.first s.count ≡ true) }
     requires all { IfOk span (λ s. length bytes.now ≡ 2 * s.count) }

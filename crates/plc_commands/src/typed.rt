@@ -18,7 +18,7 @@ use data_files::{FileSpec, Tables};
 use df1_base::{Code, FileType, MAX_DATA};
 use logical_address::{Param, element_param, write_array};
 
-/// The words of a write of these bytes, or the code of the first test that fails.
+/// Returns the words of a write of these bytes, or the code of the first test that fails.
 pub(crate) fn write_span(
     tables: &Tables,
     window: &Window,
@@ -56,7 +56,8 @@ pub(crate) fn write_span(
     Ok(element_span(window, count, &spec))
 }
 
-/// The parameter of the array of a read of `count` elements beside its words, or the code of the first test that fails.
+/// Returns the parameter of the array of a read of `count` elements, and its words, or the code of the first test that
+/// fails.
 pub(crate) fn read_span(
     tables: &Tables,
     window: &Window,
@@ -91,7 +92,7 @@ pub(crate) fn read_span(
     Ok((array, element_span(window, count, &spec)))
 }
 
-/// Whether the parameter is that of an element of a file of this type.
+/// Returns whether the parameter is that of an element of a file of this type.
 fn is_param(param: Param, kind: FileType) -> bool
     ensures is { result ≡ is_param param (element_param kind) }
     ensures size { result ≡ true → param.size ≡ 2 * words_per_element kind }
@@ -103,7 +104,7 @@ fn is_param(param: Param, kind: FileType) -> bool
     }
 }
 
-/// Whether data is of whole elements, at least one, and without an array one.
+/// Returns whether data is whole elements, at least one, and exactly one if it isn't an array.
 fn is_elements(element: Param, array: bool, bytes: &[u8]) -> bool
     requires { 0 < element.size }
     ensures { result ≡ is_elements element array bytes.now }
@@ -112,7 +113,7 @@ fn is_elements(element: Param, array: bool, bytes: &[u8]) -> bool
     !bytes.is_empty() && bytes.len() % size == 0 && (array || bytes.len() == size)
 }
 
-/// Whether so many elements of a range are within it, and in the file.
+/// Returns whether `count` elements of a range are within it and in the file.
 fn has_elements(window: &Window, count: u16, spec: &FileSpec) -> bool
     ensures { result ≡ has_elements window.now count spec.now }
 {
@@ -121,7 +122,7 @@ fn has_elements(window: &Window, count: u16, spec: &FileSpec) -> bool
     end <= u32::from(window.total) && last <= u32::from(spec.count)
 }
 
-/// The words of so many elements of a range.
+/// Returns the words of `count` elements of a range.
 fn element_span(window: &Window, count: u16, spec: &FileSpec) -> Span
     requires { count ≤ 65535 }
     ensures file { result.file ≡ window.now.at.file }
@@ -136,7 +137,8 @@ fn element_span(window: &Window, count: u16, spec: &FileSpec) -> Span
     }
 }
 
-/// The parameter of an array of so many elements of a file, and None exactly where it and their words are over 244 bytes.
+/// Returns the parameter of an array of `count` elements of a file, and None exactly if it and their words exceed 244
+/// bytes.
 fn array_param(spec: &FileSpec, count: u16) -> Option<ArrayVec<u8, 16>>
     requires { is_some (element_param spec.now.kind) ≡ true }
     ensures fits { is_some result ≡ nat_le (array_len spec.now.kind count) 244 }

@@ -1,4 +1,4 @@
-//! Unprotected reads and writes, which count the words of the compatibility file by bytes: word w is bytes 2w and 2w + 1.
+//! Unprotected reads and writes, which address the compatibility file by bytes: word w is bytes 2w and 2w + 1.
 ghost use Rattle.std.specs.Prelude.{◌≡◌, ◌*◌, ◌/◌, ◌≤◌, length, true, IfOk};
 ghost use Rattle.data_files.specs.Tables.{has_words};
 ghost use Rattle.plc_commands.specs.Order.{IsWords};
@@ -10,7 +10,7 @@ use crate::span::Span;
 use data_files::{FileSpec, Tables};
 use df1_base::{Code, MAX_DATA};
 
-/// The words of a read of `size` bytes, or the code of the first test that fails.
+/// Returns the words of a read of `size` bytes, or the code of the first test that fails.
 pub(crate) fn read_span(
     tables: &Tables,
     compat: Option<u16>,
@@ -34,7 +34,7 @@ pub(crate) fn read_span(
     }
 }
 
-/// The words of a write of these bytes, or the code of the first test that fails.
+/// Returns the words of a write of these bytes, or the code of the first test that fails.
 pub(crate) fn write_span(
     tables: &Tables,
     compat: Option<u16>,
@@ -58,7 +58,7 @@ pub(crate) fn write_span(
     }
 }
 
-/// Whether the address is that of a word, and so many bytes from it on are in the file.
+/// Returns whether the address is that of a word, and `size` bytes from it on are in the file.
 fn has_bytes(spec: &FileSpec, address: u16, size: usize) -> bool
     requires { size ≤ 244 }
     ensures { result ≡ has_bytes address size spec.now }
@@ -66,7 +66,7 @@ fn has_bytes(spec: &FileSpec, address: u16, size: usize) -> bool
     address % 2 == 0 && usize::from(address) + size <= 2 * spec.words() as usize
 }
 
-/// The words of so many bytes of a file.
+/// Returns the words of `size` bytes of a file.
 fn byte_span(file: u16, address: u16, size: usize) -> Span
     requires { size ≤ 244 }
     ensures { (result.file ≡ file) × (result.first ≡ address / 2) × (result.count ≡ size / 2) }

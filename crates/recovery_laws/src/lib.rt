@@ -1,5 +1,5 @@
-//! Damage from which a full-duplex line recovers: playing a script of which it does, and a script that is made from two numbers, in
-//! which bytes of bodies are altered.
+//! Damage from which a full-duplex line recovers: playing a script with such damage, and a script made from two
+//! numbers, in which bytes of bodies are altered.
 #![tactic(auto)]
 
 mod replaying;

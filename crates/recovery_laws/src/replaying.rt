@@ -13,11 +13,16 @@ use replay_report::Record;
 use script_parts::Script;
 use std::alloc::Global;
 
-/// Plays a script that can be read, and answers the record of its run, with all that `replay` says of it. Where a full-duplex line
-/// recovers from what the script does to the bytes, all commands were executed, each once, and answered, each by its own reply:
-/// no end was deceived; no byte was lost or added, and one-byte units of bodies alone were altered, none to a DLE, in at most
-/// `max_naks` transmissions of each message; few ticks came while something was under way; each end has room for as many replies
-/// as the other may have commands out; and nothing is under way in the end.
+/// Plays a script that can be read, and returns the record of its run, with all that `replay` says of it. If a
+/// full-duplex line recovers from what the script does to the bytes, all commands were executed, each once, and
+/// answered, each by its own reply. The line recovers if:
+///
+/// - no end was deceived;
+/// - no byte was lost or added, and only one-byte units of bodies were altered, none to a DLE, in at most `max_naks`
+///   transmissions of each message;
+/// - few ticks came while something was under way;
+/// - each end has room for as many replies as the other may have commands outstanding;
+/// - nothing is under way in the end.
 pub fn replay_recovering(alloc: Global, script: &Script) -> Result<Record, NoMemory>
     requires { CanBePlayed script.now }
     ensures record { IfOk result (λ r. r ≡ record_of script.now) }

@@ -1,5 +1,5 @@
-//! The storm's script: end a writes a word of end b's file in each round, and up to three of its sendings are hit, in one of
-//! the first four bytes of the body, before one arrives whole.
+//! The storm's script: end a writes a word of end b's file in each round, and up to three of its transmissions are hit,
+//! in one of the first four bytes of the body, before one arrives whole.
 ghost use Rattle.std.specs.Prelude.{◌≡◌, ◌≤◌, ◌<◌, ◌^◌, ◌++◌, ℕ, IfOk, OnOk};
 ghost use Rattle.script_parts.specs.HalfPlayable.{CanBePlayed};
 ghost use Rattle.recovery_laws.specs.Storm.{hit_of, hits_of, round_of, storm_script};
@@ -11,7 +11,8 @@ use round_scripts::{
 use script_parts::{Events, Script, Who};
 use std::alloc::Global;
 
-/// The storm's script of `count` rounds, at most 20,000, whose hits and words begin at `seed`. It can be played.
+/// Returns the storm's script of `count` rounds, at most 20,000, whose hits and words begin at `seed`. It can be
+/// played.
 pub fn storm(alloc: Global, seed: u32, count: u32) -> Result<Script, NoMemory>
     requires { count ≤ MOST_ROUNDS }
     ensures script { IfOk result (λ script. script ≡ storm_script seed count) }
@@ -24,7 +25,7 @@ pub fn storm(alloc: Global, seed: u32, count: u32) -> Result<Script, NoMemory>
     Ok(script)
 }
 
-/// Puts the events of a round, counted from 1, behind those of the rounds before it.
+/// Appends the events of a round, counted from 1, to those of the rounds before it.
 fn put_round(alloc: Global, events: &mut Events, seed: u32, round: u32) -> Result<(), NoMemory>
     ensures { OnOk result (events.new ≡ events.old ++ round_of seed round) }
 {
@@ -33,7 +34,7 @@ fn put_round(alloc: Global, events: &mut Events, seed: u32, round: u32) -> Resul
     put_course(alloc, events, &UNDISTURBED)
 }
 
-/// Puts the hits of a round: as many as its turn leaves of a division by 4.
+/// Appends the hits of a round: as many as its turn leaves on division by 4.
 fn put_hits(alloc: Global, events: &mut Events, turn: u64) -> Result<(), NoMemory>
     requires { turn < 2 ^ 33 }
     ensures { OnOk result (events.new ≡ events.old ++ hits_of turn) }
@@ -44,7 +45,8 @@ fn put_hits(alloc: Global, events: &mut Events, turn: u64) -> Result<(), NoMemor
     Ok(())
 }
 
-/// Puts a sending of a round's command that is hit, and its NAK: the byte that is altered is one of DST, SRC, CMD and STS.
+/// Appends a transmission of a round's command that is hit, and its NAK: the altered byte is one of DST, SRC, CMD and
+/// STS.
 fn put_hit(alloc: Global, events: &mut Events, turn: u64, hit: u64) -> Result<(), NoMemory>
     requires turn { turn < 2 ^ 33 }
     requires hit { hit < 5 }

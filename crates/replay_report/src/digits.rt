@@ -11,10 +11,10 @@ use df1_base::{Failed, Sink, write_all};
 /// The digits, by their values.
 static DIGITS: [u8; 16] = *b"0123456789ABCDEF";
 
-/// How many bytes are written at once, each as two digits.
+/// The number of bytes written at once, each as two digits.
 const PIECE: usize = 32;
 
-/// Writes bytes as two digits each.
+/// Writes each byte as two digits.
 pub(crate) fn put_hex<K: Sink>(sink: &mut K, bytes: &[u8]) -> Result<(), Failed>
     ensures ok { OnOk result (Put (K.held sink.old) (K.held sink.new) (encode_upper bytes.now)) }
     ensures missing { OnErr result (WroteLess (K.held sink.old) (K.held sink.new) (encode_upper bytes.now)) }
@@ -31,7 +31,7 @@ pub(crate) fn put_hex<K: Sink>(sink: &mut K, bytes: &[u8]) -> Result<(), Failed>
     Ok(())
 }
 
-/// The digits of a piece.
+/// Returns the digits of a piece.
 fn pairs(bytes: &[u8]) -> Short
     requires { length bytes.now ≤ PIECE }
     ensures { result.items ≡ encode_upper bytes.now }
@@ -41,7 +41,7 @@ fn pairs(bytes: &[u8]) -> Short
     digits
 }
 
-/// Adds the digits of bytes to a text that has room for them.
+/// Appends the digits of bytes to a text that has room for them.
 pub(crate) fn append_pairs(line: &mut Short, bytes: &[u8])
     requires { array_vec_len line.old + 2 * length bytes.now ≤ ROOM }
     ensures text { line.new.items ≡ line.old.items ++ encode_upper bytes.now }
@@ -54,7 +54,7 @@ pub(crate) fn append_pairs(line: &mut Short, bytes: &[u8])
     }
 }
 
-/// The two hexadecimal digits of a byte, high digit first, letters in upper case.
+/// Returns the two hexadecimal digits of a byte, high digit first, letters in upper case.
 pub fn pair(byte: u8) -> [u8; 2]
     ensures { result ≡ encode_upper (byte ∷ []) }
 {

@@ -1,5 +1,5 @@
-//! The report of a replay: what the ends of the line sent, executed and were told, event by event, the words that
-//! their data files hold in the end, and how often an end was deceived; and its text.
+//! The report of a replay and its text: what the ends of the line sent, executed and had reported to them, event by
+//! event, the final words of their data files that aren't 0, and how often an end was deceived.
 #![tactic(auto)]
 
 mod digits;

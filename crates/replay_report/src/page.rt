@@ -1,4 +1,4 @@
-//! The lines of a report that stand until they are written, in memory that serves again.
+//! The lines of a report that wait to be written, in memory that is reused.
 
 ghost use Rattle.std.specs.Prelude.{◌≡◌, ◌++◌, ◌∷◌, [], OnOk, OnErr};
 
@@ -8,8 +8,8 @@ use script_statement::{Bytes, Items, Who};
 use std::alloc::Global;
 use std::marker::Model;
 
-/// The lines that stand. The memory of the bytes of those that were dropped serves for the next ones; contracts see the lines
-/// alone.
+/// The lines that wait to be written. The memory of the bytes of dropped lines serves for the next ones; contracts see
+/// only the lines.
 #[derive(Drop)]
 pub struct Page {
     lines: Vec<Line>,
@@ -28,7 +28,7 @@ impl Model for Page {
 impl Page {
     ghost use Rattle.replay_report.specs.Report.{sent_lines};
 
-    /// No lines.
+    /// Returns an empty page.
     pub fn new(alloc: Global) -> Page
         ensures { result ≡ [] }
     {
@@ -38,7 +38,7 @@ impl Page {
         }
     }
 
-    /// Puts a line behind the others. Where there is no memory for it, the lines are unchanged.
+    /// Appends a line. Without memory for it, the lines are unchanged.
     pub fn push(&mut self, line: Line) -> Result<(), NoMemory>
         ensures ok { OnOk result (self.new ≡ self.old ++ line ∷ []) }
         ensures err { OnErr result (self.new ≡ self.old) }
@@ -49,8 +49,8 @@ impl Page {
         }
     }
 
-    /// Puts the line of the bytes that an end gave behind the others, where there are any. Where there is no memory for it,
-    /// the lines are unchanged.
+    /// Appends the line of the bytes that an end sent, if there are any. Without memory for it, the lines are
+    /// unchanged.
     pub fn push_sent(&mut self, who: Who, bytes: Bytes) -> Result<(), NoMemory>
         ensures ok { OnOk result (self.new ≡ self.old ++ sent_lines who bytes) }
         ensures err { OnErr result (self.new ≡ self.old) }
@@ -62,7 +62,7 @@ impl Page {
         self.push(Line::Sent { who, bytes })
     }
 
-    /// No bytes, for a line: in memory of one that was dropped, if there is any.
+    /// Returns no bytes, for a line: in memory of a dropped line, if there is any.
     pub fn no_bytes(&mut self, alloc: Global) -> Bytes
         ensures none { result ≡ [] }
         ensures lines { self.new ≡ self.old }
@@ -76,7 +76,7 @@ impl Page {
         }
     }
 
-    /// Keeps the memory of bytes that no line needs any more, if there is room to keep it.
+    /// Keeps the memory of bytes that no line needs any more, if there is room for it.
     pub fn keep(&mut self, bytes: Bytes)
         ensures { self.new ≡ self.old }
     {
@@ -106,14 +106,14 @@ impl Page {
         }
     }
 
-    /// The lines, the first one first.
+    /// Returns the lines, the first one first.
     pub fn as_slice(&self) -> &[Line]
         ensures { result.now ≡ self.now }
     {
         &self.lines
     }
 
-    /// The lines as a list.
+    /// Returns the lines as a list.
     pub fn into_lines(self) -> Lines
         ensures { result ≡ self }
     {

@@ -1,16 +1,16 @@
-//! The text of a report, which goes to a sink piece by piece: no line is collected. Where a call of the sink costs much, a
-//! buffer belongs in front of it.
+//! The text of a report, which goes to a sink piece by piece: no line is collected. If a call of the sink is expensive,
+//! put a buffer in front of it.
 //!
 //! | Line | When |
 //! |---|---|
-//! | `WHO sent HEX` | an end gave at least one byte at an event: all of them |
+//! | `WHO sent HEX` | an end sent at least one byte at an event: all of them |
 //! | `WHO exec HEX` | a command was executed: its body |
 //! | `WHO answered N HEX` | the reply to command N was accepted: the reply's body |
 //! | `WHO undelivered N`, `WHO unanswered N` | these outcomes of command N |
 //! | `WHO stray HEX` | an accepted reply that answers no command |
 //! | `WHO routed HEX` | an accepted message that the master carries to a station: its body |
-//! | `WHO repeat`, `WHO full`, `WHO damaged` | a message came again, found no room, was damaged |
-//! | `WHO enquiry` | the sender asked for an ENQ |
+//! | `WHO repeat`, `WHO full`, `WHO damaged` | a message came again, found no buffer space, was damaged |
+//! | `WHO enquiry` | the sender requested an ENQ |
 //! | `WHO dropped` | a reply was given up |
 //! | `WHO word NUM INDEX HHHH` | a word that isn't 0 in the end |
 //! | `deceived N` | the last line |
@@ -31,8 +31,8 @@ use df1_base::{Failed, Sink, write_all};
 use script_parts::WordOf;
 use script_statement::Who;
 
-/// Writes the report of a record: its lines, its words and its count of deceptions. `Failed` comes where the sink
-/// failed; then it holds a first part of the text, and not all.
+/// Writes the report of a record: its lines, its words and its count of deceptions. Returns `Failed` if the sink
+/// failed; then the sink holds only a first part of the text.
 pub fn print<K: Sink>(record_of: &Record, sink: &mut K) -> Result<(), Failed>
     ensures ok { OnOk result (Put (K.held sink.old) (K.held sink.new) (report record_of.now)) }
     ensures missing { OnErr result (WroteLess (K.held sink.old) (K.held sink.new) (report record_of.now)) }
@@ -45,8 +45,8 @@ pub fn print<K: Sink>(record_of: &Record, sink: &mut K) -> Result<(), Failed>
     write_all(sink, &deceived_line(record_of.deceived))
 }
 
-/// Writes the text of lines of a report, where there are any. `Failed` comes where the sink failed; then it holds a first part of
-/// the text, and not all.
+/// Writes the text of lines of a report, if there are any. Returns `Failed` if the sink failed; then the sink holds
+/// only a first part of the text.
 pub fn print_lines<K: Sink>(lines: &[Line], sink: &mut K) -> Result<(), Failed>
     ensures ok { OnOk result (Put (K.held sink.old) (K.held sink.new) (flat_map line_text lines.now)) }
     ensures missing { OnErr result (WroteLess (K.held sink.old) (K.held sink.new) (flat_map line_text lines.now)) }
@@ -61,7 +61,7 @@ pub fn print_lines<K: Sink>(lines: &[Line], sink: &mut K) -> Result<(), Failed>
     Ok(())
 }
 
-/// Writes one line of a report. `Failed` comes where the sink failed; then it holds a first part of the line, and not all.
+/// Writes one line of a report. Returns `Failed` if the sink failed; then the sink holds only a first part of the line.
 pub fn put_line<K: Sink>(sink: &mut K, line: &Line) -> Result<(), Failed>
     ensures ok { OnOk result (Put (K.held sink.old) (K.held sink.new) (line_text line.now)) }
     ensures missing { OnErr result (WroteLess (K.held sink.old) (K.held sink.new) (line_text line.now)) }
@@ -85,8 +85,8 @@ pub fn put_line<K: Sink>(sink: &mut K, line: &Line) -> Result<(), Failed>
     }
 }
 
-/// Writes the line of bytes that an end gave at one event. `Failed` comes where the sink failed; then it holds a first part of the
-/// line, and not all.
+/// Writes the line of bytes that an end sent at one event. Returns `Failed` if the sink failed; then the sink holds
+/// only a first part of the line.
 pub fn put_sent<K: Sink>(sink: &mut K, who: Who, bytes: &[u8]) -> Result<(), Failed>
     ensures ok { OnOk result (Put (K.held sink.old) (K.held sink.new) (line_text (Line.Sent who bytes.now))) }
     ensures missing { OnErr result (WroteLess (K.held sink.old) (K.held sink.new) (line_text (Line.Sent who bytes.now))) }
@@ -101,7 +101,7 @@ pub fn put_sent<K: Sink>(sink: &mut K, who: Who, bytes: &[u8]) -> Result<(), Fai
     }
 }
 
-/// Writes the line of one byte that an end gave, by the letter of the end: these are the commonest lines of all.
+/// Writes the line of one byte that an end sent, by the letter of the end: these lines are the most frequent.
 fn put_byte<K: Sink>(sink: &mut K, end: u8, byte: u8) -> Result<(), Failed>
     ensures ok { OnOk result (Put (K.held sink.old) (K.held sink.new) (end ∷ codes " sent " ++ encode_upper (byte ∷ []) ++ codes "\n")) }
     ensures missing { OnErr result (WroteLess (K.held sink.old) (K.held sink.new) (end ∷ codes " sent " ++ encode_upper (byte ∷ []) ++ codes "\n")) }
@@ -115,7 +115,7 @@ fn put_byte<K: Sink>(sink: &mut K, end: u8, byte: u8) -> Result<(), Failed>
 }
 
 /// Writes a line that says something of an end, and ends in bytes. It isn't inlined, and nor are the others that have
-/// room for a line: a line of one kind would pay for the room of them all.
+/// space for a line: a line of one kind would pay for the space of them all.
 #[inline(never)]
 fn put_bytes<K: Sink>(sink: &mut K, who: Who, what: &[u8], bytes: &[u8]) -> Result<(), Failed>
     requires { length what.now ≤ 16 }
@@ -163,7 +163,7 @@ fn put_number<K: Sink>(sink: &mut K, who: Who, what: &[u8], n: u32) -> Result<()
     write_all(sink, &line)
 }
 
-/// Writes a line that says no more of an end.
+/// Writes a line that says nothing more of an end.
 #[inline(never)]
 fn put_said<K: Sink>(sink: &mut K, who: Who, what: &[u8]) -> Result<(), Failed>
     requires { length what.now ≤ 16 }
@@ -178,7 +178,7 @@ fn put_said<K: Sink>(sink: &mut K, who: Who, what: &[u8]) -> Result<(), Failed>
     write_all(sink, &line)
 }
 
-/// Writes a line that begins so and ends in bytes: at once, where there is room for their digits.
+/// Writes a line with this beginning that ends in bytes: at once, if there is room for their digits.
 fn put_behind<K: Sink>(sink: &mut K, line: &mut Short, bytes: &[u8]) -> Result<(), Failed>
     requires { array_vec_len line.old + 1 ≤ ROOM }
     ensures ok { OnOk result (Put (K.held sink.old) (K.held sink.new) (line.old.items ++ encode_upper bytes.now ++ codes "\n")) }
@@ -195,7 +195,7 @@ fn put_behind<K: Sink>(sink: &mut K, line: &mut Short, bytes: &[u8]) -> Result<(
     write_all(sink, line)
 }
 
-/// Writes a line that begins so and ends in bytes, piece by piece.
+/// Writes a line with this beginning that ends in bytes, piece by piece.
 #[inline(never)]
 fn put_pieces<K: Sink>(sink: &mut K, head: &[u8], bytes: &[u8]) -> Result<(), Failed>
     ensures ok { OnOk result (Put (K.held sink.old) (K.held sink.new) (head.now ++ encode_upper bytes.now ++ codes "\n")) }

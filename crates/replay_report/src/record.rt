@@ -1,4 +1,4 @@
-//! What a run was: the lines of its report, the words that it left, and how often an end was deceived.
+//! What a run did: the lines of its report, the words that it left, and how often an end was deceived.
 
 use script_parts::Words;
 use script_statement::{Bytes, Items, Who};
@@ -6,11 +6,11 @@ use script_statement::{Bytes, Items, Who};
 /// The lines of a report, in the order of the events.
 pub type Lines = Items<Line>;
 
-/// A line of a report that an event made. `who` is the end that it tells of, `n` the number of one of its commands,
+/// A line of a report that an event made. `who` is the end that it describes, `n` the number of one of its commands,
 /// counted from 1 in the order in which they were issued.
 #[derive(Drop)]
 pub enum Line {
-    /// The end gave these bytes at one event: at least one.
+    /// The end sent these bytes at one event: at least one.
     Sent { who: Who, bytes: Bytes },
     /// The end executed the command of this body.
     Exec { who: Who, body: Bytes },
@@ -26,7 +26,7 @@ pub enum Line {
     Routed { who: Who, body: Bytes },
     /// A message was accepted before: it was acknowledged again and not handed on.
     Repeat { who: Who },
-    /// A message was refused for want of room.
+    /// A message was refused for want of buffer space.
     Full { who: Who },
     /// A message came damaged.
     Damaged { who: Who },

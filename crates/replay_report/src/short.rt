@@ -1,4 +1,4 @@
-//! Lines, and beginnings of lines, whose length is bounded.
+//! Lines, and beginnings of lines, of bounded length.
 ghost use Rattle.std.specs.Prelude.{◌≡◌, ◌≤◌, ◌++◌, ◌+◌, length, codes, decimal};
 ghost use Rattle.arrayvec.specs.ArrayVec.{array_vec_len};
 ghost use Rattle.replay_report.specs.Report.{who_text, word_text, word_digits, deceived_text};
@@ -8,13 +8,13 @@ use arrayvec::ArrayVec;
 use script_parts::WordOf;
 use script_statement::Who;
 
-/// Room for a line whose length is bounded, in bytes.
+/// The space for a line of bounded length, in bytes.
 pub(crate) const ROOM: usize = 64;
 
 /// A text of at most `ROOM` bytes.
 pub(crate) type Short = ArrayVec<u8, ROOM>;
 
-/// Adds the name of an end and what is said of it to a text that has room for them.
+/// Appends the name of an end and what is said of it to a text that has room for them.
 pub(crate) fn append_said(line: &mut Short, who: Who, what: &[u8])
     requires { array_vec_len line.old + 3 + length what.now ≤ ROOM }
     ensures text { line.new.items ≡ line.old.items ++ who_text who ++ what.now }
@@ -24,7 +24,7 @@ pub(crate) fn append_said(line: &mut Short, who: Who, what: &[u8])
     append(line, what);
 }
 
-/// Adds a decimal number to a text that has room for it.
+/// Appends a decimal number to a text that has room for it.
 #[inline(never)]
 pub(crate) fn append_number(line: &mut Short, n: u32)
     requires { array_vec_len line.old + 10 ≤ ROOM }
@@ -34,7 +34,7 @@ pub(crate) fn append_number(line: &mut Short, n: u32)
     append(line, itoa::Buffer::new().format(n).as_bytes());
 }
 
-/// The line of a word.
+/// Returns the line of a word.
 pub(crate) fn word_line(word: WordOf) -> Short
     ensures { result.items ≡ word_text word }
 {
@@ -50,7 +50,7 @@ pub(crate) fn word_line(word: WordOf) -> Short
     line
 }
 
-/// The line of the count of deceptions.
+/// Returns the line of the count of deceptions.
 pub(crate) fn deceived_line(count: u64) -> Short
     ensures { result.items ≡ deceived_text count }
 {
@@ -61,7 +61,7 @@ pub(crate) fn deceived_line(count: u64) -> Short
     line
 }
 
-/// Adds the name of an end to a text that has room for it.
+/// Appends the name of an end to a text that has room for it.
 fn append_name(line: &mut Short, who: Who)
     requires { array_vec_len line.old + 3 ≤ ROOM }
     ensures text { line.new.items ≡ line.old.items ++ who_text who }
@@ -75,7 +75,7 @@ fn append_name(line: &mut Short, who: Who)
     }
 }
 
-/// Adds the name of a station to a text that has room for it.
+/// Appends the name of a station to a text that has room for it.
 #[inline(never)]
 fn append_station(line: &mut Short, station: u8)
     requires { array_vec_len line.old + 3 ≤ ROOM }
@@ -85,7 +85,7 @@ fn append_station(line: &mut Short, station: u8)
     append(line, itoa::Buffer::new().format(station).as_bytes());
 }
 
-/// Adds the four digits of a word to a text that has room for them.
+/// Appends the four digits of a word to a text that has room for them.
 fn append_digits(line: &mut Short, value: u16)
     requires { array_vec_len line.old + 4 ≤ ROOM }
     ensures text { line.new.items ≡ line.old.items ++ word_digits value }
@@ -95,7 +95,7 @@ fn append_digits(line: &mut Short, value: u16)
     append(line, &pair((value % 256) as u8));
 }
 
-/// Adds bytes to a text that has room for them.
+/// Appends bytes to a text that has room for them.
 pub(crate) fn append(line: &mut Short, bytes: &[u8])
     requires { array_vec_len line.old + length bytes.now ≤ ROOM }
     ensures { line.new.items ≡ line.old.items ++ bytes.now }

@@ -1,4 +1,4 @@
-//! The size of a cell.
+//! A test of the size of a cell.
 use lane_cells::Cell;
 use std::mem::size_of;
 

@@ -1,4 +1,4 @@
-//! Drills and storms against the replays of their texts.
+//! Tests of drills and storms against the replays of their texts.
 
 ghost use Rattle.script_parts.specs.HalfPlayable.{CanBePlayed};
 
@@ -12,7 +12,7 @@ use script_parts::Script;
 use std::alloc::{AllocError, Global};
 use std::test::Fail;
 
-/// The lines behind a round's command, by its pattern.
+/// The lines after a round's command, by its pattern.
 const COURSES: [&str; 4] = [
     "\nak 23\nad 23\nbk 15\nbd 15\nak 2\nad 2\n",
     "\nak 23\nad 2\nac 01\nad 21\nbk 2\nbd 2\nak 23\nad 23\nbk 15\nbd 15\nak 2\nad 2\n",
@@ -20,7 +20,7 @@ const COURSES: [&str; 4] = [
     "\nak 23\nad 23\nbk 2\nbx 2\nbn 1015\nak 23\nad 23\nbk 15\nbd 15\nak 2\nad 2\n",
 ];
 
-/// The lines of a hit before those behind a command, by the place of the byte that is altered.
+/// The lines of a hit before those after a command, by the position of the byte that is altered.
 const HITS: [&str; 4] = [
     "\nak 23\nad 2\nac 01\nad 23\nbk 2\nbd 2",
     "\nak 23\nad 3\nac 01\nad 23\nbk 2\nbd 2",
@@ -28,7 +28,7 @@ const HITS: [&str; 4] = [
     "\nak 23\nad 5\nac 01\nad 23\nbk 2\nbd 2",
 ];
 
-/// The text of a drill's script, or of a storm's.
+/// Returns the text of a drill's script, or of a storm's.
 fn text_of(alloc: Global, stormy: bool, seed: u32, count: u32) -> Result<Vec<u8>, AllocError> {
     let mut text = Vec::from_slice(alloc, b"file b 7 89 16\n")?;
     for round in 1..count.min(MOST_ROUNDS) + 1 {
@@ -47,7 +47,7 @@ fn text_of(alloc: Global, stormy: bool, seed: u32, count: u32) -> Result<Vec<u8>
     Ok(text)
 }
 
-/// Adds the line of a round's command.
+/// Appends the line of a round's command.
 fn put_command(text: &mut Vec<u8>, turn: u64, round: u32) -> Result<(), AllocError> {
     text.extend_from_slice(b"ai 0FAA020789")?;
     text.extend_from_slice(&pair((round % 16) as u8))?;
@@ -56,13 +56,13 @@ fn put_command(text: &mut Vec<u8>, turn: u64, round: u32) -> Result<(), AllocErr
     text.extend_from_slice(&pair((turn / 256 % 256) as u8))
 }
 
-/// The report of the run that a text says.
+/// Returns the report of the run of a script's text.
 fn report_of(alloc: Global, text: &[u8]) -> Result<Collected, Fail> {
     let script = read_script(alloc, text)?;
     printed(alloc, &script)
 }
 
-/// The report of a script's run.
+/// Returns the report of a script's run.
 fn printed(alloc: Global, script: &Script) -> Result<Collected, Fail>
     requires { CanBePlayed script.now }
 {
@@ -85,7 +85,7 @@ const DRILLS: [(u32, u32, &str); 2] = [
     ),
 ];
 
-/// The last part of a line: a number in hexadecimal digits, and a line feed.
+/// Returns the last part of a line: a number in hexadecimal digits, and a line feed.
 fn ending(number: u16) -> [u8; 5] {
     let [first, second] = pair((number / 256) as u8);
     let [third, fourth] = pair((number % 256) as u8);

@@ -1,4 +1,4 @@
-//! Rehearsals: what is printed of transfers over scripts, and the lines that tell what transfers came to.
+//! Tests of rehearsals: what is printed of transfers over scripts, and the lines that report the results of transfers.
 
 ghost use Rattle.std.specs.Prelude.{◌≡◌, ◌≤◌, ◌*◌, ◌/◌, IfOk, length};
 ghost use Rattle.bulk_transfer.specs.Rehearsal.{IsRehearsable};
@@ -26,7 +26,7 @@ const TWO_EXCHANGES: &str =
 const LOST_COMMAND: &str =
     "file b 7 89 101\nword b 7 0 1234\nword b 7 100 5678\nak 999\nad 999\nbk 999\nbd 999\nak 2\nad 2\nak 99\nax 99\nend\n";
 
-/// A script, read for a rehearsal.
+/// Reads a script for a rehearsal.
 fn script_of(alloc: Global, text: &str) -> Result<Script, Fail>
     ensures { IfOk result IsRehearsable }
 {
@@ -123,7 +123,7 @@ fn transfers_that_write_are_printed(rt: HostRuntime) -> Result<(), Fail> {
     Ok(())
 }
 
-/// What transfers came to, each with its line where it isn't whole.
+/// Results of transfers that aren't whole, each with its line.
 const FAULTS: [(Bulk, &str); 4] = [
     (Bulk::Missing(1), "missing 1\n"),
     (Bulk::Odd(30), "odd 30\n"),

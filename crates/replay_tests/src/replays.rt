@@ -1,4 +1,4 @@
-//! Scripts with the reports of their runs.
+//! Tests of scripts with the reports of their runs.
 
 use df1_base::BytesOut;
 use line_replay::replay;
@@ -24,26 +24,27 @@ const RUNS: [(&str, &str); 4] = [
         "set b.max_enqs 0\nai 060055\nak 13\nad 13\nbk 99\nbt 10\nend\n",
         "a sent 100201000600010000551003A3\nb exec 0100060001000055\nb sent 1006100200014600010055100363\nb dropped\ndeceived 0\n",
     ),
-    // A write to a polled station; ticks that come while a poll is to be given count for nothing.
+    // A write to a polled station; ticks that come while a poll is to be sent don't count.
     (
         "set mode half\nstation 3\nfile 3 7 89 16\nmi 3 0FAA02078900003412\nmk 22\nmd 3 22\n3k 2\n3d 2\nmt 11\nmk 4\nmd 3 4\n3k 11\n3d 11\nmk 2\nend\n",
         "m sent 100103100203000F000100AA02078900003412100368\n3 exec 03000F000100AA02078900003412\n3 sent 1006\nm sent 100503FD\n3 sent 100200034F0001001003AD\nm answered 1 00034F000100\nm sent 1006\n3 word 7 0 1234\ndeceived 0\n",
     ),
 ];
 
-/// A command to a polled station that executes it, and a poll that nobody answers: the master's tick, the poll, and the one tick that it waits.
+/// A command to a polled station that executes it, and a poll that nobody answers: the master's tick, the poll, and the
+/// one tick of its wait.
 const SILENT: &str =
     "set mode half\nset m.reply_ticks 33\nset m.poll_ticks 1\nstation 3\nmi 3 0600\nmk 99\nmd 3 99\n3k 99\n3d 99\n";
 
 const POLL: &str = "mt\nmk 4\nmt\n";
 
-/// The record of a script's run.
+/// Returns the record of a script's run.
 fn played(alloc: Global, text: &str) -> Result<Record, Fail> {
     let script = read_script(alloc, text.as_bytes())?;
     Ok(replay(alloc, &script)?)
 }
 
-/// The text of a record.
+/// Returns the text of a record.
 fn printed(alloc: Global, record: &Record) -> Result<BytesOut, Fail> {
     let mut out = BytesOut::new(alloc, 1000, 1000, &[])?;
     print(record, &mut out)?;
@@ -61,7 +62,7 @@ fn a_command_that_no_poll_fetches_the_reply_of_is_unanswered(rt: HostRuntime) ->
         text.push_str(POLL)?;
         report.push_str("m sent 100503FD\n")?;
     }
-    // The command's last tick comes with the next one of the master's own.
+    // The command's last tick comes with the master's next own tick.
     text.push_str("mt\nend\n")?;
     report.push_str("m unanswered 1\ndeceived 0\n")?;
     let record = played(rt.alloc(), &text)?;

@@ -5,7 +5,7 @@ ghost use Rattle.reply_values.specs.Values.{are_floats, float_words, floats_of};
 use arrayvec::ArrayVec;
 use df1_base::MAX_DATA;
 
-/// The bits of the floats of data. None exactly where its bytes aren't four for each float, or over 244.
+/// Returns the bits of the floats in data, and None exactly if it isn't four bytes per float, or over 244 bytes.
 pub fn floats_in(bytes: &[u8]) -> Option<ArrayVec<u32, 61>>
     ensures none { MatchOption result (are_floats bytes.now ≡ false) (λ _. are_floats bytes.now ≡ true) }
     ensures floats { MatchOption result (are_floats bytes.now ≡ false) (λ floats. floats.items ≡ floats_of bytes.now) }
@@ -16,7 +16,7 @@ pub fn floats_in(bytes: &[u8]) -> Option<ArrayVec<u32, 61>>
     Some(floats_of(bytes))
 }
 
-/// The bits of floats, four bytes each. Bytes that are left are left out.
+/// Returns the bits of floats, four bytes each. Remaining bytes are ignored.
 fn floats_of(bytes: &[u8]) -> ArrayVec<u32, 61>
     requires { length bytes.now ≤ 244 }
     ensures { result.items ≡ floats_of bytes.now }
@@ -30,7 +30,7 @@ fn floats_of(bytes: &[u8]) -> ArrayVec<u32, 61>
     floats
 }
 
-/// The words of a float, by its bits.
+/// Returns the words of a float, by its bits.
 pub fn float_words(bits: u32) -> [u16; 2]
     ensures { result ≡ float_words bits }
 {

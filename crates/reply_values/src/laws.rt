@@ -9,12 +9,13 @@ ghost use Rattle.reply_values.specs.Typed.{typed_of};
 ghost use Rattle.reply_values.specs.Texts.{status_text};
 ghost use Rattle.reply_values.specs.Values.{float_words, floats_of};
 
-/// What is read of a float that was written as its words is this float.
+/// A float that was written as its words is read back as the same float.
 pub fn words_are_the_float()
     ensures { (bits : ℕ) → bits < 2 ^ 32 → floats_of (bytes_of (float_words bits)) ≡ bits ∷ [] }
 {}
 
-/// The data that a station gives of a typed read, the parameter of an array and the words, is read as these elements.
+/// The data with which a station answers a typed read, the parameter of an array and the words, is read as these
+/// elements.
 pub fn typed_data_is_read()
     ensures { (kind : FileType) (count : ℕ) (element : Param) (array bytes : List ℕ) → element_param kind ≡ Some element → written_array kind count ≡ Some array → length bytes ≡ element.size * count → typed_of (array ++ bytes) ≡ Some (record { element = element; is_array = true; bytes = bytes }) }
 {}

@@ -1,5 +1,5 @@
-//! What replies tell: their status, with its text, and the values in their data (manual topics: message packets, status codes,
-//! commands).
+//! The contents of replies: their status, with its text, and the values in their data (manual topics: message packets,
+//! status codes, commands).
 //!
 //! | Reply to | Data |
 //! |---|---|
@@ -7,7 +7,7 @@
 //! | typed read | the parameter of an array and of its element, and the words of the elements |
 //! | a write | none |
 //!
-//! A float is two words, the low one first: its four bytes are those of an IEEE single, low first.
+//! A float is two words, the low one first: its four bytes are those of an IEEE single, low byte first.
 #![tactic(auto)]
 
 mod floats;

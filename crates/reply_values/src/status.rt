@@ -3,9 +3,9 @@
 //! | STS | Text |
 //! |---|---|
 //! | 00 | that the command was executed |
-//! | 01 to 0F | of what is wrong at the own node, by the low four bits |
+//! | 01 to 0F | of the fault at the local node, by the low four bits |
 //! | F0 | of EXT STS |
-//! | any other | of what is wrong at the other node, by the high four bits alone |
+//! | any other | of the fault at the remote node, by the high four bits alone |
 //!
 //! A code that the manual doesn't list has the text "see the manual of the controller".
 ghost use Rattle.std.specs.Prelude.{◌≡◌, ◌≤◌, length};
@@ -17,7 +17,7 @@ const EXTENDED: u8 = 0xF0;
 /// The text of a code that isn't listed.
 const UNKNOWN: &str = "see the manual of the controller";
 
-/// The text of STS and EXT STS, at most 79 bytes. EXT STS makes no difference where STS isn't F0.
+/// Returns the text of STS and EXT STS, at most 79 bytes. EXT STS is ignored if STS isn't F0.
 pub fn status_text(sts: u8, ext: u8) -> &'static str
     ensures text { result.now ≡ status_text sts ext }
     ensures short { length result.now ≤ 79 }
@@ -33,7 +33,7 @@ pub fn status_text(sts: u8, ext: u8) -> &'static str
     }
 }
 
-/// The text of a fault at the own node.
+/// Returns the text of a fault at the local node.
 fn local_text(sts: u8) -> &'static str
     ensures text { result.now ≡ local_text sts }
     ensures short { length result.now ≤ 79 }
@@ -51,7 +51,7 @@ fn local_text(sts: u8) -> &'static str
     }
 }
 
-/// The text of a fault at the other node, by the high four bits of STS.
+/// Returns the text of a fault at the remote node, by the high four bits of STS.
 fn remote_text(high: u8) -> &'static str
     ensures text { result.now ≡ remote_text high }
     ensures short { length result.now ≤ 79 }
@@ -73,7 +73,7 @@ fn remote_text(high: u8) -> &'static str
     }
 }
 
-/// The text of EXT STS.
+/// Returns the text of EXT STS.
 fn extended_text(ext: u8) -> &'static str
     ensures text { result.now ≡ extended_text ext }
     ensures short { length result.now ≤ 79 }

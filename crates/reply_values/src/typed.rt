@@ -8,7 +8,7 @@ use logical_address::{Param, read_param};
 /// The kind of an array.
 const ARRAY: u16 = 9;
 
-/// The data of a typed read, behind the parameters that say what it is.
+/// The data of a typed read, after the parameters that describe it.
 #[derive(Clone, Copy, Debug)]
 pub struct Typed<'a> {
     /// The kind and the size of an element: kind 4 integer, 2 bit string or 8 floating point, size in bytes.
@@ -19,9 +19,9 @@ pub struct Typed<'a> {
     pub bytes: &'a [u8],
 }
 
-/// Reads the data of a reply to a typed read: the parameter of an element, alone or behind that of an array whose size is the
-/// number of all bytes behind it, and the words (manual topics: addressing, typed read). None exactly where a parameter can't be
-/// read, or the size of an array is another.
+/// Reads the data of a reply to a typed read: the parameter of an element, and the words (manual topics: addressing,
+/// typed read). The parameter stands alone or after that of an array, whose size is the number of all bytes after it.
+/// Returns None exactly if a parameter can't be read, or the size of an array differs.
 pub fn read_typed(bytes: &[u8]) -> Option<Typed<'_>>
     ensures reads { option_map seen result ≡ typed_of bytes.now }
     ensures spelled { IfSome result (λ typed. SpellsTyped (seen typed) bytes.now) }
@@ -30,7 +30,7 @@ pub fn read_typed(bytes: &[u8]) -> Option<Typed<'_>>
     by_params(bytes)
 }
 
-/// The data behind its parameters.
+/// Reads the data after its parameters.
 fn by_params(bytes: &[u8]) -> Option<Typed<'_>>
     ensures { option_map seen result ≡ typed_of bytes.now }
 {
@@ -45,7 +45,7 @@ fn by_params(bytes: &[u8]) -> Option<Typed<'_>>
     })
 }
 
-/// The data of an array behind its parameter.
+/// Reads the data of an array after its parameter.
 fn array_element(array: Param, bytes: &[u8]) -> Option<Typed<'_>>
     ensures { option_map seen result ≡ array_element array bytes.now }
 {
@@ -60,7 +60,7 @@ fn array_element(array: Param, bytes: &[u8]) -> Option<Typed<'_>>
     })
 }
 
-/// The parameter at the front, and what follows it.
+/// Returns the parameter at the front, and what follows it.
 fn param_front(bytes: &[u8]) -> Option<(Param, &[u8])>
     ensures { option_map (λ found. (found.0, found.1.now)) result ≡ param_front bytes.now }
 {

@@ -7,7 +7,7 @@ use arrayvec::ArrayVec;
 use data_files::words_of;
 use df1_base::MAX_DATA;
 
-/// The words of data. None exactly where it has an odd number of bytes, or over 244.
+/// Returns the words of data, and None exactly if it has an odd number of bytes, or over 244.
 pub fn words_in(bytes: &[u8]) -> Option<ArrayVec<u16, 122>>
     ensures none { MatchOption result (are_words bytes.now ≡ false) (λ _. are_words bytes.now ≡ true) }
     ensures words { MatchOption result (are_words bytes.now ≡ false) (λ words. words.items ≡ words_of bytes.now) }

@@ -1,5 +1,5 @@
-//! What a report tells of an end: the lines of what it and its host made of a byte, of a fate and of a tick, and the words of
-//! its data tables that aren't 0 in the end.
+//! The lines of a report about an end: what it and its host made of a byte, of a fate and of a tick, and the final
+//! words of its data tables that aren't 0.
 #![tactic(auto)]
 
 mod told;

@@ -1,4 +1,4 @@
-//! The lines that tell what an end and its host made of a byte, of a fate and of a tick.
+//! The lines that report what an end and its host made of a byte, of a fate and of a tick.
 
 ghost use Rattle.std.specs.Prelude.{◌≡◌, ◌≢◌, ◌++◌, ◌∷◌, [], ℕ, List, Option, IfOk, OnOk};
 ghost use Rattle.df1_base.specs.declared.host.Did.{Did as Told};
@@ -9,7 +9,8 @@ use replay_report::{Line, Page};
 use script_statement::{Bytes, Who};
 use std::alloc::Global;
 
-/// Tells an act: the body is that of the message that was heard. It is inlined, since at most bytes there is nothing to tell.
+/// Reports an act: the body is that of the received message. It is inlined, since at most bytes there is nothing to
+/// report.
 #[inline(always)]
 pub fn tell_act(
     alloc: Global,
@@ -28,7 +29,7 @@ pub fn tell_act(
     }
 }
 
-/// Tells an act at which a message came that isn't accepted.
+/// Reports an act at which a message came that isn't accepted.
 #[inline(never)]
 fn tell_refusal(who: Who, act: Act, lines: &mut Page) -> Result<(), NoMemory>
     requires { act ≢ Act.Accept }
@@ -43,7 +44,8 @@ fn tell_refusal(who: Who, act: Act, lines: &mut Page) -> Result<(), NoMemory>
     }
 }
 
-/// Tells what a host did with a message. It isn't inlined, since a byte at which none is accepted would pay for its room.
+/// Reports what a host did with a message. It isn't inlined, since a byte at which none is accepted would pay for its
+/// stack space.
 #[inline(never)]
 fn tell_did(
     alloc: Global,
@@ -65,7 +67,7 @@ fn tell_did(
     })
 }
 
-/// Tells a message that was accepted and is carried to a station. It isn't inlined, for the same reason.
+/// Reports a message that was accepted and is carried to a station. It isn't inlined, for the same reason.
 #[inline(never)]
 pub fn tell_routed(alloc: Global, who: Who, body: &[u8], lines: &mut Page) -> Result<(), NoMemory>
     ensures { OnOk result (lines.new ≡ lines.old ++ Line.Routed who body.now ∷ []) }
@@ -74,7 +76,7 @@ pub fn tell_routed(alloc: Global, who: Who, body: &[u8], lines: &mut Page) -> Re
     lines.push(Line::Routed { who, body: kept })
 }
 
-/// A copy of a body for a line, in memory that served before, if there is any.
+/// Returns a copy of a body for a line, in memory that served before, if there is any.
 fn copied(alloc: Global, body: &[u8], lines: &mut Page) -> Result<Bytes, NoMemory>
     ensures copy { IfOk result (λ kept. kept ≡ body.now) }
     ensures lines { lines.new ≡ lines.old }
@@ -84,7 +86,7 @@ fn copied(alloc: Global, body: &[u8], lines: &mut Page) -> Result<Bytes, NoMemor
     Ok(kept)
 }
 
-/// Tells what a host answered to a fate.
+/// Reports what a host answered to a fate.
 pub fn tell_news(who: Who, news: News, lines: &mut Page) -> Result<(), NoMemory>
     ensures { OnOk result (lines.new ≡ lines.old ++ news_lines who news) }
 {
@@ -95,7 +97,7 @@ pub fn tell_news(who: Who, news: News, lines: &mut Page) -> Result<(), NoMemory>
     }
 }
 
-/// Tells what a tick did to the sender.
+/// Reports what a tick did to the sender.
 pub fn tell_turn(who: Who, turn: Turn, lines: &mut Page) -> Result<(), NoMemory>
     ensures { OnOk result (lines.new ≡ lines.old ++ turn_lines who turn) }
 {
@@ -106,7 +108,7 @@ pub fn tell_turn(who: Who, turn: Turn, lines: &mut Page) -> Result<(), NoMemory>
     }
 }
 
-/// Tells the commands that are unanswered.
+/// Reports the commands that are unanswered.
 pub fn tell_gone(who: Who, gone: &[u32], lines: &mut Page) -> Result<(), NoMemory>
     ensures { OnOk result (lines.new ≡ lines.old ++ gone_lines who gone.now) }
 {

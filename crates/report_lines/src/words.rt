@@ -1,4 +1,4 @@
-//! The words that are not 0 in the end.
+//! The final words that are not 0.
 
 ghost use Rattle.std.specs.Prelude.{◌≡◌, ◌<◌, ◌^◌, ◌++◌, length, OnOk};
 ghost use Rattle.report_lines.specs.Words.{word_line, words_from, words_of};

@@ -7,7 +7,7 @@ use df1_base::NoMemory;
 use script_parts::{Bytes, Event, Events, Items, Who};
 use std::alloc::Global;
 
-/// Puts the command of a round, counted from 1, behind the events before it.
+/// Appends the command of a round, counted from 1, to the events before it.
 pub fn put_command(
     alloc: Global,
     events: &mut Events,
@@ -24,8 +24,8 @@ pub fn put_command(
     })
 }
 
-/// The command of a round from its CMD on, without its STS and TNS: CMD 0F and FNC AA write two bytes to an element of
-/// file 7, whose type is 89 (manual topic: commands).
+/// Returns the command of a round from its CMD on, without its STS and TNS: CMD 0F and FNC AA write two bytes to an
+/// element of file 7, whose type is 89 (manual topic: commands).
 fn payload(alloc: Global, seed: u32, round: u32) -> Result<Bytes, NoMemory>
     ensures { IfOk result (λ payload. payload ≡ payload_of seed round) }
 {

@@ -1,4 +1,4 @@
-//! What happens to the bytes of a round behind its command.
+//! What happens to the bytes of a round after its command.
 ghost use Rattle.std.specs.Prelude.{◌≡◌, ◌++◌, IfOk, OnOk, map};
 ghost use Rattle.round_scripts.specs.Rounds.{event_of};
 
@@ -6,10 +6,10 @@ use df1_base::{DLE, NAK, NoMemory};
 use script_parts::{Event, Events, Items, Lane, Who};
 use std::alloc::Global;
 
-/// An event of a round behind its command, with how many bytes or ticks it counts.
+/// An event of a round after its command, with its count of bytes or ticks.
 #[derive(Clone, Copy, Debug, PartialEq, Eq)]
 pub enum CourseEvent {
-    /// An end gives bytes.
+    /// An end sends bytes.
     Take(Who, u32),
     /// Bytes of a queue arrive.
     Deliver(Lane, u32),
@@ -46,7 +46,7 @@ pub const UNDISTURBED: [CourseEvent; 6] = [
 ];
 
 impl CourseEvent {
-    /// The event of a script.
+    /// Returns the event of a script.
     fn event(self, alloc: Global) -> Result<Event, NoMemory>
         ensures { IfOk result (λ event. event ≡ event_of self) }
     {
@@ -64,7 +64,7 @@ impl CourseEvent {
     }
 }
 
-/// Puts what happens behind a command, in its order, behind the events before it.
+/// Appends what happens after a command, in its order, to the events before it.
 pub fn put_course(
     alloc: Global,
     events: &mut Events,

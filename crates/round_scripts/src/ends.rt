@@ -23,7 +23,7 @@ const FILE: FileSpec = FileSpec {
     count: 16,
 };
 
-/// The script without its events.
+/// Returns the script without its events.
 pub fn setup(alloc: Global) -> Result<Script, NoMemory>
     ensures { IfOk result (λ script. script ≡ setup) }
 {
@@ -40,7 +40,7 @@ pub fn setup(alloc: Global) -> Result<Script, NoMemory>
     })
 }
 
-/// The plan of an end with this address and these files. All else is as it is at first.
+/// Returns the plan of an end with this address and these files. All else has its initial value.
 fn end(alloc: Global, who: Who, address: u8, files: Specs) -> EndPlan
     ensures { result ≡ record (first_plan who address) { files = files } }
 {

@@ -1,5 +1,6 @@
-//! Scripts of rounds: end b has an integer file of 16 elements, end a writes a word of it in each round, and things happen to
-//! the bytes behind it. What they have in common: the ends, the commands, and the events of a round behind its command.
+//! Scripts of rounds: end b has an integer file of 16 elements, end a writes a word of it in each round, and things
+//! then happen to the bytes. What they have in common: the ends, the commands, and the events of a round after its
+//! command.
 #![tactic(auto)]
 
 mod command;

@@ -1,4 +1,4 @@
-//! Tests of scripts that are read whole from an input: routes and rehearsals, with what they print.
+//! Tests of scripts that are read completely from an input: routes and rehearsals, with what they print.
 #![tactic(auto)]
 
 #[cfg(test)]

@@ -1,4 +1,4 @@
-//! Rehearsals of transfers over scripts that come from an input: what they print.
+//! Tests of rehearsals of transfers over scripts from an input: what they print.
 
 use df1_base::{BytesIn, BytesOut};
 use line_script::Cause;

@@ -1,5 +1,5 @@
-//! What a script says, once it is read: how each end of the line is set up, and the events of the line between them; and
-//! which scripts can be played.
+//! The content of a script that was read: how each end of the line is set up, and the events of the line between them;
+//! and which scripts can be played.
 #![tactic(auto)]
 
 mod script;

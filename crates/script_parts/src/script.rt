@@ -1,4 +1,4 @@
-//! What a script says: the plan of each end, and the events of the line between them.
+//! The content of a script: the plan of each end, and the events of the line between them.
 ghost use Rattle.std.specs.Prelude.{◌≡◌};
 ghost use Rattle.end_settings.specs.Given.{chosen};
 
@@ -7,19 +7,19 @@ use df1_check::Check;
 use end_settings::{Key, Settings};
 use script_statement::{Bytes, Items, Who};
 
-/// The data files of an end, in the order in which they were declared.
+/// The data files of an end, in the order of their declarations.
 pub type Specs = Items<FileSpec>;
 
-/// The first values of words, in the order in which they were given.
+/// The first values of words, in the order in which they were set.
 pub type Words = Items<WordOf>;
 
-/// The plans of the ends: a, then b; or the master, then the stations in the order in which they were declared.
+/// The plans of the ends: a, then b; or the master, then the stations in the order of their declarations.
 pub type Ends = Items<EndPlan>;
 
 /// The events of a script, in its order.
 pub type Events = Items<Event>;
 
-/// A direction of the line: the queue of the bytes that one end gave and that go to another.
+/// A direction of the line: the queue of the bytes that one end sent to another.
 #[derive(Clone, Copy, Debug, PartialEq, Eq)]
 pub struct Lane {
     pub from: Who,
@@ -29,15 +29,15 @@ pub struct Lane {
 /// Something that happens on the line.
 #[derive(Drop)]
 pub enum Event {
-    /// An end issues a command to the station `dst`, in the name of the source `src`, or else in its own; the payload begins
-    /// with CMD and has 1 to 245 bytes.
+    /// An end issues a command to the station `dst`, with the SRC `src`, or with its own address if that is None; the
+    /// payload begins with CMD and has 1 to 245 bytes.
     Issue {
         who: Who,
         src: Option<u8>,
         dst: u8,
         payload: Bytes,
     },
-    /// An end gives up to `n` bytes, which go into its queue.
+    /// An end sends up to `n` bytes, which go into its queue.
     Take {
         who: Who,
         n: u32,
@@ -78,35 +78,35 @@ pub struct WordOf {
     pub value: u16,
 }
 
-/// How an end is set up. What a key of the table of settings tells has a value of its row.
+/// The setup of an end. A field that a key of the table of settings sets has a value of that key's row.
 #[derive(Drop)]
 pub struct EndPlan {
     pub who: Who,
     /// Whether responses may stand inside messages.
     pub embed: bool,
-    /// Its address, DST of what is sent to it.
+    /// Its address: the DST of what is sent to it.
     pub node: u8,
     /// TNS of its first command.
     pub tns: u16,
     /// Ticks until an ENQ asks for a missing response.
     pub ack_ticks: u32,
-    /// NAKs at which a message is sent again, and the next gives it up.
+    /// The maximum number of retransmissions of a message after a NAK.
     pub max_naks: u32,
-    /// ENQs after which a message is given up.
+    /// The number of ENQs after which a message is given up.
     pub max_enqs: u32,
     /// Ticks until a command counts as unanswered.
     pub reply_ticks: u32,
-    /// Sendings again of a master's message.
+    /// The maximum number of retransmissions of a master's message.
     pub max_resends: u32,
     /// Ticks until a poll counts as not answered.
     pub poll_ticks: u32,
-    /// Sendings of a slave's message.
+    /// The maximum number of transmissions of a slave's message.
     pub max_sends: u32,
-    /// How many replies may wait.
+    /// The number of replies that may wait.
     pub room: usize,
-    /// How many commands may be out.
+    /// The number of commands that may be outstanding.
     pub window: usize,
-    /// How many commands of one source may be out.
+    /// The number of commands of one source that may be outstanding.
     pub per_source: usize,
     /// The number of the compatibility file, a bit or integer file of the end.
     pub compat: Option<u16>,
@@ -119,8 +119,8 @@ pub struct EndPlan {
 impl EndPlan {
     ghost use Rattle.script_parts.specs.Plans.{plan_with};
 
-    /// The plan of an end with these settings, whose address is `address` where they don't tell it. What they don't tell else
-    /// is as the table of keys has it at first.
+    /// Returns the plan of an end with these settings, whose address is `address` if they don't set it. What else they
+    /// don't set has the initial value of the table of keys.
     pub fn new(
         who: Who,
         address: u8,
@@ -155,10 +155,10 @@ impl EndPlan {
     }
 }
 
-/// A script, read.
+/// A script that was read.
 #[derive(Drop)]
 pub struct Script {
-    /// Half duplex.
+    /// Whether the script is half duplex.
     pub half: bool,
     /// Which check ends a message.
     pub check: Check,

@@ -1,5 +1,5 @@
-//! The lines that are events: an end and the letter of a verb in one word, and in most an operand. Between the two a
-//! source may stand, and for the master a station.
+//! The lines that are events: one word of an end and the letter of a verb, and for most an operand. Between the two
+//! there may be a source, and for the master a station.
 ghost use Rattle.std.specs.Prelude.{◌≡◌, IfOk};
 ghost use Rattle.script_statement.specs.Statements.{verb_of as the_verb, times_of as the_times_of, times_line as the_times, bare_event as the_bare, operand_event as the_operand, number_operand_event as the_number_operand, source_operand_event as the_source_operand, event_alone as the_alone, event_with as the_with, event_to as the_to, event_to_from as the_to_from, side_from as the_side_from, source_of as the_source, issue_from as the_issue_from, side_event as the_side_event, issue_line as the_issue, alter_line as the_alter, foreign_line as the_foreign, payload_of as the_payload, mask_of as the_mask, foreign_of as the_foreign_bytes, half_line as the_half, is_payload as the_test};
 
@@ -12,13 +12,13 @@ use crate::words::{byte_of, hex_of, is_within, number_of, within};
 use df1_base::{MAX_BODY, MAX_PAYLOAD, NoMemory, REPLY};
 use std::alloc::Global;
 
-/// The most foreign bytes of one event, as many as a body may have.
+/// The most foreign bytes of one event: as many as a body may have.
 const FOREIGN: usize = MAX_BODY;
 
 /// The highest source.
 const HIGHEST_SOURCE: u32 = 255;
 
-/// The events of one word.
+/// Returns the event of one word.
 pub(crate) fn bare_event(word: &[u8]) -> Option<Statement>
     ensures { result ≡ the_bare word.now }
 {
@@ -28,7 +28,7 @@ pub(crate) fn bare_event(word: &[u8]) -> Option<Statement>
     }
 }
 
-/// The events of a word and an operand.
+/// Returns the event of a word and an operand.
 pub(crate) fn operand_event(
     alloc: Global,
     word: &[u8],
@@ -42,7 +42,7 @@ pub(crate) fn operand_event(
     }
 }
 
-/// The events of a word, a number and an operand.
+/// Returns the event of a word, a number and an operand.
 pub(crate) fn number_operand_event(
     alloc: Global,
     word: &[u8],
@@ -57,7 +57,7 @@ pub(crate) fn number_operand_event(
     }
 }
 
-/// The events of a word, a station, a source and an operand.
+/// Returns the event of a word, a station, a source and an operand.
 pub(crate) fn source_operand_event(
     alloc: Global,
     word: &[u8],
@@ -80,7 +80,7 @@ pub(crate) fn source_operand_event(
     }
 }
 
-/// An event of an end without an operand.
+/// Returns the event of an end without an operand.
 fn event_alone(end: Option<EndName>, verb: u8) -> Option<Statement>
     ensures { result ≡ the_alone end verb }
 {
@@ -91,7 +91,7 @@ fn event_alone(end: Option<EndName>, verb: u8) -> Option<Statement>
     }
 }
 
-/// An event of an end with an operand.
+/// Returns the event of an end with an operand.
 fn event_with(
     alloc: Global,
     end: Option<EndName>,
@@ -110,8 +110,8 @@ fn event_with(
     }
 }
 
-/// An event with a number and an operand: the number is a source at an end of a full-duplex link, and a station at the
-/// master.
+/// Returns the event with a number and an operand: the number is a source at an end of a full-duplex link, and a
+/// station at the master.
 fn event_to(
     alloc: Global,
     end: Option<EndName>,
@@ -128,7 +128,7 @@ fn event_to(
     }
 }
 
-/// An event of the master with a station, a source and an operand.
+/// Returns the event of the master with a station, a source and an operand.
 fn event_to_from(
     alloc: Global,
     end: Option<EndName>,
@@ -147,14 +147,14 @@ fn event_to_from(
     }
 }
 
-/// An event of a half-duplex line.
+/// Returns the statement of an event of a half-duplex line.
 fn half_line(event: Option<HalfEvent>) -> Option<Statement>
     ensures { result ≡ the_half event }
 {
     Some(Statement::Half(event?))
 }
 
-/// An event of an end of a full-duplex link, by its verb's letter.
+/// Returns the event of an end of a full-duplex link, by its verb's letter.
 fn side_event(
     alloc: Global,
     side: EndLetter,
@@ -171,7 +171,7 @@ fn side_event(
     }
 }
 
-/// An event of an end of a full-duplex link in the name of a source, by its verb's letter.
+/// Returns the event of an end of a full-duplex link with an explicit SRC, by its verb's letter.
 fn side_from(
     alloc: Global,
     side: EndLetter,
@@ -187,8 +187,8 @@ fn side_from(
     }
 }
 
-/// What happens a number of times at an end of a full-duplex link, or at its queue, by its letter: `k` takes, `t` ticks, `d`
-/// delivers, `x` loses. None comes exactly for every other byte.
+/// Returns what happens a number of times at an end of a full-duplex link, or at its queue, by its letter: `k` takes,
+/// `t` ticks, `d` delivers, `x` loses. Returns None exactly for every other byte.
 pub fn verb_of(letter: u8) -> Option<Verb>
     ensures { result ≡ the_verb letter }
 {
@@ -201,7 +201,7 @@ pub fn verb_of(letter: u8) -> Option<Verb>
     }
 }
 
-/// What happens a number of times at an end.
+/// Returns what happens a number of times at an end.
 fn times_line(side: EndLetter, verb: Option<Verb>, n: Option<u32>) -> Option<Statement>
     ensures { result ≡ the_times side verb n }
 {
@@ -212,14 +212,14 @@ fn times_line(side: EndLetter, verb: Option<Verb>, n: Option<u32>) -> Option<Sta
     })
 }
 
-/// How many times something happens, where there is a number.
+/// Returns how many times something happens, if there is a number.
 pub(crate) fn times_of(n: Option<u32>) -> Option<Option<u32>>
     ensures { result ≡ the_times_of n }
 {
     Some(within(1, EVENTS, Some(n?)))
 }
 
-/// A command of an end.
+/// Returns a command of an end.
 fn issue_line(side: EndLetter, payload: Option<Bytes>) -> Option<Statement>
     ensures { result ≡ the_issue side payload }
 {
@@ -229,7 +229,7 @@ fn issue_line(side: EndLetter, payload: Option<Bytes>) -> Option<Statement>
     })
 }
 
-/// A command of an end in the name of a source.
+/// Returns a command of an end with an explicit SRC.
 fn issue_from(side: EndLetter, src: Option<u32>, payload: Option<Bytes>) -> Option<Statement>
     ensures { result ≡ the_issue_from side src payload }
 {
@@ -240,7 +240,7 @@ fn issue_from(side: EndLetter, src: Option<u32>, payload: Option<Bytes>) -> Opti
     })
 }
 
-/// A source, where the number is one: it is at most 255.
+/// Returns a source, if the number is one: it is at most 255.
 pub(crate) fn source_of(src: u32) -> Option<u8>
     ensures { result ≡ the_source src }
 {
@@ -248,7 +248,8 @@ pub(crate) fn source_of(src: u32) -> Option<u8>
     Some(src as u8)
 }
 
-/// A payload, where it is one: it has 1 to 245 bytes, and bit 6 of its CMD is clear. None comes exactly for all other bytes.
+/// Returns a payload, if the bytes are one: 1 to 245 bytes, with bit 6 of CMD clear. Returns None exactly for all other
+/// bytes.
 pub fn payload_of(payload: Bytes) -> Option<Bytes>
     ensures { result ≡ the_payload payload }
 {
@@ -259,7 +260,7 @@ pub fn payload_of(payload: Bytes) -> Option<Bytes>
     }
 }
 
-/// Whether a payload has 1 to 245 bytes, and bit 6 of its CMD is clear.
+/// Returns whether a payload has 1 to 245 bytes, and bit 6 of its CMD is clear.
 fn is_payload(payload: &[u8]) -> bool
     ensures { result ≡ the_test payload.now }
 {
@@ -269,7 +270,7 @@ fn is_payload(payload: &[u8]) -> bool
     }
 }
 
-/// An alteration of the head of an end's queue.
+/// Returns an alteration of the head of an end's queue.
 fn alter_line(side: EndLetter, mask: Option<u8>) -> Option<Statement>
     ensures { result ≡ the_alter side mask }
 {
@@ -279,14 +280,14 @@ fn alter_line(side: EndLetter, mask: Option<u8>) -> Option<Statement>
     })
 }
 
-/// A mask, where it alters anything.
+/// Returns a mask, if it alters anything.
 pub(crate) fn mask_of(mask: u8) -> Option<u8>
     ensures { result ≡ the_mask mask }
 {
     if mask == 0 { None } else { Some(mask) }
 }
 
-/// Foreign bytes, as if from an end.
+/// Returns foreign bytes, as if from an end.
 fn foreign_line(side: EndLetter, bytes: Option<Bytes>) -> Option<Statement>
     ensures { result ≡ the_foreign side bytes }
 {
@@ -296,7 +297,7 @@ fn foreign_line(side: EndLetter, bytes: Option<Bytes>) -> Option<Statement>
     })
 }
 
-/// Foreign bytes, where they are as many as one event may have.
+/// Returns foreign bytes, if one event may have as many.
 pub(crate) fn foreign_of(bytes: Bytes) -> Option<Bytes>
     ensures { result ≡ the_foreign_bytes bytes }
 {

@@ -8,7 +8,7 @@ use crate::words::{byte_of, hex_of, number_of};
 use df1_base::NoMemory;
 use std::alloc::Global;
 
-/// One of the two ways between the master and the station of a number.
+/// One of the two directions between the master and the station of a number.
 #[derive(Clone, Copy, Debug, PartialEq, Eq)]
 pub enum Way {
     /// From the master to the station.
@@ -17,7 +17,7 @@ pub enum Way {
     ToMaster(u32),
 }
 
-/// What happens on a half-duplex line. What is None of it was out of its range.
+/// What happens on a half-duplex line. A field is None if its value was out of range.
 #[derive(Drop)]
 pub enum HalfEvent {
     /// The master issues a command to a station.
@@ -25,19 +25,19 @@ pub enum HalfEvent {
         station: u32,
         payload: Option<Bytes>,
     },
-    /// The master issues a command to a station, in the name of a source.
+    /// The master issues a command to a station with an explicit SRC.
     IssueFrom {
         station: u32,
         src: Option<u8>,
         payload: Option<Bytes>,
     },
-    /// A station issues a command, which the master carries to the station of the number `to`, or takes itself.
+    /// A station issues a command, which the master carries to the station of the number `to`, or accepts itself.
     StationIssue {
         station: u32,
         to: u32,
         payload: Option<Bytes>,
     },
-    /// The master gives up to `n` bytes, which go into the queue of each station.
+    /// The master sends up to `n` bytes, which go into the queue of each station.
     MasterTake {
         n: Option<u32>,
     },
@@ -45,7 +45,7 @@ pub enum HalfEvent {
     MasterTick {
         n: Option<u32>,
     },
-    /// A station gives up to `n` bytes, which go into its queue.
+    /// A station sends up to `n` bytes, which go into its queue.
     StationTake {
         station: u32,
         n: Option<u32>,
@@ -72,7 +72,7 @@ pub enum HalfEvent {
     },
 }
 
-/// The events of the master alone.
+/// Returns the event of the master that a verb alone makes.
 pub(crate) fn master_times(verb: u8, n: Option<u32>) -> Option<HalfEvent>
     ensures { result ≡ the_master_times verb n }
 {
@@ -83,7 +83,7 @@ pub(crate) fn master_times(verb: u8, n: Option<u32>) -> Option<HalfEvent>
     }
 }
 
-/// The events of the master with one operand: a number, or for some verbs a station.
+/// Returns the event of the master with one operand: a number, or for some verbs a station.
 pub(crate) fn master_event(verb: u8, operand: &[u8]) -> Option<HalfEvent>
     ensures { result ≡ the_master_event verb operand.now }
 {
@@ -93,14 +93,14 @@ pub(crate) fn master_event(verb: u8, operand: &[u8]) -> Option<HalfEvent>
     }
 }
 
-/// What happens once in the way to a station.
+/// Returns what happens once in the direction to a station.
 fn once_to_station(station: Option<u32>, verb: u8) -> Option<HalfEvent>
     ensures { result ≡ the_once station verb }
 {
     way_once(Way::ToStation(station?), verb)
 }
 
-/// The events of the master with a station and an operand.
+/// Returns the event of the master with a station and an operand.
 pub(crate) fn to_station(
     alloc: Global,
     station: Option<u32>,
@@ -115,7 +115,7 @@ pub(crate) fn to_station(
     }
 }
 
-/// The events of the master with the station of a number and an operand.
+/// Returns the event of the master with the station of a number and an operand.
 fn to_known_station(
     alloc: Global,
     station: u32,
@@ -130,7 +130,7 @@ fn to_known_station(
     }
 }
 
-/// The events of the master with a station, a source and an operand.
+/// Returns the event of the master with a station, a source and an operand.
 pub(crate) fn to_station_from(
     alloc: Global,
     station: Option<u32>,
@@ -146,7 +146,7 @@ pub(crate) fn to_station_from(
     }
 }
 
-/// The events of a station alone.
+/// Returns the event of a station that a verb alone makes.
 pub(crate) fn station_once(station: u32, verb: u8) -> Option<HalfEvent>
     ensures { result ≡ the_station_once station verb }
 {
@@ -159,7 +159,7 @@ pub(crate) fn station_once(station: u32, verb: u8) -> Option<HalfEvent>
     }
 }
 
-/// The events of a station with an operand.
+/// Returns the event of a station with an operand.
 pub(crate) fn station_event(
     alloc: Global,
     station: u32,
@@ -174,7 +174,7 @@ pub(crate) fn station_event(
     }
 }
 
-/// What happens once in a way.
+/// Returns what happens once in a direction.
 fn way_once(way: Way, verb: u8) -> Option<HalfEvent>
     ensures { result ≡ the_way_once way verb }
 {
@@ -185,7 +185,7 @@ fn way_once(way: Way, verb: u8) -> Option<HalfEvent>
     }
 }
 
-/// What happens in a way, with an operand.
+/// Returns what happens in a direction, with an operand.
 fn way_event(
     alloc: Global,
     way: Way,
@@ -203,7 +203,7 @@ fn way_event(
     }
 }
 
-/// A command of the master.
+/// Returns the event that the master issues a command.
 fn issue(station: u32, payload: Option<Bytes>) -> Option<HalfEvent>
     ensures { result ≡ the_issue station payload }
 {
@@ -213,7 +213,7 @@ fn issue(station: u32, payload: Option<Bytes>) -> Option<HalfEvent>
     })
 }
 
-/// A command of the master in the name of a source.
+/// Returns the event that the master issues a command with an explicit SRC.
 fn issue_from(station: Option<u32>, src: Option<u32>, payload: Option<Bytes>) -> Option<HalfEvent>
     ensures { result ≡ the_issue_from station src payload }
 {
@@ -224,21 +224,21 @@ fn issue_from(station: Option<u32>, src: Option<u32>, payload: Option<Bytes>) ->
     })
 }
 
-/// The master gives bytes.
+/// Returns the event that the master sends bytes.
 fn master_take(n: Option<u32>) -> Option<HalfEvent>
     ensures { result ≡ the_master_take n }
 {
     Some(HalfEvent::MasterTake { n: times_of(n)? })
 }
 
-/// Ticks pass at the master.
+/// Returns the event that ticks pass at the master.
 fn master_tick(n: Option<u32>) -> Option<HalfEvent>
     ensures { result ≡ the_master_tick n }
 {
     Some(HalfEvent::MasterTick { n: times_of(n)? })
 }
 
-/// A station gives bytes.
+/// Returns the event that a station sends bytes.
 fn station_take(station: u32, n: Option<u32>) -> Option<HalfEvent>
     ensures { result ≡ the_station_take station n }
 {
@@ -248,7 +248,7 @@ fn station_take(station: u32, n: Option<u32>) -> Option<HalfEvent>
     })
 }
 
-/// Bytes of a queue arrive.
+/// Returns the event that bytes of a queue arrive.
 fn deliver(way: Way, n: Option<u32>) -> Option<HalfEvent>
     ensures { result ≡ the_deliver way n }
 {
@@ -258,7 +258,7 @@ fn deliver(way: Way, n: Option<u32>) -> Option<HalfEvent>
     })
 }
 
-/// Bytes of a queue are lost.
+/// Returns the event that bytes of a queue are lost.
 fn lose(way: Way, n: Option<u32>) -> Option<HalfEvent>
     ensures { result ≡ the_lose way n }
 {
@@ -268,7 +268,7 @@ fn lose(way: Way, n: Option<u32>) -> Option<HalfEvent>
     })
 }
 
-/// The head of a queue is altered.
+/// Returns the event that the head of a queue is altered.
 fn alter(way: Way, mask: Option<u8>) -> Option<HalfEvent>
     ensures { result ≡ the_alter way mask }
 {
@@ -278,7 +278,7 @@ fn alter(way: Way, mask: Option<u8>) -> Option<HalfEvent>
     })
 }
 
-/// Foreign bytes arrive.
+/// Returns the event that foreign bytes arrive.
 fn foreign(way: Way, bytes: Option<Bytes>) -> Option<HalfEvent>
     ensures { result ≡ the_foreign way bytes }
 {

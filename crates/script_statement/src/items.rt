@@ -1,4 +1,4 @@
-//! A list that grows, and that contracts see as a list.
+//! A growable list, which contracts see as a list.
 ghost use Rattle.std.specs.Prelude.{◌≡◌, [], ◌∷◌, ◌++◌, IfOk, OnOk, OnErr};
 
 use df1_base::NoMemory;
@@ -8,7 +8,7 @@ use std::marker::Model;
 /// Bytes, as of a message or a payload.
 pub type Bytes = Items<u8>;
 
-/// A list of items, kept in memory of the allocator that it was made with.
+/// A list of items, in memory of the allocator that it was made with.
 #[derive(Drop)]
 pub struct Items<T> {
     items: Vec<T>,
@@ -23,7 +23,7 @@ impl<T> Model for Items<T> {
 }
 
 impl<T> Items<T> {
-    /// An empty list.
+    /// Returns an empty list.
     pub fn new(alloc: Global) -> Self
         ensures { result ≡ [] }
     {
@@ -32,14 +32,14 @@ impl<T> Items<T> {
         }
     }
 
-    /// The items of a vector.
+    /// Returns the items of a vector as a list.
     pub fn from_vec(items: Vec<T>) -> Self
         ensures { result ≡ items.items }
     {
         Items { items }
     }
 
-    /// A list with a copy of these items.
+    /// Returns a list with a copy of these items.
     pub fn copy_of(alloc: Global, items: &[T]) -> Result<Self, NoMemory>
     where
         T: Copy,
@@ -50,7 +50,7 @@ impl<T> Items<T> {
         Ok(Items { items: copy })
     }
 
-    /// Puts an item at the end. Where there is no memory for it, the list is unchanged.
+    /// Appends an item. Without memory for it, the list is unchanged.
     pub fn push(&mut self, item: T) -> Result<(), NoMemory>
     where
         T: Drop,
@@ -63,7 +63,7 @@ impl<T> Items<T> {
         }
     }
 
-    /// Puts copies of these items at the end. Where there is no memory for them, the list is unchanged.
+    /// Appends copies of these items. Without memory for them, the list is unchanged.
     pub fn extend(&mut self, items: &[T]) -> Result<(), NoMemory>
     where
         T: Copy,
@@ -82,7 +82,7 @@ impl<T> Items<T> {
         self.items.clear();
     }
 
-    /// The items, the first one first.
+    /// Returns the items, the first one first.
     pub fn as_slice(&self) -> &[T]
         ensures { result.now ≡ self.now }
     {

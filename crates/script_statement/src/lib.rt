@@ -1,9 +1,8 @@
-//! What one line of a script says: its words, and the statement that they make by the table of the forms; with the
-//! names and values that statements are made of. A line says the same in either mode; whether it may stand there is for
-//! the reader of the lines.
+//! What one line of a script says: its words, the statement that they form, and the names and values in statements. A
+//! line says the same in either mode; the reader of the lines decides whether it may stand there.
 //!
-//! The forms, by the count of their words. E is an end: `a` or `b` of a full-duplex link, `m` or the number S of a station
-//! of a half-duplex line; `n` and SRC are numbers, HH, HHHH and HEX are pairs of hexadecimal digits.
+//! The forms, by the count of their words. E is an end: `a` or `b` of a full-duplex link, `m` or the number S of a
+//! station of a half-duplex line; `n` and SRC are numbers, HH, HHHH and HEX are pairs of hexadecimal digits.
 //!
 //! | Words | Forms |
 //! |---|---|
@@ -13,8 +12,8 @@
 //! | four | `mi S SRC HEX` |
 //! | five | `file E NUMBER TYPE COUNT`; `word E NUMBER INDEX HHHH` |
 //!
-//! `Si T HEX`, by which the station S issues a command to the station T or to the master, isn't among them: it is a form alone where
-//! the master carries messages between the stations.
+//! `Si T HEX`, by which the station S issues a command to the station T or to the master, isn't among them: it is a
+//! form only if the master carries messages between the stations.
 #![tactic(auto)]
 
 mod event_line;

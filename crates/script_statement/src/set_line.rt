@@ -1,5 +1,5 @@
-//! The lines that begin with `set`: the mode, the check, and of an end the settings of the table of keys, the compatibility
-//! file and the block, each with the values that it may have.
+//! The lines that begin with `set`: the mode, the check, and for an end the settings of the table of keys, the
+//! compatibility file and the block, each with its permitted values.
 ghost use Rattle.std.specs.Prelude.{◌≡◌, ◌==◌, IfOk, IsTrue, OnErr, codes, position};
 ghost use Rattle.std.specs.Str.{bytes_eq};
 ghost use Rattle.script_statement.specs.Statements.{set_line as the_set, end_setting as the_end_setting, named_line as the_named, compat_line as the_compat, block_line as the_block_line, block_of as the_block, file_number as the_file, is_block_key, set_statement as the_set_statement, setting_of as the_setting, number_as as the_number_as, check_of as the_check, switch_of as the_switch, mode_of as the_mode};
@@ -13,7 +13,7 @@ use df1_check::Check;
 use end_settings::{Key, Setting, Values};
 use std::alloc::Global;
 
-/// What `set` with a key and a value says, if the key is one.
+/// Returns what `set` with a key and a value says, if the key is one.
 #[inline(never)]
 pub(crate) fn set_line(
     alloc: Global,
@@ -32,7 +32,7 @@ pub(crate) fn set_line(
     }
 }
 
-/// The mode that a word names.
+/// Returns the mode that a word names.
 fn mode_of(value: &[u8]) -> Option<Statement>
     ensures { result ≡ the_mode value.now }
 {
@@ -45,7 +45,7 @@ fn mode_of(value: &[u8]) -> Option<Statement>
     }
 }
 
-/// The check that a word names.
+/// Returns the check that a word names.
 fn check_of(value: &[u8]) -> Option<Check>
     ensures { result ≡ the_check value.now }
 {
@@ -58,7 +58,7 @@ fn check_of(value: &[u8]) -> Option<Check>
     }
 }
 
-/// A setting of an end: its key is the end, a full stop and a name.
+/// Returns a setting of an end: its key is the end, a full stop and a name.
 fn end_setting(alloc: Global, key: &[u8], value: &[u8]) -> Result<Option<Statement>, NoMemory>
     ensures value { IfOk result (λ s. s ≡ the_end_setting key.now value.now) }
     ensures memory { OnErr result (IsTrue (is_block_key key.now)) }
@@ -69,7 +69,7 @@ fn end_setting(alloc: Global, key: &[u8], value: &[u8]) -> Result<Option<Stateme
     }
 }
 
-/// What a name and a value say of an end. A block alone takes memory.
+/// Returns what a name and a value say of an end. Only a block takes memory.
 fn named_line(
     alloc: Global,
     end: Option<EndName>,
@@ -88,14 +88,14 @@ fn named_line(
     }
 }
 
-/// The number of a file: None for a word that is no number, and None inside for a number that no file has.
+/// Returns the number of a file: None for a word that is not a number, and None inside for a number that no file has.
 fn file_of(value: &[u8]) -> Option<Option<u16>>
     ensures { result ≡ the_file value.now }
 {
     number_of(value).map(file_number)
 }
 
-/// The compatibility file of an end.
+/// Returns the compatibility file of an end.
 fn compat_line(end: Option<EndName>, file: Option<Option<u16>>) -> Option<Statement>
     ensures { result ≡ the_compat end file }
 {
@@ -105,7 +105,7 @@ fn compat_line(end: Option<EndName>, file: Option<Option<u16>>) -> Option<Statem
     })
 }
 
-/// The block of an end.
+/// Returns the block of an end.
 fn block_line(end: Option<EndName>, bytes: Option<Bytes>) -> Option<Statement>
     ensures { result ≡ the_block_line end bytes }
 {
@@ -115,7 +115,7 @@ fn block_line(end: Option<EndName>, bytes: Option<Bytes>) -> Option<Statement>
     })
 }
 
-/// A block, where it has 1 to 244 bytes.
+/// Returns a block, if it has 1 to 244 bytes.
 fn block_of(bytes: Option<Bytes>) -> Option<Bytes>
     ensures { result ≡ the_block bytes }
 {
@@ -127,14 +127,14 @@ fn block_of(bytes: Option<Bytes>) -> Option<Bytes>
     }
 }
 
-/// Where the first full stop stands.
+/// Returns the index of the first full stop.
 fn stop_of(key: &[u8]) -> Option<usize>
     ensures { result ≡ position (λ byte. byte == 46) key.now }
 {
     key.iter().position(|byte| *byte == b'.')
 }
 
-/// The setting of an end, where there is such an end and such a setting.
+/// Returns the setting of an end, if there is such an end and such a setting.
 fn set_statement(end: Option<EndName>, setting: Option<Setting>) -> Option<Statement>
     ensures { result ≡ the_set_statement end setting }
 {
@@ -144,7 +144,7 @@ fn set_statement(end: Option<EndName>, setting: Option<Setting>) -> Option<State
     })
 }
 
-/// The setting that a name and a value are: None for a name that no key has.
+/// Returns the setting that a name and a value make: None for a name that no key has.
 fn setting_of(name: &[u8], value: &[u8]) -> Option<Setting>
     ensures { result ≡ the_setting name.now value.now }
 {
@@ -156,7 +156,7 @@ fn setting_of(name: &[u8], value: &[u8]) -> Option<Setting>
     })
 }
 
-/// The number that a word is as one of these values.
+/// Returns the number that a word spells, as one of these values.
 fn number_as(values: Values, word: &[u8]) -> Option<u32>
     ensures { result ≡ the_number_as values word.now }
 {
@@ -166,7 +166,7 @@ fn number_as(values: Values, word: &[u8]) -> Option<u32>
     }
 }
 
-/// `off` or `on`, as 0 or 1.
+/// Returns `off` or `on` as 0 or 1.
 fn switch_of(word: &[u8]) -> Option<u32>
     ensures { result ≡ the_switch word.now }
 {

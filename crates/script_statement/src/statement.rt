@@ -1,5 +1,5 @@
-//! What one line of a script says, by the table of the forms. A value, number or length that is out of its range
-//! leaves its field None: such a line still is one of the forms.
+//! What one line of a script says, by the table of the forms. A value, number or length that is out of its range leaves
+//! its field None: such a line is still one of the forms.
 ghost use Rattle.std.specs.Prelude.{◌≡◌, ◌||◌, not, false, map, IfOk, IsTrue, OnErr, Some, codes};
 ghost use Rattle.std.specs.Str.{bytes_eq};
 ghost use Rattle.script_statement.specs.Words.{within as the_bounded};
@@ -16,7 +16,7 @@ use df1_base::{FileType, NoMemory};
 use df1_check::Check;
 use std::alloc::Global;
 
-/// The most events that one line, and a whole script, may count.
+/// The maximum count of events of one line, and of a whole script.
 pub const EVENTS: u32 = 4_000_000;
 
 /// The highest file number.
@@ -39,7 +39,7 @@ pub enum EndLetter {
 }
 
 impl EndLetter {
-    /// The end as events name it.
+    /// Returns the end as events name it.
     pub fn who(self) -> Who
         ensures { result ≡ who_of self }
     {
@@ -49,7 +49,7 @@ impl EndLetter {
         }
     }
 
-    /// The end at the other side of the link.
+    /// Returns the end at the other side of the link.
     pub fn other(self) -> EndLetter
         ensures { result ≡ other_end self }
     {
@@ -74,7 +74,7 @@ pub enum EndName {
 /// What happens a number of times, at an end of a full-duplex link or at its queue.
 #[derive(Clone, Copy, Debug, PartialEq, Eq)]
 pub enum Verb {
-    /// The end gives a byte, which goes into its queue.
+    /// The end sends a byte, which goes into its queue.
     Take,
     /// A tick passes at the end.
     Tick,
@@ -84,14 +84,14 @@ pub enum Verb {
     Lose,
 }
 
-/// A line that is one of the forms. What is None of it was out of its range.
+/// A line that is one of the forms. A field is None if its value was out of range.
 #[derive(Drop)]
 pub enum Statement {
     /// Full duplex, or half duplex.
     Mode {
         half: bool,
     },
-    /// Which check the line has.
+    /// The check of the line.
     Check(Option<Check>),
     /// The next station of a half-duplex line: its number is at most 254, and not 16.
     Station(Option<u8>),
@@ -105,7 +105,7 @@ pub enum Statement {
         side: EndLetter,
         payload: Option<Bytes>,
     },
-    /// A command of an end of a full-duplex link, in the name of a source.
+    /// A command of an end of a full-duplex link, with an explicit SRC.
     IssueFrom {
         side: EndLetter,
         src: Option<u8>,
@@ -133,8 +133,8 @@ pub enum Statement {
     End,
 }
 
-/// What the words of a line say, if they are one of the forms. Events with an operand, and lines that give a block, alone
-/// take memory.
+/// Returns what the words of a line say, if they are one of the forms. Only events with an operand, and lines that set
+/// a block, take memory.
 #[tactic(auto, unfolding(crate::specs::Statements::statement_of))]
 pub fn statement_of(alloc: Global, words: &[&[u8]]) -> Result<Option<Statement>, NoMemory>
     ensures value { IfOk result (λ s. s ≡ the_statement (map (λ x. x.now) words.now)) }
@@ -150,7 +150,7 @@ pub fn statement_of(alloc: Global, words: &[&[u8]]) -> Result<Option<Statement>,
     }
 }
 
-/// The forms of one word.
+/// Returns the statement of one word.
 fn one_word(word: &[u8]) -> Option<Statement>
     ensures { result ≡ the_one word.now }
 {
@@ -161,7 +161,7 @@ fn one_word(word: &[u8]) -> Option<Statement>
     }
 }
 
-/// The forms of two words.
+/// Returns the statement of two words.
 fn two_words(alloc: Global, word: &[u8], operand: &[u8]) -> Result<Option<Statement>, NoMemory>
     ensures value { IfOk result (λ s. s ≡ the_two word.now operand.now) }
     ensures memory { OnErr result (bytes_eq word.now (codes "station") ≡ false) }
@@ -173,14 +173,14 @@ fn two_words(alloc: Global, word: &[u8], operand: &[u8]) -> Result<Option<Statem
     }
 }
 
-/// The line that declares a station.
+/// Returns the line that declares a station.
 fn station_line(number: Option<u32>) -> Option<Statement>
     ensures { result ≡ the_station number }
 {
     Some(Statement::Station(station_number(number?)))
 }
 
-/// The number of a station, where a station may have it.
+/// Returns the number of a station, if a station may have it.
 fn station_number(number: u32) -> Option<u8>
     ensures { result ≡ the_station_number number }
 {
@@ -191,7 +191,7 @@ fn station_number(number: u32) -> Option<u8>
     }
 }
 
-/// The forms of three words.
+/// Returns the statement of three words.
 fn three_words(
     alloc: Global,
     verb: &[u8],
@@ -208,7 +208,7 @@ fn three_words(
     }
 }
 
-/// The forms of five words.
+/// Returns the statement of five words.
 #[inline(never)]
 fn five_words(
     verb: &[u8],
@@ -238,7 +238,7 @@ fn five_words(
     }
 }
 
-/// The line that declares a data file.
+/// Returns the line that declares a data file.
 fn file_line(
     end: Option<EndName>,
     number: Option<u32>,
@@ -253,7 +253,7 @@ fn file_line(
     })
 }
 
-/// The line that gives the first value of a word.
+/// Returns the line that sets the first value of a word.
 fn word_line(
     end: Option<EndName>,
     number: Option<u32>,
@@ -272,7 +272,7 @@ fn word_line(
     })
 }
 
-/// A data file, where its number, type and count are such as a file may have.
+/// Returns a data file, if a file may have its number, type and count.
 fn file_spec(number: u32, kind: Option<FileType>, count: u32) -> Option<FileSpec>
     ensures { result ≡ the_spec (the_bounded 0 999 (Some number)) kind (the_bounded 1 1000 (Some count)) }
 {
@@ -286,7 +286,7 @@ fn file_spec(number: u32, kind: Option<FileType>, count: u32) -> Option<FileSpec
     })
 }
 
-/// The number of a file, 0 to 999. None comes exactly where it is over 999, which no file may have.
+/// Returns the number of a file, 0 to 999; None exactly if it is over 999, which no file may have.
 pub fn file_number(number: u32) -> Option<u16>
     ensures { result ≡ the_bounded 0 999 (Some number) }
 {
@@ -294,7 +294,7 @@ pub fn file_number(number: u32) -> Option<u16>
     Some(number as u16)
 }
 
-/// The type that a word names, letter for letter.
+/// Returns the type that a word names, case-sensitive.
 fn file_type(word: &[u8]) -> Option<FileType>
     ensures { result ≡ the_type word.now }
 {
@@ -317,7 +317,7 @@ fn file_type(word: &[u8]) -> Option<FileType>
     }
 }
 
-/// The end that a word names, if it names one.
+/// Returns the end that a word names, if it names one.
 pub(crate) fn end_of(word: &[u8]) -> Option<EndName>
     ensures { result ≡ the_end word.now }
 {

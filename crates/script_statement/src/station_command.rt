@@ -10,8 +10,9 @@ use crate::words::{hex_of, number_of};
 use df1_base::NoMemory;
 use std::alloc::Global;
 
-/// The command that a station issues by the words of a line: `Si T HEX`, where S and T are the numbers of the station and of the one
-/// that it is for, and HEX is the payload, CMD included. None comes exactly where the words are not of this form.
+/// Returns the command that a station issues by the words of a line: `Si T HEX`, where S and T are the numbers of the
+/// station and of the destination, and HEX is the payload, CMD included. Returns None exactly if the words are not of
+/// this form.
 #[tactic(auto, unfolding(crate::specs::Statements::station_issue))]
 pub fn station_issue(alloc: Global, words: &[&[u8]]) -> Result<Option<HalfEvent>, NoMemory>
     ensures { IfOk result (λ event. event ≡ the_command (map (λ x. x.now) words.now)) }
@@ -22,7 +23,7 @@ pub fn station_issue(alloc: Global, words: &[&[u8]]) -> Result<Option<HalfEvent>
     }
 }
 
-/// A command of the station that a word names before its letter.
+/// Returns a command of the station that a word names before its letter.
 fn issue_by(
     alloc: Global,
     word: &[u8],
@@ -37,7 +38,7 @@ fn issue_by(
     }
 }
 
-/// An event of a station with the number of another end and an operand.
+/// Returns an event of a station with the number of another end and an operand.
 fn from_station(
     alloc: Global,
     end: Option<EndName>,
@@ -55,7 +56,7 @@ fn from_station(
     }
 }
 
-/// A command of a station.
+/// Returns a command of a station.
 fn issue_to(station: u32, to: Option<u32>, payload: Option<Bytes>) -> Option<HalfEvent>
     ensures { result ≡ the_issue station to payload }
 {

@@ -1,4 +1,4 @@
-//! Words of a script line, parted by blanks or tabs, and what a word means by itself: a number of 1 to 9 decimal
+//! The words of a script line, separated by blanks or tabs, and what a word means by itself: a number of 1 to 9 decimal
 //! digits, or pairs of hexadecimal digits of either case.
 ghost use Rattle.std.specs.Prelude.{◌≡◌, ◌<◌, ◌&&◌, [], ◌∷◌, map, take, ◌%◌, not, position, IfOk, OnErr, MatchOption, length, nat_le};
 ghost use Rattle.std.specs.Str.{bytes_eq};
@@ -11,7 +11,7 @@ use df1_base::NoMemory;
 use hex::{FromHex, FromHexError};
 use std::alloc::Global;
 
-/// The most decimal digits that a number has.
+/// The most decimal digits of a number.
 const DIGITS: usize = 9;
 
 /// One word more than the longest form has.
@@ -20,7 +20,7 @@ const WORDS: usize = 6;
 /// The first words of a line.
 pub type FirstWords<'a> = ArrayVec<&'a [u8], WORDS>;
 
-/// The first words of a line, parted by blanks and tabs: all of them, or as many as are one more than the longest form has.
+/// Returns the first words of a line, separated by blanks and tabs: all of them, or one more than the longest form has.
 pub fn first_words(line: &[u8]) -> FirstWords<'_>
     ensures { map (λ x. x.now) result.items ≡ take 6 (words line.now) }
 {
@@ -36,7 +36,7 @@ pub fn first_words(line: &[u8]) -> FirstWords<'_>
     words
 }
 
-/// The first word of a line, and what follows it.
+/// Returns the first word of a line, and what follows it.
 fn next_word(line: &[u8]) -> Option<(&[u8], &[u8])>
     ensures { MatchOption result (words line.now ≡ [])
         (λ cut. (words line.now ≡ cut.0.now ∷ words cut.1.now) × (length cut.1.now < length line.now)) }
@@ -48,29 +48,29 @@ fn next_word(line: &[u8]) -> Option<(&[u8], &[u8])>
     Some(begun.split_at(word_end(begun).unwrap_or(begun.len())))
 }
 
-/// Where the first byte of a word stands.
+/// Returns the index of the first byte of a word.
 fn word_start(line: &[u8]) -> Option<usize>
     ensures { result ≡ position (λ byte. not (is_blank byte)) line.now }
 {
     line.iter().position(|byte| !is_blank(*byte))
 }
 
-/// Where the first blank or tab stands.
+/// Returns the index of the first blank or tab.
 fn word_end(line: &[u8]) -> Option<usize>
     ensures { result ≡ position is_blank line.now }
 {
     line.iter().position(|byte| is_blank(*byte))
 }
 
-/// Whether a byte parts words.
+/// Returns whether a byte separates words.
 fn is_blank(byte: u8) -> bool
     ensures { result ≡ is_blank byte }
 {
     byte == b' ' || byte == b'\t'
 }
 
-/// The number that a word of 1 to 9 decimal digits is: 0 to 999,999,999. Leading zeros are digits like others. None comes
-/// exactly where a word is none: it is empty, has over 9 bytes, or one of its bytes is no decimal digit.
+/// Returns the number that a word of 1 to 9 decimal digits spells: 0 to 999,999,999. Leading zeros count as digits.
+/// Returns None exactly if the word is empty, has over 9 bytes, or contains a byte that is not a decimal digit.
 #[tactic(auto, unfolding(crate::specs::Words::number_of))]
 pub fn number_of(word: &[u8]) -> Option<u32>
     ensures { result ≡ number_of word.now }
@@ -88,7 +88,7 @@ pub fn number_of(word: &[u8]) -> Option<u32>
     Some(value)
 }
 
-/// A number that stands within these bounds.
+/// Returns a number that lies within these bounds.
 pub(crate) fn within(least: u32, most: u32, number: Option<u32>) -> Option<u32>
     ensures { result ≡ within least most number }
 {
@@ -98,22 +98,22 @@ pub(crate) fn within(least: u32, most: u32, number: Option<u32>) -> Option<u32>
     }
 }
 
-/// Whether there are this many bytes, from the least to the most.
+/// Returns whether there are this many bytes, from the least to the most.
 pub(crate) fn is_within(least: usize, most: usize, bytes: &[u8]) -> bool
     ensures { result ≡ (nat_le least (length bytes.now) && nat_le (length bytes.now) most) }
 {
     least <= bytes.len() && bytes.len() <= most
 }
 
-/// Whether a word is this text.
+/// Returns whether a word is this text.
 pub(crate) fn is(word: &[u8], text: &str) -> bool
     ensures { result ≡ bytes_eq word.now text.now }
 {
     word == text.as_bytes()
 }
 
-/// The bytes that a word of pairs of hexadecimal digits of either case spells. None comes where a byte is no such digit, or their
-/// number is odd; a word of an odd length takes no memory.
+/// Returns the bytes that a word of pairs of hexadecimal digits of either case spells. Returns None if a byte is not
+/// such a digit, or their number is odd; a word of an odd length takes no memory.
 #[inline(never)]
 pub fn hex_of(alloc: Global, word: &[u8]) -> Result<Option<Bytes>, NoMemory>
     ensures value { IfOk result (λ bytes. bytes ≡ the_bytes word.now) }
@@ -126,7 +126,7 @@ pub fn hex_of(alloc: Global, word: &[u8]) -> Result<Option<Bytes>, NoMemory>
     }
 }
 
-/// The byte that two hexadecimal digits spell.
+/// Returns the byte that two hexadecimal digits spell.
 pub(crate) fn byte_of(word: &[u8]) -> Option<u8>
     ensures { result ≡ the_byte word.now }
 {
@@ -134,7 +134,7 @@ pub(crate) fn byte_of(word: &[u8]) -> Option<u8>
     byte_in(&byte)
 }
 
-/// The byte of a list of one.
+/// Returns the byte of a list of one.
 fn byte_in(bytes: &[u8]) -> Option<u8>
     ensures { result ≡ byte_in bytes.now }
 {
@@ -144,8 +144,8 @@ fn byte_in(bytes: &[u8]) -> Option<u8>
     }
 }
 
-/// The word of a data file that four hexadecimal digits of either case spell, its high byte first: 0 to 65,535. None comes
-/// exactly where the bytes are not four such digits.
+/// Returns the word of a data file that four hexadecimal digits of either case spell, its high byte first: 0 to 65,535.
+/// Returns None exactly if the bytes are not four such digits.
 pub fn register_of(word: &[u8]) -> Option<u16>
     ensures { result ≡ the_register word.now }
 {
@@ -153,7 +153,7 @@ pub fn register_of(word: &[u8]) -> Option<u16>
     register_in(&bytes)
 }
 
-/// The word of a high and a low byte.
+/// Returns the word of a high and a low byte.
 fn register_in(bytes: &[u8]) -> Option<u16>
     ensures { result ≡ register_in bytes.now }
 {

@@ -1,4 +1,4 @@
-//! Lines with the first that has a flaw, and one script field by field.
+//! Tests of lines with the first that has a flaw, and of one script field by field.
 
 use df1_check::Check;
 use end_drafts::{Flaw, StatementFault};
@@ -9,7 +9,7 @@ use std::alloc::{AllocError, Global};
 use std::process::Abort;
 use std::test::Fail;
 
-/// Flawed lines behind `set mode half`, with the number of the first and its first flaw.
+/// Flawed lines after `set mode half`, with the number of the first and its first flaw.
 const FLAWED: [(&str, u32, Flaw); 70] = [
     ("set mode half", 1, Flaw::Place),
     ("set mode full", 1, Flaw::Place),
@@ -91,7 +91,7 @@ const FLAWED: [(&str, u32, Flaw); 70] = [
     ("station 1\nstation 2\n1k 3999999\n2n 1015", 4, Flaw::Events),
 ];
 
-/// What is read of some lines: the script, or the number of the first line that is none of the forms or refused, with its
+/// Returns the script of some lines, or the number of the first line that is none of the forms or refused, with its
 /// fault.
 fn read(alloc: Global, text: &str) -> Result<Script, (u32, Option<StatementFault>)> {
     let mut reader = HalfReader::new(alloc, false);
@@ -132,7 +132,8 @@ fn the_first_flawed_line_is_told_with_its_first_flaw(rt: HostRuntime) {
     }
 }
 
-/// Lines with stations from 17 up to this number, or so many commands of one master, and the line with a flaw, if there is one.
+/// Lines with stations from 17 up to this number, or so many commands of one master, and the line with a flaw, if there
+/// is one.
 const MANY: [(&str, u32, u32, Option<(u32, Flaw)>); 4] = [
     ("", 48, 0, None),
     ("", 49, 0, Some((33, Flaw::Value))),
@@ -140,7 +141,7 @@ const MANY: [(&str, u32, u32, Option<(u32, Flaw)>); 4] = [
     ("station 3\n", 16, 65_536, Some((65_537, Flaw::Spent))),
 ];
 
-/// Lines for the stations from 17 to the last one, and so many commands.
+/// Returns lines for the stations from 17 to the last one, and so many commands.
 fn many(alloc: Global, front: &str, last: u32, commands: u32) -> Result<String, AllocError> {
     let mut text = String::from_str(alloc, front)?;
     for number in 17..=last {
@@ -212,7 +213,7 @@ const EVENTS: [Shown; 9] = [
     ('n', Who::S(3), Some(Who::M), None, 0, b"\x10\x15"),
 ];
 
-/// The letter of an event, and its end or the two of its lane.
+/// Returns the letter of an event, and its end or the two of its lane.
 fn place_of(event: &Event) -> (char, Who, Option<Who>) {
     match event {
         Event::Issue { who, .. } => ('i', *who, None),
@@ -225,7 +226,7 @@ fn place_of(event: &Event) -> (char, Who, Option<Who>) {
     }
 }
 
-/// The source that a command names.
+/// Returns the source that a command names.
 fn source_of(event: &Event) -> Option<u8> {
     match event {
         Event::Issue { src, .. } => *src,
@@ -233,7 +234,7 @@ fn source_of(event: &Event) -> Option<u8> {
     }
 }
 
-/// The number of an event: DST of a command, a mask, or how often it happens.
+/// Returns the number of an event: DST of a command, a mask, or how often it happens.
 fn number_of(event: &Event) -> u32 {
     match event {
         Event::Issue { dst, .. } => u32::from(*dst),
@@ -244,7 +245,7 @@ fn number_of(event: &Event) -> u32 {
     }
 }
 
-/// The bytes of an event.
+/// Returns the bytes of an event.
 fn bytes_of(event: &Event) -> &[u8] {
     match event {
         Event::Issue { payload, .. } => payload.as_slice(),

@@ -1,4 +1,5 @@
-//! Tests of the table of keys, and of what the lines of a script say: each by itself, and those of a half-duplex script one after another.
+//! Tests of the table of keys, and of the lines of a script: each by itself, and those of a half-duplex script in
+//! sequence.
 #![tactic(auto)]
 
 #[cfg(test)]

@@ -1,7 +1,7 @@
-//! The table of keys, and settings that are given.
+//! Tests of the table of keys, and of settings.
 use end_settings::{First, KEYS, Key, Role, Setting, Settings, Values};
 
-/// Which kinds of end have each key: a full-duplex end, a master, a station, a station whose master carries messages.
+/// The kinds of end that have each key: a full-duplex end, a master, a station, a station whose master routes messages.
 const ROLES: [(&str, [bool; 4]); 13] = [
     ("ack_ticks", [true, true, false, false]),
     ("embed", [true, false, false, false]),
@@ -36,7 +36,7 @@ fn each_kind_of_end_has_its_keys(rt: HostRuntime) {
     assert!(rt; KEYS.len() == ROLES.len() && Key::named(b"ack-ticks") == None);
 }
 
-/// The least and the most of each key's values, and its value at first, of an end whose address is 7.
+/// The minimum, maximum and default value of each key, for an end whose address is 7.
 const VALUES: [(Key, u32, u32, u32); 13] = [
     (Key::AckTicks, 1, 1_000_000, 10),
     (Key::Embed, 0, 1, 0),

@@ -1,4 +1,4 @@
-//! The words of a line, and the statement that they make.
+//! Tests of the words of a line, and of the statement that they make.
 
 use df1_base::FileType;
 use end_settings::{Key, Setting};
@@ -8,7 +8,7 @@ use script_statement::{
 use std::alloc::Global;
 use std::test::Fail;
 
-/// What a line says, if it is one of the forms and there is memory.
+/// Returns the statement of a line, if it is one of the forms and there is memory.
 fn said(alloc: Global, line: &str) -> Option<Statement> {
     statement_of(alloc, &first_words(line.as_bytes())).ok()?
 }
@@ -55,7 +55,7 @@ fn a_line_says_its_statement(rt: HostRuntime) -> Result<(), Fail> {
     Ok(())
 }
 
-/// Lines of a half-duplex line that count, and what: the verb's letter, the way if it is one of a queue, and the number.
+/// Lines of a half-duplex line with a count: the verb's letter, the way if it is one of a queue, and the number.
 const COUNTED: [(&str, (char, Option<Way>, Option<u32>)); 18] = [
     ("mk", ('k', None, Some(1))),
     ("mk 4000000", ('k', None, Some(4_000_000))),
@@ -83,7 +83,7 @@ const COUNTED: [(&str, (char, Option<Way>, Option<u32>)); 18] = [
     ("300x 0", ('x', Some(Way::ToMaster(300)), None)),
 ];
 
-/// What a line counts, if it is such a line.
+/// Returns what a line counts, if it is such a line.
 fn counted(alloc: Global, line: &str) -> Option<(char, Option<Way>, Option<u32>)> {
     let Statement::Half(event) = said(alloc, line)? else {
         return None;
@@ -155,12 +155,12 @@ fn a_line_gives_bytes_to_a_half_duplex_line(rt: HostRuntime) {
     );
 }
 
-/// What a line says of a command that it issues: of an end of a full-duplex link or to a station, with the source that it
-/// names, and whether its payload is one.
+/// The command that a line issues: its end of a full-duplex link or its station, the source that it names, and whether
+/// its payload is valid.
 type Issued = (Option<EndLetter>, Option<u32>, Option<Option<u8>>, bool);
 
-/// Lines that issue a command: the end or the station, the source where the line names one, which is None where it is out of its
-/// range, and whether there is a payload.
+/// Lines that issue a command: the end or the station, the source if the line names one, which is None if it is out of
+/// its range, and whether there is a payload.
 const ISSUED: [(&str, Issued); 11] = [
     ("ai 0600", (Some(EndLetter::A), None, None, true)),
     ("ai 9 0600", (Some(EndLetter::A), None, Some(Some(9)), true)),
@@ -184,7 +184,7 @@ const ISSUED: [(&str, Issued); 11] = [
     ("mi 3 256 4F00", (None, Some(3), Some(None), false)),
 ];
 
-/// The command that a line issues.
+/// Returns the command that a line issues.
 fn issued(alloc: Global, line: &str) -> Option<Issued> {
     match said(alloc, line)? {
         Statement::Issue { side, payload } => Some((Some(side), None, None, payload.is_some())),
@@ -279,7 +279,7 @@ fn what_is_like_a_form_is_none(rt: HostRuntime) {
     }
 }
 
-/// Words behind `station`, and the number that they give: None where no station has it.
+/// Words after `station`, with their number: None if no station has it.
 const STATIONS: [(&str, Option<u8>); 8] = [
     ("0", Some(0)),
     ("003", Some(3)),
@@ -406,7 +406,7 @@ fn a_line_sets_what_an_end_has(rt: HostRuntime) {
     }
 }
 
-/// The words that name types, and the words beside them that name none.
+/// The words that name types, and similar words that don't.
 const TYPES: [(&str, Option<FileType>); 12] = [
     ("84", Some(FileType::Status)),
     ("85", Some(FileType::Bit)),
@@ -422,7 +422,7 @@ const TYPES: [(&str, Option<FileType>); 12] = [
     ("8", None),
 ];
 
-/// The type of the file that a line declares, if it is such a line and its word names one.
+/// Returns the type of the file that a line declares, if it is such a line and its word names one.
 fn type_of(alloc: Global, word: &str) -> Option<Option<FileType>> {
     let words = [b"file".as_slice(), b"a", b"7", word.as_bytes(), b"2"];
     match statement_of(alloc, &words) {
@@ -445,7 +445,7 @@ fn a_type_is_named_letter_for_letter(rt: HostRuntime) {
     }
 }
 
-/// Words that name a compatibility file: None for one that is no number, None inside for a number that no file has.
+/// Words that name a compatibility file: None for one that isn't a number, None inside for a number that no file has.
 const COMPATS: [(&str, Option<Option<u16>>); 7] = [
     ("7", Some(Some(7))),
     ("0", Some(Some(0))),
@@ -456,7 +456,7 @@ const COMPATS: [(&str, Option<Option<u16>>); 7] = [
     ("N7", None),
 ];
 
-/// The file that a line makes the compatibility file of end b, if it is such a line.
+/// Returns the file that a line makes the compatibility file of end b, if it is such a line.
 fn compat_of(alloc: Global, word: &str) -> Option<Option<Option<u16>>> {
     let words = [b"set".as_slice(), b"b.compat", word.as_bytes()];
     match statement_of(alloc, &words) {
@@ -479,10 +479,10 @@ fn a_compatibility_file_is_named_by_its_number(rt: HostRuntime) {
     }
 }
 
-/// How many pairs of digits the block of a line has, and whether they make a block.
+/// The number of pairs of digits of a block, and whether they make a block.
 const BLOCKS: [(usize, bool); 4] = [(0, false), (1, true), (244, true), (245, false)];
 
-/// The length of the block that a line with this value gives to end a, if it is such a line.
+/// Returns the length of the block that a line with this value sets for end a, if it is such a line.
 fn block_of(alloc: Global, value: &[u8]) -> Option<Option<usize>> {
     let words = [b"set".as_slice(), b"a.block", value];
     match statement_of(alloc, &words) {

@@ -1,4 +1,4 @@
-//! How logical orders are executed.
+//! Execution of logical orders.
 ghost use Rattle.std.specs.Prelude.{◌≡◌, ◌≤◌, ◌/◌, ◌+◌, ◌*◌, ◌++◌, [], true, length, IfOk, IsTrue};
 ghost use Rattle.data_files.specs.Effect.{is_refusal, refusal, unless_refused};
 ghost use Rattle.data_files.specs.Tables.{has_words, with_words};
@@ -11,18 +11,19 @@ use arrayvec::ArrayVec;
 use data_files::{Place, Tables, locate, push_words};
 use df1_base::{Code, MAX_DATA};
 
-/// The size isn't of whole words, or there is no word.
+/// The size is 0 or not a whole number of words.
 const NO_WHOLE_WORDS: Code = Code::Ext(0x01);
 
-/// The size is more than the data of a message.
+/// The size exceeds the data of a message.
 const TOO_LARGE: Code = Code::Ext(0x09);
 
-/// Executes an order that `read_slc` gave, and replaces `out` by the data of the reply: the words of a read, each low byte
-/// first, else nothing (manual topics: commands, status codes).
+/// Executes an order that `read_slc` returned, and replaces `out` by the data of the reply: the words of a read, each
+/// low byte first, otherwise nothing (manual topics: commands, status codes).
 ///
-/// A read gives the words from the address on. A write makes each of them the old word where a bit of the mask is clear
-/// and the new one where it is set. The first of these tests that fails refuses the order, which then changes nothing and
-/// has no data: the size isn't 0 or odd, F0/01; it is at most 244, F0/09; those of the place of the words (`locate`).
+/// A read returns the words from the address on. A write makes each bit of each word the new one if the bit of the mask
+/// is set, and keeps the old one if it is clear. An order is refused by the first of these tests that fails; it then
+/// changes nothing and its reply has no data: the size isn't 0 or odd, F0/01; it is at most 244, F0/09; the tests of
+/// the place of the words (`locate`).
 pub fn do_slc(tables: &mut Tables, order: &SlcOrder<'_>, out: &mut ArrayVec<u8, 244>) -> Code
     requires { IsOrder (seen order.now) }
     ensures code { result ≡ (meaning tables.old (seen order.now)).code }
@@ -45,7 +46,7 @@ pub fn do_slc(tables: &mut Tables, order: &SlcOrder<'_>, out: &mut ArrayVec<u8, 
     }
 }
 
-/// The index in its file of the first word of an order, or the code of its first test that fails.
+/// Returns the index in its file of the first word of an order, or the code of the first test that fails.
 fn first_word(tables: &Tables, order: &SlcOrder<'_>) -> Result<u32, Code>
     ensures found { result ≡ unless_refused (refusal (tests tables.now.specs (seen order.now))) (first_word tables.now.specs (seen order.now)) }
     ensures room { IfOk result (λ first. has_words tables.now.specs order.now.at.file first (order.now.size / 2) ≡ true) }
@@ -72,7 +73,7 @@ fn first_word(tables: &Tables, order: &SlcOrder<'_>) -> Result<u32, Code>
     )
 }
 
-/// The words of an order before it, from the index `first` of its file on.
+/// Returns the words of an order before it is executed, from the index `first` of its file on.
 fn words_before<'a>(tables: &'a Tables, order: &SlcOrder<'_>, first: u32) -> &'a [u16]
     requires first { first ≡ first_word tables.now.specs (seen order.now) }
     requires room { has_words tables.now.specs order.now.at.file first (order.now.size / 2) ≡ true }

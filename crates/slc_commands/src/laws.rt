@@ -6,12 +6,12 @@ ghost use Rattle.slc_commands.specs.Order.{IsOrder, Order, SpellsOrder, order_of
 ghost use Rattle.data_files.specs.WordBytes.{bytes_of, words_of};
 ghost use Rattle.slc_commands.specs.Words.{masked, masked_word};
 
-/// A payload spells one order at most.
+/// A payload encodes at most one order.
 pub fn one_order()
     ensures { (order other : Order) (payload : List ℕ) → SpellsOrder order payload → SpellsOrder other payload → order ≡ other }
 {}
 
-/// What `do_slc` asks of an order is what every order is that some payload spells, and no more.
+/// The orders that `do_slc` requires are exactly those that some payload encodes.
 pub fn orders_are_spelled()
     ensures spelled { (order : Order) → IsOrder order → (payload : List ℕ) × SpellsOrder order payload }
     ensures only { (order : Order) (payload : List ℕ) → SpellsOrder order payload → IsOrder order }
@@ -22,7 +22,7 @@ pub fn all_bits_replace()
     ensures { (old new : List ℕ) → length old ≡ length new → All (λ word. word < 2 ^ 16) new → masked 0xFFFF old new ≡ new }
 {}
 
-/// What is read of words that were written as bytes are these words.
+/// Words that were written as bytes are read back unchanged.
 pub fn bytes_are_words()
     ensures { (words : List ℕ) → words_of (bytes_of words) ≡ words }
 {}

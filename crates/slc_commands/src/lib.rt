@@ -9,8 +9,9 @@
 //! | AA | write with three fields | size, address, data |
 //! | AB | masked write with three fields | size, address, mask of 2 bytes low first, data |
 //!
-//! A field that is cut off, bytes after a read, or a write whose data isn't size bytes is refused with STS 10; then a
-//! size of 0 or an odd one with F0/01; a size over 244 with F0/09; then comes what the place of the words refuses.
+//! If a field is cut off, bytes are left after a read, or a write's data isn't as long as its size says, the command is
+//! refused with STS 10. Next, a size of 0 or an odd one is refused with F0/01, and a size over 244 with F0/09; then
+//! come the refusals of the place of the words.
 #![tactic(auto)]
 
 mod execute;

@@ -7,13 +7,13 @@ ghost use Rattle.slc_commands.specs.Order.{IsOrder, Order, SpellsOrder, data_len
 use df1_base::Code;
 use logical_address::{Three, read_three};
 
-/// What an order is refused with that isn't spelled as its function asks.
+/// The code that refuses an order that isn't encoded as its function requires.
 const ILLEGAL: Code = Code::Sts(0x10);
 
 /// The mask of a write that replaces all bits.
 const ALL_BITS: u16 = 0xFFFF;
 
-/// A function of the logical commands, beside its FNC in hexadecimal.
+/// A function of the logical commands, with its FNC in hexadecimal.
 #[derive(Clone, Copy, Debug, PartialEq, Eq)]
 pub enum SlcFnc {
     /// A1: read with an address of two fields.
@@ -29,7 +29,7 @@ pub enum SlcFnc {
 }
 
 impl SlcFnc {
-    /// Whether the function writes.
+    /// Returns whether the function writes.
     pub fn writes(self) -> bool
         ensures { result ≡ writes self }
     {
@@ -45,19 +45,19 @@ impl SlcFnc {
 pub struct SlcOrder<'a> {
     /// The function.
     pub fnc: SlcFnc,
-    /// Where its first word is.
+    /// The place of its first word.
     pub at: Three,
-    /// How many bytes are read or written.
+    /// The number of bytes that are read or written.
     pub size: u8,
-    /// Which bits of each word are written: FFFF where the function isn't Masked.
+    /// The bits of each word that are written: FFFF if the function isn't Masked.
     pub mask: u16,
-    /// The words to be written, each low byte first; none for a read.
+    /// The words to write, each low byte first; empty for a read.
     pub bytes: &'a [u8],
 }
 
-/// Reads the order of a payload, which is what follows TNS and begins with FNC (manual topic: commands).
+/// Reads the order of a payload, which is the bytes after TNS and begins with FNC (manual topic: commands).
 ///
-/// STS 10 comes exactly where there is no FNC or another one, a field is cut off, bytes are left after a read, or the
+/// Returns STS 10 exactly if FNC is missing or none of these, a field is cut off, bytes are left after a read, or the
 /// data of a write isn't as long as its size says.
 pub fn read_slc(payload: &[u8]) -> Result<SlcOrder<'_>, Code>
     ensures reads { result_map_both seen (λ code. code) result ≡ order_of payload.now }
@@ -72,7 +72,7 @@ pub fn read_slc(payload: &[u8]) -> Result<SlcOrder<'_>, Code>
     }
 }
 
-/// The order that a payload spells.
+/// Returns the order that a payload encodes.
 #[tactic(auto, unfolding(crate::specs::Order::spelled_order))]
 fn spelled_order(payload: &[u8]) -> Option<SlcOrder<'_>>
     ensures { option_map seen result ≡ spelled_order payload.now }
@@ -83,7 +83,7 @@ fn spelled_order(payload: &[u8]) -> Option<SlcOrder<'_>>
     }
 }
 
-/// The fields of an order after FNC.
+/// Reads the fields of an order after FNC.
 #[tactic(auto, unfolding(crate::specs::Order::fields))]
 fn fields(fnc: SlcFnc, bytes: &[u8]) -> Option<SlcOrder<'_>>
     ensures { option_map seen result ≡ fields fnc bytes.now }
@@ -105,7 +105,7 @@ fn fields(fnc: SlcFnc, bytes: &[u8]) -> Option<SlcOrder<'_>>
     })
 }
 
-/// The mask at the front, where the function has one, and the bytes after it.
+/// Returns the mask at the front, if the function has one, and the bytes after it.
 fn mask_front(fnc: SlcFnc, bytes: &[u8]) -> Option<(u16, &[u8])>
     ensures { option_map (λ found. (found.0, found.1.now)) result ≡ mask_front (has_mask fnc) bytes.now }
 {
@@ -116,7 +116,7 @@ fn mask_front(fnc: SlcFnc, bytes: &[u8]) -> Option<(u16, &[u8])>
     }
 }
 
-/// The function of an FNC.
+/// Returns the function of an FNC.
 fn fnc_of(byte: u8) -> Option<SlcFnc>
     ensures { result ≡ fnc_of byte }
 {
@@ -130,7 +130,7 @@ fn fnc_of(byte: u8) -> Option<SlcFnc>
     }
 }
 
-/// Whether the address of a function has a sub-element.
+/// Returns whether the address of a function has a sub-element.
 fn has_sub(fnc: SlcFnc) -> bool
     ensures { result ≡ has_sub fnc }
 {
@@ -140,7 +140,7 @@ fn has_sub(fnc: SlcFnc) -> bool
     }
 }
 
-/// How many bytes of data an order has.
+/// Returns the number of bytes of data of an order.
 fn data_len(fnc: SlcFnc, size: u8) -> usize
     ensures { result ≡ data_len fnc size }
 {

@@ -5,7 +5,7 @@ ghost use Rattle.slc_commands.specs.Words.{masked, masked_word};
 
 use arrayvec::ArrayVec;
 
-/// The words that a write makes of `old`, whose new bits are in `bytes`.
+/// Returns the words that a write makes of `old`, with the new bits in `bytes`.
 pub(crate) fn masked_words(mask: u16, old: &[u16], bytes: &[u8]) -> ArrayVec<u16, 122>
     requires room { length old.now ≤ 122 }
     requires data { length bytes.now ≡ 2 * length old.now }
@@ -20,7 +20,7 @@ pub(crate) fn masked_words(mask: u16, old: &[u16], bytes: &[u8]) -> ArrayVec<u16
     words
 }
 
-/// Where a bit of the mask is set the bit of `new`, else the bit of `old`.
+/// Returns the bits of `new` where the mask is set, and those of `old` elsewhere.
 fn masked_word(mask: u16, old: u16, new: u16) -> u16
     ensures { result ≡ masked_word mask old new }
 {

@@ -1,25 +1,25 @@
-//! A router, which stands before the host of a master and carries messages from station to station.
+//! A router, which stands between a master and its host and carries messages from station to station.
 //!
-//! A body is carried where DST, its first byte, is the number of one of the stations; every other body is the inner
+//! A body is carried if DST, its first byte, is the number of one of the stations; every other body is the inner
 //! host's. A carried body waits until it is handed out, and one may wait at a time: a master polls its stations only
-//! while nothing is ready, so no further one comes meanwhile.
+//! while nothing is ready, so no further one arrives meanwhile.
 //!
-//! | Call | Where | What it does |
+//! | Call | Case | What it does |
 //! |---|---|---|
-//! | `has_room` | the body is carried | there is room exactly where none waits |
-//! | `has_room` | else | the inner host's |
+//! | `has_room` | the body is carried | there is room exactly if none waits |
+//! | `has_room` | otherwise | the inner host's |
 //! | `accept` | the body is carried | it waits, and the answer is Stray |
-//! | `accept` | else | the inner host's |
-//! | `ready` | | true exactly where a body waits or the inner host is ready |
+//! | `accept` | otherwise | the inner host's |
+//! | `ready` | | true exactly if a body waits or the inner host is ready |
 //! | `next` | a body waits | that body is handed out |
-//! | `next` | else | the inner host's |
-//! | `told` | a carried body was handed out last, and its fate wasn't told | Nothing for Delivered, Dropped for Undelivered |
-//! | `told` | a carried body was handed out last, and its fate was told | Nothing |
-//! | `told` | else | the inner host's |
+//! | `next` | otherwise | the inner host's |
+//! | `told` | a carried body was handed out last, and its fate wasn't reported | Nothing for Delivered, Dropped for Undelivered |
+//! | `told` | a carried body was handed out last, and its fate was reported | Nothing |
+//! | `told` | otherwise | the inner host's |
 //! | `tick` | | the inner host's |
 //! | `clear` | | the body that waits is dropped, and the inner host cleared |
 //!
-//! A router takes no memory.
+//! A router allocates no memory.
 #![tactic(auto)]
 
 ghost use Rattle.std.specs.Prelude.{◌≡◌, ◌≤◌, length, IfSome};
@@ -58,7 +58,7 @@ impl<H: Host + Drop> Model for Router<H> {
 }
 
 impl<H: Host + Drop> Router<H> {
-    /// A router between these stations, at most 32, before a host. No body waits, and none was handed out.
+    /// Returns a router between these stations, at most 32, before a host. No body waits, and none was handed out.
     pub fn new(stations: &[u8], inner: H) -> Router<H>
         requires { length stations.now ≤ 32 }
         ensures { result ≡ new_router stations.now inner }
@@ -71,14 +71,14 @@ impl<H: Host + Drop> Router<H> {
         }
     }
 
-    /// The inner host.
+    /// Returns the inner host.
     pub fn inner(&self) -> &H
         ensures { result.now ≡ self.now.inner }
     {
         &self.inner
     }
 
-    /// The inner host, to be changed in any way.
+    /// Returns the inner host, to be changed in any way.
     pub fn inner_mut(&mut self) -> &mut H
         ensures* writes_back { sem 𝓛 (Lends (the_row H.row H.Host) H.row self.entry result (with_inner self.old)) }
         ensures value { result.now ≡ self.old.inner }
@@ -86,14 +86,15 @@ impl<H: Host + Drop> Router<H> {
         &mut self.inner
     }
 
-    /// Whether a body is carried: DST, its first byte, is the number of one of the stations. DST of an empty body counts as 0.
+    /// Returns whether a body is carried: DST, its first byte, is the number of one of the stations. DST of an empty
+    /// body counts as 0.
     pub fn carries(&self, body: &[u8]) -> bool
         ensures { result ≡ is_carried self.now.stations body.now }
     {
         self.stations.contains(&body.first().copied().unwrap_or(0))
     }
 
-    /// The body that waits to be carried, of 6 to 250 bytes; empty where none waits.
+    /// Returns the body that waits to be carried, of 6 to 250 bytes; empty if none waits.
     pub fn waiting(&self) -> &[u8]
         ensures value { result.now ≡ self.now.waiting }
         ensures fits { IfSome (waiting_body result.now) IsBody }
@@ -215,7 +216,7 @@ impl<H: Host + Drop> Host for Router<H> {
     ghost bodies_at_clear = { λ r holds. (tt, H.bodies_at_clear r.inner holds.1) };
 }
 
-/// The stations with these numbers, at most 32.
+/// Returns the stations with these numbers, at most 32.
 fn listed(numbers: &[u8]) -> ArrayVec<u8, 32>
     requires { length numbers.now ≤ 32 }
     ensures { result.items ≡ numbers.now }
@@ -226,7 +227,7 @@ fn listed(numbers: &[u8]) -> ArrayVec<u8, 32>
     stations
 }
 
-/// Whether a body is for one of the stations.
+/// Returns whether a body is for one of the stations.
 fn is_carried(stations: &[u8], body: &[u8]) -> bool
     requires { IsBody body.now }
     ensures { result ≡ is_carried stations.now body.now }
@@ -234,7 +235,7 @@ fn is_carried(stations: &[u8], body: &[u8]) -> bool
     stations.contains(&body[0])
 }
 
-/// Makes a copy of a body.
+/// Copies a body into `into`.
 fn fill(into: &mut ArrayVec<u8, 250>, body: &[u8])
     requires { length body.now ≤ 250 }
     ensures { into.new.items ≡ body.now }
@@ -244,7 +245,7 @@ fn fill(into: &mut ArrayVec<u8, 250>, body: &[u8])
     prove!(fits);
 }
 
-/// What is answered to the first fate of a carried body.
+/// Returns the answer to the first fate of a carried body.
 fn news_of(fate: Fate) -> News
     ensures { result ≡ news_of fate }
 {

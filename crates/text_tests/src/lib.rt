@@ -1,4 +1,4 @@
-//! Tests of texts: a script's with its first faulty line, for a replay, a route and a rehearsal, and a report's.
+//! Tests of texts: scripts with their first faulty line, for a replay, a route and a rehearsal, and reports.
 #![tactic(auto)]
 
 #[cfg(test)]

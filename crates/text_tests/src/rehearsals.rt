@@ -1,4 +1,5 @@
-//! Texts as a rehearsal reads them: those that it refuses, each with its first faulty line and its cause, and those that it takes.
+//! Tests of texts that are read for a rehearsal: those that are refused, each with its first faulty line and its cause,
+//! and those that are accepted.
 
 use line_script::{Cause, Profile, ScriptFault, read_profile};
 use std::process::Abort;
@@ -58,7 +59,7 @@ const MISPLACED: [(&str, u32); 9] = [
     ("ak\nset b.node 7\nend", 2),
 ];
 
-/// Texts that are refused as they are for a replay, each with its line and its cause.
+/// Texts that are refused as for a replay, each with its line and its cause.
 const OTHERS: [(&str, u32, Cause); 9] = [
     ("", 1, Cause::NoEnd),
     ("bi 0600\n", 2, Cause::NoEnd),
@@ -71,7 +72,7 @@ const OTHERS: [(&str, u32, Cause); 9] = [
     ("ak 4000000\nbi 0600\nend", 2, Cause::Events),
 ];
 
-/// Texts that a rehearsal takes, each with its count of events.
+/// Texts that a rehearsal accepts, each with its count of events.
 const TAKEN: [(&str, usize); 6] = [
     ("end", 0),
     ("# ai 0600\n\nend\n# ai 0600", 0),
@@ -84,7 +85,7 @@ const TAKEN: [(&str, usize); 6] = [
     ("ac 0F\nax\nan 1015\nat 3\nbc 01\nbx 2\nbn 06\nbt\nend", 8),
 ];
 
-/// Compares what is told of a text for a rehearsal with its first faulty line and its cause.
+/// Compares the fault of a text for a rehearsal with its first faulty line and its cause.
 fn check<R: Abort + AllocGlobal>(rt: &R, text: &str, line: u32, cause: Cause) -> Result<(), Fail> {
     assert_eq!(rt;
         read_profile(rt.alloc(), text.as_bytes(), Profile::Rehearse).err(),
@@ -139,7 +140,7 @@ fn a_full_duplex_script_without_commands_of_end_a_is_taken(rt: HostRuntime) -> R
     Ok(())
 }
 
-/// Texts that a rehearsal refuses and a replay takes.
+/// Texts that a rehearsal refuses and a replay accepts.
 const REPLAYED: [&str; 3] = [
     "ai 0600\nend",
     "ai 7 0600\nend",

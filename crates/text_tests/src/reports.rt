@@ -1,4 +1,4 @@
-//! Lines of each kind with their text, and the report of a run.
+//! Tests of lines of each kind with their text, and of the report of a run.
 
 use df1_base::BytesOut;
 use replay_report::{Line, Record, print, put_line};
@@ -18,7 +18,7 @@ const STRAY: &[u8] = b"\x00\x01\x46\x00\x09\x00";
 
 const CARRIED: &[u8] = b"\x05\x03\x06\x00\x01\x00\x00\x52";
 
-/// Bytes of a message.
+/// Returns the bytes of a message.
 fn bytes_of(alloc: Global, bytes: &[u8]) -> Result<Bytes, AllocError> {
     Ok(Items::from_vec(bytes.to_vec(alloc)?))
 }

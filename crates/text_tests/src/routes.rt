@@ -1,4 +1,5 @@
-//! Texts as a route reads them: those that it refuses, each with its first faulty line and its cause, and those that it takes.
+//! Tests of texts that are read for a route: those that are refused, each with its first faulty line and its cause, and
+//! those that are accepted.
 
 use line_script::{Cause, Profile, ScriptFault, read_profile};
 use std::alloc::AllocError;
@@ -49,7 +50,7 @@ const REFUSED: [(&str, u32, Cause); 36] = [
     ("station 3\n3i 0 0600", 3, Cause::NoEnd),
 ];
 
-/// Texts that a route takes, each with its count of events.
+/// Texts that a route accepts, each with its count of events.
 const TAKEN: [(&str, usize); 5] = [
     ("end", 0),
     ("# 3i 9 0600\n\nend\n", 0),
@@ -92,7 +93,8 @@ fn a_script_of_a_master_that_carries_messages_is_taken(rt: HostRuntime) -> Resul
     Ok(())
 }
 
-/// The first TNS and the window of each end that is declared here, the master's first: what is set, and else the first values.
+/// The first TNS and the window of each end that is declared here, the master's first: the settings, or the default
+/// values.
 const SET: (&str, [(u16, usize); 3]) = (
     "station 3\nstation 5\nset 3.tns 65535\nset 5.window 16\nend",
     [(1, 1), (65_535, 1), (1, 16)],
@@ -109,7 +111,7 @@ fn a_station_has_a_first_tns_and_a_window(rt: HostRuntime) -> Result<(), Fail> {
     Ok(())
 }
 
-/// Texts that a replay reads otherwise, each with what that tells.
+/// Texts that a replay reads differently, each with the fault for a replay, if any.
 const REPLAYED: [(&str, Option<(u32, Cause)>); 4] = [
     (
         "set mode half\nstation 3\n3i 0 0600\nend",
@@ -135,10 +137,10 @@ fn a_replay_has_its_own_forms(rt: HostRuntime) -> Result<(), Fail> {
     Ok(())
 }
 
-/// How many commands an end may issue.
+/// The maximum number of commands that an end may issue.
 const COMMANDS: u32 = 65_535;
 
-/// A text in which station 3 has issued as many commands as an end may, with a further line of this.
+/// Returns a text in which station 3 has issued as many commands as an end may, followed by this line.
 fn after_all<R: Abort + AllocGlobal>(rt: &R, line: &str) -> Result<Vec<u8>, AllocError> {
     let mut text = Vec::new(rt.alloc());
     text.extend_from_slice(b"station 3\nstation 5\n")?;
@@ -150,7 +152,7 @@ fn after_all<R: Abort + AllocGlobal>(rt: &R, line: &str) -> Result<Vec<u8>, Allo
     Ok(text)
 }
 
-/// A further line, and its cause where it is refused.
+/// Further lines, each with its cause if it is refused.
 const FURTHER: [(&str, Option<Cause>); 3] = [
     ("3i 0 06", Some(Cause::Spent)),
     ("5i 3 06", None),

@@ -1,4 +1,4 @@
-//! Texts with their first faulty line and its cause, and one script field by field.
+//! Tests of texts with their first faulty line and its cause, and of one script field by field.
 
 use data_files::FileSpec;
 use df1_base::FileType;
@@ -49,7 +49,8 @@ const FORMLESS: [(&str, u32, Cause); 35] = [
     ("x\nak\nset mode full\n", 1, Cause::Form),
 ];
 
-/// Texts with a line that may not stand there, or that names what isn't there, each with its line and its cause.
+/// Texts with a line that may not stand there, or that names something that doesn't exist, each with its line and its
+/// cause.
 const MISPLACED: [(&str, u32, Cause); 44] = [
     ("set mode half\nset mode full\nend", 2, Cause::Place),
     ("set check crc\nset mode half\nend", 2, Cause::Place),
@@ -105,7 +106,7 @@ const MISPLACED: [(&str, u32, Cause); 44] = [
     ("ak\nset mode full\nx\n", 2, Cause::Place),
 ];
 
-/// Texts with a number out of its range, a line that is given twice, or too many commands or events, each with its line and its
+/// Texts with a number out of its range, a duplicate line, or too many commands or events, each with its line and its
 /// cause.
 const EXCESSIVE: [(&str, u32, Cause); 59] = [
     ("set mode half\nstation 3\nstation 03\nend", 3, Cause::Twice),
@@ -213,12 +214,12 @@ const EXCESSIVE: [(&str, u32, Cause); 59] = [
     ("ak 3999999\nbn 1015\n", 2, Cause::Events),
 ];
 
-/// What is told of a text: None where it is a script.
+/// Returns the fault of a text: None if it is a script.
 fn told(alloc: Global, text: &[u8]) -> Option<ScriptFault> {
     read_script(alloc, text).err()
 }
 
-/// Compares what is told of a text with its first faulty line and the first cause that fits it.
+/// Compares the fault of a text with its first faulty line and the first cause that fits it.
 fn check<R: Abort + AllocGlobal>(rt: &R, text: &str, line: u32, cause: Cause) -> Result<(), Fail> {
     assert_eq!(rt;
         told(rt.alloc(), text.as_bytes()),
@@ -263,8 +264,8 @@ fn a_fault_is_printed_with_its_line_and_cause(rt: HostRuntime) -> Result<(), Fai
     Ok(())
 }
 
-/// Texts at a limit and past it: what stands in front, a part and how often it follows, what stands behind, and the line and
-/// the cause where the text is refused.
+/// Texts at a limit and past it: the beginning, a part and how often it follows, the end, and the line and the cause if
+/// the text is refused.
 const LIMITS: [(&str, &str, u32, &str, Option<(u32, Cause)>); 13] = [
     ("", "ai 0600\n", 65_535, "end", None),
     ("", "ai 0600\n", 65_536, "end", Some((65_536, Cause::Spent))),
@@ -287,7 +288,7 @@ const LIMITS: [(&str, &str, u32, &str, Option<(u32, Cause)>); 13] = [
     ("an ", "fF", 251, "\nend", Some((1, Cause::Value))),
 ];
 
-/// A text with a part again and again between two others.
+/// Returns a text with a part repeated between two others.
 fn repeated(
     alloc: Global,
     front: &str,
@@ -314,8 +315,8 @@ fn limits_hold_to_the_last_byte_and_command(rt: HostRuntime) -> Result<(), Fail>
     Ok(())
 }
 
-/// Lines with the place of their first byte, whether a line feed follows, and their cause where they are refused. Of a long line
-/// the first 1,025 bytes count.
+/// Lines with the offset of their first byte, whether a line feed follows, and their cause if they are refused. Of a
+/// long line the first 1,025 bytes count.
 const AT_THE_END: [(usize, &[u8], bool, Option<Cause>); 7] = [
     (16_777_212, b"#12", true, None),
     (16_777_212, b"#123", false, None),
@@ -326,7 +327,7 @@ const AT_THE_END: [(usize, &[u8], bool, Option<Cause>); 7] = [
     (16_776_191, &[b'#'; 1030], true, Some(Cause::Long)),
 ];
 
-/// What is told of a line where it begins at this byte.
+/// Returns the fault of a line that begins at this byte.
 fn told_at(alloc: Global, start: usize, line: &[u8], ended: bool) -> Option<LineFault> {
     Reader::new(alloc).read(alloc, start, line, ended).err()
 }
@@ -342,7 +343,7 @@ fn byte_16777217_ends_the_text(rt: HostRuntime) -> Result<(), Fail> {
     Ok(())
 }
 
-/// The numbers of a plan that both modes have.
+/// Returns the numbers of a plan that both modes have.
 fn numbers(plan: &EndPlan) -> [u32; 9] {
     [
         u32::from(plan.node),
@@ -415,7 +416,7 @@ const EVENTS: [Shown; 10] = [
     ('n', Who::B, Some(Who::A), None, 0, b"\x10\x15"),
 ];
 
-/// The letter of an event, and its end or the two of its lane.
+/// Returns the letter of an event, and its end or the two of its lane.
 fn place_of(event: &Event) -> (char, Who, Option<Who>) {
     match event {
         Event::Issue { who, .. } => ('i', *who, None),
@@ -428,7 +429,7 @@ fn place_of(event: &Event) -> (char, Who, Option<Who>) {
     }
 }
 
-/// The source that a command names.
+/// Returns the source that a command names.
 fn source_of(event: &Event) -> Option<u8> {
     match event {
         Event::Issue { src, .. } => *src,
@@ -436,7 +437,7 @@ fn source_of(event: &Event) -> Option<u8> {
     }
 }
 
-/// The number of an event: DST of a command, a mask, or how often it happens.
+/// Returns the number of an event: DST of a command, a mask, or how often it happens.
 fn number_of(event: &Event) -> u32 {
     match event {
         Event::Issue { dst, .. } => u32::from(*dst),
@@ -447,7 +448,7 @@ fn number_of(event: &Event) -> u32 {
     }
 }
 
-/// The bytes of an event.
+/// Returns the bytes of an event.
 fn bytes_of(event: &Event) -> &[u8] {
     match event {
         Event::Issue { payload, .. } => payload.as_slice(),

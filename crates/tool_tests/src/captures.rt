@@ -1,4 +1,4 @@
-//! The commands `dissect` and `check`, over the outside in memory.
+//! Tests of the commands `dissect` and `check`, over the outside in memory.
 use crate::program::{USAGE, words};
 use df1_base::{ByteRun, BytesIn, BytesOut};
 use df1_shelf::ShelfMem;
@@ -7,7 +7,7 @@ use std::alloc::Global;
 use std::process::Abort;
 use std::test::Fail;
 
-/// What a run over a capture is to show.
+/// The expected result of a run over a capture.
 #[derive(Drop)]
 struct Case {
     words: &'static [&'static str],
@@ -19,21 +19,21 @@ struct Case {
     note: &'static str,
 }
 
-/// One of the program's full-duplex lines: a stray byte, an ACK, a frame and the begin of another.
+/// A capture of a full-duplex line: a stray byte, an ACK, a frame and the start of another.
 const FULL: &[u8] = &[
     0x55, 0x10, 0x06, 0x10, 0x02, 0x08, 0x09, 0x06, 0x00, 0x02, 0x04, 0x03, 0x10, 0x03, 0xE0, 0x10,
     0x02, 0x01,
 ];
 
-/// One of a master's: a poll and the begin of a message.
+/// A capture of a master: a poll and the start of a message.
 const MASTER: &[u8] = &[0x10, 0x05, 0x03, 0xFD, 0x10, 0x01, 0x03, 0x10, 0x02, 0x41];
 
-/// One of the slaves': an ACK, a reply, and that there is none.
+/// A capture of the slaves: an ACK, a reply, and an EOT.
 const SLAVE: &[u8] = &[
     0x10, 0x06, 0x10, 0x02, 0x00, 0x03, 0x4F, 0x00, 0x01, 0x00, 0x10, 0x03, 0xAD, 0x10, 0x04,
 ];
 
-/// A run that reads its input to the end.
+/// Returns a run that reads its input to the end.
 fn whole(
     words: &'static [&'static str],
     input: &'static [u8],
@@ -51,7 +51,7 @@ fn whole(
     }
 }
 
-/// A run whose input or output fails, or whose words are none of the forms.
+/// Returns a run whose input or output fails, or whose words are none of the forms.
 fn stopped(
     words: &'static [&'static str],
     status: u8,
@@ -159,7 +159,7 @@ fn a_capture_is_heard_to_its_end(rt: HostRuntime) -> Result<(), Fail> {
 #[test]
 fn other_endings_of_a_capture_have_their_status_and_note(rt: HostRuntime) -> Result<(), Fail> {
     let cases = [
-        // A read that fails behind an ACK, and behind the first of its two bytes.
+        // A read that fails after an ACK, and after the first of its two bytes.
         Case {
             read_fails: &[4],
             ..stopped(

@@ -1,4 +1,4 @@
-//! The commands `drill` and `storm`, over the outside in memory.
+//! Tests of the commands `drill` and `storm`, over the outside in memory.
 use crate::program::{USAGE, words};
 use df1_base::{BytesIn, BytesOut};
 use df1_check::crc;
@@ -35,10 +35,10 @@ const GIVEN_UP: &str = concat!(
     "ai 0FAA02078900003412\nak 19\nad 2\nac 01\nad 17\nbk 2\nbd 2\nend\n",
 );
 
-/// What `drill 0 4` tells before the CRC of the report.
+/// The output of `drill 0 4` before the CRC of the report.
 const COUNTS: &str = "issued 4 executed 4 answered 4 damaged 1 repeats 1 enquiries 1 deceived 0";
 
-/// What `storm 0 4` tells before the CRC of the report.
+/// The output of `storm 0 4` before the CRC of the report.
 const STORM_COUNTS: &str =
     "issued 4 executed 4 answered 4 damaged 6 repeats 0 enquiries 0 deceived 0";
 

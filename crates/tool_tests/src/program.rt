@@ -1,4 +1,4 @@
-//! The program, over the outside in memory.
+//! Tests of the program, over the outside in memory.
 use df1_base::{BytesIn, BytesOut, Failed, NoMemory};
 use df1_node::{IssueFault, MakeFault};
 use df1_plan::{PlanFault, PlanKey};
@@ -13,11 +13,11 @@ use std::fmt::Display;
 use std::process::Abort;
 use std::test::Fail;
 
-/// The note where the words are none of the forms.
+/// The note for words that are none of the forms.
 pub(crate) const USAGE: &str =
     "df1: usage: df1 replay | serve PLAN raw|timed | issue PLAN | dissect SIDE CHECK | check SIDE CHECK | drill SEED COUNT | vectors | storm SEED COUNT | route | pull PLAN FILE WORDS | push PLAN FILE HEX | rehearse pull FILE WORDS | rehearse push FILE HEX\n";
 
-/// What a run of the program is to show.
+/// The expected result of a run of the program.
 #[derive(Drop)]
 struct Case {
     words: &'static [&'static str],
@@ -29,7 +29,7 @@ struct Case {
     note: &'static str,
 }
 
-/// The words of a command line.
+/// Returns the words of a command line.
 pub(crate) fn words(alloc: Global, texts: &[&str]) -> Result<Vec<String>, Fail> {
     let mut words = Vec::new(alloc);
     for text in texts {
@@ -54,7 +54,7 @@ fn check<R: Abort + AllocGlobal>(rt: &R, case: &Case) -> Result<(), Fail> {
     Ok(())
 }
 
-/// A run of a script that ends well.
+/// Returns a run of a script that ends well.
 fn played(input: &'static str, out: &'static str) -> Case {
     Case {
         words: &["replay"],
@@ -67,7 +67,7 @@ fn played(input: &'static str, out: &'static str) -> Case {
     }
 }
 
-/// A run of a script that is refused.
+/// Returns a run of a script that is refused.
 fn refused(input: &'static str, note: &'static str) -> Case {
     Case {
         words: &["replay"],
@@ -98,7 +98,7 @@ fn a_script_is_played_and_reported(rt: HostRuntime) -> Result<(), Fail> {
             "set check crc\nset a.node 9\nset b.node 8\nset a.tns 1026\nai 0603\nak 99\nend\n",
             "a sent 10020809060002040310039848\ndeceived 0\n",
         ),
-        // As many replies as may wait.
+        // The maximum number of replies that may wait.
         played("set a.room 64\nset b.room 64\nend\n", "deceived 0\n"),
         // Nothing happens.
         played("end\n", "deceived 0\n"),
@@ -167,14 +167,14 @@ fn a_script_is_played_and_reported(rt: HostRuntime) -> Result<(), Fail> {
             "set b.max_enqs 0\nai 060055\nak 13\nad 13\nbk 99\nbt 10\nend\n",
             "a sent 100201000600010000551003A3\nb exec 0100060001000055\nb sent 1006100200014600010055100363\nb dropped\ndeceived 0\n",
         ),
-        // No room.
+        // No room for a message.
         played(
             "set a.reply_ticks 33\nai 060055\nai 060055\nai 060055\nak 13\nad 13\nbk 2\nbd 2\nat 33\nak 13\nad 13\nbk 2\nbd 2\nat 33\nak 13\nad 13\nbk 2\nend\n",
             "a sent 100201000600010000551003A3\nb exec 0100060001000055\nb sent 1006\na unanswered 1\na sent 100201000600020000551003A2\nb exec 0100060002000055\nb sent 1006\na unanswered 2\na sent 100201000600030000551003A1\nb full\nb sent 1015\ndeceived 0\n",
         ),
         // A half-duplex line without stations.
         played("set mode half\nend\n", "deceived 0\n"),
-        // A write to a polled station, whose reply is lost and comes again at a later poll.
+        // A write to a polled station, whose reply is lost and sent again at a later poll.
         played(
             "set mode half\nstation 3\nstation 5\nfile 3 7 89 16\nmi 3 0FAA02078900003412\nmk 22\nmd 3 22\nmd 5 22\n3k 2\n3d 2\nmt\nmk 4\nmd 3 4\nmd 5 4\n3k 11\n3x 11\nmt 10\nmt\nmk 4\nmd 3 4\nmd 5 4\n5k 2\n5d 2\nmt\nmk 4\nmd 3 4\nmd 5 4\n3k 11\n3d 11\nmk 2\nmd 3 2\nmd 5 2\nend\n",
             "m sent 100103100203000F000100AA02078900003412100368\n3 exec 03000F000100AA02078900003412\n3 sent 1006\nm sent 100503FD\n3 sent 100200034F0001001003AD\nm sent 100505FB\n5 sent 1004\nm sent 100503FD\n3 sent 100200034F0001001003AD\nm answered 1 00034F000100\nm sent 1006\n3 word 7 0 1234\ndeceived 0\n",
@@ -225,7 +225,7 @@ fn a_run_that_does_not_end_well_tells_why(rt: HostRuntime) -> Result<(), Fail> {
             out: "",
             note: "df1: input cannot be read\n",
         },
-        // A read that fails behind a line that is refused: the line came first.
+        // A read that fails after a line that is refused: the line came first.
         Case {
             words: &["replay"],
             input: "zz\nend\n",
@@ -245,7 +245,7 @@ fn a_run_that_does_not_end_well_tells_why(rt: HostRuntime) -> Result<(), Fail> {
             out: "",
             note: "df1: input cannot be read\n",
         },
-        // A read that fails where only `end` is missing.
+        // A read that fails when only `end` is missing.
         Case {
             words: &["replay"],
             input: "ai 0600\n",
@@ -265,7 +265,7 @@ fn a_run_that_does_not_end_well_tells_why(rt: HostRuntime) -> Result<(), Fail> {
             out: "",
             note: "df1: input cannot be read\n",
         },
-        // A line that is refused behind events: what these told is written.
+        // A line that is refused after events: the report of these is written.
         Case {
             words: &["replay"],
             input: "file b 7 89 16\nai 0FAA02078900003412\nak 19\nzz\n",
@@ -275,7 +275,7 @@ fn a_run_that_does_not_end_well_tells_why(rt: HostRuntime) -> Result<(), Fail> {
             out: "a sent 100201000F000100AA0207890000341210036D\n",
             note: "df1: line 4: form\n",
         },
-        // A read that fails behind an event line: the line that is begun tells nothing.
+        // A read that fails after an event line: the line that is started has no effect.
         Case {
             words: &["replay"],
             input: "ai 060055\nak 2\nak 3",
@@ -332,7 +332,7 @@ fn plays<R: Abort + AllocGlobal>(rt: &R, script: &str, report: &[&str]) -> Resul
     Ok(())
 }
 
-/// This text so many times.
+/// Returns this text repeated so many times.
 fn repeated(alloc: Global, text: &str, times: u32) -> Result<String, Fail> {
     let mut all = String::new(alloc);
     for _ in 0..times {

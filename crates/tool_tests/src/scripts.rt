@@ -1,4 +1,4 @@
-//! The commands `route` and `rehearse`, over the outside in memory.
+//! Tests of the commands `route` and `rehearse`, over the outside in memory.
 use crate::program::{USAGE, words};
 use df1_base::{BytesIn, BytesOut};
 use df1_shelf::ShelfMem;
@@ -7,7 +7,7 @@ use std::alloc::Global;
 use std::process::Abort;
 use std::test::Fail;
 
-/// Station 3 sends an echo to station 5: the master fetches and carries it, and the reply.
+/// Station 3 sends an echo to station 5: the master fetches and routes it, and the reply.
 const ROUTE: &str = concat!(
     "station 3\nstation 5\n3i 5 0600AA\n",
     "mt\nmk 99\nmd 3 99\nmd 5 99\n3k 99\n3d 99\nmk 99\nmd 3 99\nmd 5 99\n5k 99\n5d 99\n",
@@ -31,7 +31,7 @@ const PULLED: &str = concat!(
     "b word 7 0 1234\nb word 7 1 5678\ndeceived 0\npulled 34127856\n",
 );
 
-/// Its orders are for a file that end b hasn't.
+/// The orders are for a file that end b doesn't have.
 const REFUSED: &str = concat!(
     "a sent 100201000F0001000100000200060900041003D9\nb exec 01000F000100010000020006090004\n",
     "b sent 1006100200014FF00100061003B9\na answered 1 00014FF0010006\na sent 1006\n",
@@ -47,7 +47,7 @@ const PUSHED: &str = concat!(
 /// The same words of end b, and nothing happens.
 const NOTHING: &str = "file b 7 89 2\nword b 7 0 1234\nend\n";
 
-/// What a run of the program is to show.
+/// The expected result of a run of the program.
 #[derive(Drop)]
 struct Case {
     words: &'static [&'static str],
@@ -59,12 +59,12 @@ struct Case {
     note: &'static str,
 }
 
-/// A run that ends well.
+/// Returns a run that ends well.
 fn printed(words: &'static [&'static str], input: &'static str, out: &'static str) -> Case {
     ended(words, input, 0, out, "")
 }
 
-/// A run that ends so.
+/// Returns a run that ends with this status.
 fn ended(
     words: &'static [&'static str],
     input: &'static str,

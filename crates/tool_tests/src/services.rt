@@ -1,4 +1,4 @@
-//! The commands `serve`, `issue`, `pull` and `push`, over the outside in memory.
+//! Tests of the commands `serve`, `issue`, `pull` and `push`, over the outside in memory.
 use crate::program::{USAGE, words};
 use df1_base::{BytesIn, BytesOut};
 use df1_shelf::ShelfMem;
@@ -7,11 +7,11 @@ use std::alloc::Global;
 use std::process::Abort;
 use std::test::Fail;
 
-/// What a run over the plan `p` is to show.
+/// The expected result of a run over the plan `p`.
 #[derive(Drop)]
 struct Case {
     words: &'static [&'static str],
-    /// The text of the plan; none: there is no file.
+    /// The text of the plan; None if there is no file.
     plan: Option<&'static str>,
     input: &'static [u8],
     read_fails: &'static [u64],
@@ -80,7 +80,7 @@ const TWO_ORDERS: &[u8] = &[
     0x00, 0x65, 0x00, 0x06, 0x07, 0x00, 0x02, 0x10, 0x03, 0x15,
 ];
 
-/// A run that ends well.
+/// Returns a run that ends well.
 fn served(
     words: &'static [&'static str],
     plan: &'static str,
@@ -101,7 +101,7 @@ fn served(
     }
 }
 
-/// A run that doesn't, over the plan of a file.
+/// Returns a run that fails, over the plan of a file.
 fn stopped(
     words: &'static [&'static str],
     plan: &'static str,
@@ -177,7 +177,7 @@ const COMMAND_AND_ACK: &[u8] = &[
 #[test]
 fn an_end_is_served(rt: HostRuntime) -> Result<(), Fail> {
     let cases = [
-        // An enquiry before any frame.
+        // An ENQ before any frame.
         served(SERVE, "", b"\x10\x05", b"\x10\x15", ""),
         // A frame that is broken off.
         served(SERVE, "", b"\x10\x02\x01\x10\x41", b"\x10\x15", ""),
@@ -193,7 +193,7 @@ fn an_end_is_served(rt: HostRuntime) -> Result<(), Fail> {
         ),
         // `serve` issues nothing.
         served(TIMED, PEER, b"\x03\x00", b"", ""),
-        // A take gives one byte.
+        // A take sends one byte.
         served(TIMED, "", b"\x00\x10\x00\x05\x02\x00", b"\x10", ""),
         // A command is issued, acknowledged and answered.
         served(
@@ -203,7 +203,7 @@ fn an_end_is_served(rt: HostRuntime) -> Result<(), Fail> {
             COMMAND_AND_ACK,
             "1 answered 00014600010055\n",
         ),
-        // Nothing is heard of it.
+        // Nothing is received for it.
         served(ISSUE, PEER, b"\x03\x00", COMMAND, "1 unfinished\n"),
     ];
     for case in &cases {
@@ -217,12 +217,12 @@ fn a_transfer_tells_what_it_came_to(rt: HostRuntime) -> Result<(), Fail> {
     let cases = [
         served(PULL, PEER, WORDS, PULL_ORDER_AND_ACK, "pulled 34127856\n"),
         served(PUSH, PEER, NO_WORD, PUSH_ORDER_AND_ACK, "pushed 1\n"),
-        // Nothing is heard of the order.
+        // Nothing is received for the order.
         served(PULL, PEER, b"\x03\x00", PULL_ORDER, "missing 1\n"),
         // There is no such file.
         served(PULL, PEER, REFUSAL, PULL_ORDER_AND_ACK, "refused 1 F0 06\n"),
         served(PUSH, PEER, REFUSAL, PUSH_ORDER_AND_ACK, "refused 1 F0 06\n"),
-        // Fewer words are read than asked for, or any where words are written.
+        // Fewer words are read than asked for, or a reply to a write has some.
         served(PULL, PEER, WORD, PULL_ORDER_AND_ACK, "odd 1\n"),
         served(PUSH, PEER, WORD, PUSH_ORDER_AND_ACK, "odd 1\n"),
         // Of two orders the first is refused, and the second isn't answered.
@@ -245,7 +245,7 @@ fn a_transfer_tells_what_it_came_to(rt: HostRuntime) -> Result<(), Fail> {
 #[test]
 fn a_service_that_does_not_end_well_tells_why(rt: HostRuntime) -> Result<(), Fail> {
     let cases = [
-        // Plans that are none.
+        // Invalid plans.
         stopped(
             SERVE,
             "node = 300\n",
@@ -279,7 +279,7 @@ fn a_service_that_does_not_end_well_tells_why(rt: HostRuntime) -> Result<(), Fai
             b"",
             "df1: plan: file 1\n",
         ),
-        // Records that are none: what was given before is written.
+        // Invalid records: what was sent before is written.
         stopped(TIMED, "", b"\x00", 3, b"", "df1: record at 0: cut\n"),
         stopped(
             TIMED,
@@ -298,7 +298,7 @@ fn a_service_that_does_not_end_well_tells_why(rt: HostRuntime) -> Result<(), Fai
             COMMAND,
             "df1: record at 2: form\n",
         ),
-        // Words that are no form.
+        // Words that are none of the forms.
         stopped(&["serve", "p"], "", b"", 2, b"", USAGE),
         stopped(&["issue", "p", "raw"], "", b"", 2, b"", USAGE),
         stopped(&["pull", "p", "7"], PEER, b"", 2, b"", USAGE),
@@ -318,7 +318,7 @@ fn a_service_that_does_not_end_well_tells_why(rt: HostRuntime) -> Result<(), Fai
             plan: None,
             ..stopped(SERVE, "", b"\x10\x05", 6, b"", "df1: plan cannot be read\n")
         },
-        // A read that fails, behind an enquiry.
+        // A read that fails after an ENQ.
         Case {
             read_fails: &[3],
             ..stopped(

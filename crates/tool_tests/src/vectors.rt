@@ -1,4 +1,4 @@
-//! The command `vectors`, over the outside in memory.
+//! Tests of the command `vectors`, over the outside in memory.
 use crate::program::{USAGE, words};
 use df1_base::{BytesIn, BytesOut};
 use df1_shelf::ShelfMem;

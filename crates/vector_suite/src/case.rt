@@ -1,6 +1,6 @@
 //! One case of a table.
 
-/// What a case asks for.
+/// The kind of result that a case asks for.
 #[derive(Clone, Copy, Debug, PartialEq, Eq)]
 pub enum Kind {
     /// The BCC of the input: one byte.
@@ -15,18 +15,18 @@ pub enum Kind {
     Answer,
 }
 
-/// An input, and what is wanted of it. Either has at most `L` bytes: so many of its array, from the front.
+/// An input, and the expected result. Each has at most `L` bytes and stands at the front of its array.
 #[derive(Clone, Copy, Debug, PartialEq, Eq)]
 pub struct Case<const L: usize> {
-    /// What it asks for.
+    /// The kind of result.
     pub kind: Kind,
-    /// How many bytes the input has.
+    /// The number of bytes of the input.
     pub len: usize,
-    /// The input, and behind it anything.
+    /// The input, followed by any bytes.
     pub input: [u8; L],
-    /// How many bytes are wanted.
+    /// The number of bytes of the expected result.
     pub want_len: usize,
-    /// What is wanted, and behind it anything.
+    /// The expected result, followed by any bytes.
     pub want: [u8; L],
 }
 
@@ -34,7 +34,7 @@ impl<const L: usize> Default for Case<L> {
     ghost use Rattle.std.specs.Prelude.{◌≡◌, []};
     ghost use Rattle.vector_suite.specs.Vectors.{shown};
 
-    /// The BCC of no bytes, of which nothing is wanted.
+    /// Returns the case of the BCC of no bytes, with no bytes expected.
     fn default() -> Self
         ensures { shown result ≡ record { kind = Kind.Bcc; input = []; want = [] } }
     {

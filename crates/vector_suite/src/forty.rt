@@ -9,17 +9,18 @@ ghost use Rattle.vector_suite.specs.Forty.{basic_cases, check_cases, forty, logi
 use crate::case::{Case, Kind};
 use arrayvec::ArrayVec;
 
-/// The bytes that the longest text of a case has: the body of a typed write.
+/// The length of the longest input or result of a case: the body of a typed write.
 pub const LONGEST: usize = 22;
 
-/// A case of a check or a frame: its kind, the input, and what is wanted.
+/// Makes a case of a check or a frame: its kind, the input, and the expected bytes.
 macro_rules! check {
     ($kind:ident [$($input:literal),*] => [$($want:literal),*]) => {
         case(Kind::$kind, &[$($input),*], &[$($want),*])
     };
 }
 
-/// A case of an answer: CMD and what follows TNS, and of the reply STS and what follows TNS. The command is for node 1 from node 0, with TNS 1.
+/// Makes a case of an answer: CMD and what follows TNS, and STS and what follows TNS of the reply. The command is for
+/// node 1 from node 0, with TNS 1.
 macro_rules! answer {
     ($cmd:literal [$($rest:literal),*] => $sts:literal [$($then:literal),*]) => {
         case(
@@ -30,7 +31,7 @@ macro_rules! answer {
     };
 }
 
-/// Checks, and frames: with a BCC that is DLE, and with DLE in the body.
+/// Returns the cases of checks, and of frames: with a BCC that is DLE, and with DLE in the body.
 #[tactic(auto, unfolding(hex::specs::Hex::decode_pairs))]
 fn checks() -> [Case<LONGEST>; 8]
     ensures shown { map shown result ≡ check_cases }
@@ -52,7 +53,7 @@ fn checks() -> [Case<LONGEST>; 8]
     ]
 }
 
-/// Echo and status, an unknown FNC and none, and logical reads and a write.
+/// Returns the cases of echo and status, an unknown FNC and a missing one, and logical reads and a write.
 #[tactic(auto, unfolding(hex::specs::Hex::decode_pairs))]
 fn basics() -> [Case<LONGEST>; 8]
     ensures shown { map shown result ≡ basic_cases }
@@ -70,7 +71,7 @@ fn basics() -> [Case<LONGEST>; 8]
     ]
 }
 
-/// What refuses a logical command, a masked write, and a read-modify-write.
+/// Returns the cases of refused logical commands, a masked write, and a read-modify-write.
 #[tactic(auto, unfolding(hex::specs::Hex::decode_pairs))]
 fn logicals() -> [Case<LONGEST>; 8]
     ensures shown { map shown result ≡ logical_cases }
@@ -88,7 +89,7 @@ fn logicals() -> [Case<LONGEST>; 8]
     ]
 }
 
-/// A read-modify-write of which one set is refused, word ranges, and typed commands.
+/// Returns the cases of a read-modify-write of which one set is refused, word ranges, and typed commands.
 #[tactic(auto, unfolding(hex::specs::Hex::decode_pairs))]
 fn ranges() -> [Case<LONGEST>; 8]
     ensures shown { map shown result ≡ range_cases }
@@ -110,7 +111,8 @@ fn ranges() -> [Case<LONGEST>; 8]
     ]
 }
 
-/// Addresses with too few and too many levels, unprotected commands, a long spelling, and unknown commands.
+/// Returns the cases of addresses with too few and too many levels, unprotected commands, a long spelling, and unknown
+/// commands.
 #[tactic(auto, unfolding(hex::specs::Hex::decode_pairs))]
 fn others() -> [Case<LONGEST>; 8]
     ensures shown { map shown result ≡ other_cases }
@@ -128,7 +130,7 @@ fn others() -> [Case<LONGEST>; 8]
     ]
 }
 
-/// A case of this kind, input and wanted bytes.
+/// Returns a case of this kind, input and expected bytes.
 fn case(kind: Kind, input: &[u8], want: &[u8]) -> Case<LONGEST>
     requires input { length input.now ≤ LONGEST }
     requires want { length want.now ≤ LONGEST }
@@ -145,7 +147,7 @@ fn case(kind: Kind, input: &[u8], want: &[u8]) -> Case<LONGEST>
     }
 }
 
-/// These bytes, and zeros behind them.
+/// Returns these bytes, padded with zeros.
 fn padded(bytes: &[u8]) -> [u8; LONGEST]
     requires { length bytes.now ≤ LONGEST }
     ensures { take (length bytes.now) result ≡ bytes.now }
@@ -155,7 +157,7 @@ fn padded(bytes: &[u8]) -> [u8; LONGEST]
     padded
 }
 
-/// The forty cases.
+/// Returns the forty cases.
 pub fn forty_cases() -> [Case<LONGEST>; 40]
     ensures shown { map shown result ≡ forty }
     ensures cases { AllByRecursion (IsCase LONGEST) result }
@@ -169,7 +171,7 @@ pub fn forty_cases() -> [Case<LONGEST>; 40]
     cases.into_inner().unwrap()
 }
 
-/// Adds a group of cases to a table that has room for it.
+/// Appends a group of cases to a table that has room for it.
 fn append(cases: &mut ArrayVec<Case<LONGEST>, 40>, group: &[Case<LONGEST>; 8])
     requires { array_vec_len cases.old + 8 ≤ 40 }
     ensures { cases.new.items ≡ cases.old.items ++ group.now }
@@ -177,7 +179,7 @@ fn append(cases: &mut ArrayVec<Case<LONGEST>, 40>, group: &[Case<LONGEST>; 8])
     cases.try_extend_from_slice(group).unwrap();
 }
 
-/// What is wanted of each of the forty is what its kind makes of its input.
+/// The expected bytes of each of the forty cases are what its kind makes of its input.
 pub fn each_case_holds()
     ensures { (longest : ℕ) (cases : List (OneCase longest)) → map shown cases ≡ forty → first_differing cases ≡ None }
 {}

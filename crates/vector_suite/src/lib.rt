@@ -1,4 +1,4 @@
-//! Conformance vectors: tables of cases, each an input and the bytes that are wanted of it, and the forty cases of this project.
+//! Conformance vectors: tables of cases, each an input and its expected bytes, and the forty cases of this project.
 //!
 //! A case asks for the check of some bytes, for the frame of a body, or for a station's reply to a command.
 #![tactic(auto)]

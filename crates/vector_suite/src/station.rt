@@ -1,7 +1,7 @@
 //! The station that answers the commands of cases, and its reply to one.
 //!
-//! It has the files N7 of 16 words, of which the first two are 1234 and 5678, F8 of 2 elements, S2 of 4 words and T4 of 2 elements, all
-//! other words 0; its compatibility file is N7, and its status block is 01 02.
+//! Its files are N7 of 16 words, the first two of which are 1234 and 5678, F8 of 2 elements, S2 of 4 words and T4 of 2
+//! elements; all other words are 0. Its compatibility file is N7, and its status block is 01 02.
 ghost use Rattle.std.specs.Prelude.{◌≡◌, IfOk, false};
 ghost use Rattle.df1_base.specs.Host.{IsBody};
 ghost use Rattle.pccc_envelope.specs.Envelope.{is_reply};
@@ -15,7 +15,7 @@ use df1_base::{FileType, NoMemory};
 use df1_node::Station;
 use std::alloc::Global;
 
-/// The reply of a new station to the command of this body.
+/// Returns the reply of a new station to the command of this body.
 pub(crate) fn answer(alloc: Global, body: &[u8]) -> Result<ArrayVec<u8, 250>, NoMemory>
     requires body { IsBody body.now }
     requires command { is_reply body.now ≡ false }
@@ -27,7 +27,7 @@ pub(crate) fn answer(alloc: Global, body: &[u8]) -> Result<ArrayVec<u8, 250>, No
     Ok(reply)
 }
 
-/// The station, which has executed nothing.
+/// Returns the station, which has executed nothing.
 fn new_station(alloc: Global) -> Result<Station, NoMemory>
     ensures { IfOk result (λ made. made ≡ station) }
 {
@@ -37,7 +37,7 @@ fn new_station(alloc: Global) -> Result<Station, NoMemory>
     Ok(Station::new(tables, Some(7), &[0x01, 0x02]))
 }
 
-/// Its tables, all words 0.
+/// Returns its tables, with all words 0.
 fn zero_tables(alloc: Global) -> Result<Tables, NoMemory>
     ensures { IfOk result (λ tables. tables ≡ fresh files) }
 {
@@ -54,7 +54,7 @@ fn zero_tables(alloc: Global) -> Result<Tables, NoMemory>
     }
 }
 
-/// A file of this number, type and count of elements.
+/// Returns a file of this number, type and count of elements.
 fn file(number: u16, kind: FileType, count: u16) -> FileSpec
     ensures { result ≡ record { number = number; kind = kind; count = count } }
 {

@@ -12,12 +12,14 @@ use df1_check::{Check, bcc, crc};
 use df1_frame::Framer;
 use std::alloc::Global;
 
-/// Room for what a case makes of its input, in bytes: a frame of 250 bytes, each doubled, with a CRC has 506.
+/// The buffer size for the result of a case, in bytes: a frame of 250 bytes, each doubled, with a CRC has 506.
 const MADE: usize = 512;
 
-/// The place, from 0, of the first case whose wanted bytes aren't those that its kind makes of its input, and None where there is none. There are
-/// at most 1,024 cases. Each text of a case has at most `L` bytes, which is at most 512; the input of a frame has at most 250 bytes, and that of
-/// an answer is the body of a command: 6 to 250 bytes, bit 6 of CMD clear. An error is want of memory.
+/// Returns the index, from 0, of the first case whose expected bytes differ from those that its kind makes of its
+/// input, and None if there is none. An error is want of memory. There are at most 1,024 cases.
+///
+/// Each text of a case has at most `L` bytes, which is at most 512. The input of a frame has at most 250 bytes. The
+/// input of an answer is the body of a command: 6 to 250 bytes, bit 6 of CMD clear.
 pub fn run_table<const N: usize, const L: usize>(
     alloc: Global,
     cases: &[Case<L>; N],
@@ -35,7 +37,7 @@ pub fn run_table<const N: usize, const L: usize>(
     Ok(None)
 }
 
-/// Whether a case's wanted bytes aren't those that its kind makes of its input.
+/// Returns whether a case's expected bytes differ from those that its kind makes of its input.
 fn differs<const L: usize>(alloc: Global, case: &Case<L>) -> Result<bool, NoMemory>
     requires longest { L ≤ 512 }
     requires case { IsCase L case.now }
@@ -45,7 +47,7 @@ fn differs<const L: usize>(alloc: Global, case: &Case<L>) -> Result<bool, NoMemo
     Ok(made.as_slice() != &case.want[..case.want_len])
 }
 
-/// What a kind makes of an input.
+/// Returns what a kind makes of an input.
 fn made(alloc: Global, kind: Kind, input: &[u8]) -> Result<ArrayVec<u8, MADE>, NoMemory>
     requires { IsInput kind input.now }
     ensures { IfOk result (λ bytes. bytes.items ≡ made kind input.now) }
@@ -59,7 +61,7 @@ fn made(alloc: Global, kind: Kind, input: &[u8]) -> Result<ArrayVec<u8, MADE>, N
     }
 }
 
-/// These bytes, which fit.
+/// Returns these bytes, which fit.
 fn bytes_of(bytes: &[u8]) -> ArrayVec<u8, MADE>
     requires { length bytes.now ≤ MADE }
     ensures { result.items ≡ bytes.now }
@@ -69,14 +71,14 @@ fn bytes_of(bytes: &[u8]) -> ArrayVec<u8, MADE>
     made
 }
 
-/// The two bytes of a number, the low one first.
+/// Returns the two bytes of a number, the low one first.
 fn low_first(n: u16) -> [u8; 2]
     ensures { result ≡ low_first n }
 {
     n.to_le_bytes()
 }
 
-/// The frame of a body of at most 250 bytes.
+/// Returns the frame of a body of at most 250 bytes.
 fn frame(check: Check, body: &[u8]) -> ArrayVec<u8, MADE>
     requires { length body.now ≤ 250 }
     ensures { result.items ≡ bytes_of (units check body.now) }

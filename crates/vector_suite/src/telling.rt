@@ -1,4 +1,4 @@
-//! The forty cases are run, and a line tells how that ended.
+//! The run of the forty cases, and the line that reports its result.
 ghost use Rattle.std.specs.Prelude.{◌≡◌, ◌+◌, ◌≤◌, ◌++◌, Option, ℕ, decimal, length};
 ghost use Rattle.arrayvec.specs.ArrayVec.{array_vec_len};
 ghost use Rattle.vector_suite.specs.Telling.{VectorsEnd, line_of};
@@ -10,7 +10,7 @@ use df1_base::{Failed, NoMemory, Sink, write_all};
 use std::alloc::Global;
 use thiserror::Error;
 
-/// Why the line isn't written.
+/// The reason why the line isn't written.
 #[derive(Clone, Copy, Debug, PartialEq, Eq, Error)]
 pub enum VectorsFault {
     /// The output has failed.
@@ -21,11 +21,12 @@ pub enum VectorsFault {
     NoMemory,
 }
 
-/// Room for the line, in bytes: a number of at most 20 digits, and the words.
+/// The buffer size for the line, in bytes: a number of at most 20 digits, and the words.
 const LINE: usize = 40;
 
-/// Runs the forty cases, writes the line that tells that none differs, or the place of the first that does, and answers that place. `Output` comes
-/// only where the output's count of faults rose; a first part of the line is written then. With `NoMemory` nothing is.
+/// Runs the forty cases, and writes a line that says that none differs, or the index of the first that does; returns
+/// that index. Returns `Output` only if the output's count of faults rose; then a first part of the line was written.
+/// With `NoMemory` nothing was.
 pub fn write_vectors<K: Sink>(alloc: Global, out: &mut K) -> Result<Option<usize>, VectorsFault>
     ensures { VectorsEnd (K.held out.old) (K.held out.new) (K.faults out.old) (K.faults out.new) result }
 {
@@ -38,7 +39,7 @@ pub fn write_vectors<K: Sink>(alloc: Global, out: &mut K) -> Result<Option<usize
     }
 }
 
-/// The line for the place of the first case that differs, if one does.
+/// Returns the line for the index of the first case that differs, if one does.
 fn line(place: Option<usize>) -> ArrayVec<u8, LINE>
     ensures { result.items ≡ line_of place }
 {
@@ -57,7 +58,7 @@ fn line(place: Option<usize>) -> ArrayVec<u8, LINE>
     line
 }
 
-/// Adds bytes to a line that has room for them.
+/// Appends bytes to a line that has room for them.
 fn append(line: &mut ArrayVec<u8, LINE>, bytes: &[u8])
     requires { array_vec_len line.old + length bytes.now ≤ LINE }
     ensures { line.new.items ≡ line.old.items ++ bytes.now }

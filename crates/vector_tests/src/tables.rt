@@ -1,4 +1,4 @@
-//! Which case of a table is told to differ.
+//! Tests of which case of a table is reported to differ.
 ghost use Rattle.std.specs.Prelude.{◌≤◌};
 ghost use Rattle.std.specs.List.{AllByRecursion};
 ghost use Rattle.vector_suite.specs.Vectors.{IsCase};
@@ -16,7 +16,7 @@ const BCC: Case<8> = Case {
     want: [0xE9, 0, 0, 0, 0, 0, 0, 0],
 };
 
-/// The BCC of nothing, of which another is wanted.
+/// The BCC of nothing, with another expected.
 const WRONG: Case<8> = Case {
     kind: Kind::Bcc,
     len: 0,
@@ -121,7 +121,8 @@ fn the_longest_frame_is_compared(rt: HostRuntime) -> Result<(), Fail> {
     Ok(())
 }
 
-/// A table of the most cases, each the BCC of nothing, of which none or the right byte is wanted.
+/// Returns a table of the maximum number of cases, each the BCC of nothing, of which none or the right byte is
+/// expected.
 fn table(want_len: usize) -> [Case<1>; 1024]
     requires { want_len ≤ 1 }
     ensures { AllByRecursion (IsCase 1) result }

@@ -1,19 +1,19 @@
-//! Why a script of an input was not run to its end.
+//! The faults by which a script of an input is not run completely.
 
 use df1_base::{Failed, NoMemory};
 use line_script::{Cause, ScriptFault};
 use thiserror::Error;
 
-/// Why a script of an input was not run to its end.
+/// The reason why a script of an input was not run completely.
 #[derive(Clone, Copy, Debug, PartialEq, Eq, Error)]
 pub enum RunFault {
     /// A line of the script is refused: its number, counted from 1, and the first cause that fits it.
     #[error("line {line}: {cause}")]
     Refusal { line: u32, cause: Cause },
-    /// The input has failed.
+    /// The input failed.
     #[error("the input failed")]
     Input,
-    /// The output has failed.
+    /// The output failed.
     #[error("the output failed")]
     Output,
     /// There is no memory left.
@@ -46,7 +46,7 @@ impl From<NoMemory> for RunFault {
     }
 }
 
-/// What has failed is the output: a read that fails is judged by what was read.
+/// The failure is that of the output; one of the input is judged by what was read.
 impl From<Failed> for RunFault {
     ghost use Rattle.std.specs.Prelude.{◌≡◌};
     ghost use Rattle.whole_scripts.specs.declared.fault.RunFault.TheVariants.{Output};

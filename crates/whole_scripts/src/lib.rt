@@ -1,4 +1,4 @@
-//! Commands whose script is read whole before anything is written: a route, and rehearsals of transfers.
+//! Commands whose script is read completely before anything is written: a route, and rehearsals of transfers.
 #![tactic(auto)]
 
 mod fault;

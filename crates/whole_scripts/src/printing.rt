@@ -1,4 +1,4 @@
-//! Writing what a run has to tell, by large pieces.
+//! Writing the result of a run, in large pieces.
 ghost use Rattle.std.specs.Prelude.{◌≡◌, [], OnErr, OnOk};
 ghost use Rattle.df1_base.specs.Outside.{Later, Put, Rose, WroteLess};
 ghost use Rattle.df1_buffer.specs.Buffered.{buffer_name, buffer_out, buffer_waiting};
@@ -10,7 +10,7 @@ use df1_base::{Failed, Sink};
 use df1_buffer::Buffered;
 use replay_report::{Record, print};
 
-/// What a run has to tell.
+/// The result of a run that is to be written.
 #[derive(Clone, Copy)]
 pub(crate) enum Telling<'a> {
     /// The report of a run.
@@ -21,8 +21,8 @@ pub(crate) enum Telling<'a> {
     Pushed(&'a Rehearsal, u16),
 }
 
-/// Writes what a run has to tell, by large pieces. `Failed` comes where the sink failed; then it holds a first part of the text, and
-/// not all.
+/// Writes the result of a run, in large pieces. Returns `Failed` if the sink failed; then it holds a first part of the
+/// text, and not all.
 pub(crate) fn write_by_pieces<K: Sink>(telling: Telling<'_>, out: &mut K) -> Result<(), Failed>
     requires { IsTold telling }
     ensures ok { OnOk result (Put (K.held out.old) (K.held out.new) (text_of telling.entry)) }
@@ -34,7 +34,7 @@ pub(crate) fn write_by_pieces<K: Sink>(telling: Telling<'_>, out: &mut K) -> Res
     hand_on(telling, &mut pieces)
 }
 
-/// Writes it into a buffer in which nothing waits, and hands on what waits then.
+/// Writes it into an empty buffer, and flushes the buffer.
 fn hand_on<K: Sink>(telling: Telling<'_>, pieces: &mut Buffered<'_, K>) -> Result<(), Failed>
     requires told { IsTold telling }
     requires none { buffer_waiting pieces.old ≡ [] }

@@ -1,4 +1,4 @@
-//! Reading a whole script from an input, by what it is read for.
+//! Reading a whole script from an input, for a given profile.
 ghost use Rattle.std.specs.Prelude.{◌≡◌, ◌≢◌, ◌≤◌, Ok, IfOk, IfErr, IsErrOf, MatchResult, OnOk};
 ghost use Rattle.line_script.specs.declared.profile.Profile.{Profile as Purpose};
 ghost use Rattle.line_script.specs.Rehearsed.{IsRehearsed};
@@ -16,13 +16,15 @@ use script_parts::Script;
 use script_statement::Bytes;
 use std::alloc::Global;
 
-/// How many bytes one read asks for.
+/// The number of bytes that one read asks for.
 const PIECE: usize = 4096;
 
-/// Reads an input to its end, and the script that it says, by what it is read for. `Refusal` comes where no text that begins with the
-/// bytes taken is such a script, with its first faulty line and the first cause that fits it; of an input that goes on beyond the
-/// longest script at most 4,096 bytes more are taken. `Input` comes only where the count of faults of the input rose, and no line of
-/// the bytes taken is refused yet. `Output` never comes.
+/// Reads an input to its end, and parses the script for its profile. Takes at most 4,096 bytes more if the input is
+/// longer than the longest script. Never returns `Output`.
+///
+/// Returns `Refusal`, with the first faulty line and the first cause that fits it, if no text that begins with the
+/// bytes taken is such a script. Returns `Input` only if the count of faults of the input rose, and no line of the
+/// bytes taken is refused yet.
 pub fn read_input<S: Source>(
     alloc: Global,
     input: &mut S,
@@ -51,7 +53,7 @@ pub fn read_input<S: Source>(
     judged(alloc, text.as_slice(), profile)
 }
 
-/// The script that a whole text says.
+/// Returns the script of a whole text.
 fn judged(alloc: Global, text: &[u8], profile: Profile) -> Result<Script, RunFault>
     ensures exact { MatchResult result (λ script. script_for profile text.now ≡ Ok script) (Judges profile text.now) }
     ensures playable { profile ≢ Purpose.Route → IfOk result CanBePlayed }
@@ -61,7 +63,8 @@ fn judged(alloc: Global, text: &[u8], profile: Profile) -> Result<Script, RunFau
     Ok(read_profile(alloc, text, profile)?)
 }
 
-/// What a text shows whose rest can't be read: a line that is refused whatever may follow, or that the input has failed.
+/// Returns the fault of a text whose rest can't be read: a line that is refused whatever follows, or that the input
+/// failed.
 fn broken_off(alloc: Global, text: &[u8], profile: Profile) -> RunFault
     ensures { BreaksOff profile text.now result }
 {

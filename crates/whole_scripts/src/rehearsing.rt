@@ -1,4 +1,4 @@
-//! Rehearsals of transfers whose script comes from an input.
+//! Rehearsals of transfers over a script from an input.
 ghost use Rattle.std.specs.Prelude.{◌≡◌, ◌≢◌, ◌≤◌, ◌*◌, ◌/◌, length, IfErr, IsErrOf, OnOk};
 ghost use Rattle.df1_base.specs.Outside.{Rose};
 ghost use Rattle.line_script.specs.declared.profile.Profile.{Profile as Purpose};
@@ -15,10 +15,12 @@ use df1_base::{Sink, Source};
 use line_script::Profile;
 use std::alloc::Global;
 
-/// Reads the script of a rehearsal from the input, runs it with the orders of a transfer in front that reads so many words, 1 to 3,000,
-/// of a file of end b, 0 to 999, and writes its report and the line of the transfer. `Refusal` and `Input` come as `read_input` tells
-/// them, `Output` only where the count of faults of the output rose. Nothing is written but where the whole script was read; with
-/// `Output` something of the text is missing (manual topics: full-duplex protocol, word range read).
+/// Reads the script of a rehearsal from the input, runs it after the orders of a transfer, and writes its report and
+/// the line of the transfer. The transfer reads so many words, 1 to 3,000, of a file of end b, 0 to 999.
+///
+/// Returns `Refusal` and `Input` as `read_input` does, and `Output` only if the count of faults of the output rose.
+/// Nothing is written unless the whole script was read; with `Output` something of the text is missing (manual topics:
+/// full-duplex protocol, word range read).
 pub fn pull_input<S: Source, K: Sink>(
     alloc: Global,
     input: &mut S,
@@ -44,8 +46,8 @@ pub fn pull_input<S: Source, K: Sink>(
     Ok(write_by_pieces(Telling::Pulled(&rehearsal), out)?)
 }
 
-/// The same of a transfer that writes words, 1 to 3,000 with their low bytes first (manual topics: full-duplex protocol, word range
-/// write).
+/// Rehearses a transfer that writes words, 1 to 3,000 with their low bytes first, in the same way (manual topics:
+/// full-duplex protocol, word range write).
 pub fn push_input<S: Source, K: Sink>(
     alloc: Global,
     input: &mut S,

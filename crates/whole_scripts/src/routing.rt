@@ -1,4 +1,4 @@
-//! The run of a route whose script comes from an input.
+//! The run of a route over a script from an input.
 ghost use Rattle.std.specs.Prelude.{◌≡◌, ◌≢◌, ◌≤◌, IfErr, IsErrOf, OnOk};
 ghost use Rattle.df1_base.specs.Outside.{Rose};
 ghost use Rattle.line_script.specs.declared.profile.Profile.{Profile as Purpose};
@@ -14,9 +14,9 @@ use half_route::{RouteScript, route};
 use line_script::Profile;
 use std::alloc::Global;
 
-/// Reads the script of a route from the input, runs it and writes its report. `Refusal` and `Input` come as `read_input` tells them,
-/// `Output` only where the count of faults of the output rose. Nothing is written but where the whole script was read; with `Output`
-/// something of the report is missing (manual topic: half-duplex protocol).
+/// Reads the script of a route from the input, runs it and writes its report. Returns `Refusal` and `Input` as
+/// `read_input` does, and `Output` only if the count of faults of the output rose. Nothing is written unless the whole
+/// script was read; with `Output` something of the report is missing (manual topic: half-duplex protocol).
 pub fn route_input<S: Source, K: Sink>(
     alloc: Global,
     input: &mut S,

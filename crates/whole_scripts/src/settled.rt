@@ -1,11 +1,11 @@
-//! What a text shows of which the rest can't be read.
+//! The part of a text that doesn't depend on a rest that can't be read.
 ghost use Rattle.std.specs.Prelude.{◌≡◌, ◌≤◌, length};
 ghost use Rattle.line_script.specs.Unfinished.{settled as the_settled, unfinished as the_unfinished};
 
 use line_script::LINE;
 
-/// The lines of a text that a line feed ends, and the last one with them where it is over 1,024 bytes already: whatever may follow
-/// them, they are what they are.
+/// Returns the lines of a text that end with a line feed, and also the last one if it is over 1,024 bytes already.
+/// Whatever follows, these lines are the same.
 pub(crate) fn settled(text: &[u8]) -> &[u8]
     ensures { result.now ≡ the_settled text.now }
 {
@@ -17,7 +17,7 @@ pub(crate) fn settled(text: &[u8]) -> &[u8]
     }
 }
 
-/// How many bytes of a text stand behind its last line feed.
+/// Returns how many bytes of a text follow its last line feed.
 fn unfinished(text: &[u8]) -> usize
     ensures value { result ≡ the_unfinished text.now }
     ensures most { result ≤ length text.now }
