@@ -1,10 +1,10 @@
-/* A gateway in front of a controller: gateway DEVICE, or gateway DEVICE crc on a line with CRCs. Twice a second it reads N7:0 to N7:15
- * of node 1, and writes each word that has changed to standard output as a line, N7:3=42. Such a line on standard input sets the word,
- * and standard error tells what became of that; it issues no command a second time. It begins with an echo (06/00), which changes
- * nothing, and goes back to that whenever no answer came: a first command may be taken for a repeat of an earlier one. Until an echo is
- * answered, and a read after it, lines of standard input wait. A device that goes away is opened again, each second until it is
- * there. It ends with 0 when standard input ends and all that was to be set has an outcome, and with 1 where the device can't be opened
- * at first or the library has no memory. */
+/* A gateway in front of a controller: gateway DEVICE, or gateway DEVICE crc on a line with CRCs. Twice a second it reads N7:0 to
+ * N7:15 of node 1, and writes each word that has changed to standard output as a line, N7:3=42. Such a line on standard input sets
+ * the word, and standard error reports what became of that. No command is issued a second time. The gateway begins with an echo
+ * (06/00), which changes nothing, and returns to that whenever no answer came: a first command may be taken for a duplicate of an
+ * earlier one. Lines of standard input wait until an echo is answered, and a read after it. If the device goes away, the gateway
+ * tries each second to open it again. It ends with 0 when standard input ends and all that was to be set has an outcome. It ends
+ * with 1 if the device can't be opened at the beginning, or the library has no memory. */
 #define _POSIX_C_SOURCE 200809L
 #include <errno.h>
 #include <poll.h>
@@ -23,11 +23,11 @@
 #define CONTROLLER 1 /* the node that is read and written */
 #define WORDS 16     /* of N7 */
 #define ASKED 64     /* how many commands may wait for their outcomes */
-#define MOST 65000   /* commands of one end: then another one goes on with further numbers; an end has 65,535 */
+#define MOST 65000   /* commands of one end, which may issue 65,535; then a new end continues with the next numbers */
 
 enum kind { ASKS_ECHO, ASKS_READ, ASKS_WRITE };
 
-/* Where the words begin. */
+/* The address of the first word. */
 static const df1_address first = {DF1_INTEGER, 7, 0, 0, false, 0};
 
 /* What a command asks for. */
@@ -43,13 +43,13 @@ struct gateway {
     int device;       /* -1 while there is none */
     bool crc;
     uint16_t tns;                 /* of the end's first command */
-    uint32_t issued, settled;     /* the numbers of the last command, and of the last one whose outcome was told */
-    struct asked asked[ASKED];    /* by their numbers */
+    uint32_t issued, settled;     /* the numbers of the last command, and of the last one whose outcome was reported */
+    struct asked asked[ASKED];    /* the commands, by their numbers */
     bool answers;                 /* the latest outcome was a reply */
-    bool fresh;                   /* and a read was answered since one was none */
+    bool fresh;                   /* and a read was answered since the latest outcome that was no reply */
     bool known[WORDS];            /* which words were read */
-    uint16_t values[WORDS];       /* what they were */
-    char line[64];                /* of standard input, as far as it came */
+    uint16_t values[WORDS];       /* their latest values */
+    char line[64];                /* of standard input, as far as it was read */
     size_t length;
     bool ended; /* standard input has ended */
     long long next_tick, next_read, next_open;
@@ -63,7 +63,7 @@ static bool open_device(struct gateway *g)
     return g->device >= 0;
 }
 
-/* The device is gone. What the end gives until it is back is lost, as on any line. */
+/* The device is gone. What the end sends until it is back is lost, as on any line. */
 static void close_device(struct gateway *g)
 {
     fprintf(stderr, "%s is gone\n", g->name);
@@ -89,7 +89,7 @@ static void put(struct gateway *g, const uint8_t *bytes, size_t count)
     }
 }
 
-/* Writes all that the end has to give. */
+/* Writes all that the end has to send. */
 static void give(struct gateway *g)
 {
     uint8_t bytes[512];
@@ -116,7 +116,7 @@ static void hear(struct gateway *g)
 
 /* ---- Commands ---- */
 
-/* An end to which nothing happened yet, whose first command has this number. */
+/* Makes a new end, whose first command has this transaction number. Returns whether that succeeded. */
 static bool make_end(struct gateway *g, uint16_t tns)
 {
     df1_duplex link = DF1_DUPLEX_INIT;
@@ -124,7 +124,7 @@ static bool make_end(struct gateway *g, uint16_t tns)
 
     link.crc = g->crc;
     link.max_naks = link.max_enqs = 5;
-    node.reply_ticks = 120; /* over the 105 that one message may take, so what is given up isn't given again */
+    node.reply_ticks = 120; /* over the 105 that one message may take, so what is given up isn't sent again */
     node.tns = g->tns = tns;
     g->issued = g->settled = 0;
     return df1_duplex_make(&link, &node, NULL, 0, NULL, 0, NULL, 0, &g->end) == DF1_DONE;
@@ -158,7 +158,7 @@ static void ask(struct gateway *g)
     }
 }
 
-/* A line of standard input. */
+/* Does what a line of standard input asks for. */
 static void obey(struct gateway *g)
 {
     struct asked asked = {ASKS_WRITE, 0, 0};
@@ -178,10 +178,10 @@ static void obey(struct gateway *g)
     issue(g, asked, payload, length);
 }
 
-/* Reads what standard input has, and does the lines that have ended. */
+/* Reads what standard input has, and obeys each line that is complete. */
 static void listen(struct gateway *g)
 {
-    char text[ASKED / 2]; /* the shortest line has 6 characters, so no more commands than there is room for */
+    char text[ASKED / 2]; /* the shortest line has 6 characters, so there is room for all commands */
     ssize_t at, count = read(STDIN_FILENO, text, sizeof text);
 
     g->ended = count == 0 || (count < 0 && errno != EINTR);
@@ -219,7 +219,7 @@ static void replied(struct gateway *g, struct asked asked, uint32_t number)
 {
     uint8_t reply[250];
     size_t length = 0;
-    df1_answer answer = {0xF0, 0, 0, 0}; /* of one that is cut off, behind STS F0 */
+    df1_answer answer = {0xF0, 0, 0, 0}; /* that of a reply that is cut off after STS F0 */
 
     if (df1_end_reply(&g->end, number, reply, sizeof reply, &length) != DF1_DONE)
         return;
@@ -233,7 +233,7 @@ static void replied(struct gateway *g, struct asked asked, uint32_t number)
         changed(g, reply + answer.data);
 }
 
-/* Tells what became of the commands, in their order. */
+/* Reports what became of the commands, in their order. */
 static void settle(struct gateway *g)
 {
     uint32_t outcome;
@@ -253,7 +253,7 @@ static void settle(struct gateway *g)
     }
 }
 
-/* ---- What goes on ---- */
+/* ---- The loop ---- */
 
 static void tick(struct gateway *g)
 {
@@ -264,7 +264,7 @@ static void tick(struct gateway *g)
     give(g);
 }
 
-/* What is to be done by now. */
+/* Does what is due by now. */
 static void on_time(struct gateway *g)
 {
     long long time = now();
@@ -325,7 +325,7 @@ int main(int argc, char **argv)
         perror(g.name);
         return 1;
     }
-    /* Other numbers than those of a run before: the controller knows the last one. */
+    /* Other transaction numbers than those of a run before: the controller knows the last one. */
     is_well = make_end(&g, (uint16_t)(time(NULL) * 16)) && run(&g);
     df1_end_free(&g.end);
     if (g.device >= 0)

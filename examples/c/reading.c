@@ -1,4 +1,4 @@
-/* Reads N7:0 of node 1 once a second, and tells it on standard error. The line is standard input and output. */
+/* Reads N7:0 of node 1 once a second, and prints it on standard error. The line is standard input and output. */
 #include <poll.h>
 #include <stdio.h>
 #include <unistd.h>

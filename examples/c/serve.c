@@ -1,5 +1,5 @@
 /* Serves a full-duplex end with one Integer file, N7, on a serial device or a pseudo-terminal: serve DEVICE, or serve DEVICE crc on
- * a line with CRCs. It ends with 0 when the device does, and with 1 where the device can't be read or written. */
+ * a line with CRCs. It ends with 0 when the device does, and with 1 if the device can't be read or written. */
 #define _POSIX_C_SOURCE 200809L
 #include <errno.h>
 #include <poll.h>
@@ -10,7 +10,7 @@
 #include "df1.h"
 #include "serial.h"
 
-/* The line, and the end: what examples/served.toml says of its file 7, and for the rest what a plan that doesn't tell it has. */
+/* The line and the end: file 7 as in examples/served.toml, and for the rest the default values of a plan. */
 #define SPEED B19200
 #define TICK_MILLISECONDS 100
 static const df1_duplex full_duplex = DF1_DUPLEX_INIT;
@@ -20,7 +20,7 @@ static const df1_word words[] = {{7, 0, 0x1234}};
 
 static int status = 0;
 
-/* The device can't be read or written any more: where it isn't its end, that is told, and the program's status is 1. */
+/* The device can't be read or written any more. If that isn't because it ended, it is reported, and the program's status is 1. */
 static bool lost(const char *what)
 {
     if (errno != EIO) {
@@ -30,7 +30,7 @@ static bool lost(const char *what)
     return false;
 }
 
-/* Writes these bytes, and answers whether that went well. */
+/* Writes these bytes, and returns whether that succeeded. */
 static bool put(int device, const uint8_t *bytes, size_t count)
 {
     while (count > 0) {
@@ -46,7 +46,7 @@ static bool put(int device, const uint8_t *bytes, size_t count)
     return true;
 }
 
-/* Writes all that the end has to give, and answers whether that went well. */
+/* Writes all that the end has to send, and returns whether that succeeded. */
 static bool give(df1_end *end, int device)
 {
     uint8_t bytes[512];
@@ -58,7 +58,7 @@ static bool give(df1_end *end, int device)
     return true;
 }
 
-/* Hears what the device has, and answers whether it goes on. */
+/* Receives what the device has, and returns whether to go on. */
 static bool hear(df1_end *end, int device)
 {
     uint8_t bytes[256];
@@ -77,7 +77,7 @@ static bool hear(df1_end *end, int device)
     return count > 0;
 }
 
-/* Time has passed to the end, which tells whether all is well. */
+/* A tick has passed at the end. Returns whether all is well. */
 static bool tick(df1_end *end, int device)
 {
     uint32_t gone[16];

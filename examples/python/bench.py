@@ -1,6 +1,6 @@
 """Runs two ends against each other over a line that loses bytes, and counts how often each command was executed: python3 bench.py
-FOLDER, the library's. A command may be lost altogether, where its frame isn't seen as one and the ENQ after it is answered by the
-ACK before it; then it is unanswered, and the next one goes out."""
+FOLDER, with the folder of the library. A command may be lost altogether: its frame isn't received as one, and the ENQ after it is
+answered by the ACK before it. Then the command is unanswered, and the next one is sent."""
 import random
 import sys
 
@@ -18,13 +18,13 @@ def made(library, address):
 
 
 def write(number):
-    """Command `number` writes its number to the element of that number."""
+    """Returns the payload of command `number`, which writes its number to the element of that number."""
     return bytes([0x0F, 0xAA, 2, FILE, 0x89, number, 0, number, 0])
 
 
 def carry(library, giver, hearer, chance, executed):
-    """What a giver has goes to a hearer, but for lost bytes, whose count is the answer. The commands that are executed there join
-    `executed`."""
+    """Carries what one end has to send to the other, except for lost bytes, and returns how many were lost. The commands that are
+    executed there are added to `executed`."""
     lost = 0
     for byte in giver.given():
         if chance.random() < LOSS:

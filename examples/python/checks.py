@@ -1,4 +1,5 @@
-"""Prints the two checks of the manual's example message, and its frame with each: python3 checks.py [FOLDER], the library's."""
+"""Prints the two checks of the manual's example message, and its frame with each: python3 checks.py [FOLDER], with the folder
+of the library."""
 import sys
 
 from df1 import Library

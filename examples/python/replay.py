@@ -1,8 +1,8 @@
 """Plays a script of `df1 replay` from standard input over ends of the library, and prints the report, for scripts that df1 reads
 whole: python3 replay.py FOLDER < SCRIPT, with the folder of the library.
 
-A deception is told by taps, which no line disturbs: a decoder, a slave or a master of their own hear what an end gives, and so
-which of its bytes end a message, and of which body."""
+Deceptions are counted with taps, which no line disturbs. A tap is a decoder, a slave or a master of its own, which receives all
+that an end sends. So it reports which of these bytes end a message, and the body of that message."""
 import collections
 import re
 import sys
@@ -11,19 +11,19 @@ import df1
 
 
 class FullTap:
-    """Hears all that a full-duplex end gives."""
+    """Receives all that a full-duplex end sends."""
 
     def __init__(self, library, crc):
         self.good = library.DF1_HEARD_GOOD
         self.decoder = df1.Decoder(library, crc)
 
     def ended(self, byte):
-        """The body of the message that this byte ends, or None."""
+        """Returns the body of the message that this byte ends, or None."""
         return self.decoder.body() if self.decoder.byte(byte).heard == self.good else None
 
 
 class HalfTap:
-    """Hears all that an end of a half-duplex link gives, by an end of the other kind."""
+    """Receives all that an end of a half-duplex link sends, with an end of the other kind."""
 
     def __init__(self, end):
         self.end = end
@@ -53,14 +53,14 @@ class Plan:
 
 
 class Party:
-    """An end of the line, and the tap of what it gives."""
+    """An end of the line, and the tap that receives what it sends."""
 
     def __init__(self, name, end, tap):
         self.name, self.end, self.tap = name, end, tap
 
 
 class Line:
-    """The ends of a line, the bytes on their way between them, and the report so far. A lane goes from one party to another; each
+    """The ends of a line, the bytes on their way between them, and the report so far. A lane goes from one party to another. Each
     of its bytes stands beside the body of the message that it ends, if it ends one."""
 
     def __init__(self, library):
@@ -116,7 +116,7 @@ class Line:
     # The events.
 
     def event(self, who, letter, words):
-        """An event at the party `who`, or with the bytes from it."""
+        """Plays an event at the party `who`, or with the bytes from it."""
         party = self.parties[end_name(who)]
         if party.name == "m" and letter in "idxcn":
             others, words = [end_name(words[0])], words[1:]
@@ -132,7 +132,7 @@ class Line:
             self.link_event(party, self.parties[others[0]], letter, words)
 
     def link_event(self, party, other, letter, words):
-        """An event of a party and one other."""
+        """Plays an event of a party and one other."""
         lane = self.lanes[party.name, other.name]
         if letter == "i":
             dst = int(other.name) if other.name.isdigit() else self.plans[other.name].number("node")
@@ -180,7 +180,7 @@ class Line:
 
     @staticmethod
     def is_for(party, step, body):
-        """Whether a message that a slave heard names the station to which its body goes; any message suits the other ends."""
+        """Returns whether a message that a slave received names the station to which its body goes; for other ends True."""
         return not party.name.isdigit() or step.station == body[0]
 
     def tick(self, party, times):
@@ -212,7 +212,7 @@ class Line:
 
 
 def end_name(word):
-    """The name of an end: `003` is station 3."""
+    """Returns the name of an end: `003` is station 3."""
     return str(int(word)) if word.isdigit() else word
 
 

@@ -1,9 +1,10 @@
 #!/usr/bin/env python3
 """Runs the conformance cases of vectors.json over code of your own: python3 vectors.py [COMMAND WORD..]
 
-`bcc`, `crc` and `frame` below are what is run of checks and frames: put your own in their place. A station is run by the command that the words
-name, once for each case: a program that speaks full-duplex DF1 with BCC on its standard input and output, as `df1 serve PLAN raw` does, over the
-files of the cases. Without words no station is run. The status is 0 where no case differs."""
+The cases of checks and frames run `bcc`, `crc` and `frame` below: put your own in their place. The cases of a station run the
+command that COMMAND and its words name, once for each case. It is a program that speaks full-duplex DF1 with BCC on its standard
+input and output, as `df1 serve PLAN raw` does, with the files of the cases. Without a command no station is run. The status is 0
+if no case differs."""
 import json
 import pathlib
 import subprocess
@@ -14,12 +15,12 @@ VECTORS = pathlib.Path(__file__).resolve().parent.parent / "vectors.json"
 
 
 def bcc(covered):
-    """The two's complement of the 8-bit sum."""
+    """Returns the BCC, the two's complement of the 8-bit sum."""
     return bytes([-sum(covered) % 256])
 
 
 def crc(covered):
-    """CRC-16 with the reflected polynomial A001, from a register of 0, its low byte first."""
+    """Returns the CRC-16 with the reflected polynomial A001, from a register of 0, its low byte first."""
     register = 0
     for byte in covered:
         register ^= byte
@@ -29,13 +30,13 @@ def crc(covered):
 
 
 def frame(body, with_crc):
-    """A full-duplex frame of a body: a DLE of the body is doubled, and the CRC covers ETX too."""
+    """Returns the full-duplex frame of a body: each DLE of the body is doubled, and the CRC covers ETX too."""
     check = crc(body + bytes([ETX])) if with_crc else bcc(body)
     return bytes([DLE, STX]) + body.replace(b"\x10", b"\x10\x10") + bytes([DLE, ETX]) + check
 
 
 def body_of(line):
-    """The body of the frame behind the ACK of a command, or what came in its place."""
+    """Returns the body of the frame that follows the ACK of a command, or what was received in its place."""
     begin, end = bytes([DLE, ACK, DLE, STX]), bytes([DLE, ETX])
     if not line.startswith(begin) or line[-3:-1] != end:
         return line
@@ -44,7 +45,7 @@ def body_of(line):
 
 
 def answer(command, words):
-    """The body of the reply to a command, by a station that is started anew."""
+    """Returns the body of the reply to a command, from a newly started station."""
     ran = subprocess.run(words, input=frame(command, False), capture_output=True, timeout=60)
     return body_of(ran.stdout)
 

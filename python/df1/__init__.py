@@ -1,6 +1,7 @@
-"""The library of df1 in Python, by ctypes: a Library is libdf1.so with its df1.h, an End and a Decoder are handles of it. df1.h says
-what each call does. A code other than DF1_DONE is raised as Refused, and a number that doesn't fit its C type as OverflowError.
-Bytes may be `bytes`, or whatever a memoryview takes. An End and a Decoder may be used by one thread after another."""
+"""The library of df1 in Python, by ctypes. A Library is libdf1.so with its df1.h; an End and a Decoder are handles of it. df1.h
+says what each call does. A code other than DF1_DONE is raised as Refused, and a number that doesn't fit its C type as
+OverflowError. Bytes may be `bytes`, or whatever a memoryview accepts. An End and a Decoder may be used by one thread after
+another."""
 import ctypes
 import operator
 import os
@@ -18,7 +19,7 @@ LARGEST = {kind: 2 ** (8 * ctypes.sizeof(kind)) - 1 for kind in (u8, u16, u32, c
 
 
 def fitting(kind: Any, value: Any, name: str) -> Any:
-    """The value, which ctypes would cut to the width of `kind` where that is a kind of number."""
+    """Returns the value if it fits: ctypes would cut a number to the width of `kind`."""
     if kind not in LARGEST:
         return value
     if not 0 <= operator.index(value) <= LARGEST[kind]:
@@ -27,12 +28,12 @@ def fitting(kind: Any, value: Any, name: str) -> Any:
 
 
 def octets(data: Octets) -> bytes:
-    """Bytes as ctypes take them."""
+    """Returns bytes as ctypes accepts them."""
     return data if isinstance(data, bytes) else memoryview(data).tobytes()
 
 
 def numbers(values: Sequence[int], name: str) -> Any:
-    """Words as ctypes take them."""
+    """Returns words as ctypes accepts them."""
     return (u16 * len(values))(*(fitting(u16, value, name) for value in values))
 
 
@@ -44,7 +45,7 @@ class Plain(ctypes.Structure):
 
 
 class Handle(ctypes.Structure):
-    """A df1_decoder or a df1_end; it is empty at first."""
+    """A df1_decoder or a df1_end, which starts empty."""
     _fields_ = [("at", c_void_p), ("holds", c_bool)]
 
 
@@ -176,7 +177,7 @@ parameters = {
 
 
 class Refused(Exception):
-    """A call answered `code`, another one than DF1_DONE."""
+    """A call returned `code`, which isn't DF1_DONE."""
 
     def __init__(self, call: str, code: int, text: str):
         super().__init__(f"{call}: {text}")
@@ -184,7 +185,7 @@ class Refused(Exception):
 
 
 def checked(name, types, call):
-    """The call, with its numbers looked at."""
+    """Returns the call with its numbers checked."""
     def with_words(*words):
         if len(words) != len(types):
             raise TypeError(f"{name} takes {len(types)} arguments, and not {len(words)}")
@@ -193,7 +194,7 @@ def checked(name, types, call):
 
 
 def places(folder: Optional[str]) -> List[Tuple[pathlib.Path, pathlib.Path]]:
-    """Where libdf1.so and df1.h may be: in a folder, else where the environment's DF1_LIBRARY says, else under a prefix."""
+    """Returns where libdf1.so and df1.h may be: in a folder, else where the environment's DF1_LIBRARY says, else under a prefix."""
     named = folder or os.environ.get("DF1_LIBRARY")
     prefixes = [named] if named else dict.fromkeys([sys.prefix, os.path.expanduser("~/.local"), "/usr/local", "/usr"])
     installed = [(pathlib.Path(prefix, "lib"), pathlib.Path(prefix, "include")) for prefix in prefixes]
@@ -201,9 +202,10 @@ def places(folder: Optional[str]) -> List[Tuple[pathlib.Path, pathlib.Path]]:
 
 
 class Library:
-    """libdf1.so and df1.h, of a folder or a prefix, or else where they are found: in that of the environment's DF1_LIBRARY, else under
-    Python's own prefix, ~/.local, /usr/local or /usr, where `df1-lib install PREFIX` puts them. Its members are the calls, and the numbers that the
-    header names, as DF1_DONE. A library that is older than its header is refused, and where there is none FileNotFoundError is raised."""
+    """libdf1.so and df1.h of a folder or a prefix. By default it is that of the environment's DF1_LIBRARY, else the first that is
+    found under Python's own prefix, ~/.local, /usr/local or /usr, where `df1-lib install PREFIX` puts them. Its members are the
+    calls, and the numbers that the header names, such as DF1_DONE. A library that is older than its header is refused. If there is
+    no library, FileNotFoundError is raised."""
 
     def __init__(self, folder: Optional[str] = None):
         found = [(lib / "libdf1.so", include / "df1.h") for lib, include in places(folder)]
@@ -224,7 +226,7 @@ class Library:
             setattr(self, name, checked(name, types, call))
 
     def __getattr__(self, name: str) -> Any:
-        """For those who check types: what isn't set above isn't there."""
+        """For type checkers: a name that isn't set above doesn't exist."""
         raise AttributeError(name)
 
     def text(self, code: int) -> str:
@@ -233,38 +235,38 @@ class Library:
         return into.value.decode()
 
     def do(self, call: str, *words: Any) -> None:
-        """A call that has to answer DF1_DONE."""
+        """Makes a call. A code other than DF1_DONE is raised as Refused."""
         code = getattr(self, call)(*words)
         if code != self.DF1_DONE:
             raise Refused(call, code, self.text(code))
 
     def bytes(self, call: str, *words: Any, room: int = 509) -> "bytes":
-        """The bytes that a call writes into a room."""
+        """Returns the bytes that a call writes into a buffer of `room` bytes."""
         into, count = ctypes.create_string_buffer(room), c_size_t()
         self.do(call, *words, into, room, byref(count))
         return into.raw[: count.value]
 
     def spell(self, crc: bool, body: Octets) -> "bytes":
-        """The full-duplex frame of a body."""
+        """Returns the full-duplex frame of a body."""
         body = octets(body)
         return self.bytes("df1_spell", crc, body, len(body))
 
     def spell_message(self, station: int, crc: bool, body: Octets) -> "bytes":
-        """A half-duplex master's message to a station."""
+        """Returns a half-duplex master's message to a station."""
         body = octets(body)
         return self.bytes("df1_spell_message", station, crc, body, len(body))
 
     def spell_reply(self, crc: bool, body: Octets) -> "bytes":
-        """A slave's message."""
+        """Returns a slave's message."""
         body = octets(body)
         return self.bytes("df1_spell_reply", crc, body, len(body))
 
     def spell_poll(self, station: int) -> "bytes":
-        """A half-duplex master's poll of a station."""
+        """Returns a half-duplex master's poll of a station."""
         return self.bytes("df1_spell_poll", station)
 
     def address(self, text: str) -> Address:
-        """The address of a text, as N7:3, F8:0, T4:1.ACC or N7:3/5."""
+        """Returns the address of a text, for example N7:3, F8:0, T4:1.ACC or N7:3/5."""
         letters, address = text.encode(), Address()
         self.do("df1_address_read", letters, len(letters), address)
         return address
@@ -273,66 +275,66 @@ class Library:
         return self.bytes("df1_address_text", address)[:-1].decode()
 
     def place(self, at: Union[Address, str]) -> Address:
-        """An address as it is, or of its text."""
+        """Returns an Address unchanged, and a text as the address that it names."""
         return self.address(at) if isinstance(at, str) else at
 
     def payload_read(self, command: int, at: Union[Address, str], count: int) -> "bytes":
-        """The payload that reads words, or elements by DF1_TYPED, from an address on; `command` is a df1_command."""
+        """Returns the payload that reads words, with DF1_TYPED elements, from an address on; `command` is a df1_command."""
         return self.bytes("df1_payload_read", command, self.place(at), count)
 
     def payload_write(self, command: int, at: Union[Address, str], words: Sequence[int]) -> "bytes":
-        """The payload that writes words from an address on; `command` is a df1_command."""
+        """Returns the payload that writes words from an address on; `command` is a df1_command."""
         return self.bytes("df1_payload_write", command, self.place(at), numbers(words, "words"), len(words))
 
     def payload_masked(self, at: Union[Address, str], mask: int, words: Sequence[int]) -> "bytes":
-        """The payload that writes the bits of a mask of words from an address on."""
+        """Returns the payload that writes those bits of words that a mask names, from an address on."""
         return self.bytes("df1_payload_masked", self.place(at), mask, numbers(words, "words"), len(words))
 
     def payload_modify(self, at: Union[Address, str], and_mask: int, or_mask: int) -> "bytes":
-        """The payload that makes a word its old value AND one mask, OR the other."""
+        """Returns the payload that makes a word its old value AND one mask, OR the other."""
         return self.bytes("df1_payload_modify", self.place(at), and_mask, or_mask)
 
     def payload_bit(self, at: Union[Address, str], on: bool) -> "bytes":
-        """The payload that sets the bit of an address, or clears it."""
+        """Returns the payload that sets the bit of an address, or clears it."""
         return self.bytes("df1_payload_bit", self.place(at), on)
 
     def payload_echo(self, data: Octets) -> "bytes":
-        """The payload that asks for bytes back."""
+        """Returns the payload that asks for bytes back."""
         data = octets(data)
         return self.bytes("df1_payload_echo", data, len(data))
 
     def payload_unprotected_read(self, address: int, count: int) -> "bytes":
-        """The payload that reads words of a station's compatibility file from a byte on."""
+        """Returns the payload that reads words of a station's compatibility file from a byte on."""
         return self.bytes("df1_payload_unprotected_read", address, count)
 
     def payload_unprotected_write(self, address: int, words: Sequence[int]) -> "bytes":
-        """The payload that writes words to a station's compatibility file from a byte on."""
+        """Returns the payload that writes words to a station's compatibility file from a byte on."""
         return self.bytes("df1_payload_unprotected_write", address, numbers(words, "words"), len(words))
 
     def payload_status(self) -> "bytes":
-        """The payload that asks for the status of a station."""
+        """Returns the payload that asks for the status of a station."""
         return self.bytes("df1_payload_status")
 
     def reply(self, reply: Octets) -> Tuple[Answer, "bytes"]:
-        """What a reply tells, DST first, and its data."""
+        """Returns what a reply, DST first, says, and its data."""
         reply, answer = octets(reply), Answer()
         self.do("df1_reply_read", reply, len(reply), answer)
         return answer, reply[answer.data : answer.data + answer.data_length]
 
     def status_text(self, sts: int, ext: int = 0) -> str:
-        """The text of STS and EXT STS."""
+        """Returns the text of STS and EXT STS."""
         return self.bytes("df1_status_text", sts, ext)[:-1].decode()
 
     def typed(self, data: Octets) -> Tuple[Typed, "bytes"]:
-        """What the data of a reply to a typed read is, and the bytes of its words."""
+        """Returns what the data of a reply to a typed read is, and the bytes of its words."""
         data, typed = octets(data), Typed()
         self.do("df1_typed_read", data, len(data), typed)
         return typed, data[typed.data : typed.data + typed.data_length]
 
 
 class Held:
-    """What a handle of the library holds. Its memory is let go by `free`, at the end of a `with` block, or when nothing refers to
-    it any more, whichever comes first. A call after that is refused by DF1_NO_HANDLE."""
+    """What a handle of the library holds. It is freed by `free`, at the end of a `with` block, or when nothing refers to it any
+    more, whichever comes first. A call after that is refused with DF1_NO_HANDLE."""
 
     def __init__(self, library: Library, kind: str, make: str, *words: Any):
         self.library, self.handle = library, Handle()
@@ -347,7 +349,7 @@ class Held:
 
 
 class Decoder(Held):
-    """A decoder of a line with a CRC or else with BCC: of a full-duplex one, or else of the side that the header's number names."""
+    """A decoder of a line with CRCs or with BCCs, by default of a full-duplex one; `side` is a df1_side."""
 
     def __init__(self, library: Library, crc: bool, side: int = 0):
         super().__init__(library, "decoder", "df1_decoder_make_side", side, crc)
@@ -362,7 +364,7 @@ class Decoder(Held):
 
 
 class End(Held):
-    """An end by its link: a Duplex, a Master with `stations`, or a Slave. Files and words are Files and Words."""
+    """An end, made of its link: a Duplex, a Master with `stations`, or a Slave. `files` are Files, and `words` are Words."""
 
     def __init__(self, library: Library, link: Union[Duplex, Master, Slave], node: Node, files: Sequence[File] = (),
                  words: Sequence[Word] = (), block: Octets = b"", stations: Octets = b""):
@@ -380,19 +382,19 @@ class End(Held):
         return self.library.bytes("df1_end_body", self.handle)
 
     def tick(self) -> Tuple[Turn, List[int]]:
-        """What the tick did, and the numbers of the commands that it left unanswered."""
+        """A tick has passed. Returns what it did, and the numbers of the commands that it left unanswered."""
         turn, gone = Turn(), (u32 * 16)()
         self.library.do("df1_end_tick", self.handle, turn, gone, 16)
         return turn, gone[: turn.gone_count]
 
     def out(self) -> Out:
-        """What a take gives: whether there is a byte, the byte, and whether it is the last of a message."""
+        """Takes the next byte to send. Returns whether there is one, the byte, and whether it is the last of a message."""
         out = Out()
         self.library.do("df1_end_take", self.handle, out)
         return out
 
     def take(self) -> Optional[int]:
-        """The next byte, or None where there is none."""
+        """Takes the next byte to send. Returns it, or None if there is none."""
         out = self.out()
         return out.byte if out.there else None
 
@@ -402,25 +404,27 @@ class End(Held):
         return quiet.value
 
     def state(self) -> State:
-        """Whether it has something to give, whether a message of its own is under way, and which station it polls."""
+        """Returns whether it has nothing to send, whether a message of its own is under way, and which station it polls."""
         state = State()
         self.library.do("df1_end_state", self.handle, state)
         return state
 
     def hear(self, data: Octets) -> Tuple[int, Step]:
-        """Hears the first of these bytes, up to one after which there is something to do, or all: how many, and what the last did."""
+        """Receives the first of these bytes, up to one at which there is something to do, or all. Returns how many, and what the
+        last of them did."""
         data, used, step = octets(data), c_size_t(), Step()
         self.library.do("df1_end_bytes", self.handle, data, len(data), used, step)
         return used.value, step
 
     def take_bytes(self, room: int = 512) -> Tuple[bytes, Given]:
-        """The next bytes, at most `room` and 512, up to the first that ends a message; and whether it did, and whether there are more."""
+        """Takes the next bytes to send, at most `room` and at most 512, up to the first that ends a message. Returns them, whether
+        the last of them ends a message, and whether there are no more."""
         into, given = ctypes.create_string_buffer(max(room, 1)), Given()
         self.library.do("df1_end_take_bytes", self.handle, into, room, given)
         return into.raw[: given.length], given
 
     def given(self) -> bytes:
-        """All bytes that the end has to give."""
+        """Takes and returns all bytes that the end has to send."""
         all_given, quiet = b"", self.quiet()
         while not quiet:
             run, given = self.take_bytes()
@@ -428,7 +432,7 @@ class End(Held):
         return all_given
 
     def issue(self, dst: int, payload: Octets, src: Optional[int] = None) -> int:
-        """Issues a command, in the name of a source or else in that of the end's node, and answers its number."""
+        """Issues a command, with `src` or by default the end's own address as SRC, and returns its number."""
         payload = octets(payload)
         number, words = u32(), (dst, payload, len(payload))
         if src is None:
@@ -446,25 +450,25 @@ class End(Held):
         return self.library.bytes("df1_end_reply", self.handle, number)
 
     def pull(self, dst: int, file: int, words: int) -> int:
-        """Issues the orders of a transfer that reads words of a file, and answers the number of the first."""
+        """Issues the orders of a transfer that reads words of a file, and returns the number of the first."""
         first = u32()
         self.library.do("df1_end_pull", self.handle, dst, file, words, first)
         return first.value
 
     def push(self, dst: int, file: int, data: Octets) -> int:
-        """Issues the orders of a transfer that writes words, two bytes each, to a file, and answers the number of the first."""
+        """Issues the orders of a transfer that writes words, two bytes each, to a file, and returns the number of the first."""
         data, first = octets(data), u32()
         self.library.do("df1_end_push", self.handle, dst, file, data, len(data), first)
         return first.value
 
     def pulled(self, first: int, words: int) -> Tuple[Transfer, bytes]:
-        """What a transfer that reads came to so far, and its bytes where it is whole."""
+        """Returns what a transfer that reads came to so far, and its bytes if it is whole."""
         into, count, came = ctypes.create_string_buffer(6000), c_size_t(), Transfer()
         self.library.do("df1_end_pulled", self.handle, first, words, into, 6000, count, came)
         return came, into.raw[: count.value]
 
     def pushed(self, first: int, words: int) -> Transfer:
-        """What a transfer that writes came to so far."""
+        """Returns what a transfer that writes came to so far."""
         came = Transfer()
         self.library.do("df1_end_pushed", self.handle, first, words, came)
         return came
@@ -478,7 +482,7 @@ class End(Held):
         self.library.do("df1_end_set_word", self.handle, file, index, value)
 
     def words(self, file: int, first: int, count: int) -> List[int]:
-        """The values of a run of words."""
+        """Returns the values of a run of words."""
         values = (u16 * count)()
         self.library.do("df1_end_words", self.handle, file, first, values, count)
         return list(values)
@@ -488,11 +492,11 @@ class End(Held):
         self.library.do("df1_end_set_words", self.handle, file, first, numbers(values, "values"), len(values))
 
     def lock(self, files: Sequence[int]) -> None:
-        """Lets no command of the line write the data files of these numbers, and lets commands write all others."""
+        """Locks the data files of these numbers, and unlocks all others: no command of the line may write a locked file."""
         self.library.do("df1_end_lock", self.handle, numbers(files, "files"), len(files))
 
     def changes(self, file: int, first: int, seen: List[int]) -> List[int]:
-        """The places in `seen` whose words, from word `first` of the file on, aren't what it had for them; it has their values then."""
+        """Returns the places in `seen` whose words, from word `first` of the file on, differ from it. Puts their values there."""
         kept, place, places = numbers(seen, "seen"), c_size_t(), []
         while not places or places[-1] < len(seen):
             self.library.do("df1_end_changed", self.handle, file, first, kept, len(seen), place)
@@ -501,7 +505,7 @@ class End(Held):
         return places[:-1]
 
     def files(self) -> List[File]:
-        """The data files, in their order."""
+        """Returns the data files, in their order."""
         count, files = u32(), []
         self.library.do("df1_end_files", self.handle, count)
         for place in range(count.value):
