@@ -1,3 +1,7 @@
+-- Each command that is handed out from a state at rest on is answered.
+pub mod AfterRest
+-- What is so where nothing is under way and no reply is left: each command that was handed out is answered.
+pub mod AnsweredCommands
 -- A station hears its call: a message, or a poll, where it has a reply and where it has none.
 pub mod CallHeard
 -- A cell arrives at a station.
@@ -10,6 +14,12 @@ pub mod Dealings
 pub mod EarHears
 -- The master begins a thing, where it has given all else: what each station will hear then.
 pub mod MasterBegins
+-- The commands that were handed out before some point of a run, and that others have other bodies and other TNS.
+pub mod EarlierCommands
+-- Where the events of a run come one after another, and nothing disturbs it.
+pub mod EventsAlong
+-- A front of the events of a script, and a run in two parts.
+pub mod Fronts
 -- What holds at each point of an undisturbed run.
 pub mod Invariant
 -- The dealings with all stations, by what is awaited.
@@ -24,8 +34,10 @@ pub mod LinkStep
 pub mod MasterStep
 -- What the master hears of what a station gives: DLE ACK, DLE EOT, and a message.
 pub mod MasterHears
--- A message that is behind others has another key than the last of them.
+-- A message has another key than the one that is kept, where no earlier one has its TNS.
 pub mod NewKeys
+-- From where on an undisturbed run is looked at.
+pub mod Origin
 -- Where nothing is under way the master has no message to give.
 pub mod QuietLine
 -- The master hears the reply of the station of which it is awaited.
@@ -34,8 +46,14 @@ pub mod ReplyHeard
 pub mod StageBegins
 -- A cell arrives at the master.
 pub mod ReplyStep
+-- What holds of a line at rest.
+pub mod RestingLine
+-- The run of a write that loses a byte, and of another from the state at rest on that follows.
+pub mod RestWitness
 -- Each step of an undisturbed run leaves it such.
 pub mod RunSteps
+-- In every run the ends stay set up as they were.
+pub mod Settings
 -- A stage with one station as it is now, and after a byte of the master.
 pub mod StagePlaces
 -- What doesn't change a stage: bytes that are given, and cells of which nothing comes.

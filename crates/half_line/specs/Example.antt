@@ -1,10 +1,10 @@
--- Half-duplex scripts whose runs nothing disturbs: a command is issued, executed, and answered at a poll; and two are out at two stations, whose replies come in the other order.
-use Rattle.std.specs.Prelude.{ℕ, true, List, [], ◌∷◌, None}
+-- Half-duplex scripts whose runs nothing disturbs: a command is issued, executed, and answered at a poll; and two are out at two stations, whose replies come in the other order. And one that nothing disturbs once a write has lost a byte and is given up.
+use Rattle.std.specs.Prelude.{ℕ, true, List, [], ◌∷◌, ◌++◌, None}
 use Rattle.df1_base.specs.declared.file_type.FileType.TheVariants.{Integer}
 use Rattle.df1_check.specs.declared.Check.TheVariants.{Bcc}
 use Rattle.script_statement.specs.declared.who.Who.TheVariants.{M, S}
 use Rattle.script_parts.specs.declared.script.Event.{Event}
-use Rattle.script_parts.specs.declared.script.Event.TheVariants.{Issue, Take, Deliver, Tick}
+use Rattle.script_parts.specs.declared.script.Event.TheVariants.{Issue, Take, Deliver, Lose, Tick}
 use Rattle.script_parts.specs.declared.script.Script.{Script}
 use Rattle.script_parts.specs.Plans.{first_plan}
 
@@ -68,3 +68,35 @@ second_echo = 0x03 ∷ 0x00 ∷ 0x06 ∷ 0x00 ∷ 0x02 ∷ 0x00 ∷ 0x00 ∷ 0x5
 
 abbrev pub second_echoed : List ℕ
 second_echoed = 0x00 ∷ 0x03 ∷ 0x46 ∷ 0x00 ∷ 0x02 ∷ 0x00 ∷ 0x51 ∷ []
+
+-- a master that gives a message up at the first tick: a byte of its first write is lost, and the tick gives the write up; then nothing is under
+-- way, and a second write is executed by station 3 and answered at a poll
+abbrev pub lost_write : List Event
+lost_write =
+    Issue M None 3 (0x0F ∷ 0xAA ∷ 0x02 ∷ 0x07 ∷ 0x89 ∷ 0x00 ∷ 0x00 ∷ 0x34 ∷ 0x12 ∷ [])
+    ∷ Take M 22 ∷ reach 3 7 ∷ Lose (record { from = M; to = S 3 }) 1 ∷ reach 3 14
+    ∷ Tick M 1
+    ∷ []
+
+abbrev pub second_write : List Event
+second_write =
+    Issue M None 3 (0x0F ∷ 0xAA ∷ 0x02 ∷ 0x07 ∷ 0x89 ∷ 0x01 ∷ 0x00 ∷ 0x78 ∷ 0x56 ∷ [])
+    ∷ Take M 22 ∷ reach 3 22 ∷ Take (S 3) 2 ∷ come_from 3 2
+    ∷ Tick M 1 ∷ Take M 4 ∷ reach 3 4 ∷ Take (S 3) 11 ∷ come_from 3 11
+    ∷ Take M 2 ∷ reach 3 2
+    ∷ []
+
+abbrev pub after_a_lost_write : Script
+after_a_lost_write = record {
+  half = true;
+  check = Bcc;
+  ends = record (first_plan M 0) { ack_ticks = 1; max_resends = 0 } ∷ record (first_plan (S 3) 3) { files = record { number = 7; kind = Integer; count = 16 } ∷ [] } ∷ [];
+  events = lost_write ++ second_write;
+}
+
+-- the bodies of the second command and of its reply
+abbrev pub second_command : List ℕ
+second_command = 0x03 ∷ 0x00 ∷ 0x0F ∷ 0x00 ∷ 0x02 ∷ 0x00 ∷ 0xAA ∷ 0x02 ∷ 0x07 ∷ 0x89 ∷ 0x01 ∷ 0x00 ∷ 0x78 ∷ 0x56 ∷ []
+
+abbrev pub second_reply : List ℕ
+second_reply = 0x00 ∷ 0x03 ∷ 0x4F ∷ 0x00 ∷ 0x02 ∷ 0x00 ∷ []

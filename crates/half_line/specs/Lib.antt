@@ -7,6 +7,7 @@ pub mod Issues
 pub mod Once
 pub mod Plays
 pub mod Prompt
+pub mod Rest
 pub mod Run
 pub mod Steps
 pub mod Wire

@@ -29,9 +29,9 @@ use std::alloc::Global;
 ///   reported as given up, once nothing was on its way.
 ///
 /// If nothing disturbed the line, no end was deceived, and all commands were executed and answered. The same holds if a
-/// full-duplex line recovers from what the script does to the bytes. If a full-duplex line is at rest again, and no end
-/// was deceived, each command that an end hands out from there on was executed and answered, if nothing disturbs the
-/// line from there on, or it recovers.
+/// full-duplex line recovers from what the script does to the bytes. If the line is at rest again, and no end was
+/// deceived, each command that an end hands out from there on was executed and answered, if nothing disturbs the line
+/// from there on, or a full-duplex line recovers.
 ///
 /// After enough ticks at which an end had nothing to send, each of its commands has its outcome. If so many came since
 /// its last command and the last that its station executed, an end of a full-duplex line has no message and no reply

@@ -19,6 +19,7 @@ use Rattle.half_line.specs.Run as polled
 use Rattle.half_line.specs.Once.{EachOnce as HalfOnce}
 use Rattle.half_line.specs.Prompt.{IsUndisturbed as HalfUndisturbed}
 use Rattle.half_line.specs.Complete.{IsComplete as HalfComplete}
+use Rattle.half_line.proofs.Complete.AfterRest.{goes-well as polled-goes-well}
 use Rattle.half_line.proofs.Complete.WholeRun.{is-complete as polled-is-complete}
 use Rattle.half_line.proofs.Once.EachStation.{each-once as polled-each-once}
 use Rattle.half_line.proofs.Once.MasterCommands.{issued-run}
@@ -44,7 +45,7 @@ use Rattle.line_world.specs.declared.world.World.TheVariants.{Duplex, Polled}
 use Rattle.line_world.specs.Complete.{IsUndisturbed, IsUndisturbedIn, IsComplete, IsCompleteIn}
 use Rattle.line_world.specs.Once.{EachCommandOnce, EachOnceIn}
 use Rattle.line_world.specs.Recovery.{Recovers, RecoversIn}
-use Rattle.line_world.specs.Rested.{GoesWell, GoesWellIn, GoesWellAfterRest}
+use Rattle.line_world.specs.Rested.{GoesWell, PolledGoesWell, GoesWellIn, GoesWellAfterRest}
 use Rattle.line_world.specs.Wire.{AreDf1Wires, AreDf1WiresIn}
 use Rattle.line_world.specs.Runs.{after_event, after_events, all_lines, begun, begun_in, last_world, lines_in, lines_of, lines_after, played, printed, record_from, record_of, IsNext}
 
@@ -223,9 +224,13 @@ all-recover script h = recovers-in script.half script refl h
 
 -- ---- a line that is at rest
 
+polled-rested : (script : Script) → IsHalfPlayable script → PolledGoesWell script (polled.record_of script)
+unfolding polled.record_of
+polled-rested script playable = record { after_rest = λ front rest calm. polled-goes-well script front rest playable calm }
+
 rested-in : (half : Bool) (script : Script) → script.half ≡ half → CanBePlayed script → GoesWellIn half script (record_of script)
 unfolding duplex.record_of
-rested-in true script mode h = tt
+rested-in true script mode h = subst (PolledGoesWell script) (sym (polled-record script mode)) (polled-rested script (h.half mode))
 rested-in false script mode h = subst (GoesWell script) (sym (duplex-record script mode)) (record {
   after_rest = goes-soundly script (h.full mode);
   after_answer_of_a = λ front middle more rest n. well-after-a script front middle more rest n (h.full mode);

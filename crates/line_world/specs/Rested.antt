@@ -1,4 +1,4 @@
--- Each command that an end hands out from a state at rest on executed and answered, in the record of a full-duplex script.
+-- Each command that an end hands out from a state at rest on executed and answered, in the record of a script.
 use Rattle.std.specs.Prelude.{ℕ, Bool, true, false, List, ◌++◌}
 use Rattle.script_statement.specs.declared.who.Who.TheVariants.{A, B}
 use Rattle.script_parts.specs.declared.script.Event.{Event}
@@ -6,8 +6,9 @@ use Rattle.script_parts.specs.declared.script.Script.{Script}
 use Rattle.replay_report.specs.declared.record.Record.{Record}
 use Rattle.duplex_line.specs.Certified.{IsAnsweredAfter, GoesOnCalmly}
 use Rattle.duplex_line.specs.Rest.{IsSoundAfter, IsWellAfter}
+use Rattle.half_line.specs.Rest as polled
 
--- It is so where the line is at rest after some events, and nothing disturbs it from there on, or it recovers. And so it is where a command of
+-- On a full-duplex line it is so where the line is at rest after some events, and nothing disturbs it from there on, or it recovers. And so it is where a command of
 -- either end was answered since a state at which nothing was under way, and no byte was lost, altered or foreign since that state: by
 -- the answer the line is at rest where nothing is under way and no sender has a message.
 pub record GoesWell (script : Script) (r : Record) : Type 0 where
@@ -15,9 +16,12 @@ pub record GoesWell (script : Script) (r : Record) : Type 0 where
   pub after_answer_of_a : (front middle more rest : List Event) (n : ℕ) → IsAnsweredAfter A script front middle more rest n → GoesOnCalmly script (front ++ (middle ++ more)) rest → IsWellAfter script (front ++ (middle ++ more)) r
   pub after_answer_of_b : (front middle more rest : List Event) (n : ℕ) → IsAnsweredAfter B script front middle more rest n → GoesOnCalmly script (front ++ (middle ++ more)) rest → IsWellAfter script (front ++ (middle ++ more)) r
 
--- of a half-duplex script nothing is said
+-- on a half-duplex line, of the commands of its master, where the line is at rest after some events and nothing disturbs it from there on
+pub record PolledGoesWell (script : Script) (r : Record) : Type 0 where
+  pub after_rest : (front rest : List Event) → polled.IsCalmAfter script front rest → polled.IsWellAfter script front r
+
 abbrev pub GoesWellIn : Bool → Script → Record → Type 0
-GoesWellIn true script r = Unit {0}
+GoesWellIn true script r = PolledGoesWell script r
 GoesWellIn false script r = GoesWell script r
 
 -- of a script, in its mode

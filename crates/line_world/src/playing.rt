@@ -37,8 +37,8 @@ pub fn play(alloc: Global, script: &Script) -> Result<World, NoMemory>
 /// If nothing disturbed the line, no end was deceived, and all commands were executed and answered. The same holds if a
 /// full-duplex line recovers from what the script does to the bytes.
 ///
-/// Let a full-duplex line be at rest again, whatever happened on it, with no end deceived. Then each command that an
-/// end hands out from there on was executed and answered, if nothing disturbs the line from there on, or it recovers.
+/// Let the line be at rest again, whatever happened on it, with no end deceived. Then each command that an end hands out
+/// from there on was executed and answered, if nothing disturbs the line from there on, or a full-duplex line recovers.
 /// Whatever was received, what each end sent is DF1, and carries its own commands and replies.
 pub fn replay(alloc: Global, script: &Script) -> Result<Record, NoMemory>
     requires { CanBePlayed script.now }

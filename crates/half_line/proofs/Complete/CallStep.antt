@@ -21,8 +21,7 @@ use Rattle.each_once.proofs.CommandsUnderWay.{under-way-at}
 use Rattle.each_once.proofs.Sublists.{same-some, get-seam}
 use Rattle.report_lines.specs.NodeLines.{did_lines, step_lines}
 use Rattle.half_line.specs.Acts.{LineStationState, station_heard}
-use Rattle.half_line.specs.Complete.{is_to}
-use Rattle.half_line.proofs.Once.Invariant.{Setting, number-at}
+use Rattle.half_line.proofs.Once.Invariant.{number-at}
 use Rattle.half_line.proofs.Complete.EarHears.{deceived_at}
 use Rattle.half_line.proofs.Complete.StationHears.{station_ear}
 use Rattle.half_line.proofs.Complete.StationTurns.{IsMute}
@@ -31,6 +30,7 @@ use Rattle.half_line.proofs.Complete.Stages.{SideRests, Awaited, Receipt, Pollin
 use Rattle.half_line.proofs.Complete.StageSteps.{lane_left, rests-arrives, StillComes, comes-arrives, none-arrives}
 use Rattle.half_line.proofs.Complete.StagePlaces.{set-rests, set-called, set-another}
 use Rattle.half_line.proofs.Complete.CallHeard.{HearsItsCall, called-after, message-heard, poll-ended, poll-answered}
+use Rattle.half_line.proofs.Complete.Origin.{Origin, is_mine, short-from}
 use Rattle.half_line.proofs.Complete.Dealings.{IsSameNode, same-node, room-for, call-new, reply-fits}
 use Rattle.half_line.proofs.Complete.Ledger.{told_in, Ledger, ledger-ends}
 use Rattle.half_line.proofs.Complete.LedgerSteps.{ledger-side, goes-here, ledger-executes, ledger-fetches}
@@ -38,8 +38,8 @@ use Rattle.half_line.proofs.Complete.Invariant.{Course}
 use Rattle.half_line.proofs.Complete.LineFacts.{Known, plain, elsewhere}
 
 -- a station of the line, at its place
-pub record At (setting : Setting) (m : MasterState NodeState) (stations : List LineStationState) (lines : List Line) (place : ℕ) (side : LineStationState) : Type 0 where
-  pub known : Known setting m stations lines
+pub record At (origin : Origin) (m : MasterState NodeState) (stations : List LineStationState) (lines : List Line) (place : ℕ) (side : LineStationState) : Type 0 where
+  pub known : Known origin m stations lines
   pub is_at : slice_get stations place ≡ Some side
 
 -- the station after the cell
@@ -50,22 +50,22 @@ side_heard side cell cells = station_heard (lane_left side cells) cell.byte
 abbrev pub call_lines : LineStationState → LaneCell → List Line
 call_lines side cell = step_lines (S side.number) (slave.step_at_byte node_host side.slave cell.byte) (slave.body_of (slave_after_byte node_host side.slave cell.byte))
 
-pub record Arrived (setting : Setting) (m : MasterState NodeState) (stations : List LineStationState) (late : ℕ) (lines : List Line) (place : ℕ) (side : LineStationState) (cell : LaneCell) (cells : List LaneCell) : Type 0 where
-  pub course : Course setting m (slice_set stations place (side_heard side cell cells)) late (lines ++ call_lines side cell)
+pub record Arrived (origin : Origin) (m : MasterState NodeState) (stations : List LineStationState) (late : ℕ) (lines : List Line) (place : ℕ) (side : LineStationState) (cell : LaneCell) (cells : List LaneCell) : Type 0 where
+  pub course : Course origin m (slice_set stations place (side_heard side cell cells)) late (lines ++ call_lines side cell)
   pub honest : deceived_at station_ear side.slave.ear cell ≡ 0
 
 -- ---- nothing is told of it
 
 -- the dealings are those that were, with no line more
-told-none : {setting : Setting} {stations : List LineStationState} {lines : List Line} {now : Now} (m : MasterState NodeState) (side : LineStationState) (cell : LaneCell) → IsMute node_host side.slave cell.byte
-    → Ledger setting m.host.initiator m.stations stations lines now m.next → Ledger setting m.host.initiator m.stations stations (lines ++ call_lines side cell) now m.next
-told-none {setting = setting} {stations = stations} {lines = lines} {now = now} m side cell mute l =
-    subst (λ (all : List Line). Ledger setting m.host.initiator m.stations stations all now m.next)
+told-none : {origin : Origin} {stations : List LineStationState} {lines : List Line} {now : Now} (m : MasterState NodeState) (side : LineStationState) (cell : LaneCell) → IsMute node_host side.slave cell.byte
+    → Ledger origin m.host.initiator m.stations stations lines now m.next → Ledger origin m.host.initiator m.stations stations (lines ++ call_lines side cell) now m.next
+told-none {origin = origin} {stations = stations} {lines = lines} {now = now} m side cell mute l =
+    subst (λ (all : List Line). Ledger origin m.host.initiator m.stations stations all now m.next)
     (sym (append-nil lines) ∙ ap (λ (more : List Line). lines ++ more) (sym (mute (S side.number) (slave.body_of (slave_after_byte node_host side.slave cell.byte))))) l
 
-mute-step : {setting : Setting} {m : MasterState NodeState} {stations : List LineStationState} {place : ℕ} {side : LineStationState} {late : ℕ} {lines : List Line} (cell : LaneCell) (cells : List LaneCell) (now : Now) → At setting m stations lines place side
+mute-step : {origin : Origin} {m : MasterState NodeState} {stations : List LineStationState} {place : ℕ} {side : LineStationState} {late : ℕ} {lines : List Line} (cell : LaneCell) (cells : List LaneCell) (now : Now) → At origin m stations lines place side
     → Stage late m (slice_set stations place (side_heard side cell cells)) now → IsSameNode side.slave.host (slave_after_byte node_host side.slave cell.byte).host → (slave_after_byte node_host side.slave cell.byte).kept ≡ side.slave.kept
-    → IsMute node_host side.slave cell.byte → deceived_at station_ear side.slave.ear cell ≡ 0 → Ledger setting m.host.initiator m.stations stations lines now m.next → Arrived setting m stations late lines place side cell cells
+    → IsMute node_host side.slave cell.byte → deceived_at station_ear side.slave.ear cell ≡ 0 → Ledger origin m.host.initiator m.stations stations lines now m.next → Arrived origin m stations late lines place side cell cells
 mute-step {m = m} {place = place} {side = side} cell cells now at stage node kept mute honest l = record {
   course = record {
     now = now;
@@ -81,9 +81,9 @@ kept-node was now (inl same) = same-node was now same
 kept-node was now (inr told) = record { replies = ap (λ (node : NodeState). node.replies) told; room = ap (λ (node : NodeState). node.room) told }
 
 -- at rest it stays so
-rest-step : {setting : Setting} {m : MasterState NodeState} {stations : List LineStationState} {place : ℕ} {side : LineStationState} {late : ℕ} {lines : List Line} (cell : LaneCell) (cells : List LaneCell) (now : Now) → At setting m stations lines place side → side.to_it ≡ cell ∷ cells
+rest-step : {origin : Origin} {m : MasterState NodeState} {stations : List LineStationState} {place : ℕ} {side : LineStationState} {late : ℕ} {lines : List Line} (cell : LaneCell) (cells : List LaneCell) (now : Now) → At origin m stations lines place side → side.to_it ≡ cell ∷ cells
     → SideRests m side → (SideRests m (side_heard side cell cells) → Stage late m (slice_set stations place (side_heard side cell cells)) now)
-    → Ledger setting m.host.initiator m.stations stations lines now m.next → Arrived setting m stations late lines place side cell cells
+    → Ledger origin m.host.initiator m.stations stations lines now m.next → Arrived origin m stations late lines place side cell cells
 rest-step {m = m} {side = side} cell cells now at is rests stage l =
     let r = rests-arrives m side cell cells is rests in
     mute-step cell cells now at (stage r.rests) (kept-node side.slave.host _ r.host) r.kept r.mute r.honest l
@@ -91,34 +91,34 @@ rest-step {m = m} {side = side} cell cells now at is rests stage l =
 -- ---- what is called stays so
 
 -- of the station that is called, with this stage
-record Calls (setting : Setting) (m : MasterState NodeState) (stations : List LineStationState) (late : ℕ) (lines : List Line) (place : ℕ) (side : LineStationState) (awaited : Awaited) : Type 0 where
-  at : At setting m stations lines place side
+record Calls (origin : Origin) (m : MasterState NodeState) (stations : List LineStationState) (late : ℕ) (lines : List Line) (place : ℕ) (side : LineStationState) (awaited : Awaited) : Type 0 where
+  at : At origin m stations lines place side
   stage : Stage late m stations (Awaits place awaited)
   called : SideCalled m side awaited
-  ledger : Ledger setting m.host.initiator m.stations stations lines (Awaits place awaited) m.next
+  ledger : Ledger origin m.host.initiator m.stations stations lines (Awaits place awaited) m.next
 
 abbrev StageAfter : ℕ → MasterState NodeState → List LineStationState → ℕ → LineStationState → LaneCell → List LaneCell → Awaited → Type 0
 StageAfter late m stations place side cell cells awaited = Stage late m (slice_set stations place (side_heard side cell cells)) (Awaits place awaited)
 
-still-step : {setting : Setting} {m : MasterState NodeState} {stations : List LineStationState} {place : ℕ} {side : LineStationState} {late : ℕ} {lines : List Line} {awaited : Awaited} (cell : LaneCell) (cells : List LaneCell) → (c : Calls setting m stations late lines place side awaited)
+still-step : {origin : Origin} {m : MasterState NodeState} {stations : List LineStationState} {place : ℕ} {side : LineStationState} {late : ℕ} {lines : List Line} {awaited : Awaited} (cell : LaneCell) (cells : List LaneCell) → (c : Calls origin m stations late lines place side awaited)
     → StageAfter late m stations place side cell cells awaited → IsSameNode side.slave.host (slave_after_byte node_host side.slave cell.byte).host → (slave_after_byte node_host side.slave cell.byte).kept ≡ side.slave.kept
-    → IsMute node_host side.slave cell.byte → deceived_at station_ear side.slave.ear cell ≡ 0 → Arrived setting m stations late lines place side cell cells
+    → IsMute node_host side.slave cell.byte → deceived_at station_ear side.slave.ear cell ≡ 0 → Arrived origin m stations late lines place side cell cells
 still-step {place = place} {awaited = awaited} cell cells c stage node kept mute honest =
     mute-step cell cells (Awaits place awaited) c.at stage node kept mute honest c.ledger
 
 -- ---- it hears a message
 
-receipt-hears : {setting : Setting} {m : MasterState NodeState} {stations : List LineStationState} {place : ℕ} {side : LineStationState} {late : ℕ} {lines : List Line} (cell : LaneCell) (cells : List LaneCell) (body : List ℕ) → Calls setting m stations late lines place side (Receipt body)
-    → HearsItsCall m side cell cells (a_message side.number body) → Arrived setting m stations late lines place side cell cells
-receipt-hears {setting = setting} {m = m} {stations = stations} {place = place} {side = side} {lines = lines} cell cells body c h =
+receipt-hears : {origin : Origin} {m : MasterState NodeState} {stations : List LineStationState} {place : ℕ} {side : LineStationState} {late : ℕ} {lines : List Line} (cell : LaneCell) (cells : List LaneCell) (body : List ℕ) → Calls origin m stations late lines place side (Receipt body)
+    → HearsItsCall m side cell cells (a_message side.number body) → Arrived origin m stations late lines place side cell cells
+receipt-hears {origin = origin} {m = m} {stations = stations} {place = place} {side = side} {lines = lines} cell cells body c h =
     let k = c.at.known in
     let l = c.ledger in
     let n = side.number in
     let executed = executed_in (S n) lines in
     let d = goes-here place side body c.at.is_at l in
-    let at = under-way-at (is_to n) m.host.initiator (executed ++ body ∷ []) (length (told_in n lines)) _ (length executed) body (get-seam executed body []) d.under_way in
-    let command = plain setting m stations lines at.0 body k at.1 in
-    let r = message-heard m side cell cells body c.called h (call-new body k.few k.numbered d) (room-for body command d) in
+    let at = under-way-at (is_mine origin.issued n) m.host.initiator (executed ++ body ∷ []) (length (told_in n lines)) _ (length executed) body (get-seam executed body []) d.under_way in
+    let command = plain origin m stations lines at.0 body k at.1 in
+    let r = message-heard m side cell cells body c.called h (call-new body k.few k.numbered l.handed d) (room-for body command d) in
     let named : slave.body_of (slave_after_byte node_host side.slave cell.byte) ≡ body = ap (λ ear. lent_at ear.standing) (byte-ear node_host side.slave cell.byte) ∙ h.body in
     let executes : did_accept side.slave.host body ≡ did.Executed = rw command refl in
     let told : call_lines side cell ≡ line.Exec (S n) body ∷ [] =
@@ -127,17 +127,17 @@ receipt-hears {setting = setting} {m = m} {stations = stations} {place = place} 
       course = record {
         now = Awaits place Ack;
         stage = record { waits = c.stage.waits; expects = set-called m stations place (Receipt body) Ack (side_heard side cell cells) c.stage.expects r.called };
-        ledger = subst (λ (more : List Line). Ledger setting m.host.initiator m.stations (slice_set stations place (side_heard side cell cells)) (lines ++ more) (Awaits place Ack) m.next) (sym told)
-            (ledger-executes place side (side_heard side cell cells) body c.at.is_at refl (k.serve place side c.at.is_at).station command (elsewhere setting m stations lines place side k c.at.is_at) r.host r.kept l);
+        ledger = subst (λ (more : List Line). Ledger origin m.host.initiator m.stations (slice_set stations place (side_heard side cell cells)) (lines ++ more) (Awaits place Ack) m.next) (sym told)
+            (ledger-executes place side (side_heard side cell cells) body c.at.is_at refl (k.serve place side c.at.is_at).station command (elsewhere origin m stations lines place side k c.at.is_at) r.host r.kept l);
       };
       honest = r.honest;
     }
 
-receipt-step : {setting : Setting} {m : MasterState NodeState} {stations : List LineStationState} {place : ℕ} {side : LineStationState} {late : ℕ} {lines : List Line} (cell : LaneCell) (cells : List LaneCell) (body : List ℕ) → side.to_it ≡ cell ∷ cells
-    → Calls setting m stations late lines place side (Receipt body) → Arrived setting m stations late lines place side cell cells
-receipt-step {setting = setting} {m = m} {stations = stations} {place = place} {side = side} {late = late} {lines = lines} cell cells body is c = by-cell (comes-arrives m side cell cells (a_message side.number body) is c.called.progress)
+receipt-step : {origin : Origin} {m : MasterState NodeState} {stations : List LineStationState} {place : ℕ} {side : LineStationState} {late : ℕ} {lines : List Line} (cell : LaneCell) (cells : List LaneCell) (body : List ℕ) → side.to_it ≡ cell ∷ cells
+    → Calls origin m stations late lines place side (Receipt body) → Arrived origin m stations late lines place side cell cells
+receipt-step {origin = origin} {m = m} {stations = stations} {place = place} {side = side} {late = late} {lines = lines} cell cells body is c = by-cell (comes-arrives m side cell cells (a_message side.number body) is c.called.progress)
   where
-    by-cell : StillComes m side cell cells (a_message side.number body) ⊎ HearsItsCall m side cell cells (a_message side.number body) → Arrived setting m stations late lines place side cell cells
+    by-cell : StillComes m side cell cells (a_message side.number body) ⊎ HearsItsCall m side cell cells (a_message side.number body) → Arrived origin m stations late lines place side cell cells
     by-cell (inr h) = receipt-hears cell cells body c h
     by-cell (inl s) =
         let called = called-after m side cell cells (Receipt body) (Receipt body) c.called s.comes in
@@ -157,21 +157,21 @@ none-waits node replies issued = rw (replies, issued) (none-either (nat_lt 0 nod
 one-waits : (node : NodeState) (reply : List ℕ) (rest : List (List ℕ)) → node.replies ≡ reply ∷ rest → next_body node ≡ Some reply
 one-waits node reply rest replies = rw replies refl
 
-poll-ends : {setting : Setting} {m : MasterState NodeState} {stations : List LineStationState} {place : ℕ} {side : LineStationState} {late : ℕ} {lines : List Line} (cell : LaneCell) (cells : List LaneCell) → Calls setting m stations late lines place side Polling
-    → side.slave.host.replies ≡ [] → HearsItsCall m side cell cells (a_poll side.number) → Arrived setting m stations late lines place side cell cells
+poll-ends : {origin : Origin} {m : MasterState NodeState} {stations : List LineStationState} {place : ℕ} {side : LineStationState} {late : ℕ} {lines : List Line} (cell : LaneCell) (cells : List LaneCell) → Calls origin m stations late lines place side Polling
+    → side.slave.host.replies ≡ [] → HearsItsCall m side cell cells (a_poll side.number) → Arrived origin m stations late lines place side cell cells
 poll-ends {m = m} {stations = stations} {place = place} {side = side} {late = late} cell cells c none h =
     let r = poll-ended m side cell cells c.called h (none-waits side.slave.host none (c.at.known.serve place side c.at.is_at).issues_none) in
     let stage : StageAfter late m stations place side cell cells Eot = record { waits = c.stage.waits; expects = set-called m stations place Polling Eot (side_heard side cell cells) c.stage.expects r.called } in
     mute-step cell cells (Awaits place Eot) c.at stage (same-node side.slave.host _ r.host) r.kept r.mute r.honest (ledger-ends place side c.at.is_at none c.ledger)
 
 -- it has one
-poll-sends : {setting : Setting} {m : MasterState NodeState} {stations : List LineStationState} {place : ℕ} {side : LineStationState} {late : ℕ} {lines : List Line} (cell : LaneCell) (cells : List LaneCell) (reply : List ℕ) (rest : List (List ℕ)) → Calls setting m stations late lines place side Polling
-    → side.slave.host.replies ≡ reply ∷ rest → HearsItsCall m side cell cells (a_poll side.number) → Arrived setting m stations late lines place side cell cells
-poll-sends {setting = setting} {m = m} {stations = stations} {place = place} {side = side} {lines = lines} cell cells reply rest c waits h =
+poll-sends : {origin : Origin} {m : MasterState NodeState} {stations : List LineStationState} {place : ℕ} {side : LineStationState} {late : ℕ} {lines : List Line} (cell : LaneCell) (cells : List LaneCell) (reply : List ℕ) (rest : List (List ℕ)) → Calls origin m stations late lines place side Polling
+    → side.slave.host.replies ≡ reply ∷ rest → HearsItsCall m side cell cells (a_poll side.number) → Arrived origin m stations late lines place side cell cells
+poll-sends {origin = origin} {m = m} {stations = stations} {place = place} {side = side} {lines = lines} cell cells reply rest c waits h =
     let k = c.at.known in
     let l = c.ledger in
-    let at_number = number-at setting.numbers stations place side k.numbers_are c.at.is_at in
-    let fits = reply-fits reply rest waits l.fits (k.short place side.number at_number) (l.sides place side c.at.is_at) in
+    let at_number = number-at origin.setting.numbers stations place side k.numbers_are c.at.is_at in
+    let fits = reply-fits reply rest waits l.fits (short-from origin place side.number (k.short place side.number at_number)) (l.sides place side c.at.is_at) in
     let r = poll-answered m side cell cells reply c.called h (one-waits side.slave.host reply rest waits) fits.0 fits.1 in
     record {
       course = record {
@@ -182,16 +182,16 @@ poll-sends {setting = setting} {m = m} {stations = stations} {place = place} {si
       honest = r.honest;
     }
 
-poll-hears : {setting : Setting} {m : MasterState NodeState} {stations : List LineStationState} {place : ℕ} {side : LineStationState} {late : ℕ} {lines : List Line} (cell : LaneCell) (cells : List LaneCell) (replies : List (List ℕ)) → side.slave.host.replies ≡ replies
-    → Calls setting m stations late lines place side Polling → HearsItsCall m side cell cells (a_poll side.number) → Arrived setting m stations late lines place side cell cells
+poll-hears : {origin : Origin} {m : MasterState NodeState} {stations : List LineStationState} {place : ℕ} {side : LineStationState} {late : ℕ} {lines : List Line} (cell : LaneCell) (cells : List LaneCell) (replies : List (List ℕ)) → side.slave.host.replies ≡ replies
+    → Calls origin m stations late lines place side Polling → HearsItsCall m side cell cells (a_poll side.number) → Arrived origin m stations late lines place side cell cells
 poll-hears cell cells [] waits c h = poll-ends cell cells c waits h
 poll-hears cell cells (reply ∷ rest) waits c h = poll-sends cell cells reply rest c waits h
 
-poll-step : {setting : Setting} {m : MasterState NodeState} {stations : List LineStationState} {place : ℕ} {side : LineStationState} {late : ℕ} {lines : List Line} (cell : LaneCell) (cells : List LaneCell) → side.to_it ≡ cell ∷ cells → Calls setting m stations late lines place side Polling
-    → Arrived setting m stations late lines place side cell cells
-poll-step {setting = setting} {m = m} {stations = stations} {place = place} {side = side} {late = late} {lines = lines} cell cells is c = by-cell (comes-arrives m side cell cells (a_poll side.number) is c.called.progress)
+poll-step : {origin : Origin} {m : MasterState NodeState} {stations : List LineStationState} {place : ℕ} {side : LineStationState} {late : ℕ} {lines : List Line} (cell : LaneCell) (cells : List LaneCell) → side.to_it ≡ cell ∷ cells → Calls origin m stations late lines place side Polling
+    → Arrived origin m stations late lines place side cell cells
+poll-step {origin = origin} {m = m} {stations = stations} {place = place} {side = side} {late = late} {lines = lines} cell cells is c = by-cell (comes-arrives m side cell cells (a_poll side.number) is c.called.progress)
   where
-    by-cell : StillComes m side cell cells (a_poll side.number) ⊎ HearsItsCall m side cell cells (a_poll side.number) → Arrived setting m stations late lines place side cell cells
+    by-cell : StillComes m side cell cells (a_poll side.number) ⊎ HearsItsCall m side cell cells (a_poll side.number) → Arrived origin m stations late lines place side cell cells
     by-cell (inr h) = poll-hears cell cells side.slave.host.replies refl c h
     by-cell (inl s) =
         let called = called-after m side cell cells Polling Polling c.called s.comes in
@@ -200,8 +200,8 @@ poll-step {setting = setting} {m = m} {stations = stations} {place = place} {sid
 
 -- ---- whatever is awaited
 
-called-step : {setting : Setting} {m : MasterState NodeState} {stations : List LineStationState} {place : ℕ} {side : LineStationState} {late : ℕ} {lines : List Line} (awaited : Awaited) (cell : LaneCell) (cells : List LaneCell) → side.to_it ≡ cell ∷ cells
-    → Calls setting m stations late lines place side awaited → Arrived setting m stations late lines place side cell cells
+called-step : {origin : Origin} {m : MasterState NodeState} {stations : List LineStationState} {place : ℕ} {side : LineStationState} {late : ℕ} {lines : List Line} (awaited : Awaited) (cell : LaneCell) (cells : List LaneCell) → side.to_it ≡ cell ∷ cells
+    → Calls origin m stations late lines place side awaited → Arrived origin m stations late lines place side cell cells
 called-step (Receipt body) cell cells is c = receipt-step cell cells body is c
 called-step Polling cell cells is c = poll-step cell cells is c
 called-step {m = m} {side = side} Ack cell cells is c = absurd (none-arrives m side cell cells an_ack is c.called.progress)
@@ -210,14 +210,14 @@ called-step {m = m} {side = side} (Message body) cell cells is c = absurd (none-
 
 -- ---- of any station
 
-by-now : {setting : Setting} {m : MasterState NodeState} {stations : List LineStationState} {place : ℕ} {side : LineStationState} {late : ℕ} {lines : List Line} (now : Now) (cell : LaneCell) (cells : List LaneCell) → At setting m stations lines place side → side.to_it ≡ cell ∷ cells
-    → Stage late m stations now → Ledger setting m.host.initiator m.stations stations lines now m.next → Arrived setting m stations late lines place side cell cells
+by-now : {origin : Origin} {m : MasterState NodeState} {stations : List LineStationState} {place : ℕ} {side : LineStationState} {late : ℕ} {lines : List Line} (now : Now) (cell : LaneCell) (cells : List LaneCell) → At origin m stations lines place side → side.to_it ≡ cell ∷ cells
+    → Stage late m stations now → Ledger origin m.host.initiator m.stations stations lines now m.next → Arrived origin m stations late lines place side cell cells
 by-now {m = m} {stations = stations} {place = place} {side = side} Idles cell cells at is stage l =
     rest-step cell cells Idles at is (stage.rest place side at.is_at)
     (λ new. record { idle = stage.idle; outside = stage.outside; rest = set-rests m stations place side (side_heard side cell cells) at.is_at new stage.rest }) l
-by-now {setting = setting} {m = m} {stations = stations} {place = place} {side = side} {late = late} {lines = lines} (Awaits q awaited) cell cells at is stage l = by-place (place == q) refl
+by-now {origin = origin} {m = m} {stations = stations} {place = place} {side = side} {late = late} {lines = lines} (Awaits q awaited) cell cells at is stage l = by-place (place == q) refl
   where
-    by-place : (same : Bool) → (place == q) ≡ same → Arrived setting m stations late lines place side cell cells
+    by-place : (same : Bool) → (place == q) ≡ same → Arrived origin m stations late lines place side cell cells
     by-place false same =
         let differ = eqb-false place q same in
         rest-step cell cells (Awaits q awaited) at is (stage.expects.others place side at.is_at differ)
@@ -228,9 +228,9 @@ by-now {setting = setting} {m = m} {stations = stations} {place = place} {side =
         let e = stage_here.expects in
         let side_is : e.side ≡ side = same-some e.side side (sym e.is_at ∙ at.is_at) in
         let called = subst (λ (s : LineStationState). SideCalled m s awaited) side_is e.called in
-        let here = subst (λ (n : ℕ). Ledger setting m.host.initiator m.stations stations lines (Awaits n awaited) m.next) there l in
+        let here = subst (λ (n : ℕ). Ledger origin m.host.initiator m.stations stations lines (Awaits n awaited) m.next) there l in
         called-step awaited cell cells is (record { at = at; stage = stage_here; called = called; ledger = here })
 
-pub station-arrives : (setting : Setting) (m : MasterState NodeState) (stations : List LineStationState) (late : ℕ) (lines : List Line) (place : ℕ) (side : LineStationState) (cell : LaneCell) (cells : List LaneCell) → At setting m stations lines place side → side.to_it ≡ cell ∷ cells
-    → Course setting m stations late lines → Arrived setting m stations late lines place side cell cells
-station-arrives setting m stations late lines place side cell cells at is c = by-now c.now cell cells at is c.stage c.ledger
+pub station-arrives : (origin : Origin) (m : MasterState NodeState) (stations : List LineStationState) (late : ℕ) (lines : List Line) (place : ℕ) (side : LineStationState) (cell : LaneCell) (cells : List LaneCell) → At origin m stations lines place side → side.to_it ≡ cell ∷ cells
+    → Course origin m stations late lines → Arrived origin m stations late lines place side cell cells
+station-arrives origin m stations late lines place side cell cells at is c = by-now c.now cell cells at is c.stage c.ledger

@@ -1,5 +1,5 @@
 -- What is so of the commands and the numbers of a line whose run deceives no end, and of the reply to a command.
-use Rattle.std.proofs.Common.{◌≡◌, ◌∙◌, ℕ, ◌≤◌, true, false, List, [], length, map, Some, ap, sym, subst}
+use Rattle.std.proofs.Common.{◌≡◌, ◌∙◌, ℕ, ◌≤◌, true, false, List, [], ◌++◌, length, map, Some, ap, sym, subst}
 use Rattle.std.specs.Prelude.{slice_get, slice_index, ◌==◌}
 use Rattle.std.proofs.lemmas.Bool.{eqb-true, eq-eqb, ne_eqb}
 use Rattle.pccc_envelope.specs.Envelope.{is_reply}
@@ -21,6 +21,7 @@ use Rattle.half_line.specs.Complete.{is_to}
 use Rattle.half_line.specs.Issues.{issued_of, bodies_of}
 use Rattle.half_line.proofs.Once.Invariant.{Setting, Holds, number-at, other-number}
 use Rattle.half_line.proofs.Once.LinesOfStation.{executed-same}
+use Rattle.half_line.proofs.Complete.Origin.{Origin, station_from, station-both}
 use Rattle.half_line.proofs.Complete.LedgerSteps.{EachOther}
 
 -- the status reply of each station fits a message
@@ -32,18 +33,18 @@ pub record Served (first : StationState) (side : LineStationState) (lines : List
   pub station : side.slave.host.station ≡ station_after first (executed_in (S side.number) lines)
   pub issues_none : side.slave.host.initiator.issued ≡ []
 
--- of a master and its stations
-pub record Known (setting : Setting) (m : MasterState NodeState) (stations : List LineStationState) (lines : List Line) : Type 0 where
-  pub numbers_are : map (λ (side : LineStationState). side.number) stations ≡ setting.numbers
-  pub list_is : numbers_of m.stations ≡ setting.numbers
+-- of a master and its stations, with what is told from where on the run is looked at
+pub record Known (origin : Origin) (m : MasterState NodeState) (stations : List LineStationState) (lines : List Line) : Type 0 where
+  pub numbers_are : map (λ (side : LineStationState). side.number) stations ≡ origin.setting.numbers
+  pub list_is : numbers_of m.stations ≡ origin.setting.numbers
   pub replies_none : m.host.replies ≡ []
   pub numbered : AreNumbered m.host.initiator.tns 0 (issued_of m)
   pub few : length (issued_of m) ≤ 65535
-  pub short : AreShort setting
-  pub serve : (p : ℕ) (side : LineStationState) → slice_get stations p ≡ Some side → Served (setting.first p) side lines
+  pub short : AreShort origin.setting
+  pub serve : (p : ℕ) (side : LineStationState) → slice_get stations p ≡ Some side → Served (station_from origin p side.number) side lines
 
-pub known : (setting : Setting) (count : ℕ) (s : HalfState NodeState) (lines : List Line) → count ≤ 65535 → AreShort setting → Holds setting count s lines → Known setting s.master s.stations lines
-known setting count s lines few short h = record {
+pub known : (origin : Origin) (count : ℕ) (s : HalfState NodeState) (lines : List Line) → count ≤ 65535 → AreShort origin.setting → Holds origin.setting count s (origin.lines ++ lines) → Known origin s.master s.stations lines
+known origin count s lines few short h = record {
   numbers_are = h.numbers_are;
   list_is = h.master.numbers_are;
   replies_none = h.master.issues.replies;
@@ -53,23 +54,23 @@ known setting count s lines few short h = record {
   serve = λ p side at.
       let this = h.sides p side at in
       record {
-        station = this.keeps.serves.station ∙ ap (station_after (setting.first p)) (sym this.told.executes ∙ executed-same side.number (S side.number) lines);
+        station = this.keeps.serves.station ∙ ap (station_after (origin.setting.first p)) (sym this.told.executes ∙ executed-same side.number (S side.number) (origin.lines ++ lines)) ∙ station-both origin p side.number lines;
         issues_none = this.keeps.serves.issues_none;
       };
 }
 
 -- no command is a reply
-pub plain : (setting : Setting) (m : MasterState NodeState) (stations : List LineStationState) (lines : List Line) (n : ℕ) (body : List ℕ) → Known setting m stations lines → slice_get (bodies_of m) n ≡ Some body → is_reply body ≡ false
-plain setting m stations lines n body k at =
+pub plain : (origin : Origin) (m : MasterState NodeState) (stations : List LineStationState) (lines : List Line) (n : ℕ) (body : List ℕ) → Known origin m stations lines → slice_get (bodies_of m) n ≡ Some body → is_reply body ≡ false
+plain origin m stations lines n body k at =
     let c = from-map (λ (x : Issued). x.body) (issued_of m) n body at in
     ap is_reply (sym c.2) ∙ (numbered-at m.host.initiator.tns 0 (issued_of m) n c.0 k.numbered c.1).1
 
 -- ---- the stations of a line
 
 -- another has another number, and what is for this one isn't for that
-pub elsewhere : (setting : Setting) (m : MasterState NodeState) (stations : List LineStationState) (lines : List Line) (place : ℕ) (side : LineStationState) → Known setting m stations lines → slice_get stations place ≡ Some side → EachOther stations place (λ p other. other.number ≡ side.number → ⊥)
-elsewhere setting m stations lines place side k at p other found differ =
-    other-number setting stations place p side.number other k.numbers_are (number-at setting.numbers stations place side k.numbers_are at) found differ
+pub elsewhere : (origin : Origin) (m : MasterState NodeState) (stations : List LineStationState) (lines : List Line) (place : ℕ) (side : LineStationState) → Known origin m stations lines → slice_get stations place ≡ Some side → EachOther stations place (λ p other. other.number ≡ side.number → ⊥)
+elsewhere origin m stations lines place side k at p other found differ =
+    other-number origin.setting stations place p side.number other k.numbers_are (number-at origin.setting.numbers stations place side k.numbers_are at) found differ
 
 pub not-theirs : (side other : LineStationState) (body : List ℕ) → is_to side.number body ≡ true → (other.number ≡ side.number → ⊥) → is_to other.number body ≡ false
 not-theirs side other body to apart = ne_eqb (slice_index body 0) other.number (λ same. apart (sym same ∙ eqb-true (slice_index body 0) side.number to))

@@ -22,7 +22,7 @@ pub done-left : (left : List Sent) → (length left == 0) ≡ true → left ≡ 
 done-left [] done = refl
 done-left (x ∷ more) done = absurd (let no : true ≡ false = sym done ∙ some-left x more in cc)
 
-given-by : (m : MasterState NodeState) (done : Bool) → is_done m.mouth ≡ done → is_none (master.out_at_take node_host m) ≡ true → m.mouth.left ≡ []
+pub given-by : (m : MasterState NodeState) (done : Bool) → is_done m.mouth ≡ done → is_none (master.out_at_take node_host m) ≡ true → m.mouth.left ≡ []
 given-by m true done none = done-left m.mouth.left done
 given-by m false gives none =
     none-given m.mouth.left m.mouth.number m.mouth.begun (ap (λ (e : MasterState NodeState). is_none (take e.mouth).1) (sym (take-giving node_host m gives)) ∙ none)

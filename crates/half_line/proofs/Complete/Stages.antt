@@ -208,12 +208,12 @@ busy-progress m side Eot given idle r = busy-returns m side an_eot idle r
 busy-progress m side (Message body) given idle r = busy-returns m side (a_reply body) idle r
 
 -- so not all stations are idle
-pub all-at : (stations : List LineStationState) (place : ℕ) (side : LineStationState) → list_all is_idle stations ≡ true → slice_get stations place ≡ Some side → is_idle side ≡ true
-all-at [] place side all at = absurd cc
-all-at (first ∷ stations) zero side all at =
-    let parts = both (is_idle first) (list_all is_idle stations) all in
-    subst (λ (s : LineStationState). is_idle s ≡ true) (same-some first side at) parts.0
-all-at (first ∷ stations) (suc place) side all at = all-at stations place side (both (is_idle first) (list_all is_idle stations) all).1 at
+pub all-at : (t : LineStationState → Bool) (stations : List LineStationState) (place : ℕ) (side : LineStationState) → list_all t stations ≡ true → slice_get stations place ≡ Some side → t side ≡ true
+all-at t [] place side all at = absurd cc
+all-at t (first ∷ stations) zero side all at =
+    let parts = both (t first) (list_all t stations) all in
+    subst (λ (s : LineStationState). t s ≡ true) (same-some first side at) parts.0
+all-at t (first ∷ stations) (suc place) side all at = all-at t stations place side (both (t first) (list_all t stations) all).1 at
 
 pub expects-busy : (m : MasterState NodeState) (stations : List LineStationState) (place : ℕ) (awaited : Awaited) → m.mouth.left ≡ [] → Expects m stations place awaited → list_all is_idle stations ≡ true → ⊥
-expects-busy m stations place awaited given e all = busy-progress m e.side awaited given (idle-is e.side (all-at stations place e.side all e.is_at)) e.called.progress
+expects-busy m stations place awaited given e all = busy-progress m e.side awaited given (idle-is e.side (all-at is_idle stations place e.side all e.is_at)) e.called.progress

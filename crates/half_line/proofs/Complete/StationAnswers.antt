@@ -29,7 +29,7 @@ giving_of s = mouth_at_take s.mouth s.responds
 abbrev pub back : {H : Type 0} → SlaveState H → List LaneCell → List LaneCell
 back s lane = lane ++ coming (giving_of s) s.sending
 
-abbrev giving : List Sent → Option ℕ → ℕ → Giving
+abbrev pub giving : List Sent → Option ℕ → ℕ → Giving
 giving left number begun = record { left = left; number = number; begun = begun }
 
 -- what is heard of it, and the message that it holds then: only a message that it sends, whose wait is open once all of it is given
@@ -179,7 +179,7 @@ pub none-left : (left : List Sent) (number : Option ℕ) (sending : List ℕ) �
 none-left [] number sending none = refl
 none-left (x ∷ left) number sending none = absurd cc
 
-still-by : (left : List Sent) (number : Option ℕ) (begun : ℕ) (responds : Option Resp) → (mouth_at_take (giving left number begun) responds).left ≡ [] → (left ≡ []) × (responds ≡ None)
+pub still-by : (left : List Sent) (number : Option ℕ) (begun : ℕ) (responds : Option Resp) → (mouth_at_take (giving left number begun) responds).left ≡ [] → (left ≡ []) × (responds ≡ None)
 still-by [] number begun None none = (refl, refl)
 still-by [] number begun (Some r) none = absurd cc
 still-by (x ∷ more) number begun responds none = absurd (let no = rw (some-left x more) at none in cc)

@@ -33,11 +33,11 @@ use Rattle.half_line.proofs.Complete.WholeRun.{is-complete}
 
 -- ---- it can be played
 
-abbrev Each : {A : Type 0} → (A → Type 0) → List A → Type 0
+abbrev pub Each : {A : Type 0} → (A → Type 0) → List A → Type 0
 Each P [] = Unit {0}
 Each P (x ∷ xs) = P x × Each P xs
 
-all : {A : Type 0} (P : A → Type 0) (xs : List A) → Each P xs → All P xs
+pub all : {A : Type 0} (P : A → Type 0) (xs : List A) → Each P xs → All P xs
 all P [] each = All-nil P
 all P (x ∷ xs) each = All-cons P x xs each.0 (all P xs each.1)
 
@@ -80,7 +80,7 @@ polled_write-answered = refl
 
 -- ---- nothing disturbs it
 
-is_gentle_on : List LaneCell → LaneDeed → Bool
+unfoldable pub is_gentle_on : List LaneCell → LaneDeed → Bool
 is_gentle_on lane Deliver = true
 is_gentle_on lane Lose = is_none (slice_get lane 0)
 is_gentle_on lane (Alter mask) = is_none (slice_get lane 0)
@@ -102,7 +102,7 @@ abbrev prompt_over : ℕ → HalfState NodeState → List UnitStep → Bool
 prompt_over late s [] = true
 prompt_over late s (step ∷ steps) = is_gentle s step && (nat_lt (late_after late s step) (patience (after_step plain_node s step)) && prompt_over (late_after late s step) (after_step plain_node s step) steps)
 
-abbrev prompt_after : ℕ → HalfState NodeState → List Event → Bool
+abbrev pub prompt_after : ℕ → HalfState NodeState → List Event → Bool
 prompt_after late s [] = true
 prompt_after late s (e ∷ events) = prompt_over late s (steps_of s e) && prompt_after (late_event late s e) (after_event plain_node s e) events
 
@@ -138,7 +138,7 @@ prompt-over late s (step ∷ steps) h =
     let more = both (nat_lt now (patience after)) (prompt_over now after steps) parts.1 in
     (gentle s step parts.0, ltb-true now (patience after) more.0, prompt-over now after steps more.1)
 
-prompt-after : (late : ℕ) (s : HalfState NodeState) (events : List Event) → prompt_after late s events ≡ true → IsPromptAfter late s events
+pub prompt-after : (late : ℕ) (s : HalfState NodeState) (events : List Event) → prompt_after late s events ≡ true → IsPromptAfter late s events
 prompt-after late s [] h = tt
 prompt-after late s (e ∷ events) h =
     let parts = both (prompt_over late s (steps_of s e)) (prompt_after (late_event late s e) (after_event plain_node s e) events) h in

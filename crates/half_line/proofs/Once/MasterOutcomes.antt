@@ -97,10 +97,10 @@ abbrev pub AreDeclared : List ℕ → List (List ℕ) → Type 0
 AreDeclared numbers bodies = (k : ℕ) (body : List ℕ) → slice_get bodies k ≡ Some body → is_declared numbers (slice_index body 0) ≡ true
 
 -- its list has these numbers, and the lines tell how each of its commands ended
-record Recounts (numbers : List ℕ) (m : MasterState NodeState) (lines : List Line) : Type 0 where
-  numbers_are : station_numbers m.stations ≡ numbers
-  declared : AreDeclared numbers (bodies_of m)
-  outcomes : AreOutcomesTold M (issued_of m) lines
+pub record Recounts (numbers : List ℕ) (m : MasterState NodeState) (lines : List Line) : Type 0 where
+  pub numbers_are : station_numbers m.stations ≡ numbers
+  pub declared : AreDeclared numbers (bodies_of m)
+  pub outcomes : AreOutcomesTold M (issued_of m) lines
 
 silently : (numbers : List ℕ) (m : MasterState NodeState) (lines more : List Line) → TellNone M more → Recounts numbers m lines → Recounts numbers m (lines ++ more)
 silently numbers m lines more none r = record { numbers_are = r.numbers_are; declared = r.declared; outcomes = outcomes-silent M (issued_of m) lines more none r.outcomes }
@@ -303,7 +303,10 @@ recounts-events numbers (e ∷ events) s lines possible r =
     (recounts-events numbers events (after_event plain_node s e) (lines ++ lines_of plain_node s e) (All-tail (IsHalfPossible numbers) e events possible)
     (recounts-event numbers e s lines (All-head (IsHalfPossible numbers) e events possible) r))
 
+pub recounts-run : (script : Script) → IsHalfPlayable script → Recounts (numbers_of script.ends) (last_state script).master (lines_after plain_node (start script) script.events)
+recounts-run script playable =
+    recounts-events (numbers_of script.ends) script.events (start script) [] playable.events
+    (record { numbers_are = listed-numbers (numbers_of script.ends); declared = λ k body at. absurd cc; outcomes = outcomes-start M })
+
 pub outcomes-run : (script : Script) → IsHalfPlayable script → AreOutcomesTold M (issued_of (last_state script).master) (lines_after plain_node (start script) script.events)
-outcomes-run script playable =
-    (recounts-events (numbers_of script.ends) script.events (start script) [] playable.events
-    (record { numbers_are = listed-numbers (numbers_of script.ends); declared = λ k body at. absurd cc; outcomes = outcomes-start M })).outcomes
+outcomes-run script playable = (recounts-run script playable).outcomes

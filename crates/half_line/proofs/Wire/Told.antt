@@ -128,10 +128,10 @@ station-wire check first side r undeceived g =
 -- ---- the beginning
 
 -- the station that was declared at a place
-abbrev plan_at : Script → ℕ → EndPlan
+abbrev pub plan_at : Script → ℕ → EndPlan
 plan_at script p = slice_index_or (station_plans script.ends) p (first_plan M 0)
 
-abbrev setting_of : (script : Script) → IsHalfPlayable script → Setting
+abbrev pub setting_of : (script : Script) → IsHalfPlayable script → Setting
 setting_of script playable = record {
   check = script.check;
   of_master = first_station (plan_of_m script);
@@ -203,6 +203,10 @@ start-gave script playable = record {
 
 -- ---- the whole
 
+-- what the ends gave in a run
+pub gave-run : (script : Script) (playable : IsHalfPlayable script) → LinesGave (setting_of script playable) (last_state script) (lines_after plain_node (start script) script.events)
+gave-run script playable = events-gave (setting_of script playable) (numbers_of script.ends) script.events (start script) [] playable.events (omega (arith, playable.commands)) (start-gave script playable)
+
 -- the station of a plan
 at-plan : (script : Script) (playable : IsHalfPlayable script) (stations : List LineStationState) (r : Record) (p : ℕ) (plan : EndPlan) → map (λ (side : LineStationState). side.number) stations ≡ numbers_of script.ends → slice_get (station_plans script.ends) p ≡ Some plan
     → (r.deceived ≡ 0 → (p : ℕ) (side : LineStationState) → slice_get stations p ≡ Some side → Differ (map tns_of (executed_in (S side.number) r.lines)))
@@ -225,9 +229,8 @@ all-df1 script playable bodies =
     let lines = lines_after plain_node (start script) script.events in
     let r = record_from plain_node s lines in
     let plans = station_plans script.ends in
-    let setting = setting_of script playable in
     let first = first_station (plan_of_m script) in
-    let g = events-gave setting (numbers_of script.ends) script.events (start script) [] playable.events (omega (arith, playable.commands)) (start-gave script playable) in
+    let g = gave-run script playable in
     record {
       of_master = subst (λ (all : List (List ℕ)). IsDf1Wire (IsGivenByMaster script.check) M all first r) bodies
           (master-wire script.check first s.master r (λ zero. ((run-numbered script playable zero).few, (run-numbered script playable zero).none)) g.master);
