@@ -137,6 +137,7 @@ ARROWS = {
         "m>3 write N7:0 = 1234, TNS 0001; 1 of 22 bytes lost", "m>3 write N7:1 = 5678, TNS 0002", "3>m ACK",
         "m>3 poll 3", "3>m reply, done, TNS 0002", "m>3 ACK to 3",
     ],
+    "polled-dle-left-over": ["foreign>3 10", f"m>3 {ECHO}"],
     "polled-write": [
         "m>3 write N7:0 = 1234, TNS 0001", "m>5 write N7:0 = 1234, TNS 0001", "3>m ACK",
         "m>3 poll 3", "m>5 poll 3", "3>m reply, done, TNS 0001; 11 of 11 bytes lost",
