@@ -6,8 +6,8 @@ ghost use Rattle.bulk_orders.specs.declared.outcome.Bulk.{Bulk as Came};
 ghost use Rattle.bulk_orders.specs.Orders.{data_of_order, data_of_orders, first_word, is_order, orders_of, pull_payload, push_payload, start_of, words_of_order};
 ghost use Rattle.bulk_orders.specs.Outcomes.{first_fault, number_of};
 
-/// A law: a station decodes each order that reads as a word range read, and each that writes as a word range write, of
-/// the words of the order.
+/// A law: to a station each order of a pull is a word range read of the order's words, and each order of a push a word
+/// range write of them.
 pub fn orders_are_word_ranges()
     ensures reads { (file words j : ℕ) → order_of 0x0F (drop 1 (pull_payload file words j)) ≡ Ok (RangeRead (window (first_word j) words (start_of file)) (2 * words_of_order words j)) }
     ensures writes { (file : ℕ) (bytes : List ℕ) (j : ℕ) → length bytes ≡ 2 * (length bytes / 2) → IsTrue (is_order (length bytes / 2) j) →

@@ -1,6 +1,5 @@
-//! Transfers of whole files by word range commands (manual topics: commands, word range read and write): the orders
-//! that read or write words from the beginning of a data file on, the result of their replies, and the line that
-//! reports it.
+//! Transfers of whole files by word range commands: their orders, the result of the replies, and the line that reports
+//! it (manual topics: commands, word range read and write).
 //!
 //! A transfer of 1 to 3,000 words has an order for each 100 words and one for the rest. Each order has the number of
 //! words of the whole transfer as its total, and its own first word as its offset.

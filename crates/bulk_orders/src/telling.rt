@@ -17,7 +17,7 @@ ghost use Rattle.bulk_orders.specs.Telling.{fault_line as the_fault_line, pull_l
 
 use crate::Bulk;
 use arrayvec::ArrayVec;
-use df1_base::{Failed, Sink, write_all};
+use df1_base::{Failed, Sink, append, write_all};
 use replay_report::pair;
 
 /// The buffer size for a line without words, in bytes: `refused`, a number of at most 10 digits, and two bytes.
@@ -27,7 +27,7 @@ const LINE: usize = 25;
 const WORDS_LINE: usize = 12_008;
 
 /// Writes the line of a transfer that reads: if it is whole, these are its words, at most 3,000. Returns `Failed` if
-/// the sink failed; then it holds a first part of the line.
+/// the sink failed; then it holds a first part of the line, and not all.
 pub fn put_pull_result<K: Sink>(sink: &mut K, bulk: Bulk, words: &[u8]) -> Result<(), Failed>
     requires { length words.now ≤ 6000 }
     ensures ok { OnOk result (Put (K.held sink.old) (K.held sink.new) (pull_line bulk words.now)) }
@@ -43,7 +43,7 @@ pub fn put_pull_result<K: Sink>(sink: &mut K, bulk: Bulk, words: &[u8]) -> Resul
 }
 
 /// Writes the line of a transfer that writes, which has so many orders. Returns `Failed` if the sink failed; then it
-/// holds a first part of the line.
+/// holds a first part of the line, and not all.
 pub fn put_push_result<K: Sink>(sink: &mut K, bulk: Bulk, orders: u16) -> Result<(), Failed>
     ensures ok { OnOk result (Put (K.held sink.old) (K.held sink.new) (push_line bulk orders)) }
     ensures missing { OnErr result (WroteLess (K.held sink.old) (K.held sink.new) (push_line bulk orders)) }
@@ -117,12 +117,4 @@ fn append_number(line: &mut ArrayVec<u8, LINE>, what: &[u8], number: u32)
 {
     append(line, what);
     append(line, itoa::Buffer::new().format(number).as_bytes());
-}
-
-/// Appends bytes to a line that has room for them.
-fn append(line: &mut ArrayVec<u8, LINE>, bytes: &[u8])
-    requires { array_vec_len line.old + length bytes.now ≤ LINE }
-    ensures { line.new.items ≡ line.old.items ++ bytes.now }
-{
-    line.try_extend_from_slice(bytes).unwrap();
 }

@@ -22,7 +22,8 @@ use c_ends::{Code, Held};
 use c_transfers::fault_code;
 use df1_node::{Node, Outcome};
 
-/// Issues a command of an end with `src` as its SRC, or else with the end's own node. `number` becomes its number.
+/// Issues a command of an end with `src` as its SRC, or with the end's own address if that is None. `number` becomes
+/// its number.
 pub fn issue(held: &mut Held, src: Option<u8>, dst: u8, payload: &[u8], number: &mut u32) -> u32
     ensures { IsIssue (refusal (Some held.old) dst payload.now) (with_change (λ node. after_node_issue node (unwrap_or src node.initiator.node) dst payload.now) held.old) (told_at (Some held.old) (λ node. Some (next_number node)) number.old) result held.old held.new number.old number.new }
 {

@@ -57,7 +57,7 @@ fn routed_step(end: &mut Master<Router<Node>>, byte: u8) -> StepTold
     routed(carried, told)
 }
 
-/// Copies the body of the frame that ended at the latest byte. `count` becomes its number of bytes.
+/// Copies the body of the frame or message that ended at the latest byte. `count` becomes its number of bytes.
 pub fn copy_body(held: &Held, into: &mut [u8], count: &mut usize) -> Code
     ensures code { result ≡ body_code (Some held.now) (length into.old) }
     ensures bytes { into.new ≡ unwrap_or (option_map (copied into.old) (body_of held.now)) into.old }

@@ -11,7 +11,7 @@ use df1_node::Node;
 const FILES: usize = 256;
 
 /// Locks these data files, and unlocks all others: from now on a command of the line that would write a locked file is
-/// refused.
+/// refused. Returns `TooManyFiles` for over 256 numbers and `NoWord` if one is no file's; then nothing changes.
 pub fn lock(held: &mut Held, files: &[u16]) -> Code
     ensures code { result ≡ code_at (Some held.old) (λ node. lock_code node files.now) }
     ensures after { held.new ≡ with_change (files_locked files.now) held.old }

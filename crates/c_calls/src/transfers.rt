@@ -73,7 +73,7 @@ fn push_at(node: &mut Node, dst: u8, file: u16, bytes: &[u8], first: &mut u32) -
 }
 
 /// Reports the result so far of a transfer that reads, and copies its words if it is whole. `count` becomes their
-/// number of bytes.
+/// number of bytes. If they don't fit, `came` is unchanged.
 pub fn copy_pulled(
     held: &Held,
     first: u32,

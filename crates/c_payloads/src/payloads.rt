@@ -61,8 +61,8 @@ pub fn write_payload(
     }
 }
 
-/// Returns the payload that writes the bits of a mask of words from an address on (manual topic: commands, protected
-/// typed logical write with mask). Otherwise returns the first of these that applies: `BadType`, `NoData`,
+/// Returns the payload that writes those bits of words that a mask names, from an address on (manual topic: commands,
+/// protected typed logical write with mask). Otherwise returns the first of these that applies: `BadType`, `NoData`,
 /// `TooMuchData`.
 pub fn masked_payload(
     at: &AddressParts,

@@ -5,7 +5,7 @@
 //! |---|---|
 //! | 0 | under way: the command `number` waits or is outstanding, and each order before it was done |
 //! | 1 | whole: each order was done |
-//! | 2 | missing: the command `number` isn't answered, and won't be |
+//! | 2 | missing: the command `number` isn't answered, and won't be, or was never issued |
 //! | 3 | refused: the command `number` was refused, with `sts` and `ext` |
 //! | 4 | odd: the reply to the command `number` has other data than its order asks for |
 #![tactic(auto)]

@@ -64,10 +64,10 @@ pub fn logical_write(
     add_words(words, into)
 }
 
-/// Replaces `into` by the payload that writes the bits of a mask of words from an address of three fields on (manual
-/// topic: commands, protected typed logical write with mask). Each bit of a word becomes the new one if the bit of the
-/// mask is set, and keeps its old value if it is clear. With `into` empty, returns `NoData` exactly for no word, and
-/// `TooMuchData` exactly for over 122, or for a payload of over 245 bytes.
+/// Replaces `into` by the payload that writes those bits of words that a mask names, from an address of three fields on
+/// (manual topic: commands, protected typed logical write with mask). Each bit of a word becomes the new one if the bit
+/// of the mask is set, and keeps its old value if it is clear. With `into` empty, returns `NoData` exactly for no word,
+/// and `TooMuchData` exactly for over 122, or for a payload of over 245 bytes.
 pub fn masked_write(
     at: &Address,
     mask: u16,

@@ -1,6 +1,6 @@
 //! The host behind an end of a link: it accepts messages, hands out messages, and is informed of their fate.
 //!
-//! A host's meaning is functional: for a state of the host and an argument, its ghost members are the answer and the
+//! A host's meaning is functional: for a state of the host and an argument, its ghost members give the answer and the
 //! next state. So an end over any host is one record beside the host, and each of its steps is one function.
 use arrayvec::ArrayVec;
 

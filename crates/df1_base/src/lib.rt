@@ -3,6 +3,7 @@
 #![tactic(auto)]
 
 mod ahead;
+mod appending;
 mod byte_run;
 mod bytes_in;
 mod bytes_out;
@@ -27,6 +28,7 @@ mod tests;
 mod whole;
 mod whole_input;
 
+pub use appending::append;
 pub use byte_run::ByteRun;
 pub use bytes_in::BytesIn;
 pub use bytes_out::BytesOut;

@@ -63,8 +63,8 @@ pub trait Sink {
     ghost mark: { Self → Mark } = { λ _. unmarked };
 
     /// Takes bytes from the front of `from`, at least one if there is one, and returns how many. Returns `Failed` only
-    /// if the count of faults rose, and then nothing was taken. Otherwise the count is unchanged. It is the same sink
-    /// then, and takes back nothing that was settled.
+    /// if the count of faults rose, and then nothing was taken. Otherwise the count is unchanged. In either
+    /// case it is the same sink, and takes back nothing that was settled.
     fn write(&mut self, from: &[u8]) -> Result<usize, Failed>
         ensures bound { IfOk result (λ count. count ≤ length from.now) }
         ensures some { IfOk result (λ count. 0 < length from.now → 0 < count) }

@@ -59,7 +59,7 @@ pub trait Port {
         ensures cause { OnErr result (Rose (put_faults self.old) (put_faults self.new)) }
         ensures other { next_faults self.new ≡ next_faults self.old };
 
-    /// Puts all these bytes. If one can't be put, those before it were, and not all.
+    /// Puts all these bytes. If one can't be put, a first part of them was, and not all.
     fn put_all(&mut self, bytes: &[u8]) -> Result<(), Failed>
         ensures put { OnOk result (Put (sent self.old) (sent self.new) bytes.now) }
         ensures missing { OnErr result (WroteLess (sent self.old) (sent self.new) bytes.now) }

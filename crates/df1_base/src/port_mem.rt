@@ -32,9 +32,10 @@ impl Model for PortMem {
 }
 
 impl PortMem {
-    /// Returns a port that returns these signals, and then End. It has room for `room` bytes, and a `put` into a full
-    /// one fails. The calls of `next` and those of `put` are counted separately, each from 1: a `next` whose number is
-    /// in `fail_next` fails, and a `put` whose number is in `fail_put`.
+    /// Returns a port that returns these signals up to the first after which none follows, which it then returns at
+    /// each call; without such a one it returns End at each call after the last. It has room for `room` bytes, and a
+    /// `put` into a full one fails. The calls of `next` and those of `put` are counted separately, each from 1: a
+    /// `next` whose number is in `fail_next` fails, and a `put` whose number is in `fail_put`.
     pub fn new(
         alloc: Global,
         signals: &[Signal],

@@ -4,7 +4,7 @@ ghost use Rattle.df1_base.specs.Outside.{Rose, Put, WroteLess, WrotePart, Later}
 
 use crate::{Failed, Sink};
 
-/// Writes all the bytes. If the sink fails, it holds a first part of them, and not all.
+/// Writes all the bytes. If the sink fails, a first part of them was written, and not all.
 pub fn write_all<K: Sink>(sink: &mut K, bytes: &[u8]) -> Result<(), Failed>
     ensures ok { OnOk result (Put (K.held sink.old) (K.held sink.new) bytes.now) }
     ensures missing { OnErr result (WroteLess (K.held sink.old) (K.held sink.new) bytes.now) }

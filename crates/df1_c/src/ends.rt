@@ -53,7 +53,7 @@ pub extern "C" fn df1_end_byte(alloc: Global, end: &mut Seat, byte: u8, step: &m
     code.number()
 }
 
-/// Copies the body of the frame that ended at the latest byte.
+/// Copies the body of the frame or message that ended at the latest byte.
 #[tactic(auto, unfolding(crate::specs::Held::value_in))]
 #[unsafe(no_mangle)]
 pub extern "C" fn df1_end_body(

@@ -60,8 +60,8 @@ pub extern "C" fn df1_payload_write(
     give(write_payload(command, address, words), into, count)
 }
 
-/// Puts the payload that writes the bits of a mask of words from an address on into a buffer. `count` becomes its
-/// number of bytes.
+/// Puts the payload that writes those bits of words that a mask names, from an address on, into a buffer. `count`
+/// becomes its number of bytes.
 #[unsafe(no_mangle)]
 pub extern "C" fn df1_payload_masked(
     address: &AddressParts,

@@ -1,7 +1,6 @@
 //! Counting what is decoded in a capture. At the end one line reports the counts: of all decoded things, of the faults
 //! of the line among them, and of the bytes of an unfinished item.
-ghost use Rattle.std.specs.Prelude.{◌≡◌, ◌≤◌, ◌+◌, ◌++◌, [], ℕ, List, length, OnOk};
-ghost use Rattle.arrayvec.specs.ArrayVec.{array_vec_len};
+ghost use Rattle.std.specs.Prelude.{◌≡◌, ◌≤◌, ◌+◌, [], ℕ, List, length, OnOk};
 ghost use Rattle.df1_check.specs.declared.Check.{Check as CheckKind};
 ghost use Rattle.df1_dissect.specs.declared.ear.Side.{Side as Captured};
 ghost use Rattle.df1_dissect.specs.Reading.{StandsFor};
@@ -9,7 +8,7 @@ ghost use Rattle.df1_capture.specs.Counted.{CheckEnd, CountEnd, CountedPiece, To
 
 use crate::capture::{Capture, CaptureFault, PIECE, within_limit};
 use arrayvec::ArrayVec;
-use df1_base::{Failed, Sink, Source, write_all};
+use df1_base::{Failed, Sink, Source, append, write_all};
 use df1_dissect::Reader;
 
 /// The buffer size for the line, in bytes: three numbers of at most 20 digits, and the words.
@@ -105,12 +104,4 @@ fn counts(heard: u64, bad: u64, begun: u64) -> ArrayVec<u8, ROOM>
     append(&mut line, digits.format(begun).as_bytes());
     append(&mut line, b"\n");
     line
-}
-
-/// Appends bytes to a line that has room for them.
-fn append(line: &mut ArrayVec<u8, ROOM>, bytes: &[u8])
-    requires { array_vec_len line.old + length bytes.now ≤ ROOM }
-    ensures { line.new.items ≡ line.old.items ++ bytes.now }
-{
-    line.try_extend_from_slice(bytes).unwrap();
 }

@@ -23,7 +23,8 @@ pub(crate) fn message_name(cmd: u8, payload: &[u8]) -> &'static str
     spelled_name(command_name(cmd, payload), is_spelled(cmd, payload))
 }
 
-/// Returns the name of a command with this name, if it has one.
+/// Returns what a dissection calls a command: `unknown` if it has no name, `malformed` if it can't be read, otherwise
+/// its name.
 fn spelled_name(name: Option<&'static str>, spelled: bool) -> &'static str
     requires { IfSome name (λ name. length name.now ≤ 18) }
     ensures value { result.now ≡ spelled_name (option_map (λ name. name.now) name.entry) spelled }

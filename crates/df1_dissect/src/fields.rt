@@ -4,9 +4,9 @@ ghost use Rattle.arrayvec.specs.ArrayVec.{array_vec_len};
 ghost use Rattle.df1_dissect.specs.Lines.{byte_digits, envelope_text, fields_text, message_text};
 
 use crate::command::message_name;
-use crate::line::{append, append_bytes, append_code, high_digit, low_digit};
+use crate::line::{append_bytes, append_code, high_digit, low_digit};
 use arrayvec::ArrayVec;
-use df1_base::{MAX_BODY, MAX_DATA, MIN_BODY};
+use df1_base::{MAX_BODY, MAX_DATA, MIN_BODY, append};
 use pccc_envelope::{Envelope, read_envelope};
 
 /// Appends the fields of a body. A body too short for an envelope is appended in hexadecimal, without fields.

@@ -24,7 +24,7 @@ use crate::fields::append_fields;
 use crate::kind::Kind;
 use crate::reader::Thing;
 use arrayvec::ArrayVec;
-use df1_base::MAX_BODY;
+use df1_base::{MAX_BODY, append};
 use itoa::write_digits;
 
 /// The buffer size for a line, in bytes: two digits for each byte of a body, the offsets and the fields' names.
@@ -199,12 +199,4 @@ pub(crate) fn low_digit(byte: u8) -> u8
     ensures { result ≡ slice_index upper_digits (byte % 16) }
 {
     DIGITS[usize::from(byte % 16)]
-}
-
-/// Appends bytes.
-pub(crate) fn append<const N: usize>(text: &mut ArrayVec<u8, N>, bytes: &[u8])
-    requires { array_vec_len text.old + length bytes.now ≤ N }
-    ensures { text.new.items ≡ text.old.items ++ bytes.now }
-{
-    text.try_extend_from_slice(bytes).unwrap();
 }

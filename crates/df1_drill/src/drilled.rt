@@ -9,7 +9,7 @@ use crate::report_text::text_of;
 use crate::script::drill_script;
 use crate::tally::{answered, damaged, enquiries, executed, issued, repeats};
 use arrayvec::ArrayVec;
-use df1_base::NoMemory;
+use df1_base::{NoMemory, append};
 use df1_check::crc;
 use recovery_laws::replay_recovering;
 use replay_report::pair;
@@ -109,12 +109,4 @@ fn append_digits(line: &mut ArrayVec<u8, LINE>, n: u16)
 {
     append(line, &pair((n / 256) as u8));
     append(line, &pair((n % 256) as u8));
-}
-
-/// Appends bytes to a line that has room for them.
-fn append(line: &mut ArrayVec<u8, LINE>, bytes: &[u8])
-    requires { array_vec_len line.old + length bytes.now ≤ LINE }
-    ensures { line.new.items ≡ line.old.items ++ bytes.now }
-{
-    line.try_extend_from_slice(bytes).unwrap();
 }

@@ -364,7 +364,7 @@ impl Initiator {
     }
 }
 
-/// Gives up each waiting command, if there is none below this index.
+/// Gives up each waiting command from this index on. None waits below it.
 fn clear_from(issued: &mut [Command], place: usize)
     requires { place ≤ length issued.old }
     ensures { issued.new ≡ cleared_from place issued.old }

@@ -86,8 +86,8 @@ impl Station {
     }
 
     /// Locks the files of these numbers, at most 256, so that no command may write them, and unlocks all others. A
-    /// command that would write a locked file is refused with STS F0 and EXT STS 0B (access denied), and changes
-    /// nothing; `set_word` still writes it. Initially no file is locked.
+    /// command that would write a locked file is refused with STS F0 and EXT STS 0B (access denied), or with STS 50 if
+    /// it is an unprotected write, and changes nothing; `set_word` still writes it. Initially no file is locked.
     pub fn lock(&mut self, files: &[u16])
         requires { length files.now ≤ 256 }
         ensures { self.new ≡ with_locks self.old files.now }
@@ -96,8 +96,8 @@ impl Station {
         self.locked.try_extend_from_slice(files).unwrap();
     }
 
-    /// Executes the command and replaces `into` by the body of the reply. The body has 6 to 250 bytes, and bit 6 of its
-    /// CMD is clear. A command that is refused changes nothing.
+    /// Executes the command of this body, which has 6 to 250 bytes and bit 6 of its CMD clear, and replaces `into` by
+    /// the body of the reply. A command that is refused changes nothing.
     pub fn answer(&mut self, body: &[u8], into: &mut ArrayVec<u8, 250>)
         requires body { IsBody body.now }
         requires command { is_reply body.now ≡ false }

@@ -15,7 +15,7 @@ ghost use Rattle.df1_base.specs.Outside.{Put, Rose, WroteLess, Later};
 ghost use Rattle.df1_service.specs.Service.{outcome_line, outcomes_text};
 
 use arrayvec::ArrayVec;
-use df1_base::{Failed, Sink, write_all};
+use df1_base::{Failed, Sink, append, write_all};
 use df1_node::{Initiator, Outcome};
 use replay_report::pair;
 
@@ -71,12 +71,4 @@ fn append_hex(line: &mut Text, bytes: &[u8])
     for byte in bytes {
         append(line, &pair(*byte));
     }
-}
-
-/// Appends bytes to a line that has room for them.
-fn append(line: &mut Text, bytes: &[u8])
-    requires { array_vec_len line.old + length bytes.now ≤ LINE }
-    ensures { line.new.items ≡ line.old.items ++ bytes.now }
-{
-    line.try_extend_from_slice(bytes).unwrap();
 }

@@ -205,7 +205,7 @@ pub fn after_an_answer_all_is_well()
 {}
 
 /// A law: the premises of `an_answer_certifies_the_line` and of `after_an_answer_all_is_well` are met, and their
-/// conclusions aren't empty, if a lone DLE arrived at an end: the line is quiet then and not at rest, a first echo is
+/// conclusions aren't empty, if a lone DLE arrived at an end. The line is quiet then and not at rest; a first echo is
 /// lost, a second one is answered, then the line is at rest, and a third one is answered.
 #[tactic(auto, unfolding(crate::specs::Run::record_of))]
 pub fn an_echo_certifies_a_line_after_noise()

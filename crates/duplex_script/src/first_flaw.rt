@@ -29,8 +29,8 @@ impl DuplexReader {
         }
     }
 
-    /// Returns whether the statement names an end or an event that full duplex hasn't, a key that isn't for its ends,
-    /// or a file that isn't declared.
+    /// Returns whether the statement names an end or an event that full duplex doesn't have, a key that isn't for its
+    /// ends, or a file that isn't declared.
     fn is_missing(&self, statement: &Statement) -> bool
         ensures { result ≡ the_missing self.now statement.now }
     {

@@ -16,8 +16,7 @@ pub fn commands_of_one_source_stay_in_order()
         → AreSomeOf some all }
 {}
 
-/// A law: if all commands are of one source, what is all of them, with those of each source in order, is the list of
-/// them.
+/// A law: if all commands are of one source, a list with all of them, those of each source in order, is that list.
 pub fn all_commands_of_one_source_are_the_list()
     ensures { (some all : List (List ℕ)) (source : ℕ) → All (λ body. slice_index body 1 ≡ source) all → AreAllOf some all
         → some ≡ all }

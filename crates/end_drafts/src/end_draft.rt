@@ -44,7 +44,7 @@ impl EndDraft {
         }
     }
 
-    /// Returns whether a line names a key that an end of this kind hasn't, or a file that isn't declared.
+    /// Returns whether a line names a key that an end of this kind doesn't have, or a file that isn't declared.
     pub fn lacks(&self, role: Role, line: &SetupStatement) -> bool
         ensures { result ≡ the_lacks role self.now line.now }
     {
@@ -122,7 +122,7 @@ impl EndDraft {
     }
 
     /// Accepts a line that sets the first value of a word, as by `take`, if nothing is wrong with it. Otherwise returns
-    /// the first flaw: `Missing` if no line declares the file, `Value` if the file hasn't the word, `Twice` if an
+    /// the first flaw: `Missing` if no line declares the file, `Value` if the file doesn't have the word, `Twice` if an
     /// earlier line set the word. A refused line takes no memory.
     pub fn take_word(&mut self, word: WordOf) -> Result<(), StatementFault>
         ensures refused { (flaw : TheFlaw) → after_word self.old word ≡ Err flaw → result ≡ Err (StatementFault.Flawed flaw) }

@@ -7,8 +7,8 @@ use df1_base::NoMemory;
 pub enum Flaw {
     /// The statement may not stand here.
     Place,
-    /// The statement names an end that the mode hasn't, a station that no earlier line declares, a key that isn't for
-    /// that end, or a file that no earlier line declares.
+    /// The statement names an end that the mode doesn't have, a station that no earlier line declares, a key that isn't
+    /// for that end, or a file that no earlier line declares.
     Missing,
     /// A number, a word or a length is out of its range, or a compatibility file is of another type than bit or
     /// integer.

@@ -45,11 +45,11 @@ pub fn arrivals_are_heard<H: Host>()
     ensures changes { (check : CheckKind) (bytes : List ℕ) (e : MasterState H) (host : H) → StandsFor check bytes e → StandsFor check bytes (with_host e host) }
 {}
 
-/// A message is handed out if none is outstanding. It is sent once, and again at most `max_resends` times, until its
-/// fate is reported, once: Delivered, or Undelivered exactly after all these times. One for no station is reported
-/// Undelivered where it is handed out. If the host and the master agree on whether a message is outstanding, as at a
-/// new master over a host with none outstanding, they do so after every signal. So each fate is reported of a message
-/// that is outstanding.
+/// A message is handed out only while none is outstanding. It is sent once, and again at most `max_resends` times,
+/// until its fate is reported, once: Delivered, or Undelivered exactly after all these times. One for no station is
+/// reported Undelivered where it is handed out. If the host and the master agree on whether a message is outstanding,
+/// as at a new master over a host with none outstanding, they do so after every signal. So each fate is reported of a
+/// message that is outstanding.
 pub fn a_fate_is_told_once<H: Host>()
     ensures in_turn { (e : MasterState H) (signals : List Letter) → IsWithin e.setup.max_resends e.phase → InTurn e.setup.max_resends (out_of e.phase) (events H.Host e signals) }
     ensures start { (setup : Settings) (numbers : List ℕ) (host : H) → IsWithin setup.max_resends (new_master setup numbers host).phase × (out_of (new_master setup numbers host).phase ≡ None) }
@@ -74,10 +74,10 @@ pub fn fates_are_told_exactly_so<H: Host>()
 {}
 
 /// A message that is sent, for the first time or again, is one transmission more, and nothing else is: no poll and no
-/// ACK. What is sent is the body of the transmission that was started last. While the count of transmissions hasn't
-/// stopped at the last value of u64, a byte that is marked with a number, as the last byte of a transmission or one of
-/// its body, is sent while the body of the transmission of that number is sent. Last bytes are sent with the numbers 1,
-/// 2, 3 and so on, up to that of the last transmission or the one before. Each message to a station that the host
+/// ACK. What is sent is the body of the transmission that was started last. Marked with the number of a transmission
+/// are its last byte and the one-byte units of its body: until the count of transmissions stops at the last value of
+/// u64, such a byte is sent while the body of the transmission of that number is. Last bytes are sent with the numbers
+/// 1, 2, 3 and so on, up to that of the last transmission or the one before. Each message to a station that the host
 /// handed out is transmitted, in order, once or several times in a row.
 pub fn transmissions_are_counted<H: Host>()
     ensures begun { (e : MasterState H) (signals : List Letter) → (master_after_all H.Host e signals).mouth.begun ≡ begun_after e.mouth.begun (events H.Host e signals) }

@@ -174,8 +174,8 @@ impl<H: Host + Drop> Master<H> {
     }
 
     /// Returns the next byte to transmit, in constant time except at the start of a message. Returns None exactly if no
-    /// byte is left to be sent and no message is started. A message whose first byte is the number of no station is
-    /// reported as undelivered.
+    /// byte is left to be sent and no message is started. A message whose first byte is no station's number is
+    /// dropped: its host is told that it is undelivered, and nothing of that is returned.
     pub fn take(&mut self) -> Option<Out>
         ensures state { self.new ≡ master_after_take H.Host self.old }
         ensures out { result ≡ out_at_take H.Host self.old }

@@ -33,8 +33,8 @@ impl HalfReader {
         }
     }
 
-    /// Returns whether the statement names an end or an event that half duplex hasn't, a station that isn't declared,
-    /// an end out of a station's reach, a key that isn't for that end, or a file that isn't declared.
+    /// Returns whether the statement names an end or an event that half duplex doesn't have, a station that isn't
+    /// declared, an end out of a station's reach, a key that isn't for that end, or a file that isn't declared.
     fn is_missing(&self, statement: &Statement) -> bool
         ensures { result ≡ the_missing self.now statement.now }
     {

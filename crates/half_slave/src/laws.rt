@@ -67,7 +67,7 @@ pub fn a_fate_is_told_once<H: Host>()
 {}
 
 /// An ACK counts exactly while a message is held, the last byte of its last sending was taken, and no header and no
-/// poll was received since. One that was received while that sending was being transmitted makes no difference.
+/// poll was received since. A header or poll that was received during that sending makes no difference.
 pub fn an_ack_counts_in_the_wait<H: Host>()
     ensures delivers { (s : SlaveState H) (b : ℕ) → (fate_at (listened s b) (heard_at s b) ≡ Some Delivered) ↔ ((heard_at s b ≡ Some Ack) × (is_waiting s.held ≡ true)) }
     ensures start { (setup : Settings) (host : H) → is_waiting (new_slave setup host).held ≡ (is_some (new_slave setup host).held && false) }
@@ -82,9 +82,9 @@ pub fn what_was_begun_is_given<H: Host>()
 {}
 
 /// Transmissions are numbered from 1 in the order in which they start, by a count that stops at the last value of u64.
-/// What is sent is the body of the one that was started last, also when its fate is reported meanwhile. While the count
-/// hasn't stopped, a byte that is marked with a number, as the last byte of a transmission or one of its body, is sent
-/// while the body of the transmission of that number is sent. Last bytes are sent with the numbers 1, 2, 3 and so on,
+/// What is sent is the body of the one that was started last, also when its fate is reported meanwhile. Marked with the
+/// number of a transmission are its last byte and the one-byte units of its body: until the count stops, such a byte is
+/// sent while the body of the transmission of that number is. Last bytes are sent with the numbers 1, 2, 3 and so on,
 /// up to that of the last transmission or the one before. Each message that the host handed out is transmitted, in
 /// order, once or several times in a row.
 pub fn transmissions_are_counted<H: Host>()
@@ -97,8 +97,8 @@ pub fn transmissions_are_counted<H: Host>()
     ensures running { (past : Past) (s : SlaveState H) → Came H.Host past s → AreSendingsOf (transmissions past.events) (handed_out past.events) }
 {}
 
-/// What a slave sent, whatever it received and also if its host was changed, is whole messages of its transmissions, in
-/// order, each with a right check, and ACKs, NAKs and EOTs, and at the end perhaps a part of one of these. The master
+/// Whatever a slave received, and also if its host was changed, it sent whole messages of its transmissions, in order,
+/// each with a right check, and ACKs, NAKs and EOTs, and at the end perhaps a part of one of these. The master
 /// decodes nothing else in it. What happened and was sent over the signals of a new slave is such a past.
 pub fn what_is_given_is_df1<H: Host>()
     ensures wire { (past : Past) (s : SlaveState H) → Came H.Host past s → IsGivenBySlave s.setup.check (handed_out past.events) (bytes_given past.gave) }

@@ -22,8 +22,8 @@ pub enum Cause {
     /// The form may not stand here.
     #[error("place")]
     Place,
-    /// The line names an end that the mode hasn't, a station that no earlier line declares, a key that isn't for that
-    /// end, or a file that no earlier line declares.
+    /// The line names an end that the mode doesn't have, a station that no earlier line declares, a key that isn't for
+    /// that end, or a file that no earlier line declares.
     #[error("missing")]
     Missing,
     /// A number, a word or a length is out of its range, or a compatibility file is of another type than bit or

@@ -65,7 +65,7 @@ fn is_kept_out(statement: &Statement) -> bool
     }
 }
 
-/// Returns a full-duplex form.
+/// Returns a form, unless only half mode has it.
 fn full_form(statement: Option<Statement>) -> Option<Statement>
     ensures { result ≡ the_full_form statement }
 {
@@ -75,7 +75,7 @@ fn full_form(statement: Option<Statement>) -> Option<Statement>
     }
 }
 
-/// Returns whether a form may not stand there, whatever else is wrong with it.
+/// Returns whether a form has the cause `place`, whatever else is wrong with it.
 pub(crate) fn is_barred(statement: &Statement, profile: Profile) -> bool
     ensures { result ≡ the_bar profile statement.now }
 {

@@ -14,7 +14,7 @@ use std::alloc::Global;
 /// Reads a script, all of the text: at most 16,777,216 bytes in lines of at most 1,024 bytes. Returns `At` exactly if
 /// the text is not a script, with its first faulty line and the first cause that fits it. A script that was read has:
 ///
-/// - the ends a and b, or the master and at most 32 stations, set up as data tables and an end need;
+/// - the ends a and b, or the master and at most 32 stations, each set up so that its tables and its end can be made;
 /// - events that may all happen;
 /// - at most 65,535 commands of each end that issues, and a sum of events of at most 4,000,000.
 pub fn read_script(alloc: Global, text: &[u8]) -> Result<Script, ScriptFault>
@@ -33,8 +33,8 @@ pub fn read_script(alloc: Global, text: &[u8]) -> Result<Script, ScriptFault>
 /// A `station` line or a `set m.node` line that would make the master's address that of a station has the cause
 /// `value`.
 ///
-/// For a rehearsal, the forms that only half mode has are not among the forms. A command of end a may not stand there,
-/// whatever else is wrong with it. A script that was read is in full mode and has no command of end a.
+/// For a rehearsal, the forms that only half mode has are not among the forms. A command of end a has the cause
+/// `place`, whatever else is wrong with it. A script that was read is in full mode and has no command of end a.
 pub fn read_profile(alloc: Global, text: &[u8], profile: Profile) -> Result<Script, ScriptFault>
     ensures exact { MatchResult result (λ script. script_for profile text.now ≡ Ok script) (λ fault. IsRefused fault (script_for profile text.now)) }
     ensures playable { profile ≢ Purpose.Route → IfOk result CanBePlayed }

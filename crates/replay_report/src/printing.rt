@@ -10,7 +10,7 @@
 //! | `WHO stray HEX` | an accepted reply that answers no command |
 //! | `WHO routed HEX` | an accepted message that the master carries to a station: its body |
 //! | `WHO repeat`, `WHO full`, `WHO damaged` | a message came again, found no buffer space, was damaged |
-//! | `WHO enquiry` | the sender requested an ENQ |
+//! | `WHO enquiry` | the sender asked for a missing response, by an ENQ |
 //! | `WHO dropped` | a reply was given up |
 //! | `WHO word NUM INDEX HHHH` | a word that isn't 0 in the end |
 //! | `deceived N` | the last line |
@@ -24,10 +24,10 @@ ghost use Rattle.hex.specs.Hex.{encode_upper};
 ghost use Rattle.replay_report.specs.Report.{report, line_text, who_text, word_text};
 
 use crate::digits::{append_pairs, pair, put_hex};
-use crate::short::{ROOM, Short, append, append_number, append_said, deceived_line, word_line};
+use crate::short::{ROOM, Short, append_number, append_said, deceived_line, word_line};
 use crate::{Line, Record};
 use arrayvec::ArrayVec;
-use df1_base::{Failed, Sink, write_all};
+use df1_base::{Failed, Sink, append, write_all};
 use script_parts::WordOf;
 use script_statement::Who;
 

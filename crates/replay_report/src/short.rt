@@ -1,10 +1,11 @@
 //! Lines, and beginnings of lines, of bounded length.
-ghost use Rattle.std.specs.Prelude.{◌≡◌, ◌≤◌, ◌++◌, ◌+◌, length, codes, decimal};
+ghost use Rattle.std.specs.Prelude.{◌≡◌, ◌≤◌, ◌++◌, ◌+◌, length, decimal};
 ghost use Rattle.arrayvec.specs.ArrayVec.{array_vec_len};
 ghost use Rattle.replay_report.specs.Report.{who_text, word_text, word_digits, deceived_text};
 
 use crate::digits::pair;
 use arrayvec::ArrayVec;
+use df1_base::append;
 use script_parts::WordOf;
 use script_statement::Who;
 
@@ -93,12 +94,4 @@ fn append_digits(line: &mut Short, value: u16)
 {
     append(line, &pair((value / 256) as u8));
     append(line, &pair((value % 256) as u8));
-}
-
-/// Appends bytes to a text that has room for them.
-pub(crate) fn append(line: &mut Short, bytes: &[u8])
-    requires { array_vec_len line.old + length bytes.now ≤ ROOM }
-    ensures { line.new.items ≡ line.old.items ++ bytes.now }
-{
-    line.try_extend_from_slice(bytes).unwrap();
 }

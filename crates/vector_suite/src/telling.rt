@@ -1,12 +1,11 @@
 //! The run of the forty cases, and the line that reports its result.
-ghost use Rattle.std.specs.Prelude.{◌≡◌, ◌+◌, ◌≤◌, ◌++◌, Option, ℕ, decimal, length};
-ghost use Rattle.arrayvec.specs.ArrayVec.{array_vec_len};
+ghost use Rattle.std.specs.Prelude.{◌≡◌, Option};
 ghost use Rattle.vector_suite.specs.Telling.{VectorsEnd, line_of};
 
 use crate::forty::forty_cases;
 use crate::table::run_table;
 use arrayvec::ArrayVec;
-use df1_base::{Failed, NoMemory, Sink, write_all};
+use df1_base::{Failed, NoMemory, Sink, append, write_all};
 use std::alloc::Global;
 use thiserror::Error;
 
@@ -56,12 +55,4 @@ fn line(place: Option<usize>) -> ArrayVec<u8, LINE>
         }
     }
     line
-}
-
-/// Appends bytes to a line that has room for them.
-fn append(line: &mut ArrayVec<u8, LINE>, bytes: &[u8])
-    requires { array_vec_len line.old + length bytes.now ≤ LINE }
-    ensures { line.new.items ≡ line.old.items ++ bytes.now }
-{
-    line.try_extend_from_slice(bytes).unwrap();
 }

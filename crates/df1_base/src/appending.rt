@@ -1,0 +1,13 @@
+//! Bytes that are appended to a text of bounded length.
+ghost use Rattle.std.specs.Prelude.{◌≡◌, ◌≤◌, ◌+◌, ◌++◌, length};
+ghost use Rattle.arrayvec.specs.ArrayVec.{array_vec_len};
+
+use arrayvec::ArrayVec;
+
+/// Appends bytes to a text that has room for them.
+pub fn append<const N: usize>(text: &mut ArrayVec<u8, N>, bytes: &[u8])
+    requires { array_vec_len text.old + length bytes.now ≤ N }
+    ensures { text.new.items ≡ text.old.items ++ bytes.now }
+{
+    text.try_extend_from_slice(bytes).unwrap();
+}
