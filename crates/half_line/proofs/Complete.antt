@@ -48,7 +48,7 @@ pub mod StageBegins
 pub mod ReplyStep
 -- What holds of a line at rest.
 pub mod RestingLine
--- The run of a write that loses a byte, and of another from the state at rest on that follows.
+-- The runs of a write that loses a byte, or whose reply is lost, and of another from the state at rest on that follows.
 pub mod RestWitness
 -- Each step of an undisturbed run leaves it such.
 pub mod RunSteps

@@ -1,3 +1,5 @@
+-- Once a command is answered, the stations are in step.
+pub mod Certified
 pub mod Complete
 pub mod Once
 pub mod Steps

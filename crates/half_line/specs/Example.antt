@@ -1,10 +1,10 @@
--- Half-duplex scripts whose runs nothing disturbs: a command is issued, executed, and answered at a poll; and two are out at two stations, whose replies come in the other order. And one that nothing disturbs once a write has lost a byte and is given up.
+-- Half-duplex scripts whose runs nothing disturbs: a command is issued, executed, and answered at a poll; and two are out at two stations, whose replies come in the other order. And two that nothing disturbs once a write has lost a byte and is given up, or the reply to one is lost. One in which a write after noise is answered, and one in which an answer leaves the master inside a pair.
 use Rattle.std.specs.Prelude.{ℕ, true, List, [], ◌∷◌, ◌++◌, None}
 use Rattle.df1_base.specs.declared.file_type.FileType.TheVariants.{Integer}
 use Rattle.df1_check.specs.declared.Check.TheVariants.{Bcc}
 use Rattle.script_statement.specs.declared.who.Who.TheVariants.{M, S}
 use Rattle.script_parts.specs.declared.script.Event.{Event}
-use Rattle.script_parts.specs.declared.script.Event.TheVariants.{Issue, Take, Deliver, Lose, Tick}
+use Rattle.script_parts.specs.declared.script.Event.TheVariants.{Issue, Take, Deliver, Lose, Foreign, Tick}
 use Rattle.script_parts.specs.declared.script.Script.{Script}
 use Rattle.script_parts.specs.Plans.{first_plan}
 
@@ -100,3 +100,92 @@ second_command = 0x03 ∷ 0x00 ∷ 0x0F ∷ 0x00 ∷ 0x02 ∷ 0x00 ∷ 0xAA ∷ 
 
 abbrev pub second_reply : List ℕ
 second_reply = 0x00 ∷ 0x03 ∷ 0x4F ∷ 0x00 ∷ 0x02 ∷ 0x00 ∷ []
+
+-- a master that waits one tick after a poll, and a station that sends a reply once: the first write is executed, its reply is lost, and is
+-- dropped at the next poll, so that nothing answers the write any more; then a second write is executed and answered beside it
+abbrev pub lost_reply : List Event
+lost_reply =
+    Issue M None 3 (0x0F ∷ 0xAA ∷ 0x02 ∷ 0x07 ∷ 0x89 ∷ 0x00 ∷ 0x00 ∷ 0x34 ∷ 0x12 ∷ [])
+    ∷ Take M 22 ∷ reach 3 22 ∷ Take (S 3) 2 ∷ come_from 3 2
+    ∷ Tick M 1 ∷ Take M 4 ∷ reach 3 4 ∷ Take (S 3) 11 ∷ Lose (record { from = S 3; to = M }) 11
+    ∷ Tick M 1
+    ∷ Tick M 1 ∷ Take M 4 ∷ reach 3 4 ∷ Take (S 3) 2 ∷ come_from 3 2
+    ∷ []
+
+abbrev pub after_a_lost_reply : Script
+after_a_lost_reply = record {
+  half = true;
+  check = Bcc;
+  ends = record (first_plan M 0) { poll_ticks = 1; window = 2 } ∷ record (first_plan (S 3) 3) { max_sends = 1; files = record { number = 7; kind = Integer; count = 16 } ∷ [] } ∷ [];
+  events = lost_reply ++ second_write;
+}
+
+-- a foreign DLE comes to station 3, where nothing is under way: a first write is lost to it and given up, and a second one is executed and
+-- answered; then a third one is
+abbrev pub stray_dle : List Event
+stray_dle = Foreign (record { from = M; to = S 3 }) (0x10 ∷ []) ∷ []
+
+abbrev pub two_writes : List Event
+two_writes =
+    (Issue M None 3 (0x0F ∷ 0xAA ∷ 0x02 ∷ 0x07 ∷ 0x89 ∷ 0x00 ∷ 0x00 ∷ 0x34 ∷ 0x12 ∷ []) ∷ Take M 22 ∷ reach 3 22 ∷ Tick M 1 ∷ [])
+    ++ second_write
+
+abbrev pub third_write : List Event
+third_write =
+    Issue M None 3 (0x0F ∷ 0xAA ∷ 0x02 ∷ 0x07 ∷ 0x89 ∷ 0x02 ∷ 0x00 ∷ 0xBC ∷ 0x9A ∷ [])
+    ∷ Take M 22 ∷ reach 3 22 ∷ Take (S 3) 2 ∷ come_from 3 2
+    ∷ Tick M 1 ∷ Take M 4 ∷ reach 3 4 ∷ Take (S 3) 11 ∷ come_from 3 11
+    ∷ Take M 2 ∷ reach 3 2
+    ∷ []
+
+abbrev pub after_a_stray_dle : Script
+after_a_stray_dle = record {
+  half = true;
+  check = Bcc;
+  ends = record (first_plan M 0) { ack_ticks = 1; max_resends = 0 } ∷ record (first_plan (S 3) 3) { files = record { number = 7; kind = Integer; count = 16 } ∷ [] } ∷ [];
+  events = stray_dle ++ ((two_writes ++ []) ++ third_write);
+}
+
+-- the body of the reply to the third write
+abbrev pub third_reply : List ℕ
+third_reply = 0x00 ∷ 0x03 ∷ 0x4F ∷ 0x00 ∷ 0x03 ∷ 0x00 ∷ []
+
+-- an echo of station 240 is executed; the poll that is to fetch its reply loses its last byte there, and the wait for it ends
+abbrev pub cut_off_poll : List Event
+cut_off_poll =
+    Issue M None 240 (0x06 ∷ 0x00 ∷ [])
+    ∷ Take M 15 ∷ reach 240 15 ∷ reach 3 15 ∷ Take (S 240) 2 ∷ come_from 240 2
+    ∷ Tick M 1 ∷ Take M 4 ∷ reach 240 3 ∷ Lose (record { from = M; to = S 240 }) 1 ∷ reach 3 4
+    ∷ Tick M 2
+    ∷ []
+
+-- then the first byte of an echo of station 3 ends that poll, and station 240 sends its reply beside that of station 3: the master takes
+-- the latter for the answer, and station 240 the master's ACK for its own; the last byte that comes to the master is the check of the
+-- former, a DLE
+abbrev pub mixed_replies : List Event
+mixed_replies =
+    Issue M None 3 (0x06 ∷ 0x00 ∷ [])
+    ∷ Take M 15 ∷ reach 240 15 ∷ reach 3 15 ∷ Take (S 3) 2 ∷ come_from 3 2
+    ∷ Take (S 240) 3
+    ∷ Tick M 1 ∷ Take M 4 ∷ reach 3 4
+    ∷ Take (S 3) 3 ∷ come_from 3 3 ∷ come_from 240 3 ∷ Take (S 3) 8 ∷ come_from 3 8
+    ∷ reach 240 4 ∷ Take (S 240) 8
+    ∷ Take M 2 ∷ reach 240 2 ∷ reach 3 2
+    ∷ come_from 240 8
+    ∷ []
+
+-- a further echo of station 3 is executed, and its ACK isn't heard
+abbrev pub missed_ack : List Event
+missed_ack =
+    Issue M None 3 (0x06 ∷ 0x00 ∷ [])
+    ∷ Take M 15 ∷ reach 240 15 ∷ reach 3 15 ∷ Take (S 3) 2 ∷ come_from 3 2
+    ∷ Tick M 2
+    ∷ []
+
+abbrev pub left_inside : Script
+left_inside = record {
+  half = true;
+  check = Bcc;
+  ends = record (first_plan M 0) { tns = 186; window = 2; ack_ticks = 2; poll_ticks = 2; max_resends = 0 } ∷ first_plan (S 240) 240 ∷ first_plan (S 3) 3 ∷ [];
+  events = cut_off_poll ++ ((mixed_replies ++ []) ++ missed_ack);
+}

@@ -1,6 +1,7 @@
 pub mod Acts
 pub mod Arrivals
 pub mod Behind
+pub mod Certified
 pub mod Complete
 pub mod Example
 pub mod Issues

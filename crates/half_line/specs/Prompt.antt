@@ -97,13 +97,16 @@ abbrev pub HasTurns : Script → Type 0
 HasTurns script = (plan_of_m script).window * length (station_plans script.ends) < (plan_of_m script).reply_ticks
 
 -- no reply waits at a station's node, and its slave holds none
-pub record KeepsNone (side : LineStationState) : Type 0 where
-  pub none_waits : side.slave.host.replies ≡ []
-  pub none_held : side.slave.held ≡ None
+abbrev pub keeps_none : LineStationState → Bool
+keeps_none side = is_none (slice_get side.slave.host.replies 0) && is_none side.slave.held
 
--- the last state leaves no reply at a station
+-- no reply is left at a station
+abbrev pub is_fetched : HalfState NodeState → Bool
+is_fetched s = list_all keeps_none s.stations
+
+-- so it is in the last state
 abbrev pub EndsFetched : Script → Type 0
-EndsFetched script = All KeepsNone (last_state script).stations
+EndsFetched script = IsTrue (is_fetched (last_state script))
 
 -- each station has room for as many replies as the master may have commands out
 abbrev pub HasRooms : Script → Type 0

@@ -1,5 +1,5 @@
 -- A half-duplex line at rest, and what follows for the commands that the master hands out from there on, whatever happened before.
-use Rattle.std.specs.Prelude.{◌≡◌, ◌≤◌, ℕ, Bool, true, false, ◌&&◌, is_none, slice_get, List, ◌++◌, length}
+use Rattle.std.specs.Prelude.{◌≡◌, ◌≤◌, ℕ, Bool, true, false, ◌&&◌, List, ◌++◌, length}
 use Rattle.std.specs.List.{list_all}
 use Rattle.std.specs.Option.{option_map_or}
 use Rattle.df1_node.specs.Initiator.{is_waiting}
@@ -16,7 +16,7 @@ use Rattle.half_line.specs.Behind.{plain_node}
 use Rattle.half_line.specs.Acts.{LineStationState, HalfState}
 use Rattle.half_line.specs.Complete.{IsAnsweredByOne}
 use Rattle.half_line.specs.Issues.{commands_of_m, issued_of}
-use Rattle.half_line.specs.Prompt.{is_quiet, IsPromptAfter, EndsQuiet, EndsFetched, HasRooms, HasTurns}
+use Rattle.half_line.specs.Prompt.{is_quiet, keeps_none, IsPromptAfter, EndsQuiet, EndsFetched, HasRooms, HasTurns}
 use Rattle.half_line.specs.Run.{start, state_after, last_state}
 
 -- ---- rest
@@ -40,9 +40,9 @@ is_between_answers (answer.Ended body) = true
 is_between_answers answer.AfterDle = false
 is_between_answers (answer.AtText at) = false
 
--- no reply waits at a station's node, its slave holds none, and its ear is inside no item
+-- no reply is left at a station, and its ear is inside no item
 abbrev pub is_resting : LineStationState → Bool
-is_resting side = is_none (slice_get side.slave.host.replies 0) && (is_none side.slave.held && is_between_calls side.slave.ear.standing)
+is_resting side = keeps_none side && is_between_calls side.slave.ear.standing
 
 -- nothing is under way, the master waits for nothing, no reply is left at a station, and no ear is inside an item
 abbrev pub is_at_rest : HalfState NodeState → Bool

@@ -19,6 +19,8 @@ use Rattle.half_line.specs.Run as polled
 use Rattle.half_line.specs.Once.{EachOnce as HalfOnce}
 use Rattle.half_line.specs.Prompt.{IsUndisturbed as HalfUndisturbed}
 use Rattle.half_line.specs.Complete.{IsComplete as HalfComplete}
+use Rattle.half_line.proofs.Certified.AloneRun.{well-alone as polled-well-alone}
+use Rattle.half_line.proofs.Certified.WholeRun.{well-after as polled-well-after}
 use Rattle.half_line.proofs.Complete.AfterRest.{goes-well as polled-goes-well}
 use Rattle.half_line.proofs.Complete.WholeRun.{is-complete as polled-is-complete}
 use Rattle.half_line.proofs.Once.EachStation.{each-once as polled-each-once}
@@ -226,7 +228,11 @@ all-recover script h = recovers-in script.half script refl h
 
 polled-rested : (script : Script) → IsHalfPlayable script → PolledGoesWell script (polled.record_of script)
 unfolding polled.record_of
-polled-rested script playable = record { after_rest = λ front rest calm. polled-goes-well script front rest playable calm }
+polled-rested script playable = record {
+  after_rest = λ front rest calm. polled-goes-well script front rest playable calm;
+  after_answer = λ front middle more rest n. polled-well-after script front middle more rest n playable;
+  after_answer_alone = λ front middle more rest n. polled-well-alone script front middle more rest n playable;
+}
 
 rested-in : (half : Bool) (script : Script) → script.half ≡ half → CanBePlayed script → GoesWellIn half script (record_of script)
 unfolding duplex.record_of

@@ -1,8 +1,8 @@
 -- What is so where nothing is under way and no reply is left at a station: each command that was handed out, from where on the run is looked at, is answered, by what its station answered to it.
-use Rattle.std.proofs.Common.{◌≡◌, ◌∙◌, ℕ, suc, true, false, List, [], ◌++◌, length, Option, Some, ap, sym, subst, append-nil}
-use Rattle.std.specs.Prelude.{All, slice_get, slice_index}
+use Rattle.std.proofs.Common.{◌≡◌, ◌∙◌, ℕ, suc, true, false, is_none, List, [], ◌∷◌, ◌++◌, length, Option, Some, refl, ap, sym, subst, append-nil}
+use Rattle.std.specs.Prelude.{slice_get, slice_index}
+use Rattle.std.specs.List.{list_all}
 use Rattle.std.proofs.lemmas.Bool.{eq-eqb}
-use Rattle.std.proofs.lemmas.Option.{slice_get_within, get_or_from_slice_get}
 use Rattle.pccc_envelope.specs.declared.key.Key.{Key}
 use Rattle.df1_node.specs.Answer.{StationState}
 use Rattle.df1_node.specs.Initiator.{Issued, Standing, Answered, InitiatorState}
@@ -29,7 +29,7 @@ use Rattle.half_line.specs.Acts.{LineStationState, HalfState}
 use Rattle.half_line.specs.Complete.{is_to, exchanges_at, IsAnsweredByOne}
 use Rattle.half_line.specs.Issues.{commands_of_m, issued_of}
 use Rattle.half_line.specs.Once.{OnceAtStation, EachOnce}
-use Rattle.half_line.specs.Prompt.{is_quiet, KeepsNone}
+use Rattle.half_line.specs.Prompt.{is_quiet, keeps_none, is_fetched}
 use Rattle.half_line.specs.Run.{record_from}
 use Rattle.half_line.proofs.Once.EachStation.{setting_of}
 use Rattle.half_line.proofs.Once.Invariant.{Holds}
@@ -42,7 +42,7 @@ use Rattle.half_line.proofs.Complete.LineFacts.{Known, from-here}
 use Rattle.half_line.proofs.Complete.MasterStep.{found}
 use Rattle.half_line.proofs.Complete.Origin.{Origin, station_from, is_mine, mine-is}
 use Rattle.half_line.proofs.Complete.StagePlaces.{awaits-busy}
-use Rattle.half_line.proofs.Complete.Stages.{Now, Idles, Awaits, Stage}
+use Rattle.half_line.proofs.Complete.Stages.{Now, Idles, Awaits, Stage, both, all-at as test-at}
 use Rattle.half_line.proofs.Complete.Turns.{least_of}
 
 -- ---- the dealings there
@@ -53,8 +53,14 @@ quiet-now : {origin : Origin} {lines : List Line} (s : HalfState NodeState) (lat
 quiet-now s late Idles stage quiet l = l
 quiet-now s late (Awaits place awaited) stage quiet l = absurd (awaits-busy late s place awaited stage quiet)
 
-keeps-none : (stations : List LineStationState) → All KeepsNone stations → (p : ℕ) (side : LineStationState) → slice_get stations p ≡ Some side → KeepsNone side
-keeps-none stations all p side at = subst KeepsNone (get_or_from_slice_get stations p side side at) (all p side (slice_get_within stations p side at))
+pub none-first : (replies : List (List ℕ)) → is_none (slice_get replies 0) ≡ true → replies ≡ []
+none-first [] none = refl
+none-first (reply ∷ replies) none = absurd cc
+
+no-replies : (stations : List LineStationState) → list_all keeps_none stations ≡ true → (p : ℕ) (side : LineStationState) → slice_get stations p ≡ Some side → side.slave.host.replies ≡ []
+no-replies stations all p side at =
+    let replies = side.slave.host.replies in
+    none-first replies (both (is_none (slice_get replies 0)) (is_none side.slave.held) (test-at keeps_none stations p side all at)).0
 
 -- so each station's replies were all accepted, and the commands for it that were handed out are answered
 pub record Settled (before : List Issued) (first : StationState) (number : ℕ) (i : InitiatorState) (lines : List Line) (least : ℕ → ℕ) : Type 0 where
@@ -78,11 +84,11 @@ pub record AreSettled (origin : Origin) (s : HalfState NodeState) (lines : List 
   pub settles : (p : ℕ) (side : LineStationState) → slice_get s.stations p ≡ Some side
       → Settled origin.issued (station_from origin p side.number) side.number s.master.host.initiator lines (λ j. least_of (length origin.setting.numbers) s.master.next false p j)
 
-pub are-settled : (origin : Origin) (s : HalfState NodeState) (late : ℕ) (lines : List Line) → is_quiet s ≡ true → All KeepsNone s.stations → Flow origin s late lines → AreSettled origin s lines
+pub are-settled : (origin : Origin) (s : HalfState NodeState) (late : ℕ) (lines : List Line) → is_quiet s ≡ true → is_fetched s ≡ true → Flow origin s late lines → AreSettled origin s lines
 are-settled origin s late lines quiet fetched f =
     let c = f.course in
     let l = quiet-now s late c.now c.stage quiet c.ledger in
-    record { ledger = l; settles = λ p side at. settled lines (keeps-none s.stations fetched p side at).none_waits (l.sides p side at) }
+    record { ledger = l; settles = λ p side at. settled lines (no-replies s.stations fetched p side at) (l.sides p side at) }
 
 -- ---- a command that wasn't handed out before is answered, or waits
 

@@ -39,7 +39,7 @@ use Rattle.each_once.proofs.Sublists.{from-map, none-is, same-some, within-has}
 use Rattle.half_line.specs.Behind.{plain_node}
 use Rattle.half_line.specs.Acts.{LineStationState, HalfState}
 use Rattle.half_line.specs.Issues.{issued_of, bodies_of}
-use Rattle.half_line.specs.Prompt.{is_idle, is_quiet, HasRooms, HasTurns, IsPromptAfter}
+use Rattle.half_line.specs.Prompt.{is_idle, is_quiet, keeps_none, HasRooms, HasTurns, IsPromptAfter}
 use Rattle.half_line.specs.Rest.{is_between_calls, is_between_answers, is_resting, is_at_rest}
 use Rattle.half_line.specs.Run.{first_side, plan_of_m, start, state_after, lines_after}
 use Rattle.half_line.proofs.Once.EachStation.{plan_at, setting_of}
@@ -49,7 +49,7 @@ use Rattle.half_line.proofs.Once.MasterOutcomes.{AreDeclared, recounts-run}
 use Rattle.half_line.proofs.Once.WholeRun.{counted_over, counted-within}
 use Rattle.half_line.proofs.Wire.MasterEnd.{node_keeps}
 use Rattle.half_line.proofs.Wire.Told.{gave-run}
-use Rattle.half_line.proofs.Complete.AnsweredCommands.{origin_at}
+use Rattle.half_line.proofs.Complete.AnsweredCommands.{origin_at, none-first}
 use Rattle.half_line.proofs.Complete.Dealings.{bodies_in, dealings-from}
 use Rattle.half_line.proofs.Complete.EarHears.{hears-nothing}
 use Rattle.half_line.proofs.Complete.EarlierCommands.{new-waits, still-itself}
@@ -101,25 +101,21 @@ no-call (call.AfterStation stn) is = absurd cc
 no-call (call.AfterStationDle stn) is = absurd cc
 no-call (call.AtText stn at) is = absurd cc
 
-none-first : (replies : List (List ℕ)) → is_none (slice_get replies 0) ≡ true → replies ≡ []
-none-first [] none = refl
-none-first (reply ∷ replies) none = absurd cc
-
 side-idles : (side : LineStationState) → is_idle side ≡ true → is_resting side ≡ true → SideIdles side
 side-idles side idle resting =
     let s = side.slave in
     let i = idle-is side idle in
-    let parts = both (is_none (slice_get s.host.replies 0)) (is_none s.held && is_between_calls s.ear.standing) resting in
-    let more = both (is_none s.held) (is_between_calls s.ear.standing) parts.1 in
+    let parts = both (keeps_none side) (is_between_calls s.ear.standing) resting in
+    let keeps = both (is_none (slice_get s.host.replies 0)) (is_none s.held) parts.0 in
     let g = giving_of s in
     let still = still-by s.mouth.left s.mouth.number s.mouth.begun s.responds (none-given g.left g.number g.begun i.gives_none) in
     record {
       none_to_it = i.none_to_it;
       none_back = i.none_from_it;
       still = record { gives_none = still.0; owes_none = still.1 };
-      none_held = none-is s.held more.0;
-      none_waits = none-first s.host.replies parts.0;
-      outside = no-call s.ear.standing more.1;
+      none_held = none-is s.held keeps.1;
+      none_waits = none-first s.host.replies keeps.0;
+      outside = no-call s.ear.standing parts.1;
     }
 
 -- the master, and each station

@@ -1,6 +1,6 @@
 -- Over a whole run that nothing disturbs, and that ends with nothing under way and no reply left at a station: each command executed and answered.
 use Rattle.std.proofs.Common.{◌≡◌, ◌∙◌, ℕ, zero, suc, ◌*◌, ◌<◌, ◌≤◌, Bool, true, false, List, [], ◌∷◌, ◌++◌, length, map, get_or, Option, Some, None, refl, ap, sym, subst, append-nil, arith}
-use Rattle.std.specs.Prelude.{All, slice_get, slice_index, slice_index_or, ◌&&◌}
+use Rattle.std.specs.Prelude.{slice_get, slice_index, slice_index_or, ◌&&◌}
 use Rattle.std.specs.List.{filter, list_all}
 use Rattle.std.specs.Option.{option_or}
 use Rattle.std.proofs.lemmas.Bool.{eq-eqb}
@@ -31,7 +31,7 @@ use Rattle.half_line.specs.Behind.{plain_node}
 use Rattle.half_line.specs.Acts.{LineStationState, HalfState}
 use Rattle.half_line.specs.Complete.{is_to, AllDoneAt, IsAnsweredByOne, IsComplete}
 use Rattle.half_line.specs.Issues.{commands_of_m, issued_of, bodies_of}
-use Rattle.half_line.specs.Prompt.{HasTurns, is_quiet, KeepsNone, IsUndisturbed}
+use Rattle.half_line.specs.Prompt.{HasTurns, is_quiet, is_fetched, IsUndisturbed}
 use Rattle.half_line.specs.Rest.{is_resting, is_at_rest}
 use Rattle.half_line.specs.Run.{first_side, plan_of_m, start, lines_after, last_state, record_from}
 use Rattle.half_line.proofs.Once.EachStation.{plan_at, setting_of, holds-start, side-of, each-once}
@@ -85,7 +85,7 @@ record AllAnswered (setting : Setting) (s : HalfState NodeState) (lines : List L
   settled : AreSettled (from_first setting) s lines
   each : (k : ℕ) (c : Issued) → slice_get (issued_of s.master) k ≡ Some c → IsDone c.standing
 
-all-answered : (setting : Setting) (s : HalfState NodeState) (late : ℕ) (lines : List Line) → Known (from_first setting) s.master s.stations lines → is_quiet s ≡ true → All KeepsNone s.stations → Flow (from_first setting) s late lines → AllAnswered setting s lines
+all-answered : (setting : Setting) (s : HalfState NodeState) (late : ℕ) (lines : List Line) → Known (from_first setting) s.master s.stations lines → is_quiet s ≡ true → is_fetched s ≡ true → Flow (from_first setting) s late lines → AllAnswered setting s lines
 all-answered setting s late lines k quiet fetched f =
     let c = f.course in
     let a = are-settled (from_first setting) s late lines quiet fetched f in

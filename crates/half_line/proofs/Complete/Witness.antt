@@ -26,7 +26,7 @@ use Rattle.half_line.specs.Behind.{plain_node}
 use Rattle.half_line.specs.Acts.{LineStationState, HalfState, LaneDeed, Deliver, Lose, Alter, Foreign, lane_of, LinkDeed, StationGives, OnLane}
 use Rattle.half_line.specs.Steps.{UnitStep, AtMaster, AtStation, after_step}
 use Rattle.half_line.specs.Run.{plan_of_m, start, steps_of, after_event, last_state, lines_after, record_from}
-use Rattle.half_line.specs.Prompt.{late_after, late_event, patience, IsGentleOn, IsGentleAt, IsGentleWith, IsGentle, IsPromptOver, IsPromptAfter, EndsQuiet, KeepsNone, EndsFetched, IsUndisturbed}
+use Rattle.half_line.specs.Prompt.{late_after, late_event, patience, IsGentleOn, IsGentleAt, IsGentleWith, IsGentle, IsPromptOver, IsPromptAfter, EndsQuiet, EndsFetched, IsUndisturbed}
 use Rattle.half_line.specs.Complete.{IsComplete}
 use Rattle.half_line.specs.Example.{polled_write, the_command, the_reply, two_stations, first_echo, first_echoed, second_echo, second_echoed}
 use Rattle.half_line.proofs.Complete.WholeRun.{is-complete}
@@ -154,7 +154,7 @@ polled_write-quiet = refl
 
 polled_write-fetched : EndsFetched polled_write
 unfolding check_bytes with_byte spelled_order fields three_front
-polled_write-fetched = all KeepsNone (last_state polled_write).stations (record { none_waits = refl; none_held = refl }, (record { none_waits = refl; none_held = refl }, tt))
+polled_write-fetched = refl
 
 pub polled_write-undisturbed : IsUndisturbed polled_write
 polled_write-undisturbed = record {
@@ -226,7 +226,7 @@ two_stations-quiet = refl
 
 two_stations-fetched : EndsFetched two_stations
 unfolding check_bytes with_byte spelled_order fields three_front
-two_stations-fetched = all KeepsNone (last_state two_stations).stations (record { none_waits = refl; none_held = refl }, (record { none_waits = refl; none_held = refl }, tt))
+two_stations-fetched = refl
 
 pub two_stations-undisturbed : IsUndisturbed two_stations
 two_stations-undisturbed = record {

@@ -1,0 +1,281 @@
+-- The runs of a script in which a write after noise is answered, and of one in which an answer leaves the master inside a pair.
+use Rattle.std.proofs.Common.{◌≡◌, ◌≤◌, ℕ, zero, suc, true, false, List, [], ◌∷◌, ◌++◌, map, Option, Some, None, refl, arith, nat_eq, subst, sym}
+use Rattle.std.specs.Prelude.{Contains, IsTrue, Bool, replicate, slice_get}
+use Rattle.std.specs.List.{IsDistinct}
+use Rattle.std.proofs.lemmas.List.Elements.{All-nil}
+use Rattle.df1_check.specs.Checks.{with_byte}
+use Rattle.df1_frame.specs.Spelling.{check_bytes}
+use Rattle.df1_node.specs.Initiator.{Undelivered}
+use Rattle.df1_node.specs.Node.{NodeState}
+use Rattle.half_master.specs.Master as master
+use Rattle.logical_address.specs.Reading.{three_front}
+use Rattle.slc_commands.specs.Order.{fields, spelled_order}
+use Rattle.end_settings.specs.declared.key.Key.{Key}
+use Rattle.end_settings.specs.declared.key.Key.TheVariants.{AckTicks, Embed, MaxEnqs, MaxNaks, MaxResends, MaxSends, Node, PerSource, PollTicks, ReplyTicks, Room, Tns, Window}
+use Rattle.end_settings.specs.Rows.{Fits}
+use Rattle.end_settings.specs.Table.{row_of}
+use Rattle.script_statement.specs.declared.who.Who.{Who}
+use Rattle.script_statement.specs.declared.who.Who.TheVariants.{M, S}
+use Rattle.script_parts.specs.Plans.{first_plan, setting_in}
+use Rattle.script_parts.specs.declared.script.EndPlan.{EndPlan}
+use Rattle.script_parts.specs.declared.script.Event.{Event}
+use Rattle.script_parts.specs.declared.script.Event.TheVariants as event
+use Rattle.script_parts.proofs.PlanSettings.{Fits-first_plan}
+use Rattle.script_parts.specs.HalfPlayable.{IsStationNumber, IsStationPlan, IsHalfPossible, IsHalfPlayable, numbers_of, station_plans}
+use Rattle.each_once.specs.Tells.{answers_in, outcomes_in}
+use Rattle.half_line.specs.Behind.{plain_node}
+use Rattle.half_line.specs.declared.way.Way.{Way}
+use Rattle.half_line.specs.Acts.{LineStationState, HalfState, MasterDeed, Give, Tick, LinkDeed, StationGives, OnLane, Deliver}
+use Rattle.half_line.specs.Certified.{AreGentleOver, AreGentleAfter, IsAnsweredAfter, IsAnsweredAlone, IsMasterInStep, GoesOnCalmly}
+use Rattle.half_line.specs.Example.{stray_dle, two_writes, third_write, after_a_stray_dle, second_reply, third_reply, cut_off_poll, mixed_replies, missed_ack, left_inside}
+use Rattle.half_line.specs.Prompt.{is_quiet, is_fetched, IsGentleWith, IsPromptAfter, EndsFetched, HasRooms}
+use Rattle.half_line.specs.Rest.{is_between_answers, is_at_rest, is_to_come}
+use Rattle.half_line.specs.Run.{plan_of_m, start, place_of, number_of, station_between, way_from, steps_with, steps_at, steps_of, after_event, state_after, lines_after, last_state}
+use Rattle.half_line.specs.Steps.{AtMaster, AtStation, after_step}
+use Rattle.half_line.proofs.Certified.AloneRun.{gentle-after}
+use Rattle.half_line.proofs.Complete.RestWitness.{quick-settings, one-distinct}
+use Rattle.half_line.proofs.Complete.Witness.{all, is_gentle_on, prompt_after, prompt-after}
+
+-- ---- events that lose, alter and add no byte
+
+abbrev is_clean : Event → Bool
+is_clean (event.Lose lane n) = false
+is_clean (event.Alter lane mask) = false
+is_clean (event.Foreign lane bytes) = false
+is_clean other = true
+
+abbrev AreClean : List Event → Type 0
+AreClean [] = Unit {0}
+AreClean (e ∷ events) = IsTrue (is_clean e) × AreClean events
+
+master-gentle : (deed : MasterDeed) (n : ℕ) (s : HalfState NodeState) → AreGentleOver s (map AtMaster (replicate n deed))
+master-gentle deed zero s = tt
+master-gentle deed (suc n) s = (tt, master-gentle deed n (after_step plain_node s (AtMaster deed)))
+
+station-gentle : (deed : LinkDeed) → ((o : Option LineStationState) → IsGentleWith deed o) → (place n : ℕ) (s : HalfState NodeState) → AreGentleOver s (map (AtStation place) (replicate n deed))
+station-gentle deed each place zero s = tt
+station-gentle deed each place (suc n) s = (each (slice_get s.stations place), station-gentle deed each place n (after_step plain_node s (AtStation place deed)))
+
+with-gentle : (deed : LinkDeed) → ((o : Option LineStationState) → IsGentleWith deed o) → (place : Option ℕ) (n : ℕ) (s : HalfState NodeState) → AreGentleOver s (steps_with place (replicate n deed))
+with-gentle deed each None n s = tt
+with-gentle deed each (Some place) n s = station-gentle deed each place n s
+
+gives-gentle : (o : Option LineStationState) → IsGentleWith StationGives o
+gives-gentle None = tt
+gives-gentle (Some side) = tt
+
+deliver-gentle : (way : Way) (o : Option LineStationState) → IsGentleWith (OnLane way Deliver) o
+deliver-gentle way None = tt
+deliver-gentle way (Some side) = tt
+
+take-gentle : (who : Who) (n : ℕ) (number : Option ℕ) (s : HalfState NodeState) → AreGentleOver s (steps_at s.stations number (event.Take who n))
+take-gentle who n None s = master-gentle Give n s
+take-gentle who n (Some number) s = with-gentle StationGives gives-gentle (place_of s.stations number) n s
+
+event-gentle : (e : Event) (s : HalfState NodeState) → IsTrue (is_clean e) → AreGentleOver s (steps_of s e)
+event-gentle (event.Issue who src dst payload) s clean = (tt, tt)
+event-gentle (event.Take who n) s clean = take-gentle who n (number_of who) s
+event-gentle (event.Deliver lane n) s clean = with-gentle (OnLane (way_from lane.from) Deliver) (deliver-gentle (way_from lane.from)) (place_of s.stations (station_between lane.from lane.to)) n s
+event-gentle (event.Lose lane n) s clean = absurd cc
+event-gentle (event.Alter lane mask) s clean = absurd cc
+event-gentle (event.Foreign lane bytes) s clean = absurd cc
+event-gentle (event.Tick who n) s clean = master-gentle Tick n s
+
+all-gentle : (events : List Event) (s : HalfState NodeState) → AreClean events → AreGentleAfter s events
+all-gentle [] s clean = tt
+all-gentle (e ∷ events) s clean = (event-gentle e s clean.0, all-gentle events (after_event plain_node s e) clean.1)
+
+one-of-one : {X : Type 0} (xs : List X) (x : X) → xs ≡ x ∷ [] → Contains xs x
+one-of-one xs x is = subst (λ (all : List _). Contains all x) (sym is) (0, omega arith, refl)
+
+-- ---- a write after noise
+
+pub noise-playable : IsHalfPlayable after_a_stray_dle
+noise-playable = record {
+  mode = refl;
+  ends = (
+    record { end = refl; files = refl; words = All-nil _; settings = quick-settings; compat = refl; block = omega arith },
+    all IsStationPlan (station_plans after_a_stray_dle.ends) (record { end = refl; files = refl; words = All-nil _; settings = Fits-first_plan (S 3) 3 (omega arith); compat = refl; block = omega arith }, tt),
+    record { at_most = omega arith; distinct = one-distinct; each = all IsStationNumber (3 ∷ []) ((λ is. omega (arith, is), omega arith), tt) },
+  );
+  events = all (IsHalfPossible (numbers_of after_a_stray_dle.ends)) after_a_stray_dle.events ((refl, (omega arith, omega arith)), ((refl, refl, refl), ((refl, (omega arith, omega arith)), ((refl, (omega arith, omega arith)), ((refl, (omega arith, omega arith)), ((refl, refl, refl), ((refl, (omega arith, omega arith)), ((refl, (omega arith, omega arith)), ((refl, (omega arith, omega arith)), ((refl, (omega arith, omega arith)), ((refl, (omega arith, omega arith)), ((refl, (omega arith, omega arith)), ((refl, (omega arith, omega arith)), ((refl, (omega arith, omega arith)), ((refl, (omega arith, omega arith)), ((refl, (omega arith, omega arith)), ((refl, (omega arith, omega arith)), ((refl, refl, refl), ((refl, (omega arith, omega arith)), ((refl, (omega arith, omega arith)), ((refl, (omega arith, omega arith)), ((refl, (omega arith, omega arith)), ((refl, (omega arith, omega arith)), ((refl, (omega arith, omega arith)), ((refl, (omega arith, omega arith)), ((refl, (omega arith, omega arith)), ((refl, (omega arith, omega arith)), ((refl, (omega arith, omega arith)), ((refl, (omega arith, omega arith)), tt)))))))))))))))))))))))))))));
+  commands = omega arith;
+  sum = omega arith;
+}
+
+noise-told : answers_in M (lines_after plain_node (state_after plain_node (start after_a_stray_dle) stray_dle) two_writes) ≡ (2, second_reply) ∷ []
+unfolding check_bytes with_byte spelled_order fields three_front
+noise-told = refl
+
+noise-clean : AreClean (two_writes ++ [])
+noise-clean = (refl, (refl, (refl, (refl, (refl, (refl, (refl, (refl, (refl, (refl, (refl, (refl, (refl, (refl, (refl, (refl, tt))))))))))))))))
+
+pub noise-answered : IsAnsweredAfter after_a_stray_dle stray_dle two_writes [] third_write 2
+noise-answered = record {
+  parts = refl;
+  to_come = refl;
+  arrives = gentle-after (two_writes ++ []) (state_after plain_node (start after_a_stray_dle) stray_dle) (all-gentle (two_writes ++ []) (state_after plain_node (start after_a_stray_dle) stray_dle) noise-clean);
+  reply = second_reply;
+  answered = one-of-one (answers_in M (lines_after plain_node (state_after plain_node (start after_a_stray_dle) stray_dle) two_writes)) (2, second_reply) noise-told;
+}
+
+noise-honest : (state_after plain_node (start after_a_stray_dle) (stray_dle ++ (two_writes ++ []))).deceived ≡ 0
+unfolding check_bytes with_byte spelled_order fields three_front
+noise-honest = refl
+
+noise-quiet : IsTrue (is_quiet (state_after plain_node (start after_a_stray_dle) stray_dle))
+unfolding check_bytes with_byte
+noise-quiet = refl
+
+pub noise-alone : IsAnsweredAlone after_a_stray_dle stray_dle two_writes [] third_write 2
+noise-alone = record {
+  parts = refl;
+  alone = refl;
+  quiet = noise-quiet;
+  to_come = refl;
+  gentle = all-gentle (two_writes ++ []) (state_after plain_node (start after_a_stray_dle) stray_dle) noise-clean;
+  reply = second_reply;
+  answered = one-of-one (answers_in M (lines_after plain_node (state_after plain_node (start after_a_stray_dle) stray_dle) two_writes)) (2, second_reply) noise-told;
+  undeceived = noise-honest;
+}
+
+pub noise-unrest : is_at_rest (state_after plain_node (start after_a_stray_dle) stray_dle) ≡ false
+unfolding check_bytes with_byte
+noise-unrest = refl
+
+pub noise-lost : outcomes_in M 1 (lines_after plain_node (start after_a_stray_dle) after_a_stray_dle.events) ≡ Undelivered ∷ []
+unfolding check_bytes with_byte spelled_order fields three_front
+noise-lost = refl
+
+-- ---- from its answer on all is well
+
+noise-prompt : prompt_after 0 (state_after plain_node (start after_a_stray_dle) (stray_dle ++ (two_writes ++ []))) third_write ≡ true
+unfolding check_bytes with_byte spelled_order fields three_front is_gentle_on
+noise-prompt = refl
+
+noise-left : IsTrue (is_fetched (state_after plain_node (start after_a_stray_dle) (stray_dle ++ (two_writes ++ []))))
+unfolding check_bytes with_byte spelled_order fields three_front
+noise-left = refl
+
+noise-rooms : HasRooms after_a_stray_dle
+noise-rooms = all (λ (plan : EndPlan). (plan_of_m after_a_stray_dle).window ≤ plan.room) (station_plans after_a_stray_dle.ends) (omega arith, tt)
+
+noise-fetched : EndsFetched after_a_stray_dle
+unfolding check_bytes with_byte spelled_order fields three_front
+noise-fetched = refl
+
+pub noise-master : IsMasterInStep after_a_stray_dle (stray_dle ++ (two_writes ++ []))
+unfolding check_bytes with_byte spelled_order fields three_front
+noise-master = record { undeceived = refl; in_step = refl }
+
+pub noise-goes_on : GoesOnCalmly after_a_stray_dle (stray_dle ++ (two_writes ++ [])) third_write
+unfolding check_bytes with_byte spelled_order fields three_front
+noise-goes_on = record {
+  still = refl;
+  idle = refl;
+  none_left = noise-left;
+  prompt = prompt-after 0 (state_after plain_node (start after_a_stray_dle) (stray_dle ++ (two_writes ++ []))) third_write noise-prompt;
+  quiet = refl;
+  fetched = noise-fetched;
+  rooms = noise-rooms;
+  turns = omega arith;
+}
+
+pub noise-answers : answers_in M (lines_after plain_node (start after_a_stray_dle) after_a_stray_dle.events) ≡ (2, second_reply) ∷ (3, third_reply) ∷ []
+unfolding check_bytes with_byte spelled_order fields three_front
+noise-answers = refl
+
+-- ---- an answer that leaves the master inside a pair
+
+own-settings : (key : Key) → Fits (row_of key).values (setting_in (record (first_plan M 0) { tns = 186; window = 2; ack_ticks = 2; poll_ticks = 2; max_resends = 0 }) key)
+own-settings AckTicks = (omega arith, omega arith)
+own-settings MaxResends = (omega arith, omega arith)
+own-settings PollTicks = (omega arith, omega arith)
+own-settings Tns = (omega arith, omega arith)
+own-settings Window = (omega arith, omega arith)
+own-settings Embed = Fits-first_plan M 0 (omega arith) Embed
+own-settings MaxEnqs = Fits-first_plan M 0 (omega arith) MaxEnqs
+own-settings MaxNaks = Fits-first_plan M 0 (omega arith) MaxNaks
+own-settings MaxSends = Fits-first_plan M 0 (omega arith) MaxSends
+own-settings Node = Fits-first_plan M 0 (omega arith) Node
+own-settings PerSource = Fits-first_plan M 0 (omega arith) PerSource
+own-settings ReplyTicks = Fits-first_plan M 0 (omega arith) ReplyTicks
+own-settings Room = Fits-first_plan M 0 (omega arith) Room
+
+two-distinct : IsDistinct nat_eq (240 ∷ 3 ∷ [])
+unfolding IsDistinct
+two-distinct = ((refl, tt), (tt, tt))
+
+pub left-playable : IsHalfPlayable left_inside
+left-playable = record {
+  mode = refl;
+  ends = (
+    record { end = refl; files = refl; words = All-nil _; settings = own-settings; compat = refl; block = omega arith },
+    all IsStationPlan (station_plans left_inside.ends) (
+      record { end = refl; files = refl; words = All-nil _; settings = Fits-first_plan (S 240) 240 (omega arith); compat = refl; block = omega arith },
+      (
+        record { end = refl; files = refl; words = All-nil _; settings = Fits-first_plan (S 3) 3 (omega arith); compat = refl; block = omega arith },
+        tt,
+      ),
+    ),
+    record { at_most = omega arith; distinct = two-distinct; each = all IsStationNumber (240 ∷ 3 ∷ []) ((λ is. omega (arith, is), omega arith), ((λ is. omega (arith, is), omega arith), tt)) },
+  );
+  events = all (IsHalfPossible (numbers_of left_inside.ends)) left_inside.events ((refl, refl, refl), ((refl, (omega arith, omega arith)), ((refl, (omega arith, omega arith)), ((refl, (omega arith, omega arith)), ((refl, (omega arith, omega arith)), ((refl, (omega arith, omega arith)), ((refl, (omega arith, omega arith)), ((refl, (omega arith, omega arith)), ((refl, (omega arith, omega arith)), ((refl, (omega arith, omega arith)), ((refl, (omega arith, omega arith)), ((refl, (omega arith, omega arith)), ((refl, refl, refl), ((refl, (omega arith, omega arith)), ((refl, (omega arith, omega arith)), ((refl, (omega arith, omega arith)), ((refl, (omega arith, omega arith)), ((refl, (omega arith, omega arith)), ((refl, (omega arith, omega arith)), ((refl, (omega arith, omega arith)), ((refl, (omega arith, omega arith)), ((refl, (omega arith, omega arith)), ((refl, (omega arith, omega arith)), ((refl, (omega arith, omega arith)), ((refl, (omega arith, omega arith)), ((refl, (omega arith, omega arith)), ((refl, (omega arith, omega arith)), ((refl, (omega arith, omega arith)), ((refl, (omega arith, omega arith)), ((refl, (omega arith, omega arith)), ((refl, (omega arith, omega arith)), ((refl, (omega arith, omega arith)), ((refl, (omega arith, omega arith)), ((refl, refl, refl), ((refl, (omega arith, omega arith)), ((refl, (omega arith, omega arith)), ((refl, (omega arith, omega arith)), ((refl, (omega arith, omega arith)), ((refl, (omega arith, omega arith)), ((refl, (omega arith, omega arith)), tt))))))))))))))))))))))))))))))))))))))));
+  commands = omega arith;
+  sum = omega arith;
+}
+
+left-told : answers_in M (lines_after plain_node (state_after plain_node (start left_inside) cut_off_poll) mixed_replies) ≡ (2, 0x00 ∷ 0x03 ∷ 0x46 ∷ 0x00 ∷ 0xBB ∷ 0x00 ∷ []) ∷ []
+unfolding check_bytes with_byte
+left-told = refl
+
+left-come : IsTrue (is_to_come (state_after plain_node (start left_inside) cut_off_poll).master 2)
+unfolding check_bytes with_byte
+left-come = refl
+
+left-clean : AreClean (mixed_replies ++ [])
+left-clean = (refl, (refl, (refl, (refl, (refl, (refl, (refl, (refl, (refl, (refl, (refl, (refl, (refl, (refl, (refl, (refl, (refl, (refl, (refl, (refl, (refl, tt)))))))))))))))))))))
+
+pub left-answered : IsAnsweredAfter left_inside cut_off_poll mixed_replies [] missed_ack 2
+left-answered = record {
+  parts = refl;
+  to_come = left-come;
+  arrives = gentle-after (mixed_replies ++ []) (state_after plain_node (start left_inside) cut_off_poll) (all-gentle (mixed_replies ++ []) (state_after plain_node (start left_inside) cut_off_poll) left-clean);
+  reply = 0x00 ∷ 0x03 ∷ 0x46 ∷ 0x00 ∷ 0xBB ∷ 0x00 ∷ [];
+  answered = one-of-one (answers_in M (lines_after plain_node (state_after plain_node (start left_inside) cut_off_poll) mixed_replies)) (2, 0x00 ∷ 0x03 ∷ 0x46 ∷ 0x00 ∷ 0xBB ∷ 0x00 ∷ []) left-told;
+}
+
+pub left-quiet-before : IsTrue (is_quiet (state_after plain_node (start left_inside) cut_off_poll))
+unfolding check_bytes with_byte
+left-quiet-before = refl
+
+left-checked : prompt_after 0 (state_after plain_node (start left_inside) cut_off_poll) ((mixed_replies ++ []) ++ missed_ack) ≡ true
+unfolding check_bytes with_byte is_gentle_on
+left-checked = refl
+
+pub left-prompt : IsPromptAfter 0 (state_after plain_node (start left_inside) cut_off_poll) ((mixed_replies ++ []) ++ missed_ack)
+left-prompt = prompt-after 0 (state_after plain_node (start left_inside) cut_off_poll) ((mixed_replies ++ []) ++ missed_ack) left-checked
+
+pub left-honest : (last_state left_inside).deceived ≡ 0
+unfolding check_bytes with_byte
+left-honest = refl
+
+pub left-quiet : IsTrue (is_quiet (state_after plain_node (start left_inside) (cut_off_poll ++ (mixed_replies ++ []))))
+unfolding check_bytes with_byte
+left-quiet = refl
+
+pub left-idle : IsTrue (master.is_idle (state_after plain_node (start left_inside) (cut_off_poll ++ (mixed_replies ++ []))).master.phase)
+unfolding check_bytes with_byte
+left-idle = refl
+
+pub left-none : IsTrue (is_fetched (state_after plain_node (start left_inside) (cut_off_poll ++ (mixed_replies ++ []))))
+unfolding check_bytes with_byte
+left-none = refl
+
+pub left-between : is_between_answers (state_after plain_node (start left_inside) (cut_off_poll ++ (mixed_replies ++ []))).master.ear.standing ≡ false
+unfolding check_bytes with_byte
+left-between = refl
+
+pub left-missed : outcomes_in M 3 (lines_after plain_node (start left_inside) left_inside.events) ≡ Undelivered ∷ []
+unfolding check_bytes with_byte
+left-missed = refl

@@ -1,0 +1,34 @@
+use Rattle.half_line.specs.Run.{record_of}
+use Rattle.half_line.proofs.Certified.Witness.{left-playable, left-quiet-before, left-prompt, left-honest, left-answered, left-quiet, left-idle, left-none, left-between, left-missed}
+use Rattle.half_line.proofs.laws.an_answer_may_leave_the_master_inside.Goals as goal
+
+pub returns-clause-playable : goal.returns-clause-playable
+returns-clause-playable c = left-playable
+
+pub returns-clause-quiet : goal.returns-clause-quiet
+returns-clause-quiet c = left-quiet-before
+
+pub returns-clause-undisturbed : goal.returns-clause-undisturbed
+returns-clause-undisturbed c = left-prompt
+
+pub returns-clause-undeceived : goal.returns-clause-undeceived
+returns-clause-undeceived c = left-honest
+
+pub returns-clause-answered : goal.returns-clause-answered
+returns-clause-answered c = left-answered
+
+pub returns-clause-still : goal.returns-clause-still
+returns-clause-still c = left-quiet
+
+pub returns-clause-idle : goal.returns-clause-idle
+returns-clause-idle c = left-idle
+
+pub returns-clause-fetched : goal.returns-clause-fetched
+returns-clause-fetched c = left-none
+
+pub returns-clause-inside : goal.returns-clause-inside
+returns-clause-inside c = left-between
+
+pub returns-clause-missed : goal.returns-clause-missed
+unfolding record_of
+returns-clause-missed c = left-missed
