@@ -11,10 +11,10 @@ use Rattle.line_world.specs.Complete.{IsUndisturbed, IsComplete}
 use Rattle.line_world.specs.Once.{EachCommandOnce}
 use Rattle.line_world.specs.Runs.{record_of}
 use Rattle.line_world.proofs.EitherMode.{all-complete, all-recover, all-rested, all-wires, each-command-once}
-use Rattle.late_laws.proofs.NothingLate.{nothing-comes-late}
-use Rattle.outcome_bounds.proofs.EitherMode.{outcomes-come}
-use Rattle.outcome_bounds.proofs.IdleRun.{ends-come-to-idle}
-use Rattle.overtaking_laws.proofs.Cut.{nothing-is-overtaken}
+use Rattle.run_laws.proofs.NothingLate.{nothing-comes-late}
+use Rattle.run_laws.proofs.EitherMode.{outcomes-come}
+use Rattle.run_laws.proofs.IdleRun.{ends-come-to-idle}
+use Rattle.run_laws.proofs.Cut.{nothing-is-overtaken}
 use Rattle.df1_replay.specs.declared.fault.ReplayFault.{ReplayFault}
 use Rattle.df1_replay.specs.Outcome.{Answered, replayed, report_of}
 use Rattle.df1_replay.specs.Replayed.{Replayed}

@@ -6,7 +6,8 @@ use Rattle.line_script.specs.declared.fault.Cause.{Cause}
 use Rattle.line_script.specs.ScriptText.{script_of}
 use Rattle.line_script.specs.Unfinished.{IsOpen}
 use Rattle.line_script.specs.Fed.{accepted_script}
-use Rattle.line_replay.specs.Fed.{events_text, shown, told}
+use Rattle.line_replay.specs.Fed.{events_text, shown}
+pub use Rattle.line_replay.specs.Fed.{told}
 use Rattle.line_replay.specs.declared.replayer.StreamFault.{StreamFault}
 use Rattle.line_replay.specs.declared.replayer.StreamFault.TheVariants as stream
 use Rattle.line_world.specs.Runs.{record_of}

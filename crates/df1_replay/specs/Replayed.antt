@@ -6,16 +6,16 @@ use Rattle.df1_base.specs.Outside.{Took, Put}
 use Rattle.script_parts.specs.declared.script.Script.{Script}
 use Rattle.line_script.specs.ScriptText.{script_of}
 use Rattle.replay_report.specs.Report.{report}
-use Rattle.late_laws.specs.GivenUp.{NothingComesLate}
+use Rattle.run_laws.specs.GivenUp.{NothingComesLate}
 use Rattle.line_world.specs.Complete.{IsUndisturbed, IsComplete}
 use Rattle.line_world.specs.Once.{EachCommandOnce}
 use Rattle.line_world.specs.Recovery.{Recovers}
 use Rattle.line_world.specs.Rested.{GoesWellAfterRest}
 use Rattle.line_world.specs.Runs.{record_of}
 use Rattle.line_world.specs.Wire.{AreDf1Wires}
-use Rattle.outcome_bounds.specs.Bounds.{OutcomesCome}
-use Rattle.outcome_bounds.specs.Idle.{EndsComeToIdle}
-use Rattle.overtaking_laws.specs.Overtaking.{NothingIsOvertaken}
+use Rattle.run_laws.specs.Bounds.{OutcomesCome}
+use Rattle.run_laws.specs.Idle.{EndsComeToIdle}
+use Rattle.run_laws.specs.Overtaking.{NothingIsOvertaken}
 
 -- The input was read to its end and is a script. The report of its run is written, and nothing else. Where no end was
 -- deceived, each station executed commands that were issued to it, each once, those of each source in their order, and each

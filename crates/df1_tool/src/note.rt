@@ -1,9 +1,9 @@
 //! The text of a note: at most 251 bytes.
 ghost use Rattle.std.specs.Prelude.{◌≡◌, ◌+◌, ◌≤◌, ◌++◌, decimal, length};
-ghost use Rattle.arrayvec.specs.ArrayVec.{array_vec_len};
 ghost use Rattle.df1_tool.specs.Notes.{input_failed as the_input, output_failed as the_output, input_too_long as the_size, no_memory as the_want};
 
 use arrayvec::ArrayVec;
+use df1_base::append;
 
 /// The buffer size for a note, in bytes.
 const NOTE: usize = 251;
@@ -60,12 +60,4 @@ pub(crate) fn with_number(before: &[u8], number: u64, after: &[u8]) -> Note
     append(&mut note, digits.format(number).as_bytes());
     append(&mut note, after);
     note
-}
-
-/// Appends bytes to a note that has room for them.
-pub(crate) fn append(note: &mut Note, bytes: &[u8])
-    requires { array_vec_len note.old + length bytes.now ≤ NOTE }
-    ensures { note.new.items ≡ note.old.items ++ bytes.now }
-{
-    note.try_extend_from_slice(bytes).unwrap();
 }

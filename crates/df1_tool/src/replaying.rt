@@ -10,18 +10,17 @@
 ghost use Rattle.std.specs.Prelude.{◌≡◌, ◌≤◌, ◌⊎◌, ◌≢◌, ℕ, length};
 ghost use Rattle.std.specs.Option.{ForSome};
 ghost use Rattle.df1_base.specs.Outside.{Rose};
-ghost use Rattle.line_replay.specs.Fed.{told};
 ghost use Rattle.line_script.specs.declared.fault.Cause.{Cause as Fault};
-ghost use Rattle.df1_replay.specs.Outcome.{Answered, BrokenOff, CutOff, Refused, Written, replayed};
+ghost use Rattle.df1_replay.specs.Outcome.{Answered, BrokenOff, CutOff, Refused, Written, replayed, told};
 ghost use Rattle.df1_replay.specs.Replayed.{Replayed};
 ghost use Rattle.df1_tool.specs.Notes.{IsNoted};
 ghost use Rattle.df1_tool.specs.Replays.{IsReplayStatus, cause_text, line_note, note_at, status_for};
 
-use crate::note::{Note, append, input_failed, no_memory, noted, output_failed};
+use crate::note::{Note, input_failed, no_memory, noted, output_failed};
 use crate::refusal::{Refusal, refuse};
-use df1_base::{Sink, Source};
+use df1_base::{Sink, Source, append};
 use df1_replay::{ReplayFault, replay_input};
-use line_replay::Cause;
+use line_script::Cause;
 use std::alloc::Global;
 
 /// Replays the input to the output, and returns the status. If it isn't 0, the note is written.

@@ -16,11 +16,11 @@ ghost use Rattle.df1_tool.specs.Notes.{IsNoted};
 ghost use Rattle.df1_tool.specs.Served.{IsFinished, ServiceRun, note_of_fault, status_of_fault, told_of};
 
 use crate::note::{
-    Note, append, input_failed, input_too_long, no_memory, noted, output_failed, with_number,
+    Note, input_failed, input_too_long, no_memory, noted, output_failed, with_number,
 };
 use crate::refusal::{Refusal, refuse};
 use crate::top::Ran;
-use df1_base::{Failed, Sink, Source};
+use df1_base::{Failed, Sink, Source, append};
 use df1_node::Node;
 use df1_plan::PlanFault;
 use df1_service::{Issues, Service, ServiceFault, serve_plan, write_told};

@@ -16,7 +16,7 @@
 ghost use Rattle.std.specs.Prelude.{◌≡◌, ◌⊎◌, ◌↔◌, ◌≢◌, ℕ, List, [], None, Some, map, slice_index_or, string_bytes, true, IsTrue};
 ghost use Rattle.std.specs.Option.{ForSome};
 ghost use Rattle.df1_base.specs.Outside.{Rose};
-ghost use Rattle.df1_replay.specs.Outcome.{Answered, BrokenOff, CutOff, Refused, Written, replayed};
+ghost use Rattle.df1_replay.specs.Outcome.{Answered, BrokenOff, CutOff, Refused, Written, replayed, told};
 ghost use Rattle.df1_replay.specs.Replayed.{Replayed};
 ghost use Rattle.df1_tool.specs.Notes.{IsNoted, usage};
 ghost use Rattle.df1_tool.specs.Served.{ServiceRun};
@@ -39,7 +39,6 @@ ghost use Rattle.df1_tool.specs.declared.form.Rounds.{Rounds as TwoNumbers};
 ghost use Rattle.df1_tool.specs.Forms.{data_of, form_of as the_form, plan_name, reads_whole, service_for};
 ghost use Rattle.df1_tool.specs.Replays.{line_note, note_at, status_for, IsReplayStatus};
 ghost use Rattle.df1_service.specs.Service.{Serving, seen, serving_of};
-ghost use Rattle.line_replay.specs.Fed.{told};
 ghost use Rattle.line_script.specs.declared.fault.Cause.{Cause as Fault};
 
 use crate::data_words::data_of;

@@ -2,16 +2,16 @@
 
 ghost use Rattle.std.specs.Prelude.{◌≡◌, IfOk};
 ghost use Rattle.script_parts.specs.HalfPlayable.{CanBePlayed};
-ghost use Rattle.late_laws.specs.GivenUp.{NothingComesLate};
+ghost use Rattle.run_laws.specs.GivenUp.{NothingComesLate};
 ghost use Rattle.line_world.specs.Complete.{IsUndisturbed, IsComplete};
 ghost use Rattle.line_world.specs.Once.{EachCommandOnce};
 ghost use Rattle.line_world.specs.Recovery.{Recovers};
 ghost use Rattle.line_world.specs.Rested.{GoesWellAfterRest};
 ghost use Rattle.line_world.specs.Runs.{record_of};
 ghost use Rattle.line_world.specs.Wire.{AreDf1Wires};
-ghost use Rattle.outcome_bounds.specs.Bounds.{OutcomesCome};
-ghost use Rattle.outcome_bounds.specs.Idle.{EndsComeToIdle};
-ghost use Rattle.overtaking_laws.specs.Overtaking.{NothingIsOvertaken};
+ghost use Rattle.run_laws.specs.Bounds.{OutcomesCome};
+ghost use Rattle.run_laws.specs.Idle.{EndsComeToIdle};
+ghost use Rattle.run_laws.specs.Overtaking.{NothingIsOvertaken};
 
 use df1_base::NoMemory;
 use replay_report::Record;

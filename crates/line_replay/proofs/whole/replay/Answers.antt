@@ -1,13 +1,13 @@
-use Rattle.late_laws.proofs.NothingLate.{nothing-comes-late}
-use Rattle.late_laws.specs.GivenUp.{NothingComesLate}
+use Rattle.run_laws.proofs.NothingLate.{nothing-comes-late}
+use Rattle.run_laws.specs.GivenUp.{NothingComesLate}
 use Rattle.line_replay.proofs.OfRun.{of-run}
 use Rattle.line_replay.proofs.whole.replay.Goals as goal
-use Rattle.outcome_bounds.proofs.EitherMode.{outcomes-come}
-use Rattle.outcome_bounds.proofs.IdleRun.{ends-come-to-idle}
-use Rattle.outcome_bounds.specs.Bounds.{OutcomesCome}
-use Rattle.outcome_bounds.specs.Idle.{EndsComeToIdle}
-use Rattle.overtaking_laws.proofs.Cut.{nothing-is-overtaken}
-use Rattle.overtaking_laws.specs.Overtaking.{NothingIsOvertaken}
+use Rattle.run_laws.proofs.EitherMode.{outcomes-come}
+use Rattle.run_laws.proofs.IdleRun.{ends-come-to-idle}
+use Rattle.run_laws.specs.Bounds.{OutcomesCome}
+use Rattle.run_laws.specs.Idle.{EndsComeToIdle}
+use Rattle.run_laws.proofs.Cut.{nothing-is-overtaken}
+use Rattle.run_laws.specs.Overtaking.{NothingIsOvertaken}
 use Rattle.replay_report.specs.declared.record.Record.{Record}
 use Rattle.std.specs.Prelude.{◌≡◌}
 

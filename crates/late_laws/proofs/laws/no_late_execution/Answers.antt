@@ -1,6 +1,0 @@
-use Rattle.late_laws.proofs.OverAtCut.{over-for-good}
-use Rattle.late_laws.proofs.NothingLate.{duplex-honest}
-use Rattle.late_laws.proofs.laws.no_late_execution.Goals as goal
-
-pub returns : goal.returns
-returns c script playable none = over-for-good script playable (duplex-honest script playable.mode none)

@@ -1,4 +1,0 @@
-pub mod GivenUp
-pub mod NotHeld
-pub mod Over
-pub mod Reached

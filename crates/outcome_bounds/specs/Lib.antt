@@ -1,4 +1,0 @@
-pub mod Drained
-pub mod Bounds
-pub mod Idle
-pub mod Reached

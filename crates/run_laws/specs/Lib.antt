@@ -1,0 +1,9 @@
+pub mod Drained
+pub mod Bounds
+pub mod Idle
+pub mod SharpBounds
+pub mod Overtaking
+pub mod GivenUp
+pub mod NotHeld
+pub mod Over
+pub mod Reached
