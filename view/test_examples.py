@@ -45,11 +45,18 @@ ECHOED = "reply, 55, TNS 0001"
 WRITTEN, DONE = "write N7:0 = 1234, TNS 0001", "reply, done, TNS 0001"
 AA, AA_REPLY, BB, BB_REPLY = "echo AA, TNS 0001", "reply, AA, TNS 0001", "echo BB, TNS 0001", "reply, BB, TNS 0001"
 LATER, LATER_REPLY = "echo BB, TNS 0064", "reply, BB, TNS 0064"
+BOTH = ("240", "3")
 NOTHING_TO_GIVE = [*to_each("543", "poll 3"), "3>m EOT", *to_each("543", "poll 4"), "4>m EOT"]
 
 ARROWS = {
     "ack-turned-into-nak": [WRITE, "b>a ACK; byte 2: 06 → 15", WRITE, *ACKS],
     "after-a-lost-write": [f"{WRITE}; 1 of 19 bytes lost", "b>a NAK", *exchange("write N7:1 = 5678", "done", 2)],
+    "answer-beside-a-cut-off-poll": [
+        *to_each(BOTH, "echo, TNS 00BA"), "240>m ACK", "m>240 poll 240; 1 of 4 bytes lost", "m>3 poll 240",
+        *to_each(BOTH, "echo, TNS 00BB"), "3>m ACK", "240>m reply, done, TNS 00BA", *to_each(BOTH, "poll 3"), "3>m reply, done, TNS 00BB",
+        *to_each(BOTH, "ACK to 3", "echo, TNS 00BC"), "3>m ACK", *to_each(BOTH, "poll 240"), "240>m EOT",
+        *to_each(BOTH, "poll 3"), "3>m reply, done, TNS 00BC", *to_each(BOTH, "ACK to 3"),
+    ],
     "askers-with-one-tns": [
         *to_each("543", "poll 3"), f"3>m {AA}", *to_each("543", "ACK to 3", AA), "5>m ACK",
         *to_each("543", "poll 4"), f"4>m {BB}", *to_each("543", "ACK to 4", BB), "5>m ACK",
@@ -138,6 +145,11 @@ ARROWS = {
         "m>3 poll 3", "3>m reply, done, TNS 0002", "m>3 ACK to 3",
     ],
     "polled-dle-left-over": ["foreign>3 10", f"m>3 {ECHO}"],
+    "polled-write-after-noise": [
+        "foreign>3 10", "m>3 write N7:0 = 1234, TNS 0001", "m>3 write N7:1 = 5678, TNS 0002", "3>m ACK",
+        "m>3 poll 3", "3>m reply, done, TNS 0002", "m>3 ACK to 3", "m>3 write N7:2 = 9ABC, TNS 0003", "3>m ACK",
+        "m>3 poll 3", "3>m reply, done, TNS 0003", "m>3 ACK to 3",
+    ],
     "polled-write": [
         "m>3 write N7:0 = 1234, TNS 0001", "m>5 write N7:0 = 1234, TNS 0001", "3>m ACK",
         "m>3 poll 3", "m>5 poll 3", "3>m reply, done, TNS 0001; 11 of 11 bytes lost",

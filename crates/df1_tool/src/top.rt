@@ -160,9 +160,9 @@ pub fn run<H: Shelf, S: Source, K: Sink, N: Sink>(
     // 0 of `replay`: the input was read to its end, and the report of its script's run was written; nothing failed, and
     // no note was written. Unless an end was deceived, each station executed commands that were issued to it, each
     // once, those of each source in order, and each accepted reply is the answer to that very command. If nothing
-    // disturbs the line, or it recovers, all commands were executed and answered. The same holds of the commands that a
-    // full-duplex end hands out from a state at rest on, if nothing disturbs the line, or it recovers, from there on.
-    // Whatever was received, what each end sent is DF1.
+    // disturbs the line, or it recovers, all commands were executed and answered. The same holds of the commands that an
+    // end hands out from a state at rest on, or from one on that an answer shows to be at rest, if nothing disturbs the
+    // line, or a full-duplex line recovers, from there on. Whatever was received, what each end sent is DF1.
     ensures done { the_form (map string_bytes words.now) ≡ Some Replay → result.status ≡ 0 → Answered replayed
         (S.left input) (S.left result.input) (K.held out) (K.held result.out) }
     ensures calm { the_form (map string_bytes words.now) ≡ Some Replay → result.status ≡ 0 → (S.faults result.input ≡ S.faults input) × (result.note ≡ note) }

@@ -1,4 +1,4 @@
--- An answer certifies the stations of a polled line: what a run is in which a command that was still to come is answered, while all that the master gives arrives, and what holds of a later state.
+-- An answer certifies the stations of a polled line: what a run is in which a command that was still to come is answered, while no byte on its way to a station is lost, altered or foreign, and what holds of a later state.
 use Rattle.std.specs.Prelude.{◌≡◌, ℕ, Bool, List, [], ◌∷◌, ◌++◌, Option, None, Some, Contains, IsTrue, slice_get, length}
 use Rattle.std.specs.List.{list_all}
 use Rattle.df1_node.specs.Node.{NodeState}
@@ -16,7 +16,7 @@ use Rattle.half_line.specs.Rest.{is_at_rest, is_between_answers, is_between_call
 use Rattle.half_line.specs.Run.{start, steps_of, after_event, state_after, lines_after}
 use Rattle.half_line.specs.Steps.{UnitStep, AtMaster, AtStation, after_step}
 
--- ---- all that the master gives arrives at each station
+-- ---- no byte on its way to a station is lost, altered or foreign
 
 -- a step loses, alters and adds no byte on its way to a station; what it does to those on their way to the master doesn't matter
 abbrev pub ArrivesAt : LineStationState → LinkDeed → Type 0
@@ -44,8 +44,8 @@ AllArrivesAfter s (e ∷ events) = AllArrivesOver s (steps_of s e) × AllArrives
 -- ---- a command is answered
 
 -- The events of a script in four parts: a front; a middle, over which command n of the master is told as answered that was not handed
--- out in the front; more, which may be nothing; and the rest. Over the middle and what is more all that the master gives arrives at
--- each station.
+-- out in the front; more, which may be nothing; and the rest. Over the middle and what is more no byte on its way to a station is lost,
+-- altered or foreign.
 pub record IsAnsweredAfter (script : Script) (front middle more rest : List Event) (n : ℕ) : Type 0 where
   pub parts : script.events ≡ front ++ ((middle ++ more) ++ rest)
   pub to_come : IsTrue (is_to_come (state_after plain_node (start script) front).master n)

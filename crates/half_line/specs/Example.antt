@@ -150,7 +150,7 @@ after_a_stray_dle = record {
 abbrev pub third_reply : List ℕ
 third_reply = 0x00 ∷ 0x03 ∷ 0x4F ∷ 0x00 ∷ 0x03 ∷ 0x00 ∷ []
 
--- an echo of station 240 is executed; the poll that is to fetch its reply loses its last byte there, and the wait for it ends
+-- an echo for station 240 is executed; the poll that is to fetch its reply loses its last byte there, and the wait for it ends
 abbrev pub cut_off_poll : List Event
 cut_off_poll =
     Issue M None 240 (0x06 ∷ 0x00 ∷ [])
@@ -159,7 +159,7 @@ cut_off_poll =
     ∷ Tick M 2
     ∷ []
 
--- then the first byte of an echo of station 3 ends that poll, and station 240 sends its reply beside that of station 3: the master takes
+-- then the first byte of an echo for station 3 ends that poll, and station 240 sends its reply beside that of station 3: the master takes
 -- the latter for the answer, and station 240 the master's ACK for its own; the last byte that comes to the master is the check of the
 -- former, a DLE
 abbrev pub mixed_replies : List Event
@@ -174,12 +174,15 @@ mixed_replies =
     ∷ come_from 240 8
     ∷ []
 
--- a further echo of station 3 is executed, and its ACK isn't heard
+-- a further echo for station 3 is executed, and its ACK isn't heard; its reply is fetched, and answers no command any more
 abbrev pub missed_ack : List Event
 missed_ack =
     Issue M None 3 (0x06 ∷ 0x00 ∷ [])
     ∷ Take M 15 ∷ reach 240 15 ∷ reach 3 15 ∷ Take (S 3) 2 ∷ come_from 3 2
     ∷ Tick M 2
+    ∷ Tick M 1 ∷ Take M 4 ∷ reach 240 4 ∷ reach 3 4 ∷ Take (S 240) 2 ∷ come_from 240 2
+    ∷ Tick M 1 ∷ Take M 4 ∷ reach 240 4 ∷ reach 3 4 ∷ Take (S 3) 11 ∷ come_from 3 11
+    ∷ Take M 2 ∷ reach 240 2 ∷ reach 3 2
     ∷ []
 
 abbrev pub left_inside : Script

@@ -9,7 +9,7 @@ ghost use Rattle.each_once.specs.Tells.{answers_in, executed_in, outcomes_in};
 ghost use Rattle.half_slave.specs.Arrived.{HeardByGrammar as HeardAtStation, Hears as StationHears, bytes_arrived as bytes_at_station};
 ghost use Rattle.half_slave.specs.Slave.{heard_at as heard_at_station};
 ghost use Rattle.half_master.specs.Arrived.{HeardByGrammar as HeardAtMaster, Hears as MasterHears, bytes_arrived as bytes_at_master};
-ghost use Rattle.half_master.specs.Master.{heard_at as heard_at_master, is_idle};
+ghost use Rattle.half_master.specs.Master.{heard_at as heard_at_master};
 ghost use Rattle.df1_node.specs.Node.{NodeState};
 ghost use Rattle.lane_cells.specs.Cells.{LaneCell};
 ghost use Rattle.report_lines.specs.NodeLines.{step_lines};
@@ -20,7 +20,7 @@ ghost use Rattle.half_line.specs.Acts.{LineStationState, LinkState, body_heard, 
 ghost use Rattle.half_line.specs.Arrivals.{master_arrivals_in, station_arrivals_in};
 ghost use Rattle.half_line.specs.Issues.{bodies_of, commands_of_m};
 ghost use Rattle.half_line.specs.Example.{lost_write, lost_reply, second_write, after_a_lost_write, after_a_lost_reply, the_command, second_command, second_reply, third_reply, stray_dle, two_writes, third_write, after_a_stray_dle, cut_off_poll, mixed_replies, missed_ack, left_inside};
-ghost use Rattle.half_line.specs.Prompt.{IsPromptAfter, is_fetched, is_quiet};
+ghost use Rattle.half_line.specs.Prompt.{IsPromptAfter, is_quiet};
 ghost use Rattle.half_line.specs.Rest.{IsCalmAfter, IsWellAfter, is_at_rest, is_between_answers};
 ghost use Rattle.half_line.specs.Run.{last_state, record_of, start, state_after};
 
@@ -78,27 +78,29 @@ pub fn after_rest_all_is_well()
     ensures { (script : Script) (front rest : List Event) → IsHalfPlayable script → IsCalmAfter script front rest → IsWellAfter script front (record_of script) }
 {}
 
-/// A law: an answer certifies the stations of a polled line. If after some state all that the master gives arrives at
-/// each station, and a command that the master hadn't handed out is reported as answered, then from that answer on, as
-/// long as this is so, no station's decoder is inside an item where nothing is under way. Nothing is asked of what was
-/// before that state, of the ticks, and of the bytes that go to the master (manual topic: half-duplex protocol).
+/// A law: an answer certifies the stations of a polled line. If from some state on no byte on its way to a station is
+/// lost, altered or foreign, and a command that the master hadn't handed out there is reported as answered, then from
+/// that answer on, as long as this is so, no station's decoder is inside an item where nothing is under way. Nothing is
+/// asked of what was before that state, except of bytes still on their way to a station; nor of the ticks, nor of the
+/// bytes that go to the master (manual topic: half-duplex protocol).
 pub fn an_answer_certifies_the_stations()
     ensures { (script : Script) (front middle more rest : List Event) (n : ℕ) → IsHalfPlayable script → IsAnsweredAfter script front middle more rest n
         → AreCertified (state_after plain_node (start script) (front ++ (middle ++ more))) }
 {}
 
 /// A law: on a line with one station an answer certifies the master's own decoder too. If no byte is lost, altered or
-/// foreign from a quiet state on, and a command is answered that the master hadn't handed out, then from that answer on,
-/// as long as this is so and no end is deceived, the line is at rest wherever nothing is under way, the master waits for
-/// nothing and no reply is left at the station.
+/// foreign from a quiet state on, and a command is answered that the master hadn't handed out there, then from that
+/// answer on, as long as this is so, the line is at rest wherever nothing is under way, the master waits for nothing and
+/// no reply is left at the station, if no end was deceived so far, also before that state.
 pub fn an_answer_certifies_a_line_with_one_station()
     ensures { (script : Script) (front middle more rest : List Event) (n : ℕ) → IsHalfPlayable script → IsAnsweredAlone script front middle more rest n
         → IsCertified (state_after plain_node (start script) (front ++ (middle ++ more))) }
 {}
 
-/// A law: from such a state on each command that the master hands out is executed and answered, as by
-/// `after_rest_all_is_well`, if nothing is under way there, the master is idle and no reply is left at a station. With
-/// more than one station the master's own decoder must not be inside an item, and no end may be deceived so far.
+/// A law: take a state at which such an answer has come, nothing is under way, the master is idle, no reply is left at a
+/// station and no end was deceived so far. If nothing disturbs the line from there on, each command that the master
+/// hands out from there on is executed and answered, as by `after_rest_all_is_well`. With more than one station the
+/// master's own decoder must not be inside an item at that state.
 pub fn after_an_answer_all_is_well()
     ensures with_others { (script : Script) (front middle more rest : List Event) (n : ℕ) → IsHalfPlayable script → IsAnsweredAfter script front middle more rest n
         → IsMasterInStep script (front ++ (middle ++ more)) → GoesOnCalmly script (front ++ (middle ++ more)) rest → IsWellAfter script (front ++ (middle ++ more)) (record_of script) }
@@ -121,11 +123,11 @@ pub fn a_write_certifies_a_polled_line_after_noise()
     ensures answers { answers_in M (record_of after_a_stray_dle).lines ≡ (2, second_reply) ∷ (3, third_reply) ∷ [] }
 {}
 
-/// A law: that the master's own decoder isn't inside an item can't be left out, nor does it follow from the answer. A
-/// line is quiet, and nothing disturbs it from there on. A station whose decoder was left inside its poll takes the
-/// first byte of a message to another one for the end of that poll, and sends unasked. The other's reply is accepted all
-/// the same. Then nothing is under way, the master is idle and no reply is left, but the last byte that arrived at the
-/// master was a DLE. The ACK to its next command isn't received, and the command is reported as undelivered.
+/// A law: that the master's own decoder isn't inside an item can't be left out of these premises, nor does it follow
+/// from the answer. A line is quiet, and nothing disturbs it from there on. A station whose poll lacks its last byte, a
+/// DLE, takes the first byte of a message to another station for it, and sends unasked. The other's reply is accepted
+/// all the same. Then nothing is under way, the master is idle and no reply is left, but the last byte that arrived at
+/// the master was a DLE. The ACK to its next command isn't received, and the command is reported as undelivered.
 #[tactic(auto, unfolding(crate::specs::Run::record_of))]
 pub fn an_answer_may_leave_the_master_inside()
     ensures playable { IsHalfPlayable left_inside }
@@ -133,10 +135,8 @@ pub fn an_answer_may_leave_the_master_inside()
     ensures undisturbed { IsPromptAfter 0 (state_after plain_node (start left_inside) cut_off_poll) ((mixed_replies ++ []) ++ missed_ack) }
     ensures undeceived { (last_state left_inside).deceived ≡ 0 }
     ensures answered { IsAnsweredAfter left_inside cut_off_poll mixed_replies [] missed_ack 2 }
-    ensures still { IsTrue (is_quiet (state_after plain_node (start left_inside) (cut_off_poll ++ (mixed_replies ++ [])))) }
-    ensures idle { IsTrue (is_idle (state_after plain_node (start left_inside) (cut_off_poll ++ (mixed_replies ++ []))).master.phase) }
-    ensures fetched { IsTrue (is_fetched (state_after plain_node (start left_inside) (cut_off_poll ++ (mixed_replies ++ [])))) }
     ensures inside { is_between_answers (state_after plain_node (start left_inside) (cut_off_poll ++ (mixed_replies ++ []))).master.ear.standing ≡ false }
+    ensures goes_on { GoesOnCalmly left_inside (cut_off_poll ++ (mixed_replies ++ [])) missed_ack }
     ensures missed { outcomes_in M 3 (record_of left_inside).lines ≡ Undelivered ∷ [] }
 {}
 

@@ -37,8 +37,8 @@ use Rattle.half_line.proofs.Certified.StationGives.{Begins, EndsInStep, Leads, l
 
 -- ---- what holds
 
--- An ear is imagined that was in step at the quiet state, and that has heard since what the master's has: what the station gave since leads
--- it. Where the command at this place is answered, the master's own ear is as that one.
+-- An ear is imagined that was in step at the quiet state, and that has heard since what the master's has: behind all that is on its way
+-- and still to be given it is in step. Where the command at this place is answered, the master's own ear is as that one.
 pub record Follows (check : Check) (k : ℕ) (m : MasterState NodeState) (side : LineStationState) : Type 0 where
   pub line : side.slave.setup.check ≡ check
   pub ear : m.ear.check ≡ check

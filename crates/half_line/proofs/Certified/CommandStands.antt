@@ -1,4 +1,4 @@
--- How one command of a node stands after something happened at it: it is out where it was out, or is handed out; and it is answered where it was, or where it was out and its reply is accepted.
+-- How one command of a node stands after something happened at it: it is out only where it was, or is handed out; and it is answered only where it was, or where it was out and its reply is accepted.
 use Rattle.std.proofs.Common.{◌≡◌, ◌∙◌, ℕ, zero, suc, Bool, true, false, List, [], ◌∷◌, ◌++◌, Option, Some, None, refl, ap, sym, subst, arith, inl, inr}
 use Rattle.std.specs.Prelude.{◌⊎◌, ◌-◌, nat_lt, slice_get, is_some, if◌then◌else◌}
 use Rattle.std.specs.Option.{option_map_or}
@@ -25,7 +25,7 @@ is_answered Unanswered = false
 abbrev pub Stands : (Standing → Bool) → List Issued → ℕ → Type 0
 Stands how issued k = option_map_or (λ c. how c.standing) (slice_get issued k) false ≡ true
 
--- of each place it was so before
+-- at each place where it stands so, it did before
 abbrev pub StoodSo : (Standing → Bool) → List Issued → List Issued → Type 0
 StoodSo how before issued = (k : ℕ) → Stands how issued k → Stands how before k
 
@@ -46,7 +46,7 @@ restated-stands how (c ∷ cs) (suc p) (suc k) standing h = by-rest (restated-st
     by-rest (inl said) = inl (ap suc said.0, said.1)
     by-rest (inr stood) = inr (λ e. stood.0 (omega (arith, e)), stood.1)
 
--- where it is said to stand otherwise, it was so before
+-- another standing put at a place makes no command stand so that didn't
 restated-stood : (how : Standing → Bool) (issued : List Issued) (p : ℕ) (standing : Standing) → how standing ≡ false → StoodSo how issued (restated issued p standing)
 restated-stood how issued p standing not k h = by-either (restated-stands how issued p k standing h)
   where

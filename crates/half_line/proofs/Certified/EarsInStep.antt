@@ -24,7 +24,7 @@ pub after-both : (check : Check) (at : Standing) (xs ys : List ℕ) → after ch
 after-both check at [] ys = refl
 after-both check at (x ∷ xs) ys = after-both check (step check 250 at x).0 xs ys
 
--- in step, or after the first one or two bytes of a message or poll, which may be the last of a check
+-- in step, or behind a DLE, DLE SOH or DLE ENQ, which the bytes of a check can look like
 abbrev pub is_near : Standing → Bool
 is_near Outside = true
 is_near (Ended body) = true

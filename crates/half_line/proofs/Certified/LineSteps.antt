@@ -49,7 +49,7 @@ pub record Heeds (check : Check) (k : ℕ) (s : HalfState NodeState) : Type 0 wh
 
 -- ---- the master changes
 
--- a message is begun where nothing was left
+-- what is left is one whole message
 record IsFresh (check : Check) (now : List Sent) : Type 0 where
   stn : ℕ
   body : List ℕ

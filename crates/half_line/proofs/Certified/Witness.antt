@@ -28,7 +28,7 @@ use Rattle.half_line.specs.declared.way.Way.{Way}
 use Rattle.half_line.specs.Acts.{LineStationState, HalfState, MasterDeed, Give, Tick, LinkDeed, StationGives, OnLane, Deliver}
 use Rattle.half_line.specs.Certified.{AreGentleOver, AreGentleAfter, IsAnsweredAfter, IsAnsweredAlone, IsMasterInStep, GoesOnCalmly}
 use Rattle.half_line.specs.Example.{stray_dle, two_writes, third_write, after_a_stray_dle, second_reply, third_reply, cut_off_poll, mixed_replies, missed_ack, left_inside}
-use Rattle.half_line.specs.Prompt.{is_quiet, is_fetched, IsGentleWith, IsPromptAfter, EndsFetched, HasRooms}
+use Rattle.half_line.specs.Prompt.{is_quiet, is_fetched, IsGentleWith, IsPromptAfter, EndsQuiet, EndsFetched, HasRooms}
 use Rattle.half_line.specs.Rest.{is_between_answers, is_at_rest, is_to_come}
 use Rattle.half_line.specs.Run.{plan_of_m, start, place_of, number_of, station_between, way_from, steps_with, steps_at, steps_of, after_event, state_after, lines_after, last_state}
 use Rattle.half_line.specs.Steps.{AtMaster, AtStation, after_step}
@@ -220,7 +220,7 @@ left-playable = record {
     ),
     record { at_most = omega arith; distinct = two-distinct; each = all IsStationNumber (240 ∷ 3 ∷ []) ((λ is. omega (arith, is), omega arith), ((λ is. omega (arith, is), omega arith), tt)) },
   );
-  events = all (IsHalfPossible (numbers_of left_inside.ends)) left_inside.events ((refl, refl, refl), ((refl, (omega arith, omega arith)), ((refl, (omega arith, omega arith)), ((refl, (omega arith, omega arith)), ((refl, (omega arith, omega arith)), ((refl, (omega arith, omega arith)), ((refl, (omega arith, omega arith)), ((refl, (omega arith, omega arith)), ((refl, (omega arith, omega arith)), ((refl, (omega arith, omega arith)), ((refl, (omega arith, omega arith)), ((refl, (omega arith, omega arith)), ((refl, refl, refl), ((refl, (omega arith, omega arith)), ((refl, (omega arith, omega arith)), ((refl, (omega arith, omega arith)), ((refl, (omega arith, omega arith)), ((refl, (omega arith, omega arith)), ((refl, (omega arith, omega arith)), ((refl, (omega arith, omega arith)), ((refl, (omega arith, omega arith)), ((refl, (omega arith, omega arith)), ((refl, (omega arith, omega arith)), ((refl, (omega arith, omega arith)), ((refl, (omega arith, omega arith)), ((refl, (omega arith, omega arith)), ((refl, (omega arith, omega arith)), ((refl, (omega arith, omega arith)), ((refl, (omega arith, omega arith)), ((refl, (omega arith, omega arith)), ((refl, (omega arith, omega arith)), ((refl, (omega arith, omega arith)), ((refl, (omega arith, omega arith)), ((refl, refl, refl), ((refl, (omega arith, omega arith)), ((refl, (omega arith, omega arith)), ((refl, (omega arith, omega arith)), ((refl, (omega arith, omega arith)), ((refl, (omega arith, omega arith)), ((refl, (omega arith, omega arith)), tt))))))))))))))))))))))))))))))))))))))));
+  events = all (IsHalfPossible (numbers_of left_inside.ends)) left_inside.events ((refl, refl, refl), ((refl, (omega arith, omega arith)), ((refl, (omega arith, omega arith)), ((refl, (omega arith, omega arith)), ((refl, (omega arith, omega arith)), ((refl, (omega arith, omega arith)), ((refl, (omega arith, omega arith)), ((refl, (omega arith, omega arith)), ((refl, (omega arith, omega arith)), ((refl, (omega arith, omega arith)), ((refl, (omega arith, omega arith)), ((refl, (omega arith, omega arith)), ((refl, refl, refl), ((refl, (omega arith, omega arith)), ((refl, (omega arith, omega arith)), ((refl, (omega arith, omega arith)), ((refl, (omega arith, omega arith)), ((refl, (omega arith, omega arith)), ((refl, (omega arith, omega arith)), ((refl, (omega arith, omega arith)), ((refl, (omega arith, omega arith)), ((refl, (omega arith, omega arith)), ((refl, (omega arith, omega arith)), ((refl, (omega arith, omega arith)), ((refl, (omega arith, omega arith)), ((refl, (omega arith, omega arith)), ((refl, (omega arith, omega arith)), ((refl, (omega arith, omega arith)), ((refl, (omega arith, omega arith)), ((refl, (omega arith, omega arith)), ((refl, (omega arith, omega arith)), ((refl, (omega arith, omega arith)), ((refl, (omega arith, omega arith)), ((refl, refl, refl), ((refl, (omega arith, omega arith)), ((refl, (omega arith, omega arith)), ((refl, (omega arith, omega arith)), ((refl, (omega arith, omega arith)), ((refl, (omega arith, omega arith)), ((refl, (omega arith, omega arith)), ((refl, (omega arith, omega arith)), ((refl, (omega arith, omega arith)), ((refl, (omega arith, omega arith)), ((refl, (omega arith, omega arith)), ((refl, (omega arith, omega arith)), ((refl, (omega arith, omega arith)), ((refl, (omega arith, omega arith)), ((refl, (omega arith, omega arith)), ((refl, (omega arith, omega arith)), ((refl, (omega arith, omega arith)), ((refl, (omega arith, omega arith)), ((refl, (omega arith, omega arith)), ((refl, (omega arith, omega arith)), ((refl, (omega arith, omega arith)), ((refl, (omega arith, omega arith)), tt)))))))))))))))))))))))))))))))))))))))))))))))))))))));
   commands = omega arith;
   sum = omega arith;
 }
@@ -260,17 +260,44 @@ pub left-honest : (last_state left_inside).deceived ≡ 0
 unfolding check_bytes with_byte
 left-honest = refl
 
-pub left-quiet : IsTrue (is_quiet (state_after plain_node (start left_inside) (cut_off_poll ++ (mixed_replies ++ []))))
+left-quiet : IsTrue (is_quiet (state_after plain_node (start left_inside) (cut_off_poll ++ (mixed_replies ++ []))))
 unfolding check_bytes with_byte
 left-quiet = refl
 
-pub left-idle : IsTrue (master.is_idle (state_after plain_node (start left_inside) (cut_off_poll ++ (mixed_replies ++ []))).master.phase)
+left-idle : IsTrue (master.is_idle (state_after plain_node (start left_inside) (cut_off_poll ++ (mixed_replies ++ []))).master.phase)
 unfolding check_bytes with_byte
 left-idle = refl
 
-pub left-none : IsTrue (is_fetched (state_after plain_node (start left_inside) (cut_off_poll ++ (mixed_replies ++ []))))
+left-none : IsTrue (is_fetched (state_after plain_node (start left_inside) (cut_off_poll ++ (mixed_replies ++ []))))
 unfolding check_bytes with_byte
 left-none = refl
+
+left-calm : prompt_after 0 (state_after plain_node (start left_inside) (cut_off_poll ++ (mixed_replies ++ []))) missed_ack ≡ true
+unfolding check_bytes with_byte is_gentle_on
+left-calm = refl
+
+left-ends : EndsQuiet left_inside
+unfolding check_bytes with_byte
+left-ends = refl
+
+left-fetched : EndsFetched left_inside
+unfolding check_bytes with_byte
+left-fetched = refl
+
+left-rooms : HasRooms left_inside
+left-rooms = all (λ (plan : EndPlan). (plan_of_m left_inside).window ≤ plan.room) (station_plans left_inside.ends) (omega arith, (omega arith, tt))
+
+pub left-goes_on : GoesOnCalmly left_inside (cut_off_poll ++ (mixed_replies ++ [])) missed_ack
+left-goes_on = record {
+  still = left-quiet;
+  idle = left-idle;
+  none_left = left-none;
+  prompt = prompt-after 0 (state_after plain_node (start left_inside) (cut_off_poll ++ (mixed_replies ++ []))) missed_ack left-calm;
+  quiet = left-ends;
+  fetched = left-fetched;
+  rooms = left-rooms;
+  turns = omega arith;
+}
 
 pub left-between : is_between_answers (state_after plain_node (start left_inside) (cut_off_poll ++ (mixed_replies ++ []))).master.ear.standing ≡ false
 unfolding check_bytes with_byte

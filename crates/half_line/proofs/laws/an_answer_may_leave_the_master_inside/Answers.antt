@@ -1,5 +1,5 @@
 use Rattle.half_line.specs.Run.{record_of}
-use Rattle.half_line.proofs.Certified.Witness.{left-playable, left-quiet-before, left-prompt, left-honest, left-answered, left-quiet, left-idle, left-none, left-between, left-missed}
+use Rattle.half_line.proofs.Certified.Witness.{left-playable, left-quiet-before, left-prompt, left-honest, left-answered, left-between, left-goes_on, left-missed}
 use Rattle.half_line.proofs.laws.an_answer_may_leave_the_master_inside.Goals as goal
 
 pub returns-clause-playable : goal.returns-clause-playable
@@ -17,17 +17,11 @@ returns-clause-undeceived c = left-honest
 pub returns-clause-answered : goal.returns-clause-answered
 returns-clause-answered c = left-answered
 
-pub returns-clause-still : goal.returns-clause-still
-returns-clause-still c = left-quiet
-
-pub returns-clause-idle : goal.returns-clause-idle
-returns-clause-idle c = left-idle
-
-pub returns-clause-fetched : goal.returns-clause-fetched
-returns-clause-fetched c = left-none
-
 pub returns-clause-inside : goal.returns-clause-inside
 returns-clause-inside c = left-between
+
+pub returns-clause-goes_on : goal.returns-clause-goes_on
+returns-clause-goes_on c = left-goes_on
 
 pub returns-clause-missed : goal.returns-clause-missed
 unfolding record_of
