@@ -53,7 +53,7 @@ ARROWS = {
     "after-a-lost-write": [f"{WRITE}; 1 of 19 bytes lost", "b>a NAK", *exchange("write N7:1 = 5678", "done", 2)],
     "answer-beside-a-cut-off-poll": [
         *to_each(BOTH, "echo, TNS 00BA"), "240>m ACK", "m>240 poll 240; 1 of 4 bytes lost", "m>3 poll 240",
-        *to_each(BOTH, "echo, TNS 00BB"), "3>m ACK", "240>m reply, done, TNS 00BA", *to_each(BOTH, "poll 3"), "3>m reply, done, TNS 00BB",
+        *to_each(BOTH, "echo, TNS 00BB"), "3>m ACK", "240>m reply, done, TNS 00BA", "m>3 poll 3", "m>240 poll 3", "3>m reply, done, TNS 00BB",
         *to_each(BOTH, "ACK to 3", "echo, TNS 00BC"), "3>m ACK", *to_each(BOTH, "poll 240"), "240>m EOT",
         *to_each(BOTH, "poll 3"), "3>m reply, done, TNS 00BC", *to_each(BOTH, "ACK to 3"),
     ],
@@ -297,8 +297,8 @@ FEET = {
 # The first words of the lines of a report that stand at the foot of its picture.
 AT_THE_FOOT = ("deceived", "pulled", "pushed", "missing", "refused")
 
-# where a frame seems to end before its arrow does
-EARLY = ("byte-becomes-dle", "damaged-etx")
+# where a frame seems to end, or is cut off, before its arrow does
+EARLY = ("answer-beside-a-cut-off-poll", "byte-becomes-dle", "damaged-etx")
 
 
 def script_of(name):
