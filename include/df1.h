@@ -159,7 +159,7 @@ enum df1_side {
 
 /* What is decoded at a byte. F: of a full-duplex line; M: of the master of a half-duplex line; S: of its slaves. */
 enum df1_heard {
-    DF1_HEARD_NOTHING = 0,     /* F, M, S: nothing is decoded at this byte */
+    DF1_HEARD_NOTHING = 0,     /* F, M, S: nothing is decoded at this byte: the decoder is inside an item */
     DF1_HEARD_GOOD = 1,        /* F, M, S: a frame or message with the right check and a body of 6 to 250 bytes; M: to `station` */
     DF1_HEARD_SHORT = 2,       /* F: a frame with the right check and a body of under 6 bytes */
     DF1_HEARD_BAD_CHECK = 3,   /* F: a frame with a wrong check and a body of at most 250 bytes */
@@ -214,7 +214,9 @@ uint32_t df1_decoder_body(df1_decoder *decoder, uint8_t *into, size_t room, size
 typedef struct df1_duplex {
     bool crc;           /* a CRC, and not a BCC, ends its frames */
     bool embed;         /* responses may stand inside the frames that the end sends */
-    uint32_t ack_ticks; /* ticks without a response until it asks for one by an ENQ: 1 to 1,000,000 */
+    uint32_t ack_ticks; /* ticks without a response, from where the frame's last byte was taken, until it asks for one by an ENQ:
+                         * 1 to 1,000,000. They have to cover your own buffer, the line, and a frame of up to 506 bytes that the
+                         * other end is sending before its response */
     uint32_t max_naks;  /* maximum retransmissions of one message after NAK: 0 to 255 */
     uint32_t max_enqs;  /* maximum ENQs for one message: 0 to 255 */
     uint32_t reserved[4];
@@ -225,9 +227,10 @@ typedef struct df1_duplex {
 /* The link of a half-duplex master. */
 typedef struct df1_master {
     bool crc;             /* a CRC, and not a BCC, ends its messages */
-    uint32_t ack_ticks;   /* ticks that it waits for an ACK: 1 to 1,000,000 */
+    uint32_t ack_ticks;   /* ticks that it waits for an ACK, from where the message's last byte was taken: 1 to 1,000,000 */
     uint32_t max_resends; /* maximum retransmissions of one message before it is given up: 0 to 255 */
-    uint32_t poll_ticks;  /* ticks that it waits after a poll: 1 to 1,000,000 */
+    uint32_t poll_ticks;  /* ticks that it waits after a poll: 1 to 1,000,000. The station's whole message, of up to 506 bytes, has
+                           * to come in that time; otherwise another station may be polled while it still sends */
     uint32_t routes;      /* 1: it carries each message whose DST is a station's number to that station, so its node needs an
                            * address that no station has; 0: each message is its node's */
     uint32_t reserved[3];
@@ -235,7 +238,8 @@ typedef struct df1_master {
 
 #define DF1_MASTER_INIT {false, 10, 3, 10, 0, {0, 0, 0}}
 
-/* The link of a half-duplex slave. Its station number is the address of its node, neither 16 nor 255. */
+/* The link of a half-duplex slave. Its station number is the address of its node, neither 16 nor 255. It is to receive the
+ * master's bytes alone, as on four wires. */
 typedef struct df1_slave {
     bool crc;           /* a CRC, and not a BCC, ends its messages */
     uint32_t max_sends; /* maximum transmissions of one message before it is given up: 1 to 255 */
@@ -252,8 +256,9 @@ typedef struct df1_node {
                              slave each df1_end_tick counts. At a master only one at which it polls counts, so none while it sends
                              or waits, nor while a message is to be sent. While no station answers its polls, that is one tick
                              in poll_ticks + 1 */
-    uint32_t room;        /* how many replies may wait to be sent: 2 to 64 */
-    bool has_compat;      /* whether there is a file for the basic reads and writes */
+    uint32_t room;        /* how many replies may wait to be sent: 2 to 64. A command that comes while so many wait is refused by a
+                           * NAK, so let it be at least what the other side may have outstanding */
+    bool has_compat;      /* whether there is a compatibility file, for the unprotected reads and writes */
     uint16_t compat;      /* its number: a Bit or Integer file */
     uint32_t window;      /* how many of its commands may be outstanding at a time: 1 to 16; 0 is 1 */
     uint32_t per_source;  /* how many of those of one source, by SRC: 1 to 16; 0 is 16 */
@@ -327,7 +332,7 @@ enum df1_act {
 enum df1_did {
     DF1_NOT_ACCEPTED = 0, /* the act isn't DF1_ACT_ACCEPT */
     DF1_EXECUTED = 1,     /* a command was executed, and its reply waits */
-    DF1_ANSWERED = 2,     /* it is the reply to command `did_command` */
+    DF1_ANSWERED = 2,     /* it is the reply to command `did_command`, whose outcome is DF1_REPLIED then */
     DF1_STRAY = 3,        /* it is a reply to no outstanding command */
     DF1_ROUTED = 4        /* it is for a station; a master with `routes` keeps it until it sends it to that station */
 };
@@ -397,7 +402,7 @@ uint32_t df1_end_quiet(df1_end *end, bool *quiet);
 
 /* The state of an end. */
 typedef struct df1_state {
-    bool quiet;      /* it has nothing to send */
+    bool quiet;      /* it has nothing to send now, also where it waits for an ACK */
     bool holds;      /* a message of its own is under way, neither acknowledged nor given up */
     bool polls;      /* it is a master that sends a poll, or waits for the answer to one */
     uint8_t station; /* the station that it polls; 0 if `polls` isn't set */
@@ -446,7 +451,7 @@ uint32_t df1_end_take_bytes(df1_end *end, uint8_t *into, size_t room, df1_given 
 enum df1_outcome {
     DF1_WAITING = 1,     /* it was not handed out yet */
     DF1_OUT = 2,         /* it is outstanding: it was handed out, and nothing became of it yet */
-    DF1_REPLIED = 3,     /* its reply was accepted */
+    DF1_REPLIED = 3,     /* its reply was accepted: it is answered (DF1_ANSWERED is of a df1_step) */
     DF1_UNDELIVERED = 4, /* it was given up on its way, or dropped before it was handed out */
     DF1_UNANSWERED = 5   /* no reply came in time */
 };
@@ -471,7 +476,8 @@ uint32_t df1_end_reply(df1_end *end, uint32_t number, uint8_t *into, size_t room
 /* ---- Transfers ----
  *
  * A transfer moves the words 0 to `words` - 1 of a data file, 1 to 3,000 words, by word range reads or writes of 100 words each.
- * There is an order for each 100 words, and one for what is left. The orders are commands of the end, numbered `*first`,
+ * There is an order for each 100 words, and one for what is left; each has its own OFFSET, and the whole number of words as TOTAL.
+ * These are commands of a PLC-5: an SLC refuses them. The orders are commands of the end, numbered `*first`,
  * `*first` + 1 and so on; the calls above report their outcomes and replies too. A word is two bytes, the low one first. */
 
 /* Issues the orders of a transfer that reads `words` words of file `file` of the node `dst`, with the end's own address as SRC: all
@@ -487,7 +493,8 @@ uint32_t df1_end_push(df1_end *end, uint8_t dst, uint16_t file, const uint8_t *b
 enum df1_transfer_state {
     DF1_UNDER_WAY = 0, /* command `number` waits or is outstanding, and each order before it was done */
     DF1_WHOLE = 1,     /* each order was done */
-    DF1_MISSING = 2,   /* command `number` isn't answered, and won't be; or it was never issued */
+    DF1_MISSING = 2,   /* command `number` isn't answered, and won't be; or it was never issued. Later orders may still wait or be
+                        * outstanding */
     DF1_REFUSED = 3,   /* command `number` was refused, with `sts` and `ext` */
     DF1_ODD = 4        /* the reply to command `number` has other data than its order asks for */
 };
@@ -501,7 +508,7 @@ typedef struct df1_transfer {
 
 /* Reports what the transfer that reads `words` words by the commands from number `first` on came to so far. If it is whole, its
  * words are copied into the `room` bytes at `into`, and `*length` is how many bytes they have; otherwise `*length` is 0.
- * Codes: DF1_NO_HANDLE, DF1_BAD_WORDS, DF1_NO_ROOM. */
+ * Codes: DF1_NO_HANDLE, DF1_BAD_WORDS; DF1_NO_ROOM, only if it is whole, and then `*came` isn't written. */
 uint32_t df1_end_pulled(df1_end *end, uint32_t first, uint32_t words, uint8_t *into, size_t room, size_t *length,
                         df1_transfer *came);
 
