@@ -18,5 +18,9 @@ pub mod StationGives
 pub mod AloneSteps
 -- A run of such a line in which a command is answered.
 pub mod AloneRun
+-- Events that lose, alter and add no byte.
+pub mod CleanEvents
 -- A write after noise is answered, and an answer leaves the master inside a pair.
 pub mod Witness
+-- A write after noise is answered on a line with two stations.
+pub mod TwoStations

@@ -1,4 +1,4 @@
--- Half-duplex scripts whose runs nothing disturbs: a command is issued, executed, and answered at a poll; and two are out at two stations, whose replies come in the other order. And two that nothing disturbs once a write has lost a byte and is given up, or the reply to one is lost. One in which a write after noise is answered, and one in which an answer leaves the master inside a pair.
+-- Half-duplex scripts whose runs nothing disturbs: a command is issued, executed, and answered at a poll; and two are out at two stations, whose replies come in the other order. And two that nothing disturbs once a write has lost a byte and is given up, or the reply to one is lost. Two in which a write after noise is answered, with one station and with two, and one in which an answer leaves the master inside a pair.
 use Rattle.std.specs.Prelude.{ℕ, true, List, [], ◌∷◌, ◌++◌, None}
 use Rattle.df1_base.specs.declared.file_type.FileType.TheVariants.{Integer}
 use Rattle.df1_check.specs.declared.Check.TheVariants.{Bcc}
@@ -149,6 +149,44 @@ after_a_stray_dle = record {
 -- the body of the reply to the third write
 abbrev pub third_reply : List ℕ
 third_reply = 0x00 ∷ 0x03 ∷ 0x4F ∷ 0x00 ∷ 0x03 ∷ 0x00 ∷ []
+
+-- the same noise on a line with a second station, 5: a first write to station 3 is lost to it and given up, and a second one is executed and
+-- answered
+abbrev pub writes_beside_another : List Event
+writes_beside_another =
+    Issue M None 3 (0x0F ∷ 0xAA ∷ 0x02 ∷ 0x07 ∷ 0x89 ∷ 0x00 ∷ 0x00 ∷ 0x34 ∷ 0x12 ∷ [])
+    ∷ Take M 22 ∷ reach 3 22 ∷ reach 5 22 ∷ Tick M 1
+    ∷ Issue M None 3 (0x0F ∷ 0xAA ∷ 0x02 ∷ 0x07 ∷ 0x89 ∷ 0x01 ∷ 0x00 ∷ 0x78 ∷ 0x56 ∷ [])
+    ∷ Take M 22 ∷ reach 3 22 ∷ reach 5 22 ∷ Take (S 3) 2 ∷ come_from 3 2
+    ∷ Tick M 1 ∷ Take M 4 ∷ reach 3 4 ∷ reach 5 4 ∷ Take (S 3) 11 ∷ come_from 3 11
+    ∷ Take M 2 ∷ reach 3 2 ∷ reach 5 2
+    ∷ []
+
+-- then station 5 is polled, and has nothing
+abbrev pub poll_of_another : List Event
+poll_of_another = Tick M 1 ∷ Take M 4 ∷ reach 3 4 ∷ reach 5 4 ∷ Take (S 5) 2 ∷ come_from 5 2 ∷ []
+
+-- then station 5 executes an echo, station 3 is polled, and station 5 answers at the next poll
+abbrev pub echo_of_another : List Event
+echo_of_another =
+    Issue M None 5 (0x06 ∷ 0x00 ∷ 0x51 ∷ [])
+    ∷ Take M 16 ∷ reach 3 16 ∷ reach 5 16 ∷ Take (S 5) 2 ∷ come_from 5 2
+    ∷ Tick M 1 ∷ Take M 4 ∷ reach 3 4 ∷ reach 5 4 ∷ Take (S 3) 2 ∷ come_from 3 2
+    ∷ Tick M 1 ∷ Take M 4 ∷ reach 3 4 ∷ reach 5 4 ∷ Take (S 5) 12 ∷ come_from 5 12
+    ∷ Take M 2 ∷ reach 3 2 ∷ reach 5 2
+    ∷ []
+
+abbrev pub noise_beside_another : Script
+noise_beside_another = record {
+  half = true;
+  check = Bcc;
+  ends = record (first_plan M 0) { ack_ticks = 1; max_resends = 0 } ∷ record (first_plan (S 3) 3) { files = record { number = 7; kind = Integer; count = 16 } ∷ [] } ∷ first_plan (S 5) 5 ∷ [];
+  events = stray_dle ++ ((writes_beside_another ++ poll_of_another) ++ echo_of_another);
+}
+
+-- the body of the reply to that echo
+abbrev pub echo_reply : List ℕ
+echo_reply = 0x00 ∷ 0x05 ∷ 0x46 ∷ 0x00 ∷ 0x03 ∷ 0x00 ∷ 0x51 ∷ []
 
 -- an echo for station 240 is executed; the poll that is to fetch its reply loses its last byte there, and the wait for it ends
 abbrev pub cut_off_poll : List Event

@@ -33,7 +33,7 @@ is_between_calls (call.AfterStation stn) = false
 is_between_calls (call.AfterStationDle stn) = false
 is_between_calls (call.AtText stn at) = false
 
--- so does the master's
+-- the master's ear that takes the next byte for the first of an item
 abbrev pub is_between_answers : answer.Standing → Bool
 is_between_answers answer.Outside = true
 is_between_answers (answer.Ended body) = true

@@ -19,7 +19,7 @@ ghost use Rattle.half_line.specs.Certified.{AreCertified, GoesOnCalmly, IsAnswer
 ghost use Rattle.half_line.specs.Acts.{LineStationState, LinkState, body_heard, cell_lines, hearer, step_of};
 ghost use Rattle.half_line.specs.Arrivals.{master_arrivals_in, station_arrivals_in};
 ghost use Rattle.half_line.specs.Issues.{bodies_of, commands_of_m};
-ghost use Rattle.half_line.specs.Example.{lost_write, lost_reply, second_write, after_a_lost_write, after_a_lost_reply, the_command, second_command, second_reply, third_reply, stray_dle, two_writes, third_write, after_a_stray_dle, cut_off_poll, mixed_replies, missed_ack, left_inside};
+ghost use Rattle.half_line.specs.Example.{lost_write, lost_reply, second_write, after_a_lost_write, after_a_lost_reply, the_command, second_command, second_reply, third_reply, stray_dle, two_writes, third_write, after_a_stray_dle, writes_beside_another, poll_of_another, echo_of_another, noise_beside_another, echo_reply, cut_off_poll, mixed_replies, missed_ack, left_inside};
 ghost use Rattle.half_line.specs.Prompt.{IsPromptAfter, is_quiet};
 ghost use Rattle.half_line.specs.Rest.{IsCalmAfter, IsWellAfter, is_at_rest, is_between_answers};
 ghost use Rattle.half_line.specs.Run.{last_state, record_of, start, state_after};
@@ -121,6 +121,19 @@ pub fn a_write_certifies_a_polled_line_after_noise()
     ensures in_step { IsMasterInStep after_a_stray_dle (stray_dle ++ (two_writes ++ [])) }
     ensures goes_on { GoesOnCalmly after_a_stray_dle (stray_dle ++ (two_writes ++ [])) third_write }
     ensures answers { answers_in M (record_of after_a_stray_dle).lines ≡ (2, second_reply) ∷ (3, third_reply) ∷ [] }
+{}
+
+/// A law: with a second station the premises of `after_an_answer_all_is_well` are met too, that on the master's decoder
+/// among them, by the same noise and writes, a poll of the other station between the answer and the state, and an echo
+/// of that station from there on, which is answered.
+#[tactic(auto, unfolding(crate::specs::Run::record_of))]
+pub fn a_write_certifies_two_stations_after_noise()
+    ensures playable { IsHalfPlayable noise_beside_another }
+    ensures answered { IsAnsweredAfter noise_beside_another stray_dle writes_beside_another poll_of_another echo_of_another 2 }
+    ensures disturbed { is_at_rest (state_after plain_node (start noise_beside_another) stray_dle) ≡ false }
+    ensures in_step { IsMasterInStep noise_beside_another (stray_dle ++ (writes_beside_another ++ poll_of_another)) }
+    ensures goes_on { GoesOnCalmly noise_beside_another (stray_dle ++ (writes_beside_another ++ poll_of_another)) echo_of_another }
+    ensures answers { answers_in M (record_of noise_beside_another).lines ≡ (2, second_reply) ∷ (3, echo_reply) ∷ [] }
 {}
 
 /// A law: that the master's own decoder isn't inside an item can't be left out of these premises, nor does it follow
