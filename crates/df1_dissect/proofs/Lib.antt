@@ -5,3 +5,5 @@ pub mod SlaveSideLemmas
 pub mod Sides
 pub mod Digits
 pub mod RunLemmas
+pub mod Offsets
+pub mod StrayLine

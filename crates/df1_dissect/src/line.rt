@@ -13,7 +13,7 @@
 //! | an item that is unfinished at the end | `open` |
 //!
 //! SS, CC and BB are two hexadecimal digits; BODY is hexadecimal, or `-` if it is empty.
-ghost use Rattle.std.specs.Prelude.{◌≡◌, ◌≤◌, ◌<◌, ◌+◌, ◌*◌, ◌/◌, ◌%◌, ◌++◌, ◌∷◌, [], ℕ, decimal, length, slice_index};
+ghost use Rattle.std.specs.Prelude.{◌≡◌, ◌≤◌, ◌<◌, ◌+◌, ◌*◌, ◌/◌, ◌%◌, ◌++◌, ◌∷◌, [], ℕ, decimal, length, slice_index, slice_set};
 ghost use Rattle.arrayvec.specs.ArrayVec.{array_vec_len};
 ghost use Rattle.hex.specs.Hex.{encode_upper, upper_digits};
 ghost use Rattle.df1_dissect.specs.Lines.{bytes_text, byte_digits, kind_text, line_text, offsets_text, open_line};
@@ -33,6 +33,12 @@ pub(crate) const ROOM: usize = 700;
 /// The buffer size for two offsets, each followed by a space.
 const OFFSETS: usize = 42;
 
+/// The line of a byte outside, without its offsets, of at most nine digits each, and the digits of the byte.
+const STRAY: [u8; 29] = *b"                    stray 00\n";
+
+/// The place in that line behind the last offset.
+const LAST: usize = 19;
+
 /// The hexadecimal digits, by value.
 static DIGITS: [u8; 16] = *b"0123456789ABCDEF";
 
@@ -48,7 +54,7 @@ pub(crate) fn append_line<const N: usize>(text: &mut ArrayVec<u8, N>, thing: Thi
 }
 
 /// Appends the lines of bytes outside, the first of which is at this offset. Their offsets differ only in the last
-/// digit, so the digits before it are made once.
+/// digit, so a line is put together once, in an array from its end, and the digits that differ are changed in it.
 pub(crate) fn append_strays<const N: usize>(text: &mut ArrayVec<u8, N>, at: u64, bytes: &[u8])
     requires room { array_vec_len text.old + 700 ≤ N }
     requires two { 10 ≤ at }
@@ -56,32 +62,27 @@ pub(crate) fn append_strays<const N: usize>(text: &mut ArrayVec<u8, N>, at: u64,
     requires ten { at % 10 + length bytes.now ≤ 10 }
     ensures { text.new.items ≡ text.old.items ++ stray_lines at bytes.now }
 {
-    let mut buffer = itoa::Buffer::new();
-    let tens = buffer.format(at / 10).as_bytes();
+    let mut line = STRAY;
+    let second = write_digits(at, &mut line, LAST);
+    let start = write_digits(at, &mut line, second - 1);
     let mut one = b'0' + (at % 10) as u8;
     for byte in bytes {
-        append_stray(text, tens, one, *byte);
+        set_stray(&mut line, second - 2, one, *byte);
+        append(text, &line[start..]);
         one += 1;
     }
 }
 
-/// Appends the line of a byte outside, at an offset with these digits before its last one.
-fn append_stray<const N: usize>(text: &mut ArrayVec<u8, N>, tens: &[u8], one: u8, byte: u8)
-    requires { array_vec_len text.old + 2 * length tens.now + 13 ≤ N }
-    ensures text { (at : ℕ) → decimal at ≡ tens.now ++ one ∷ [] → text.new.items ≡ text.old.items ++ stray_line at byte }
-    ensures size { array_vec_len text.new ≡ array_vec_len text.old + 2 * length tens.now + 13 }
+/// Changes the line of a byte outside: the last digit of the first offset, which is at `first`, that of the last one,
+/// and the byte.
+fn set_stray(line: &mut [u8; 29], first: usize, one: u8, byte: u8)
+    requires { first < 17 }
+    ensures { line.new ≡ slice_set (slice_set (slice_set (slice_set line.old first one) 18 one) 26 (slice_index upper_digits (byte / 16))) 27 (slice_index upper_digits (byte % 16)) }
 {
-    let high = high_digit(byte);
-    let low = low_digit(byte);
-    append(text, tens);
-    append(text, &[one, b' ']);
-    append(text, tens);
-    append(
-        text,
-        &[
-            one, b' ', b's', b't', b'r', b'a', b'y', b' ', high, low, b'\n',
-        ],
-    );
+    line[first] = one;
+    line[LAST - 1] = one;
+    line[LAST + 7] = high_digit(byte);
+    line[LAST + 8] = low_digit(byte);
 }
 
 /// Appends the line of an item that is unfinished.
@@ -176,15 +177,46 @@ pub(crate) fn append_bytes<const N: usize>(text: &mut ArrayVec<u8, N>, bytes: &[
     }
 }
 
-/// Appends bytes in hexadecimal.
+/// Appends bytes in hexadecimal, four at a time.
 fn append_hex<const N: usize>(text: &mut ArrayVec<u8, N>, bytes: &[u8])
     requires { array_vec_len text.old + 2 * length bytes.now < N }
     ensures text { text.new.items ≡ text.old.items ++ encode_upper bytes.now }
     ensures size { array_vec_len text.new ≡ array_vec_len text.old + 2 * length bytes.now }
 {
-    for byte in bytes {
-        append(text, &[high_digit(*byte), low_digit(*byte)]);
+    let mut at = 0;
+    'fours: while bytes.len() - at >= 4 {
+        append_four(text, bytes[at], bytes[at + 1], bytes[at + 2], bytes[at + 3]);
+        at += 4;
     }
+    'ones: while at < bytes.len() {
+        append(text, &[high_digit(bytes[at]), low_digit(bytes[at])]);
+        at += 1;
+    }
+}
+
+/// Appends four bytes in hexadecimal.
+fn append_four<const N: usize>(
+    text: &mut ArrayVec<u8, N>,
+    first: u8,
+    second: u8,
+    third: u8,
+    fourth: u8,
+)
+    requires { array_vec_len text.old + 8 ≤ N }
+    ensures text { text.new.items ≡ text.old.items ++ encode_upper (first ∷ second ∷ third ∷ fourth ∷ []) }
+    ensures size { array_vec_len text.new ≡ array_vec_len text.old + 8 }
+{
+    let digits = [
+        high_digit(first),
+        low_digit(first),
+        high_digit(second),
+        low_digit(second),
+        high_digit(third),
+        low_digit(third),
+        high_digit(fourth),
+        low_digit(fourth),
+    ];
+    append(text, &digits);
 }
 
 /// Returns the first digit of a byte.

@@ -1,22 +1,14 @@
 -- The last offset is written at the end, and the first one before it; the spaces were there.
-use Rattle.std.proofs.Common.{◌≡◌, ◌∙◌, ℕ, suc, ◌-◌, ◌<◌, ◌≤◌, ◌^◌, List, [], ◌∷◌, ◌++◌, length, take, drop, get_or, replicate, sym, ap, arith, append_assoc, drop-cons}
+use Rattle.std.proofs.Common.{◌≡◌, ◌∙◌, ℕ, ◌-◌, ◌<◌, ◌≤◌, ◌^◌, List, [], ◌∷◌, ◌++◌, length, drop, get_or, replicate, ap, arith, append_assoc}
 use Rattle.std.specs.Prelude.{decimal}
 use Rattle.std.proofs.lemmas.Fmt.{length-decimal-le}
-use Rattle.std.proofs.lemmas.List.{get_or-take, get_or-replicate, length-drop, take_all}
+use Rattle.std.proofs.lemmas.List.{get_or-replicate, length-drop, take_all}
 use Rattle.df1_dissect.specs.Lines.{offsets_text}
+use Rattle.df1_dissect.proofs.Offsets.{spaced}
 use Rattle.df1_dissect.proofs.line.append_offsets.Goals as goal
 
 short : (n : ℕ) → n < 2 ^ 64 → length (decimal n) ≤ 20
 short n fits = length-decimal-le 20 n (omega arith) (omega arith) fits
-
--- a space stands before what was written last
-spaced : (buf buf' : List ℕ) (second : ℕ) → take second buf' ≡ take second buf → 1 ≤ second → second ≤ length buf' → get_or buf (second - 1) 0 ≡ 32 → drop (second - 1) buf' ≡ 32 ∷ drop second buf'
-spaced buf buf' second before some within space =
-    let at = second - 1 in
-    let inside : at < second = omega arith in
-    let one : get_or buf' at 0 ≡ 32 = sym (get_or-take second buf' at 0 inside) ∙ ap (λ (l : List ℕ). get_or l at 0) before ∙ get_or-take second buf at 0 inside ∙ space in
-    let next : suc at ≡ second = omega arith in
-    drop-cons buf' at 0 (omega arith) ∙ ap (λ n. n ∷ drop (suc at) buf') one ∙ ap (λ n. 32 ∷ drop n buf') next
 
 pub write_digits-second-requires : goal.write_digits-second-requires
 write_digits-second-requires g c = (omega (arith, short c.args.last c.ranges.last.fits), omega arith)
