@@ -23,9 +23,10 @@ use std::alloc::Global;
 /// then the script's events happen. The result of the transfer is determined by the outcomes of end a's commands and
 /// their replies. An error is want of memory.
 ///
-/// The theorems about the report of a replay hold of this report too. If no end was deceived, no reply has other data
-/// than its order asks for; and if the transfer is whole, its words are those of end b's file as in the script, from
-/// word 0 on. It is whole if the file has so many words and the line is undisturbed or recovers.
+/// As of a replay, each command is executed once, all are if nothing disturbs the line or it recovers, and the bytes on
+/// the wires are DF1. If no end was deceived, no reply has other data than its order asks for; and if the transfer is
+/// whole, its words are those of end b's file as in the script, from word 0 on. It is whole if the file has so many words
+/// and the line is undisturbed or recovers.
 pub fn rehearse_pull(
     alloc: Global,
     script: &Script,

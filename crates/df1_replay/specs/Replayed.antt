@@ -22,11 +22,11 @@ use Rattle.run_laws.specs.Overtaking.{NothingIsOvertaken}
 -- accepted reply is what it answered to that very command; once a command is executed, or a reply to it is told, none of its source
 -- with a lower number is executed any more; nor is one that was given up, once nothing is on its way, by the lines and the events
 -- so far. Where nothing disturbs the line and nothing is under way in the end,
--- where each end, or each station, has room for what the other end, or the master, may have out, and no reply is left at a
--- station, no end was deceived, and all commands were executed and answered. They were too on a full-duplex line that altered
+-- where each end, or each station, has room for what the other end, or the master, may have out, where a master waits long enough for
+-- the turns of all stations, and no reply is left at a station, no end was deceived, and all commands were executed and answered. They were too on a full-duplex line that altered
 -- bytes of bodies alone, in few transmissions of each message, and deceived no end. Where the line is at rest again,
 -- whatever happened before, and no end was deceived, each command that an end hands out from there on was executed and answered, if
--- nothing disturbs the line from there on, or a full-duplex line recovers so. Whatever was heard, and deceived or not: where
+-- nothing disturbs the line from there on, or a full-duplex line recovers so; and that it is at rest is shown by an answer too. Whatever was heard, and deceived or not: where
 -- enough ticks came at an end since its last command at which it had nothing to give, the outcome of each of its commands is told;
 -- where so many came since its last command and the last that its station executed, an end of a full-duplex line has no message and
 -- no reply left to send; and what each end sent is DF1, and carries its own commands and replies.

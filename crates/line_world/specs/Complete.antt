@@ -8,8 +8,8 @@ use Rattle.half_line.specs.Prompt as polled_run
 use Rattle.half_line.specs.Complete as polled
 
 -- no byte is lost, altered or added, few ticks come while something is under way, and nothing is in the end; each end has room for as
--- many replies as the other may have commands out, on a half-duplex line each station for as many as the master may; there also fewer
--- ticks come in all than the master waits for a reply, and in the end no reply is left at a station
+-- many replies as the other may have commands out, on a half-duplex line each station for as many as the master may; there the master also
+-- waits more ticks for a reply than its window times the number of stations, and in the end no reply is left at a station
 abbrev pub IsUndisturbedIn : Bool → Script → Type 0
 IsUndisturbedIn true script = polled_run.IsUndisturbed script
 IsUndisturbedIn false script = duplex_run.HasRooms script × duplex_run.IsPrompt script × duplex_run.EndsQuiet script

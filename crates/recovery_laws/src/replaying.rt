@@ -13,9 +13,9 @@ use replay_report::Record;
 use script_parts::Script;
 use std::alloc::Global;
 
-/// Plays a script that can be read, and returns the record of its run, with all that `replay` says of it. If a
-/// full-duplex line recovers from what the script does to the bytes, all commands were executed, each once, and
-/// answered, each by its own reply. The line recovers if:
+/// Plays a script that can be read, and returns the record of its run: each command once, all of them if nothing
+/// disturbs the line, and DF1 on the wires. If a full-duplex line recovers from what the script does to the bytes, all
+/// commands were executed, each once, and answered, each by its own reply. The line recovers if:
 ///
 /// - no end was deceived;
 /// - no byte was lost or added, and only one-byte units of bodies were altered, none to a DLE, in at most `max_naks`

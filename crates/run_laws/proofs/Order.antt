@@ -13,7 +13,7 @@ use Rattle.each_once.specs.Exchanges.{exchanges}
 use Rattle.each_once.specs.Once.{Once, AreApart, IsReplyTo}
 use Rattle.each_once.specs.Tells.{answers_in, executed_at, executed_in}
 use Rattle.each_once.proofs.RisingPlaces.{RiseFrom, rise-of}
-use Rattle.run_laws.specs.Overtaking.{IsExecuted, IsSettled, NothingOvertakes, source_of}
+use Rattle.run_laws.specs.Overtaking.{IsExecuted, IsExecutedOrAnswered, NothingOvertakes, source_of}
 use Rattle.replay_report.specs.declared.record.Line.{Line}
 use Rattle.script_statement.specs.declared.who.Who.{Who}
 
@@ -86,9 +86,9 @@ front-command issued first more zero body is known = absurd cc
 front-command issued first more (suc p) body is known = rw is (front-get first more p body known)
 
 -- an answered command was executed before
-settled-executed : (from to : Who) (issued first more : List (List ℕ)) (station : StationState) (before : List Line) (n : ℕ) → issued ≡ first ++ more → Once from to first station before → IsSettled from to issued before n → IsExecuted to issued before n
-settled-executed from to issued first more station before n is once (inl executed) = executed
-settled-executed from to issued first more station before n is once (inr answered) =
+answered-executed : (from to : Who) (issued first more : List (List ℕ)) (station : StationState) (before : List Line) (n : ℕ) → issued ≡ first ++ more → Once from to first station before → IsExecutedOrAnswered from to issued before n → IsExecuted to issued before n
+answered-executed from to issued first more station before n is once (inl executed) = executed
+answered-executed from to issued first more station before n is once (inr answered) =
     let executed = executed_in to before in
     let told = All-contains (λ a. IsReplyTo first (exchanges station executed) a.0 a.1) (answers_in from before) (n, answered.reply) once.answers answered.is_answer in
     let at = place-of (exchanges station executed) (told.body, answered.reply) told.is_answer in
@@ -128,12 +128,12 @@ later-higher issued executed rest i k m n one other apart (places, distinct, ris
     (of-source issued first.0 one of first.2 refl) (of-source issued second.0 other of second.2 (same-source issued m n one other is-one is-other source)) in
     omega (arith, less, number-one, number-other)
 
--- ---- what is settled isn't overtaken
+-- ---- what was executed or answered isn't overtaken
 
 pub none-overtakes : (from to : Who) (issued first more : List (List ℕ)) (station : StationState) (before after : List Line) → issued ≡ first ++ more → Once from to first station before → Once from to issued station (before ++ after)
     → NothingOvertakes from to issued before after
-none-overtakes from to issued first more station before after is once whole m n settled executed source =
-    let one = settled-executed from to issued first more station before m is once settled in
+none-overtakes from to issued first more station before after is once whole m n ended executed source =
+    let one = answered-executed from to issued first more station before m is once ended in
     let at-one = place-of (executed_in to before) one.body one.is_executed in
     let at-other = place-of (executed_in to after) executed.body executed.is_executed in
     let order = subst (λ (bodies : List (List ℕ)). AreOnceOf bodies issued) (filter_map-append (executed_at to) before after) whole.in_order in

@@ -1,4 +1,4 @@
--- No command is overtaken: what is settled after an event of a script, and what its stations execute after it.
+-- No command is overtaken: what is executed or answered up to an event of a script, and what its stations execute after it.
 use Rattle.std.specs.Prelude.{◌≡◌, ◌⊎◌, ◌<◌, ℕ, Bool, true, false, List, ◌++◌, slice_index, Option, Some, Contains, All}
 use Rattle.std.specs.Option.{option_map}
 use Rattle.each_once.specs.Commands.{command_at}
@@ -30,16 +30,16 @@ pub record HasAnswer (from : Who) (lines : List Line) (n : ℕ) : Type 0 where
   pub is_answer : Contains (answers_in from lines) (n, reply)
 
 -- command n was executed, or it is told as answered
-abbrev pub IsSettled : Who → Who → List (List ℕ) → List Line → ℕ → Type 0
-IsSettled from to issued lines n = IsExecuted to issued lines n ⊎ HasAnswer from lines n
+abbrev pub IsExecutedOrAnswered : Who → Who → List (List ℕ) → List Line → ℕ → Type 0
+IsExecutedOrAnswered from to issued lines n = IsExecuted to issued lines n ⊎ HasAnswer from lines n
 
 -- the source of command n: SRC, its second byte
 abbrev pub source_of : List (List ℕ) → ℕ → Option ℕ
 source_of issued n = option_map (λ body. slice_index body 1) (command_at issued n)
 
--- where a command is settled before, each command of its source that is executed after it has a higher number
+-- where a command was executed or answered before, each command of its source that is executed after it has a higher number
 abbrev pub NothingOvertakes : Who → Who → List (List ℕ) → List Line → List Line → Type 0
-NothingOvertakes from to issued before after = (m n : ℕ) → IsSettled from to issued before m → IsExecuted to issued after n → source_of issued m ≡ source_of issued n → m < n
+NothingOvertakes from to issued before after = (m n : ℕ) → IsExecutedOrAnswered from to issued before m → IsExecuted to issued after n → source_of issued m ≡ source_of issued n → m < n
 
 -- ---- in a run
 
@@ -61,10 +61,10 @@ abbrev pub with_events : Script → List Event → Script
 with_events script events = record { half = script.half; check = script.check; ends = script.ends; events = events }
 
 -- After whichever event a script is cut, the lines of a record are those of what stands before, and then those behind; and nothing overtakes.
-pub record IsSettledAfter (script : Script) (r : Record) (front : List Event) : Type 0 where
+pub record IsInOrderAfter (script : Script) (r : Record) (front : List Event) : Type 0 where
   pub after : List Line
   pub lines : r.lines ≡ (record_of (with_events script front)).lines ++ after
   pub behind : AtStationsOf script.half script (record_of (with_events script front)).lines after
 
 abbrev pub NothingIsOvertaken : Script → Record → Type 0
-NothingIsOvertaken script r = (front back : List Event) → script.events ≡ front ++ back → IsSettledAfter script r front
+NothingIsOvertaken script r = (front back : List Event) → script.events ≡ front ++ back → IsInOrderAfter script r front

@@ -1,4 +1,4 @@
-//! The law of what is settled. The function does nothing.
+//! The law of the order in which commands of one source are executed. The function does nothing.
 ghost use Rattle.std.specs.Prelude.{◌≡◌};
 ghost use Rattle.script_parts.specs.declared.script.Script.{Script};
 ghost use Rattle.script_parts.specs.HalfPlayable.{CanBePlayed};

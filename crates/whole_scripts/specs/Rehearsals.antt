@@ -29,7 +29,8 @@ abbrev pub pulled_text : ℕ → ℕ → Script → List ℕ
 pulled_text file words script = report (record_of (pull_script script file words)) ++ pull_line (pulled_bulk file words script) (pulled_words file words script)
 
 -- Where no end was deceived, no reply has other data than its order asks for, and where the transfer is whole, the words are those of end b's
--- file. It is whole where nothing disturbs the line, or it recovers, and the file has so many words. And what is true of every replay.
+-- file. It is whole where nothing disturbs the line, or it recovers, and the file has so many words. Each command once, all of them where nothing
+-- disturbs the line or it recovers, and DF1 on the wires, as of every replay.
 pub record HasPulled (file words : ℕ) (script : Script) : Type 0 where
   pub pulled : (record_of (pull_script script file words)).deceived ≡ 0 → IsPulled script file words (pulled_bulk file words script) (pulled_words file words script)
   pub whole : IsSound (pull_script script file words) → HasFile script file words → pulled_bulk file words script ≡ Whole
@@ -47,7 +48,8 @@ abbrev pub pushed_text : ℕ → List ℕ → Script → List ℕ
 pushed_text file bytes script = report (record_of (push_script script file bytes)) ++ push_line (pushed_bulk file bytes script) (orders_of (length bytes / 2))
 
 -- Where no end was deceived, no reply has data, and where the transfer is whole, the data are in end b's file and nothing else of it is changed.
--- It is whole where nothing disturbs the line, or it recovers, and the file has so many words and may be written. And what is true of every replay.
+-- It is whole where nothing disturbs the line, or it recovers, and the file has so many words and may be written. Each command once, all of
+-- them where nothing disturbs the line or it recovers, and DF1 on the wires, as of every replay.
 pub record HasPushed (file : ℕ) (bytes : List ℕ) (script : Script) : Type 0 where
   pub pushed : (record_of (push_script script file bytes)).deceived ≡ 0 → IsPushed script file bytes (pushed_bulk file bytes script) (record_of (push_script script file bytes))
   pub whole : IsSound (push_script script file bytes) → HasFile script file (length bytes / 2) → IsWritable script file → pushed_bulk file bytes script ≡ Whole
