@@ -1,17 +1,13 @@
 //! The fields of a message in a line: `dst=HH src=HH cmd=HH sts=HH tns=HHHH NAME REST` (manual topic: message packets).
-ghost use Rattle.std.specs.Prelude.{◌≡◌, ◌≤◌, ◌<◌, ◌+◌, ◌/◌, ◌%◌, ◌++◌, length, slice_index, slice_set};
+ghost use Rattle.std.specs.Prelude.{◌≡◌, ◌≤◌, ◌+◌, ◌++◌, ◌∷◌, [], length};
 ghost use Rattle.arrayvec.specs.ArrayVec.{array_vec_len};
-ghost use Rattle.hex.specs.Hex.{upper_digits};
-ghost use Rattle.df1_dissect.specs.Lines.{envelope_text, fields_text, message_text};
+ghost use Rattle.df1_dissect.specs.Lines.{byte_digits, envelope_text, fields_text, message_text};
 
 use crate::command::message_name;
-use crate::line::{append_bytes, high_digit, low_digit};
+use crate::line::{append_bytes, append_code, high_digit, low_digit};
 use arrayvec::ArrayVec;
 use df1_base::{MAX_BODY, MAX_DATA, MIN_BODY, append};
 use pccc_envelope::{Envelope, read_envelope};
-
-/// The fields of an envelope, without their digits.
-const FIELDS: [u8; 37] = *b"dst=00 src=00 cmd=00 sts=00 tns=0000 ";
 
 /// Appends the fields of a body. A body too short for an envelope is appended in hexadecimal, without fields.
 #[tactic(auto, unfolding(crate::specs::Lines::fields_text))]
@@ -40,28 +36,29 @@ fn append_message<const N: usize>(text: &mut ArrayVec<u8, N>, envelope: Envelope
     append_bytes(text, rest);
 }
 
-/// Appends the fields of an envelope. They are put together in an array and appended at once, since each append reads
-/// and changes the length of the text.
+/// Appends the fields of an envelope.
 fn append_envelope<const N: usize>(text: &mut ArrayVec<u8, N>, envelope: Envelope)
     requires { array_vec_len text.old + 40 ≤ N }
     ensures text { text.new.items ≡ text.old.items ++ envelope_text envelope }
     ensures size { array_vec_len text.new ≤ array_vec_len text.old + 40 }
 {
-    let mut fields = FIELDS;
-    set_digits(&mut fields, 4, envelope.dst);
-    set_digits(&mut fields, 11, envelope.src);
-    set_digits(&mut fields, 18, envelope.cmd);
-    set_digits(&mut fields, 25, envelope.sts);
-    set_digits(&mut fields, 32, (envelope.tns / 256) as u8);
-    set_digits(&mut fields, 34, (envelope.tns % 256) as u8);
-    append(text, &fields);
+    append_field(text, b"dst=", envelope.dst);
+    append_field(text, b"src=", envelope.src);
+    append_field(text, b"cmd=", envelope.cmd);
+    append_field(text, b"sts=", envelope.sts);
+    append_code(text, b"tns=", (envelope.tns / 256) as u8);
+    append_code(text, b"", (envelope.tns % 256) as u8);
+    append(text, b" ");
 }
 
-/// Puts the digits of a byte into the fields of an envelope, at this place.
-fn set_digits(fields: &mut [u8; 37], at: usize, byte: u8)
-    requires { at < 36 }
-    ensures { fields.new ≡ slice_set (slice_set fields.old at (slice_index upper_digits (byte / 16))) (at + 1) (slice_index upper_digits (byte % 16)) }
+/// Appends a field of one byte, with a name of three letters and an equals sign, and a space. It is appended at once,
+/// since each append reads the length of the text.
+fn append_field<const N: usize>(text: &mut ArrayVec<u8, N>, name: &[u8], byte: u8)
+    requires name { length name.now ≡ 4 }
+    requires room { array_vec_len text.old + 7 ≤ N }
+    ensures text { text.new.items ≡ text.old.items ++ name.now ++ byte_digits byte ++ 32 ∷ [] }
+    ensures size { array_vec_len text.new ≡ array_vec_len text.old + 7 }
 {
-    fields[at] = high_digit(byte);
-    fields[at + 1] = low_digit(byte);
+    let (high, low) = (high_digit(byte), low_digit(byte));
+    append(text, &[name[0], name[1], name[2], name[3], high, low, b' ']);
 }

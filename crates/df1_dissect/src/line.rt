@@ -177,46 +177,15 @@ pub(crate) fn append_bytes<const N: usize>(text: &mut ArrayVec<u8, N>, bytes: &[
     }
 }
 
-/// Appends bytes in hexadecimal, four at a time.
+/// Appends bytes in hexadecimal.
 fn append_hex<const N: usize>(text: &mut ArrayVec<u8, N>, bytes: &[u8])
     requires { array_vec_len text.old + 2 * length bytes.now < N }
     ensures text { text.new.items ≡ text.old.items ++ encode_upper bytes.now }
     ensures size { array_vec_len text.new ≡ array_vec_len text.old + 2 * length bytes.now }
 {
-    let mut at = 0;
-    'fours: while bytes.len() - at >= 4 {
-        append_four(text, bytes[at], bytes[at + 1], bytes[at + 2], bytes[at + 3]);
-        at += 4;
+    for byte in bytes {
+        append(text, &[high_digit(*byte), low_digit(*byte)]);
     }
-    'ones: while at < bytes.len() {
-        append(text, &[high_digit(bytes[at]), low_digit(bytes[at])]);
-        at += 1;
-    }
-}
-
-/// Appends four bytes in hexadecimal.
-fn append_four<const N: usize>(
-    text: &mut ArrayVec<u8, N>,
-    first: u8,
-    second: u8,
-    third: u8,
-    fourth: u8,
-)
-    requires { array_vec_len text.old + 8 ≤ N }
-    ensures text { text.new.items ≡ text.old.items ++ encode_upper (first ∷ second ∷ third ∷ fourth ∷ []) }
-    ensures size { array_vec_len text.new ≡ array_vec_len text.old + 8 }
-{
-    let digits = [
-        high_digit(first),
-        low_digit(first),
-        high_digit(second),
-        low_digit(second),
-        high_digit(third),
-        low_digit(third),
-        high_digit(fourth),
-        low_digit(fourth),
-    ];
-    append(text, &digits);
 }
 
 /// Returns the first digit of a byte.

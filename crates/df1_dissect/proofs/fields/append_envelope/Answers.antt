@@ -1,9 +1,8 @@
--- The digits stand at their places.
-use Rattle.std.proofs.Common.{refl}
-use Rattle.hex.specs.Hex.{encode_with}
+-- The fields one after another.
+use Rattle.std.proofs.Common.{append_assoc}
 use Rattle.df1_dissect.proofs.fields.append_envelope.Goals as goal
 
 pub returns-clause-text : goal.returns-clause-text
-unfolding encode_with
 returns-clause-text g c =
-    rw (c.append.ensures, c.set_digits-6.ensures, c.set_digits-5.ensures, c.set_digits-4.ensures, c.set_digits-3.ensures, c.set_digits-2.ensures, c.set_digits.ensures) refl
+    rw (c.append.ensures, c.append_code-2.ensures.text, c.append_code.ensures.text, c.append_field-4.ensures.text, c.append_field-3.ensures.text, c.append_field-2.ensures.text, c.append_field.ensures.text)
+    (simp append_assoc)
