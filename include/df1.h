@@ -159,7 +159,8 @@ enum df1_side {
 
 /* What is decoded at a byte. F: of a full-duplex line; M: of the master of a half-duplex line; S: of its slaves. */
 enum df1_heard {
-    DF1_HEARD_NOTHING = 0,     /* F, M, S: nothing is decoded at this byte: the decoder is inside an item */
+    DF1_HEARD_NOTHING = 0,     /* F, M, S: nothing is decoded at this byte: the decoder is inside an item. It is inside one also
+                                * after a header, a response in a frame, and an item that another one cut off */
     DF1_HEARD_GOOD = 1,        /* F, M, S: a frame or message with the right check and a body of 6 to 250 bytes; M: to `station` */
     DF1_HEARD_SHORT = 2,       /* F: a frame with the right check and a body of under 6 bytes */
     DF1_HEARD_BAD_CHECK = 3,   /* F: a frame with a wrong check and a body of at most 250 bytes */
@@ -229,7 +230,7 @@ typedef struct df1_master {
     bool crc;             /* a CRC, and not a BCC, ends its messages */
     uint32_t ack_ticks;   /* ticks that it waits for an ACK, from where the message's last byte was taken: 1 to 1,000,000 */
     uint32_t max_resends; /* maximum retransmissions of one message before it is given up: 0 to 255 */
-    uint32_t poll_ticks;  /* ticks that it waits after a poll: 1 to 1,000,000. The station's whole message, of up to 506 bytes, has
+    uint32_t poll_ticks;  /* ticks that it waits after a poll, from where its last byte was taken: 1 to 1,000,000. The station's whole message, of up to 506 bytes, has
                            * to come in that time; otherwise another station may be polled while it still sends */
     uint32_t routes;      /* 1: it carries each message whose DST is a station's number to that station, so its node needs an
                            * address that no station has; 0: each message is its node's */
@@ -252,12 +253,14 @@ typedef struct df1_slave {
 typedef struct df1_node {
     uint8_t address;      /* SRC of its own commands, DST of what is sent to it */
     uint16_t tns;         /* the transaction number of its first command; each further command has the next */
-    uint32_t reply_ticks; /* ticks without a reply until a command is unanswered: 1 to 1,000,000. At a full-duplex end and at a
+    uint32_t reply_ticks; /* ticks without a reply, from where its first byte was taken, until a command is unanswered: 1 to
+                             1,000,000. At a full-duplex end and at a
                              slave each df1_end_tick counts. At a master only one at which it polls counts, so none while it sends
                              or waits, nor while a message is to be sent. While no station answers its polls, that is one tick
                              in poll_ticks + 1 */
-    uint32_t room;        /* how many replies may wait to be sent: 2 to 64. A command that comes while so many wait is refused by a
-                           * NAK, so let it be at least what the other side may have outstanding */
+    uint32_t room;        /* how many replies may wait to be sent: 2 to 64. A command that comes while so many wait is refused, by a
+                           * NAK; a master sends nothing then, and the station sends it again at its next poll. So let it be at
+                           * least what the other side may have outstanding */
     bool has_compat;      /* whether there is a compatibility file, for the unprotected reads and writes */
     uint16_t compat;      /* its number: a Bit or Integer file */
     uint32_t window;      /* how many of its commands may be outstanding at a time: 1 to 16; 0 is 1 */
@@ -451,7 +454,7 @@ uint32_t df1_end_take_bytes(df1_end *end, uint8_t *into, size_t room, df1_given 
 enum df1_outcome {
     DF1_WAITING = 1,     /* it was not handed out yet */
     DF1_OUT = 2,         /* it is outstanding: it was handed out, and nothing became of it yet */
-    DF1_REPLIED = 3,     /* its reply was accepted: it is answered (DF1_ANSWERED is of a df1_step) */
+    DF1_REPLIED = 3,     /* its reply was accepted; a df1_step calls that DF1_ANSWERED */
     DF1_UNDELIVERED = 4, /* it was given up on its way, or dropped before it was handed out */
     DF1_UNANSWERED = 5   /* no reply came in time */
 };
@@ -489,12 +492,12 @@ uint32_t df1_end_pull(df1_end *end, uint8_t dst, uint16_t file, uint32_t words, 
  * odd, or over 6,000. */
 uint32_t df1_end_push(df1_end *end, uint8_t dst, uint16_t file, const uint8_t *bytes, size_t length, uint32_t *first);
 
-/* What a transfer came to so far. Of several orders that weren't done the lowest is reported. */
+/* What a transfer came to so far. Of several orders that weren't done the lowest is reported. In the last three states later orders
+ * may still wait or be outstanding. */
 enum df1_transfer_state {
     DF1_UNDER_WAY = 0, /* command `number` waits or is outstanding, and each order before it was done */
     DF1_WHOLE = 1,     /* each order was done */
-    DF1_MISSING = 2,   /* command `number` isn't answered, and won't be; or it was never issued. Later orders may still wait or be
-                        * outstanding */
+    DF1_MISSING = 2,   /* command `number` isn't answered, and won't be; or it was never issued */
     DF1_REFUSED = 3,   /* command `number` was refused, with `sts` and `ext` */
     DF1_ODD = 4        /* the reply to command `number` has other data than its order asks for */
 };

@@ -11,7 +11,7 @@ int main(void)
     df1_duplex link = DF1_DUPLEX_INIT;
     df1_node node = DF1_NODE_INIT(0);
     df1_end end = DF1_NOTHING;
-    uint32_t number, gone[16], ticks = 0;
+    uint32_t number = 0, outcome, gone[16], ticks = 0;
     uint8_t byte, reply[250];
     size_t length;
     df1_step step;
@@ -30,7 +30,9 @@ int main(void)
             if (step.did == DF1_ANSWERED && df1_end_reply(&end, step.did_command, reply, 250, &length) == DF1_DONE && length == 8)
                 fprintf(stderr, "N7:0 = %d\n", reply[6] | reply[7] << 8);
         } else { /* a tick is 100 ms without a byte; with a clock it would be 100 ms */
-            if (ticks++ % 10 == 0)
+            /* once a second, where the last one has its outcome, since one that waits can't be withdrawn */
+            bool ended = number == 0 || (df1_end_outcome(&end, number, &outcome) == DF1_DONE && outcome > DF1_OUT);
+            if (ticks++ % 10 == 0 && ended)
                 df1_end_issue(&end, 1, read_n7_0, sizeof read_n7_0, &number);
             df1_end_tick(&end, &turn, gone, 16);
         }
