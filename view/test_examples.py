@@ -140,6 +140,13 @@ ARROWS = {
         f"{named('echo')}; under way", "foreign>a ACK", named("echo", 1, "b>a"), "a>b ACK; under way", f"{named('reply, done')}; under way",
         "a>b ENQ; under way", "foreign>a NAK", f"{named('reply, done')}; under way", f"{named('echo', 2)}; under way", "foreign>a ACK",
     ],
+    "noise-on-a-shared-line": [
+        "foreign>3 10", *to_each("35", "write N7:0 = 1234, TNS 0001"),
+        *to_each("35", "write N7:1 = 5678, TNS 0002"), "3>m ACK",
+        *to_each("35", "poll 3"), "3>m reply, done, TNS 0002", *to_each("35", "ACK to 3"), *to_each("35", "poll 5"), "5>m EOT",
+        *to_each("35", "echo 51, TNS 0003"), "5>m ACK", *to_each("35", "poll 3"), "3>m EOT",
+        *to_each("35", "poll 5"), "5>m reply, 51, TNS 0003", *to_each("35", "ACK to 5"),
+    ],
     "polled-after-a-lost-write": [
         "m>3 write N7:0 = 1234, TNS 0001; 1 of 22 bytes lost", "m>3 write N7:1 = 5678, TNS 0002", "3>m ACK",
         "m>3 poll 3", "3>m reply, done, TNS 0002", "m>3 ACK to 3",
