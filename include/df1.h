@@ -230,8 +230,9 @@ typedef struct df1_master {
     bool crc;             /* a CRC, and not a BCC, ends its messages */
     uint32_t ack_ticks;   /* ticks that it waits for an ACK, from where the message's last byte was taken: 1 to 1,000,000 */
     uint32_t max_resends; /* maximum retransmissions of one message before it is given up: 0 to 255 */
-    uint32_t poll_ticks;  /* ticks that it waits after a poll, from where its last byte was taken: 1 to 1,000,000. The station's whole message, of up to 506 bytes, has
-                           * to come in that time; otherwise another station may be polled while it still sends */
+    uint32_t poll_ticks;  /* ticks that it waits after a poll, from where its last byte was taken: 1 to 1,000,000. The station's
+                           * whole message, of up to 506 bytes, has to come in that time; otherwise another station may be polled
+                           * while it still sends */
     uint32_t routes;      /* 1: it carries each message whose DST is a station's number to that station, so its node needs an
                            * address that no station has; 0: each message is its node's */
     uint32_t reserved[3];
