@@ -17,19 +17,20 @@ use Rattle.run_laws.specs.Bounds.{OutcomesCome}
 use Rattle.run_laws.specs.Idle.{EndsComeToIdle}
 use Rattle.run_laws.specs.Overtaking.{NothingIsOvertaken}
 
--- The input was read to its end and is a script. The report of its run is written, and nothing else. Where no end was
--- deceived, each station executed commands that were issued to it, each once, those of each source in their order, and each
--- accepted reply is what it answered to that very command; once a command is executed, or a reply to it is told, none of its source
--- with a lower number is executed any more; nor is one that was given up, once nothing is on its way, by the lines and the events
--- so far. Where nothing disturbs the line and nothing is under way in the end,
--- where each end, or each station, has room for what the other end, or the master, may have out, where a master waits long enough for
--- the turns of all stations, and no reply is left at a station, no end was deceived, and all commands were executed and answered. They were too on a full-duplex line that altered
--- bytes of bodies alone, in few transmissions of each message, and deceived no end. Where the line is at rest again,
--- whatever happened before, and no end was deceived, each command that an end hands out from there on was executed and answered, if
--- nothing disturbs the line from there on, or a full-duplex line recovers so; and that it is at rest is shown by an answer too. Whatever was heard, and deceived or not: where
--- enough ticks came at an end since its last command at which it had nothing to give, the outcome of each of its commands is told;
--- where so many came since its last command and the last that its station executed, an end of a full-duplex line has no message and
--- no reply left to send; and what each end sent is DF1, and carries its own commands and replies.
+-- The input was read to its end and is a script. The report of its run is written, and nothing else. Where no end was deceived, each
+-- station executed commands that were issued to it, each once, those of each source in their order, and each accepted reply is what it
+-- answered to that very command; once a command is executed, or a reply to it is told, none of its source with a lower number is executed
+-- any more; nor is one that was given up, once nothing is on its way, by the lines and the events so far. Where nothing disturbs the line
+-- and nothing is under way in the end, where each end, or each station, has room for what the other end, or the master, may have out, where
+-- a master waits long enough for the turns of all stations, and no reply is left at a station, no end was deceived, and all commands were
+-- executed and answered. They were too on a full-duplex line that altered bytes of bodies alone, in few transmissions of each message, and
+-- deceived no end. Where the line is at rest again, whatever happened before, and no end was deceived, each command that an end hands out
+-- from there on was executed and answered, if nothing disturbs the line from there on, or a full-duplex line recovers so. An answer
+-- to a command that was still to come certifies a full-duplex line, and a polled one with one station: while nothing disturbs it, it is at
+-- rest wherever nothing is under way and no end waits. Of several stations it shows that they are in step. Whatever was heard, and deceived
+-- or not: where enough ticks came at an end since its last command at which it had nothing to give, the outcome of each of its
+-- commands is told; where so many came since its last command and the last that its station executed, an end of a full-duplex line has no
+-- message and no reply left to send; and what each end sent is DF1, and carries its own commands and replies.
 pub record Replayed (left left' held held' : Option (List ℕ)) : Type 0 where
   pub input : List ℕ
   pub script : Script

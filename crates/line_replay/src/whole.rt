@@ -31,7 +31,8 @@ use std::alloc::Global;
 /// If nothing disturbed the line, no end was deceived, and all commands were executed and answered. The same holds if a
 /// full-duplex line recovers from what the script does to the bytes. If the line is at rest again, and no end was
 /// deceived, each command that an end hands out from there on was executed and answered, if nothing disturbs the line
-/// from there on, or a full-duplex line recovers. An answer to a command shows that a line is at rest.
+/// from there on, or a full-duplex line recovers. An answer to a command that was still to come shows where a
+/// full-duplex line is at rest, and that the stations of a polled line are in step.
 ///
 /// After enough ticks at which an end had nothing to send, each of its commands has its outcome. If so many came since
 /// its last command and the last that its station executed, an end of a full-duplex line has no message and no reply

@@ -19,8 +19,8 @@ use Rattle.half_line.specs.Run as polled
 use Rattle.half_line.specs.Once.{EachOnce as HalfOnce}
 use Rattle.half_line.specs.Prompt.{IsUndisturbed as HalfUndisturbed}
 use Rattle.half_line.specs.Complete.{IsComplete as HalfComplete}
-use Rattle.half_line.proofs.Certified.AloneRun.{well-alone as polled-well-alone}
-use Rattle.half_line.proofs.Certified.WholeRun.{well-after as polled-well-after}
+use Rattle.half_line.proofs.Certified.AloneRun.{certified-alone, well-alone as polled-well-alone}
+use Rattle.half_line.proofs.Certified.WholeRun.{certified as certified-stations, well-after as polled-well-after}
 use Rattle.half_line.proofs.Complete.AfterRest.{goes-well as polled-goes-well}
 use Rattle.half_line.proofs.Complete.WholeRun.{is-complete as polled-is-complete}
 use Rattle.half_line.proofs.Once.EachStation.{each-once as polled-each-once}
@@ -35,7 +35,7 @@ use Rattle.duplex_line.specs.Run as duplex
 use Rattle.duplex_line.specs.Once.{EachOnce}
 use Rattle.duplex_line.specs.Prompt.{IsPrompt, EndsQuiet, HasRooms}
 use Rattle.duplex_line.specs.Recoverable.{IsRecoverable}
-use Rattle.duplex_line.proofs.Certified.WholeRun.{well-after-a, well-after-b}
+use Rattle.duplex_line.proofs.Certified.WholeRun.{certified-by-a, certified-by-b, well-after-a, well-after-b}
 use Rattle.duplex_line.proofs.Complete.AfterRest.{goes-soundly}
 use Rattle.duplex_line.specs.Complete.{IsComplete as DuplexComplete}
 use Rattle.duplex_line.proofs.Complete.WholeRun.{is-complete as duplex-is-complete, recovers}
@@ -230,6 +230,8 @@ polled-rested : (script : Script) → IsHalfPlayable script → PolledGoesWell s
 unfolding polled.record_of
 polled-rested script playable = record {
   after_rest = λ front rest calm. polled-goes-well script front rest playable calm;
+  certified_stations = λ front middle more rest n. certified-stations script front middle more rest n playable;
+  certified_alone = λ front middle more rest n. certified-alone script front middle more rest n playable;
   after_answer = λ front middle more rest n. polled-well-after script front middle more rest n playable;
   after_answer_alone = λ front middle more rest n. polled-well-alone script front middle more rest n playable;
 }
@@ -239,6 +241,8 @@ unfolding duplex.record_of
 rested-in true script mode h = subst (PolledGoesWell script) (sym (polled-record script mode)) (polled-rested script (h.half mode))
 rested-in false script mode h = subst (GoesWell script) (sym (duplex-record script mode)) (record {
   after_rest = goes-soundly script (h.full mode);
+  certified_by_a = λ front middle more rest n. certified-by-a script front middle more rest n (h.full mode);
+  certified_by_b = λ front middle more rest n. certified-by-b script front middle more rest n (h.full mode);
   after_answer_of_a = λ front middle more rest n. well-after-a script front middle more rest n (h.full mode);
   after_answer_of_b = λ front middle more rest n. well-after-b script front middle more rest n (h.full mode);
 })

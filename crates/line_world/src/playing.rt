@@ -39,7 +39,9 @@ pub fn play(alloc: Global, script: &Script) -> Result<World, NoMemory>
 ///
 /// Let the line be at rest again, whatever happened on it, with no end deceived. Then each command that an end hands out
 /// from there on was executed and answered, if nothing disturbs the line from there on, or a full-duplex line recovers.
-/// An answer to a command shows that a line is at rest (see `Rested`).
+/// An answer to a command that was still to come shows where a full-duplex line is at rest, and that the stations of a
+/// polled line are in step (see `Rested`).
+///
 /// Whatever was received, what each end sent is DF1, and carries its own commands and replies.
 pub fn replay(alloc: Global, script: &Script) -> Result<Record, NoMemory>
     requires { CanBePlayed script.now }
