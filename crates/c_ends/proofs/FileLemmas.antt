@@ -1,12 +1,10 @@
 -- Files found by their numbers, as C gives them and as the tables have them. Assumes nothing.
 use Rattle.std.proofs.Common.{◌≡◌, ℕ, Bool, true, false, cond, List, [], ◌∷◌, refl, ap, ◌∙◌}
-use Rattle.std.specs.Prelude.{◌==◌, ◌||◌, nat_lt, if◌then◌else◌, find, Option, Some, None}
+use Rattle.std.specs.Prelude.{◌==◌, ◌||◌, find, Option, Some, None}
 use Rattle.std.specs.Option.{option_map}
 use Rattle.std.specs.List.{list_any}
 use Rattle.data_files.specs.declared.file_spec.FileSpec.{FileSpec}
-use Rattle.data_files.specs.declared.make_fault.MakeFault.{MakeFault}
-use Rattle.data_files.specs.declared.make_fault.MakeFault.TheVariants.{Empty, Large, Twice}
-use Rattle.data_files.specs.Tables.{DataTables, fault_of, file_of, has_word, with_word}
+use Rattle.data_files.specs.Tables.{DataTables, file_of, has_word, with_word}
 use Rattle.c_ends.specs.declared.parts.FileParts.{FileParts}
 use Rattle.c_ends.specs.declared.parts.WordParts.{WordParts}
 use Rattle.c_ends.specs.Parts.{spec_of, specs_of, with_all, with_first}
@@ -15,18 +13,6 @@ pub any_specs : (files : List FileParts) (number : ℕ)
     → list_any {X = FileSpec} (λ other. other.number == number) (specs_of files) ≡ list_any {X = FileParts} (λ other. other.number == number) files
 any_specs [] number = refl
 any_specs (file ∷ files) number = ap (λ any. (file.number == number) || any) (any_specs files number)
-
--- what is wrong with a file, where it is known whether one before has its number
-abbrev pub given_fault : Bool → FileParts → Option MakeFault
-given_fault any file =
-    if file.elements == 0 then Some (Empty file.number)
-    else if nat_lt 1000 file.elements then Some (Large file.number)
-    else if any then Some (Twice file.number)
-    else None
-
-pub fault_of_specs : (before : List FileParts) (file : FileParts)
-    → fault_of (specs_of before) (spec_of file) ≡ given_fault (list_any {X = FileParts} (λ other. other.number == file.number) before) file
-fault_of_specs before file = ap (λ any. given_fault any file) (any_specs before file.number)
 
 found : (is : Bool) (file : FileParts) (specs : Option FileSpec) (files : Option FileParts)
     → specs ≡ option_map spec_of files → cond is (Some (spec_of file)) specs ≡ option_map spec_of (cond is (Some file) files)

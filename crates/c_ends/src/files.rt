@@ -2,17 +2,14 @@
 
 ghost use Rattle.std.specs.Prelude.{◌≡◌, ◌==◌, None, find, is_none, not, IfOk};
 ghost use Rattle.std.specs.List.{list_any};
-ghost use Rattle.data_files.specs.Tables.{fault_of, faults, fresh, file_of, has_word};
+ghost use Rattle.data_files.specs.Tables.{fault_of, faults, file_of, has_word};
 ghost use Rattle.c_ends.specs.Parts.{count_fault, each_fault, first_tables, kind_of, make_code, spec_of, specs_of, type_fault, with_all, word_fault};
 
 use crate::code::Code;
 use crate::parts::{FileParts, WordParts};
-use data_files::{FileSpec, MAX_FILES, MakeFault, Tables, type_byte};
+use data_files::{FileSpec, MAX_FILES, MakeFault, Tables, file_fault, type_byte};
 use df1_base::{FileType, NoMemory};
 use std::alloc::Global;
-
-/// The most elements that a file may have.
-const MAX_ELEMENTS: u16 = 1000;
 
 /// The types of data files.
 const KINDS: [FileType; 7] = [
@@ -100,15 +97,7 @@ fn first_fault(files: &[FileParts]) -> Option<MakeFault>
 fn fault_after(before: &[FileParts], file: FileParts) -> Option<MakeFault>
     ensures { result ≡ fault_of (specs_of before.now) (spec_of file) }
 {
-    if file.elements == 0 {
-        Some(MakeFault::Empty(file.number))
-    } else if file.elements > MAX_ELEMENTS {
-        Some(MakeFault::Large(file.number))
-    } else if has_number(before, file.number) {
-        Some(MakeFault::Twice(file.number))
-    } else {
-        None
-    }
+    file_fault(spec_of(file), has_number(before, file.number))
 }
 
 /// Returns whether one of the files has this number.
@@ -187,7 +176,7 @@ pub(crate) fn tables_of(
     ensures { IfOk result (λ tables. tables ≡ first_tables files.now words.now) }
 {
     let specs = specs_in(alloc, files)?;
-    let mut tables = zero_tables(alloc, specs.as_slice())?;
+    let mut tables = Tables::zeroed(alloc, specs.as_slice())?;
     set_words(&mut tables, words);
     Ok(tables)
 }
@@ -201,18 +190,6 @@ fn specs_in(alloc: Global, files: &[FileParts]) -> Result<Vec<FileSpec>, NoMemor
         specs.push(spec_of(*file))?;
     }
     Ok(specs)
-}
-
-/// Returns data tables of these files, all words 0.
-fn zero_tables(alloc: Global, files: &[FileSpec]) -> Result<Tables, NoMemory>
-    requires { faults files.now ≡ None }
-    ensures { IfOk result (λ tables. tables ≡ fresh files.now) }
-{
-    match Tables::new(alloc, files) {
-        Ok(tables) => Ok(tables),
-        Err(MakeFault::NoMemory) => Err(NoMemory),
-        Err(_) => unreachable!(),
-    }
 }
 
 /// Sets words to their first values.

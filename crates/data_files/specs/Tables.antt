@@ -89,13 +89,17 @@ zero_entries specs = flat_map (λ spec. placed spec.number 0 (replicate (word_co
 abbrev pub fresh : List FileSpec → DataTables
 fresh specs = record { specs = specs; words = map_of.from_entries (zero_entries specs) }
 
--- what is wrong with a file that follows others
-abbrev pub fault_of : List FileSpec → FileSpec → Option MakeFault
-fault_of before spec =
+-- what is wrong with a file, where it is known whether an earlier one has its number
+abbrev pub file_fault : FileSpec → Bool → Option MakeFault
+file_fault spec is_twice =
     if spec.count == 0 then Some (Empty spec.number)
     else if nat_lt 1000 spec.count then Some (Large spec.number)
-    else if list_any (λ other. other.number == spec.number) before then Some (Twice spec.number)
+    else if is_twice then Some (Twice spec.number)
     else None
+
+-- what is wrong with a file that follows others
+abbrev pub fault_of : List FileSpec → FileSpec → Option MakeFault
+fault_of before spec = file_fault spec (list_any (λ other. other.number == spec.number) before)
 
 -- the first fault of files that follow others
 abbrev pub first_fault : List FileSpec → List FileSpec → Option MakeFault

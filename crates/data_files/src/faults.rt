@@ -1,7 +1,7 @@
 //! Faults of the files from which tables are to be made.
 ghost use Rattle.std.specs.Prelude.{◌≡◌, ◌==◌};
 ghost use Rattle.std.specs.List.{list_any};
-ghost use Rattle.data_files.specs.Tables.{fault_of, faults};
+ghost use Rattle.data_files.specs.Tables.{fault_of, faults, file_fault};
 
 use crate::{FileSpec, MakeFault};
 
@@ -9,7 +9,7 @@ use crate::{FileSpec, MakeFault};
 pub const MAX_FILES: usize = 256;
 
 /// The maximum number of elements of a file.
-const MAX_ELEMENTS: u16 = 1000;
+pub const MAX_ELEMENTS: u16 = 1000;
 
 /// Returns the first fault of these files.
 pub(crate) fn first_fault(specs: &[FileSpec]) -> Option<MakeFault>
@@ -31,11 +31,19 @@ pub(crate) fn first_fault(specs: &[FileSpec]) -> Option<MakeFault>
 fn fault_after(before: &[FileSpec], spec: FileSpec) -> Option<MakeFault>
     ensures { result ≡ fault_of before.now spec }
 {
+    file_fault(spec, has_number(before, spec.number))
+}
+
+/// Returns what is wrong with a file, where it is known whether an earlier one has its number: the first of `Empty`,
+/// `Large` and `Twice` that is so, and None exactly if none is.
+pub fn file_fault(spec: FileSpec, is_twice: bool) -> Option<MakeFault>
+    ensures { result ≡ file_fault spec is_twice }
+{
     if spec.count == 0 {
         Some(MakeFault::Empty(spec.number))
     } else if spec.count > MAX_ELEMENTS {
         Some(MakeFault::Large(spec.number))
-    } else if has_number(before, spec.number) {
+    } else if is_twice {
         Some(MakeFault::Twice(spec.number))
     } else {
         None

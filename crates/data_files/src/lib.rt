@@ -10,7 +10,7 @@ mod place;
 mod tables;
 mod word_bytes;
 
-pub use faults::MAX_FILES;
+pub use faults::{MAX_ELEMENTS, MAX_FILES, file_fault};
 pub use file_spec::FileSpec;
 pub use make_fault::MakeFault;
 pub use place::{Place, locate, type_byte};

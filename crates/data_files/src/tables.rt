@@ -1,5 +1,5 @@
 //! The data tables of a controller.
-ghost use Rattle.std.specs.Prelude.{◌≡◌, ℕ, ◌+◌, ◌≤◌, true, length, take, drop, slice_get, IfOk, IfErr, IfSome, MatchOption, Err, Some, if◌then◌else◌, is_some};
+ghost use Rattle.std.specs.Prelude.{◌≡◌, ℕ, ◌+◌, ◌≤◌, true, length, take, drop, slice_get, IfOk, IfErr, IfSome, MatchOption, Err, None, Some, if◌then◌else◌, is_some};
 ghost use Rattle.std.specs.BTreeMap.{get};
 ghost use Rattle.std.specs.Ordering.{nat_cmp};
 ghost use Rattle.data_files.specs.Directory.{overwritten};
@@ -7,6 +7,7 @@ ghost use Rattle.data_files.specs.Tables.{faults, file_of, flat_words, fresh, ha
 
 use crate::faults::first_fault;
 use crate::{FileSpec, MakeFault};
+use df1_base::NoMemory;
 use std::alloc::Global;
 use std::collections::BTreeMap;
 use std::marker::Model;
@@ -69,6 +70,18 @@ impl Tables {
             directory,
             words,
         })
+    }
+
+    /// Creates tables of files that have no fault, with all words 0. An error is a lack of memory.
+    pub fn zeroed(alloc: Global, specs: &[FileSpec]) -> Result<Tables, NoMemory>
+        requires { faults specs.now ≡ None }
+        ensures { IfOk result (λ tables. tables ≡ fresh specs.now) }
+    {
+        match Tables::new(alloc, specs) {
+            Ok(tables) => Ok(tables),
+            Err(MakeFault::NoMemory) => Err(NoMemory),
+            Err(_) => unreachable!(),
+        }
     }
 
     /// Returns the number of files, at most 256.

@@ -15,8 +15,7 @@ use c_calls::{GivenTold, give_run, hear_run};
 use c_ends::{Code, StepTold};
 use std::alloc::Global;
 
-/// Receives bytes up to the first after which there is something to do, and reports what the end made of the last of
-/// them.
+/// Receives bytes up to the first after which there is something to do, and reports what the end made of the last one.
 #[tactic(auto, unfolding(crate::specs::Held::value_in))]
 #[unsafe(no_mangle)]
 pub extern "C" fn df1_end_bytes(

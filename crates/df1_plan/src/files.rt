@@ -9,15 +9,12 @@ ghost use Rattle.df1_plan.specs.Files.{HoldsItsWords, file_in as the_file, file_
 
 use crate::values::{hex_in, integer_in, kind_in, value_at};
 use crate::{PlanFault, PlanKey};
-use data_files::FileSpec;
+use data_files::{FileSpec, MAX_ELEMENTS, MAX_FILES};
 use df1_base::NoMemory;
 use script_parts::{Specs, WordOf, Words};
 use script_statement::{Items, Who};
 use std::alloc::Global;
 use toml::{Table, Value};
-
-/// The maximum number of files of an end.
-const FILES: usize = 256;
 
 /// A data file of a plan, and the first values of its words, from word 0 on.
 #[derive(Drop)]
@@ -73,7 +70,7 @@ fn next_file(
 fn may_follow(before: &[PlannedFile], spec: FileSpec) -> bool
     ensures { result ≡ (nat_lt (length before.now) 256 && not (list_any (λ other. other.spec.number == spec.number) before.now)) }
 {
-    before.len() < FILES && !has_number(before, spec.number)
+    before.len() < MAX_FILES && !has_number(before, spec.number)
 }
 
 /// Returns whether one of these files has this number.
@@ -127,7 +124,7 @@ fn spec_in(fields: &Table) -> Option<FileSpec>
 {
     let number = integer_in(value_at(fields, "number")?, 0, 999)?;
     let kind = kind_in(value_at(fields, "type")?)?;
-    let count = integer_in(value_at(fields, "count")?, 1, 1000)?;
+    let count = integer_in(value_at(fields, "count")?, 1, u32::from(MAX_ELEMENTS))?;
     Some(FileSpec {
         number: number as u16,
         kind,

@@ -1,6 +1,5 @@
 //! The commands of a plan.
 ghost use Rattle.std.specs.Prelude.{◌≡◌, ◌≢◌, [], Ok, Err, IfOk, IfErr, codes, option_map};
-ghost use Rattle.script_statement.specs.Statements.{is_payload as the_payload_test};
 ghost use Rattle.toml.specs.View.{items_view, table_view, view};
 ghost use Rattle.df1_plan.specs.Keys.{has_other};
 ghost use Rattle.df1_plan.specs.Plans.{issue};
@@ -11,8 +10,8 @@ ghost use Rattle.df1_plan.specs.Values.{hex_in as the_bytes, integer_in as the_i
 use crate::plan::{Commands, PlannedCommand};
 use crate::values::{hex_in, integer_in, value_at};
 use crate::{PlanFault, PlanKey};
-use df1_base::{MAX_PAYLOAD, NoMemory, REPLY};
-use script_statement::{Bytes, Items};
+use df1_base::NoMemory;
+use script_statement::{Bytes, Items, is_payload};
 use std::alloc::Global;
 use toml::{Table, Value};
 
@@ -143,15 +142,5 @@ fn is_field(name: &str) -> bool
     match name {
         "source" | "payload" => true,
         _ => false,
-    }
-}
-
-/// Returns whether bytes are a payload: 1 to 245 bytes, and bit 6 of the first, CMD, is clear.
-fn is_payload(bytes: &[u8]) -> bool
-    ensures { result ≡ the_payload_test bytes.now }
-{
-    match bytes {
-        [cmd, ..] => bytes.len() <= MAX_PAYLOAD && cmd & REPLY == 0,
-        [] => false,
     }
 }

@@ -1,6 +1,6 @@
 //! Replaying while reading: a script comes byte by byte, and the report's lines of an event line are written when it
 //! ends.
-ghost use Rattle.std.specs.Prelude.{◌≡◌, ◌≢◌, ◌≤◌, ◌+◌, ◌∷◌, ◌++◌, ℕ, List, [], Some, OnOk, OnErr, IfOk, IfErr, IsErrOf, length, position, take, ◌==◌};
+ghost use Rattle.std.specs.Prelude.{◌≡◌, ◌≢◌, ◌≤◌, ◌+◌, ◌∷◌, ◌++◌, ℕ, List, [], Some, OnOk, OnErr, IfOk, IfErr, IsErrOf, length, take};
 ghost use Rattle.df1_base.specs.Outside.{Rose, Put, WroteLess, Later};
 ghost use Rattle.script_parts.specs.declared.script.Event.{Event as OneEvent};
 ghost use Rattle.line_replay.specs.declared.replayer.StreamFault.{StreamFault as Stopped};
@@ -15,7 +15,7 @@ ghost use Rattle.line_replay.specs.Fed.{IsDue, IsEndedReplay, IsFromPlay, IsRefu
 
 use crate::{Cause, Event, World};
 use df1_base::{Failed, NoMemory, Sink};
-use line_script::{ScriptFault, TextReader};
+use line_script::{ScriptFault, TextReader, line_end};
 use replay_report::print;
 use std::alloc::Global;
 use std::marker::Model;
@@ -415,11 +415,4 @@ fn print_rest<K: Sink>(world: World, sink: &mut K) -> Result<(), StreamFault>
     let record = world.finish()?;
     print(&record, sink)?;
     Ok(())
-}
-
-/// Returns the index of the first line feed.
-fn line_end(bytes: &[u8]) -> Option<usize>
-    ensures { result ≡ position (λ b. b == 10) bytes.now }
-{
-    bytes.iter().position(|b| *b == b'\n')
 }

@@ -13,3 +13,4 @@ mod Steps
 mod StepLines
 mod GivenWords
 mod GivenCommands
+mod GivenDeliveries

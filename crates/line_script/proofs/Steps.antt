@@ -19,7 +19,7 @@ both_fail true true = refl
 both_fail true false = refl
 both_fail false b = refl
 
-in_bounds : (n : ℕ) → 1 ≤ n → n ≤ 99 → within 1 4000000 (Some n) ≡ Some n
+pub in_bounds : (n : ℕ) → 1 ≤ n → n ≤ 99 → within 1 4000000 (Some n) ≡ Some n
 in_bounds n least most = grind (arith, common_steps)
 
 pub digit_in_word : (d : ℕ) → is_ascii_digit d ≡ true → is_blank d ≡ false
@@ -41,7 +41,7 @@ number_is_digits word n is = elim (is_number word) as (λ b. is_number word ≡ 
   | false ↦ λ e is. cc
 ] refl is
 
-number_is_one : (word : List ℕ) (n : ℕ) → number_of word ≡ Some n → filter (λ w. not (eqb (length w) 0)) (slice_split is_blank word) ≡ word ∷ []
+pub number_is_one : (word : List ℕ) (n : ℕ) → number_of word ≡ Some n → filter (λ w. not (eqb (length w) 0)) (slice_split is_blank word) ≡ word ∷ []
 number_is_one word n is =
     let number = number_is_digits word n is in
     let all : list_all is_ascii_digit word ≡ true = grind (arith, common_steps) in

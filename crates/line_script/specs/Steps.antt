@@ -1,9 +1,14 @@
--- Steps, the commonest lines of a script: what happens one to 99 times at an end of a full-duplex link or at its queue.
+-- Steps, the commonest lines of a script: what happens one to 99 times at an end of a full-duplex link or at its queue; and on a
+-- half-duplex line that bytes of the master arrive at a station.
 use Rattle.std.specs.Prelude.{ℕ, List, [], ◌∷◌, length, not, slice_index, true, Option, Some, None, nat_le, ◌==◌, ◌&&◌, if◌then◌else◌}
 use Rattle.script_statement.specs.declared.statement.EndName.{EndName}
 use Rattle.script_statement.specs.declared.statement.EndName.TheVariants.{Known}
 use Rattle.script_statement.specs.declared.statement.EndLetter.{EndLetter}
 use Rattle.script_statement.specs.declared.statement.Verb.{Verb}
+use Rattle.script_statement.specs.declared.half_event.HalfEvent.TheVariants.{Deliver}
+use Rattle.script_statement.specs.declared.half_event.Way.TheVariants.{ToStation}
+use Rattle.script_statement.specs.declared.statement.Statement.{Statement}
+use Rattle.script_statement.specs.declared.statement.Statement.TheVariants.{Half}
 use Rattle.script_statement.specs.Statements.{end_of, verb_of}
 use Rattle.script_statement.specs.Words.{number_of}
 use Rattle.line_script.specs.Lines.{content, text_line}
@@ -30,3 +35,7 @@ step_in other = None
 -- the step that the bytes before a line feed are
 abbrev pub step_before : List ℕ → Option TimesEvent
 step_before line = step_in (content (text_line 0 line true))
+
+-- bytes of the master that arrive at the station of a number
+abbrev pub delivery : ℕ → ℕ → Statement
+delivery station n = Half (Deliver (ToStation station) (Some n))

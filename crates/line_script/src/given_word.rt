@@ -59,7 +59,7 @@ pub(crate) fn given_word(line: &[u8]) -> Option<GivenWord>
 
 /// Returns the number that bytes begin with, up to a blank, and what follows the blank. None says nothing about the
 /// bytes.
-fn number_first(bytes: &[u8]) -> Option<(u32, &[u8])>
+pub(crate) fn number_first(bytes: &[u8]) -> Option<(u32, &[u8])>
     ensures { IfSome result (λ cut. (word : List ℕ) × (the_number word ≡ Some cut.0) × (words bytes.now ≡ word ∷ words cut.1.now)) }
 {
     let stop = blank_in(bytes)?;

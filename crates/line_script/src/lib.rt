@@ -5,6 +5,7 @@
 
 mod fault;
 mod given_command;
+mod given_delivery;
 mod given_word;
 mod laws;
 mod profile;
@@ -24,4 +25,4 @@ pub use script_parts::{
 };
 pub use step::TimesEvent;
 pub use text_reader::TextReader;
-pub use whole_text::{read_profile, read_script};
+pub use whole_text::{line_end, read_profile, read_script};

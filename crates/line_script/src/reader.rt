@@ -5,15 +5,17 @@ ghost use Rattle.end_drafts.specs.Flaws.{IsFlawed};
 ghost use Rattle.line_script.specs.Readers.{after_statement, begins_half as the_half_test, fresh, fresh_for, in_mode, stage_of as the_stage};
 ghost use Rattle.line_script.specs.Lines.{after_line, after_said, cause_of as the_cause, with_cause, after_words, finished, reaches_limit as the_limit_test, script_with, content as the_content, is_ended as the_end_test, is_passed_over as the_passed, line_fault as the_line_fault, line_for, text_line, words_for};
 ghost use Rattle.line_script.specs.Refusal.{IsFaulty};
-ghost use Rattle.line_script.specs.Steps.{step_before};
+ghost use Rattle.line_script.specs.Steps.{delivery as the_delivery, step_before};
 ghost use Rattle.line_script.specs.declared.step.TimesEvent.{TimesEvent as OneStep};
 ghost use Rattle.duplex_script.specs.Drafts.{times_event, word_given};
 ghost use Rattle.end_drafts.specs.declared.flaw.Flaw.{Flaw as TheFlaw};
 ghost use Rattle.script_statement.specs.declared.statement.EndLetter.{EndLetter as End};
 ghost use Rattle.script_statement.specs.declared.statement.Statement.{Statement as Form};
+ghost use Rattle.script_statement.specs.Words.{words as the_words};
 ghost use Rattle.script_statement.specs.declared.statement.Verb.{Verb as Happening};
 
 use crate::given_command::{GivenCommand, given_command};
+use crate::given_delivery::{GivenDelivery, given_delivery};
 use crate::given_word::{GivenWord, given_word};
 use crate::profile::{Profile, is_barred, said};
 use crate::step::{TimesEvent, step_of};
@@ -83,7 +85,7 @@ impl Reader {
             Some(word) => self.read_given(alloc, word),
             None => match given_command(alloc, said) {
                 Some(command) => self.read_issue(alloc, command),
-                None => self.read_words(alloc, &first_words(said)),
+                None => self.read_said(alloc, said),
             },
         }
     }
@@ -210,6 +212,32 @@ impl Reader {
                 },
             ),
         }
+    }
+
+    /// Reads a line that neither gives a word nor issues a command in their most frequent spelling.
+    fn read_said(&mut self, alloc: Global, said: &[u8]) -> Result<Option<Event>, LineFault>
+        ensures { MatchResult result (λ event. after_words self.old (the_words said.now) ≡ Ok (self.new, event))
+            (λ fault. IsFaulty fault (after_words self.old (the_words said.now))) }
+    {
+        match given_delivery(said) {
+            Some(delivery) => self.read_delivery(alloc, delivery),
+            None => self.read_words(alloc, &first_words(said)),
+        }
+    }
+
+    /// Reads a line by which bytes of a master arrive at a station.
+    fn read_delivery(
+        &mut self,
+        alloc: Global,
+        delivery: GivenDelivery,
+    ) -> Result<Option<Event>, LineFault>
+        ensures { MatchResult result (λ event. after_said self.old (Some (the_delivery delivery.station delivery.n)) ≡ Ok (self.new, event))
+            (λ fault. IsFaulty fault (after_said self.old (Some (the_delivery delivery.station delivery.n)))) }
+    {
+        if self.is_ended() {
+            return Err(LineFault::Faulty(Cause::After));
+        }
+        self.take(alloc, delivery.statement())
     }
 
     /// Reads the first words of the next line.

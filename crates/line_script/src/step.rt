@@ -78,7 +78,7 @@ pub(crate) fn side_of(letter: u8) -> Option<EndLetter>
 
 /// Returns a number of one or two digits of which the first isn't 0: 1 to 99.
 #[tactic(auto, unfolding(script_statement::specs::Words::number_of))]
-fn count_of(word: &[u8]) -> Option<u32>
+pub(crate) fn count_of(word: &[u8]) -> Option<u32>
     ensures value { result ≡ count_in word.now }
     ensures number { ForSome result (λ n. (number_of word.now ≡ Some n) × (1 ≤ n) × (n ≤ 99)) }
 {

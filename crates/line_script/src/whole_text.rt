@@ -138,8 +138,8 @@ fn next_line(text: &[u8]) -> Option<(&[u8], &[u8])>
     }
 }
 
-/// Returns the index of the first line feed.
-fn line_end(text: &[u8]) -> Option<usize>
+/// Returns the index of the first line feed, and None exactly if there is none.
+pub fn line_end(text: &[u8]) -> Option<usize>
     ensures { result ≡ position (λ b. b == 10) text.now }
 {
     text.iter().position(|b| *b == b'\n')

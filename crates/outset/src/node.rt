@@ -1,12 +1,11 @@
 //! The node of an end.
 
-ghost use Rattle.std.specs.Prelude.{◌≡◌, IfOk, None};
-ghost use Rattle.data_files.specs.Tables.{faults, fresh};
+ghost use Rattle.std.specs.Prelude.{◌≡◌, IfOk};
 ghost use Rattle.script_parts.specs.Playable.{IsPlanOf};
 ghost use Rattle.outset.specs.Outset.{first_node, first_station, first_tables, with_all};
 
 use df1_base::NoMemory;
-use df1_node::{FileSpec, MakeFault, Node, NodeSetup, Station, Tables};
+use df1_node::{Node, NodeSetup, Station, Tables};
 use script_parts::{EndPlan, WordOf};
 use std::alloc::Global;
 
@@ -41,21 +40,9 @@ fn tables_of(alloc: Global, plan: &EndPlan) -> Result<Tables, NoMemory>
     requires { IsPlanOf plan.now.who plan.now }
     ensures { IfOk result (λ tables. tables ≡ first_tables plan.now) }
 {
-    let mut tables = zero_tables(alloc, plan.files.as_slice())?;
+    let mut tables = Tables::zeroed(alloc, plan.files.as_slice())?;
     set_words(&mut tables, plan.words.as_slice());
     Ok(tables)
-}
-
-/// Makes data tables of these files, all words 0.
-fn zero_tables(alloc: Global, files: &[FileSpec]) -> Result<Tables, NoMemory>
-    requires { faults files.now ≡ None }
-    ensures { IfOk result (λ tables. tables ≡ fresh files.now) }
-{
-    match Tables::new(alloc, files) {
-        Ok(tables) => Ok(tables),
-        Err(MakeFault::NoMemory) => Err(NoMemory),
-        Err(_) => unreachable!(),
-    }
 }
 
 /// Sets words to their first values.

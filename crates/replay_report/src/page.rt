@@ -102,7 +102,13 @@ impl Page {
             | Line::Answered { body: kept, .. }
             | Line::Stray { body: kept, .. }
             | Line::Routed { body: kept, .. } => self.keep(kept),
-            _ => {}
+            Line::Undelivered { .. }
+            | Line::Unanswered { .. }
+            | Line::Repeat { .. }
+            | Line::Full { .. }
+            | Line::Damaged { .. }
+            | Line::Enquiry { .. }
+            | Line::Dropped { .. } => {}
         }
     }
 

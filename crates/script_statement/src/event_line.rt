@@ -110,8 +110,7 @@ fn event_with(
     }
 }
 
-/// Returns the event with a number and an operand: the number is a source at an end of a full-duplex link, and a
-/// station at the master.
+/// Returns the event with an operand and a number: a source at an end of a full-duplex link, a station at the master.
 fn event_to(
     alloc: Global,
     end: Option<EndName>,
@@ -248,8 +247,7 @@ pub(crate) fn source_of(src: u32) -> Option<u8>
     Some(src as u8)
 }
 
-/// Returns a payload, if the bytes are one: 1 to 245 bytes, with bit 6 of CMD clear. Returns None exactly for all other
-/// bytes.
+/// Returns a payload, if the bytes are one: 1 to 245 bytes, with bit 6 of CMD clear. None exactly for all others.
 pub fn payload_of(payload: Bytes) -> Option<Bytes>
     ensures { result ≡ the_payload payload }
 {
@@ -261,7 +259,7 @@ pub fn payload_of(payload: Bytes) -> Option<Bytes>
 }
 
 /// Returns whether a payload has 1 to 245 bytes, and bit 6 of its CMD is clear.
-fn is_payload(payload: &[u8]) -> bool
+pub fn is_payload(payload: &[u8]) -> bool
     ensures { result ≡ the_test payload.now }
 {
     match payload {

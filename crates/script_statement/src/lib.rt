@@ -26,7 +26,7 @@ mod station_command;
 mod who;
 mod words;
 
-pub use event_line::{payload_of, verb_of};
+pub use event_line::{is_payload, payload_of, verb_of};
 pub use half_event::{HalfEvent, Way};
 pub use items::{Bytes, Items};
 pub use setup_statement::SetupStatement;

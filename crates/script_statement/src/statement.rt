@@ -11,7 +11,7 @@ use crate::set_line::set_line;
 use crate::setup_statement::SetupStatement;
 use crate::words::{is, number_of, register_of, within};
 use crate::{Bytes, Who};
-use data_files::FileSpec;
+use data_files::{FileSpec, MAX_ELEMENTS};
 use df1_base::{FileType, NoMemory};
 use df1_check::Check;
 use std::alloc::Global;
@@ -21,9 +21,6 @@ pub const EVENTS: u32 = 4_000_000;
 
 /// The highest file number.
 const FILE_NUMBER: u32 = 999;
-
-/// The most elements of a data file.
-const ELEMENTS: u32 = 1000;
 
 /// The number that no station has: as an address it would be sent as a DLE.
 const NO_STATION: u32 = 16;
@@ -278,7 +275,7 @@ fn file_spec(number: u32, kind: Option<FileType>, count: u32) -> Option<FileSpec
 {
     let number = file_number(number)?;
     let kind = kind?;
-    let count = within(1, ELEMENTS, Some(count))?;
+    let count = within(1, u32::from(MAX_ELEMENTS), Some(count))?;
     Some(FileSpec {
         number,
         kind,

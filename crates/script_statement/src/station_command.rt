@@ -10,9 +10,8 @@ use crate::words::{hex_of, number_of};
 use df1_base::NoMemory;
 use std::alloc::Global;
 
-/// Returns the command that a station issues by the words of a line: `Si T HEX`, where S and T are the numbers of the
-/// station and of the destination, and HEX is the payload, CMD included. Returns None exactly if the words are not of
-/// this form.
+/// Returns the command that a station issues by the words of a line: `Si T HEX`, where S and T are the numbers of both
+/// stations, and HEX is the payload, CMD included. Returns None exactly if the words are not of this form.
 #[tactic(auto, unfolding(crate::specs::Statements::station_issue))]
 pub fn station_issue(alloc: Global, words: &[&[u8]]) -> Result<Option<HalfEvent>, NoMemory>
     ensures { IfOk result (λ event. event ≡ the_command (map (λ x. x.now) words.now)) }
