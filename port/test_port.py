@@ -77,6 +77,12 @@ class Words(unittest.TestCase):
         ]:
             self.assertEqual([it.hex() for it in words.Address(text).writes(values)], [payload])
 
+    def test_many_values_are_written_by_commands_that_fit(self):
+        for text, values, sizes in (("N7:0", 117, [232, 2]), ("F8:0", 59, [232, 4]), ("N999:9000", 116, [232])):
+            payloads = words.Address(text).writes(["1"] * values)
+            self.assertEqual([payload[2] for payload in payloads], sizes)
+            self.assertLessEqual(max(map(len, payloads)), 245)
+
     def test_what_is_no_address_or_no_value_is_told(self):
         for text in ["X7:0", "N7", "T4:1", "T4:1.LEN", "N7:3/16", "F8:0/1", "N7:0,0", "T4:0.ACC,2"]:
             self.assertRaises(words.Wrong, words.Address, text)

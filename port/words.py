@@ -5,8 +5,8 @@ import struct
 from pccc.codes import TYPES, float_text, refusal
 
 ADDRESS = re.compile(r"([A-Z])(\d{1,3}):(\d{1,4})(?:\.([A-Z]+))?(?:/(\d{1,2}))?(?:,(\d{1,4}))?")
-# The most words that one command carries.
-MOST = 122
+# The most words that one command reads, and writes: with the longest address 13 bytes of a payload's 245 aren't data.
+MOST_READ, MOST_WRITTEN = 122, 116
 
 
 class Wrong(Exception):
@@ -44,14 +44,14 @@ class Address:
         """The address of an element, with its sub-element, as a command has it."""
         return _value(self.file) + bytes([self.kind]) + _value(self.element + first) + _value(self.sub or 0)
 
-    def pieces(self):
-        """The first element, counted from the address, and the number of elements of each command that it takes."""
-        each = MOST // self.words()
+    def pieces(self, most):
+        """The first element, counted from the address, and the number of elements of each command that it takes, of so many words at most."""
+        each = most // self.words()
         return [(first, min(each, self.count - first)) for first in range(0, self.count, each)]
 
     def reads(self):
         """The payloads that read it, CMD first."""
-        return [b"\x0f\xa2" + bytes([2 * self.words() * count]) + self.spelled(first) for first, count in self.pieces()]
+        return [b"\x0f\xa2" + bytes([2 * self.words() * count]) + self.spelled(first) for first, count in self.pieces(MOST_READ)]
 
     def values(self, data):
         """The values in the data of the replies, one after another."""
@@ -75,7 +75,8 @@ class Address:
         data = b"".join(map(self._word, texts))
         width = 2 * self.words()
         return [
-            b"\x0f\xaa" + bytes([width * count]) + self.spelled(first) + data[width * first:width * (first + count)] for first, count in self.pieces()
+            b"\x0f\xaa" + bytes([width * count]) + self.spelled(first) + data[width * first:width * (first + count)]
+            for first, count in self.pieces(MOST_WRITTEN)
         ]
 
     def _word(self, text):
