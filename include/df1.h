@@ -254,11 +254,10 @@ typedef struct df1_slave {
 typedef struct df1_node {
     uint8_t address;      /* SRC of its own commands, DST of what is sent to it */
     uint16_t tns;         /* the transaction number of its first command; each further command has the next */
-    uint32_t reply_ticks; /* ticks without a reply, from where its first byte was taken, until a command is unanswered: 1 to
-                             1,000,000. At a full-duplex end and at a
-                             slave each df1_end_tick counts. At a master only one at which it polls counts, so none while it sends
-                             or waits, nor while a message is to be sent. While no station answers its polls, that is one tick
-                             in poll_ticks + 1 */
+    uint32_t reply_ticks; /* ticks without a reply, from where the first byte of the command was taken, until the command is
+                             unanswered: 1 to 1,000,000. At a full-duplex end and at a slave each df1_end_tick counts. At a
+                             master only one at which it polls counts, so none while it sends or waits, nor while a message is
+                             to be sent. While no station answers its polls, that is one tick in poll_ticks + 1 */
     uint32_t room;        /* how many replies may wait to be sent: 2 to 64. A command that comes while so many wait is refused, by a
                            * NAK; a master sends nothing then, and the station sends it again at its next poll. So let it be at
                            * least what the other side may have outstanding */
@@ -284,7 +283,7 @@ enum df1_file_type {
 
 /* A data file. Elements of timers, counters and controls have three words, those of floats two, and all others one. */
 typedef struct df1_file {
-    uint16_t number;
+    uint16_t number;   /* 0 to 65,535; the text of an address and a transfer name only 0 to 999 */
     uint8_t type;      /* enum df1_file_type */
     uint16_t elements; /* 1 to 1,000 */
 } df1_file;
@@ -397,8 +396,7 @@ uint32_t df1_end_body(df1_end *end, uint8_t *into, size_t room, size_t *length);
 uint32_t df1_end_tick(df1_end *end, df1_turn *turn, uint32_t *gone, size_t room);
 
 /* Takes the next byte to send, if there is one. After each byte, each tick and each command that is issued, take bytes until the
- * end has none to send, as df1_end_quiet reports. A master has no byte at a take at which it passes over a reply to a node that
- * isn't a station of its list, and may have more to send then; no news reports that. Codes: DF1_NO_HANDLE. */
+ * end has none to send, as df1_end_quiet reports. Codes: DF1_NO_HANDLE. */
 uint32_t df1_end_take(df1_end *end, df1_out *out);
 
 /* Reports whether the end has nothing to send, so that df1_end_take has no byte. Codes: DF1_NO_HANDLE. */
@@ -445,8 +443,7 @@ typedef struct df1_given {
 } df1_given;
 
 /* Takes the next bytes to send into the `room` bytes at `into`: as many as there is room for, at most 512, up to the first that
- * ends a frame or message. A master's run also ends, perhaps without a byte, when it passes over a reply, as df1_end_take says: so
- * take until `quiet` is set. If `room` is 0, no byte is taken. Codes: DF1_NO_HANDLE. */
+ * ends a frame or message. Take until `quiet` is set. If `room` is 0, no byte is taken. Codes: DF1_NO_HANDLE. */
 uint32_t df1_end_take_bytes(df1_end *end, uint8_t *into, size_t room, df1_given *given);
 
 /* ---- Commands that the end issues ---- */
@@ -543,10 +540,10 @@ uint32_t df1_end_set_words(df1_end *end, uint16_t file, uint32_t first, const ui
 uint32_t df1_end_changed(df1_end *end, uint16_t file, uint32_t first, uint16_t *seen, size_t count, size_t *place);
 
 /* Locks the data files of these numbers, and unlocks all others: from now on no command of the line may write a locked file. By
- * default none is locked. A command that would write a locked file is refused with STS F0 and EXT STS 0B (access denied), an
- * unprotected write with STS 50 (memory protected), and changes nothing. df1_end_set_word and df1_end_set_words still write it.
- * Codes, with which nothing is changed: DF1_NO_HANDLE; DF1_TOO_MANY_FILES for over 256 numbers; DF1_NO_WORD if a number is no
- * file's. */
+ * default none is locked. A write whose fields can be read and that names a locked file is refused before any other test, with STS
+ * F0 and EXT STS 0B (access denied), an unprotected write with STS 50 (memory protected), and changes nothing. df1_end_set_word
+ * and df1_end_set_words still write it. Codes, with which nothing is changed: DF1_NO_HANDLE; DF1_TOO_MANY_FILES for over 256
+ * numbers; DF1_NO_WORD if a number is no file's. */
 uint32_t df1_end_lock(df1_end *end, const uint16_t *files, size_t count);
 
 /* Reports how many data files the end has. Codes: DF1_NO_HANDLE. */
@@ -594,13 +591,13 @@ uint32_t df1_address_text(const df1_address *address, char *into, size_t room, s
 
 /* The commands that read and write words of data files. */
 enum df1_command {
-    DF1_WORD_RANGE = 0, /* 0F 01 and 0F 00: words of a PLC-5; 122 can be read and 118 written, fewer with a long address */
+    DF1_WORD_RANGE = 0, /* 0F 01 and 0F 00: words of a PLC-5; 122 can be read; 118 can be written, fewer with a long address */
     DF1_TYPED = 1,      /* 0F 68 and 0F 67: elements of a PLC-5, not of a Timer, Counter or Control file, without a sub-element;
-                         * 120 of one word or 59 floats can be read, and 116 of one word or 57 floats written, fewer with a long
-                         * address */
-    DF1_LOGICAL_2 = 2,  /* 0F A1 and 0F A9: words of an SLC, without a sub-element; 122 can be read and 119 written, fewer with a
+                         * 120 of one word or 59 floats can be read; 116 of one word or 57 floats can be written, fewer with a
                          * long address */
-    DF1_LOGICAL_3 = 3   /* 0F A2 and 0F AA: words of an SLC; 122 can be read and 119 written, fewer with a long address */
+    DF1_LOGICAL_2 = 2,  /* 0F A1 and 0F A9: words of an SLC, without a sub-element; 122 can be read; 119 can be written, fewer
+                         * with a long address */
+    DF1_LOGICAL_3 = 3   /* 0F A2 and 0F AA: words of an SLC; 122 can be read; 119 can be written, fewer with a long address */
 };
 
 /* Puts the payload that reads `count` words from an address on, with a typed command `count` elements, into the `room` bytes at
@@ -692,7 +689,8 @@ typedef struct df1_counts {
     uint64_t enquiries;  /* DLE ENQ */
     uint64_t sent;       /* frames or messages that were sent, each as often as it was */
     uint64_t asked;      /* DLE ENQ by which the end asked for a response */
-    uint64_t given_up;   /* messages of the end that were given up */
+    uint64_t given_up;   /* messages of the end that were given up; not one that is given up at a NAK when its command has its
+                          * outcome already */
     uint64_t unanswered; /* commands of the end to which no reply came in time */
 } df1_counts;
 
