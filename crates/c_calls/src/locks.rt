@@ -5,10 +5,8 @@ ghost use Rattle.c_calls.specs.Behind.{code_at, with_change};
 ghost use Rattle.c_calls.specs.Locks.{files_locked, lacks_file, lock_code};
 
 use c_ends::{Code, Held};
+use data_files::MAX_FILES;
 use df1_node::Node;
-
-/// The maximum number of data files of an end.
-const FILES: usize = 256;
 
 /// Locks these data files, and unlocks all others: from now on a command of the line that would write a locked file is
 /// refused. Returns `TooManyFiles` for over 256 numbers and `NoWord` if one is no file's; then nothing changes.
@@ -28,7 +26,7 @@ fn lock_at(node: &mut Node, files: &[u16]) -> Code
     ensures code { result ≡ lock_code node.old files.now }
     ensures after { node.new ≡ files_locked files.now node.old }
 {
-    if files.len() > FILES {
+    if files.len() > MAX_FILES {
         return Code::TooManyFiles;
     }
     if lacks_file(node, files) {

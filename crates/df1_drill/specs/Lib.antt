@@ -1,3 +1,4 @@
 pub mod Drill
+pub mod Storm
 pub mod Tally
 pub mod Telling

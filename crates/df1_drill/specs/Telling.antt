@@ -2,7 +2,7 @@
 use Rattle.std.specs.Prelude.{◌≡◌, ℕ, List, Option, Result, Ok, Err}
 use Rattle.df1_base.specs.Outside.{Rose, Put, WroteLess}
 use Rattle.script_parts.specs.declared.script.Script.{Script}
-use Rattle.recovery_laws.specs.Storm.{storm_script}
+use Rattle.df1_drill.specs.Storm.{storm_script}
 use Rattle.df1_drill.specs.Drill.{drill_script}
 use Rattle.df1_drill.specs.Tally.{line_of, run_tally}
 use Rattle.df1_drill.specs.declared.telling.DrillFault.{DrillFault}

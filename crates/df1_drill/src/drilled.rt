@@ -11,7 +11,7 @@ use crate::tally::{answered, damaged, enquiries, executed, issued, repeats};
 use arrayvec::ArrayVec;
 use df1_base::{NoMemory, append};
 use df1_check::crc;
-use recovery_laws::replay_recovering;
+use line_world::replay;
 use replay_report::pair;
 use round_scripts::MOST_ROUNDS;
 use script_parts::Script;
@@ -55,7 +55,7 @@ pub(crate) fn run_tally(alloc: Global, script: &Script) -> Result<Drilled, NoMem
     requires { CanBePlayed script.now }
     ensures { IfOk result (λ d. d ≡ the_tally script.now) }
 {
-    let record = replay_recovering(alloc, script)?;
+    let record = replay(alloc, script)?;
     let report = text_of(alloc, &record)?;
     let lines = record.lines.as_slice();
     Ok(Drilled {

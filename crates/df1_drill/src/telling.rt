@@ -3,14 +3,14 @@ ghost use Rattle.std.specs.Prelude.{◌≡◌, ◌≤◌};
 ghost use Rattle.script_parts.specs.HalfPlayable.{CanBePlayed};
 ghost use Rattle.line_world.specs.Recovery.{Recovers};
 ghost use Rattle.line_world.specs.Runs.{record_of};
-ghost use Rattle.recovery_laws.specs.Storm.{storm_script};
+ghost use Rattle.df1_drill.specs.Storm.{storm_script};
 ghost use Rattle.df1_drill.specs.Drill.{drill_script as the_drill};
 ghost use Rattle.df1_drill.specs.Telling.{LineEnd, drill_line, run_line, storm_line};
 
 use crate::drilled::run_tally;
 use crate::script::drill_script;
+use crate::storm_script::storm;
 use df1_base::{Failed, NoMemory, Sink, write_all};
-use recovery_laws::storm;
 use round_scripts::MOST_ROUNDS;
 use script_parts::Script;
 use std::alloc::Global;

@@ -23,7 +23,7 @@ ghost use Rattle.df1_tool.specs.Served.{ServiceRun};
 ghost use Rattle.df1_tool.specs.Captures.{CheckRun, DissectRun};
 ghost use Rattle.line_world.specs.Recovery.{Recovers};
 ghost use Rattle.line_world.specs.Runs.{record_of};
-ghost use Rattle.recovery_laws.specs.Storm.{storm_script};
+ghost use Rattle.df1_drill.specs.Storm.{storm_script};
 ghost use Rattle.df1_drill.specs.Drill.{drill_script};
 ghost use Rattle.df1_drill.specs.Telling.{drill_line, storm_line};
 ghost use Rattle.df1_tool.specs.Drilling.{LineRun};

@@ -4,9 +4,8 @@ ghost use Rattle.script_parts.specs.HalfPlayable.{CanBePlayed};
 
 use df1_base::Collected;
 use df1_check::crc;
-use df1_drill::{MOST_ROUNDS, drill, drill_script};
+use df1_drill::{MOST_ROUNDS, drill, drill_script, storm};
 use line_replay::{read_script, replay};
-use recovery_laws::storm;
 use replay_report::{pair, print};
 use script_parts::Script;
 use std::alloc::{AllocError, Global};

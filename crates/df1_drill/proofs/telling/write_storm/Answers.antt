@@ -1,5 +1,5 @@
-use Rattle.recovery_laws.specs.Storm.{storm_script}
-use Rattle.recovery_laws.proofs.Playing.{storm-playable}
+use Rattle.df1_drill.specs.Storm.{storm_script}
+use Rattle.df1_drill.proofs.StormPlaying.{storm-playable}
 use Rattle.line_world.proofs.EitherMode.{all-recover}
 use Rattle.df1_drill.proofs.telling.write_storm.Goals as goal
 

@@ -6,7 +6,7 @@ use Rattle.script_parts.specs.Playable.{IsBetween, count_of}
 use Rattle.script_parts.specs.HalfPlayable.{CanBePlayed}
 use Rattle.round_scripts.specs.Rounds.{command_of, parts, undisturbed}
 use Rattle.round_scripts.proofs.Playing.{HasCommands, all-possible, both, counts, one-command, parts-none, parts-sum, rounds-playable}
-use Rattle.recovery_laws.specs.Storm.{hit_of, hits_of, round_of, storm_script}
+use Rattle.df1_drill.specs.Storm.{hit_of, hits_of, round_of, storm_script}
 
 -- ---- events that may happen
 

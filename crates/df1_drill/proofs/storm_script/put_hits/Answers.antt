@@ -3,8 +3,8 @@ use Rattle.std.proofs.Common.{◌≡◌, ◌∙◌, ◌+◌, ◌-◌, ◌++◌, 
 use Rattle.script_parts.specs.declared.script.Event.{Event}
 use Rattle.round_scripts.specs.Rounds.{parts}
 use Rattle.round_scripts.proofs.Parts.{parts-next}
-use Rattle.recovery_laws.specs.Storm.{hit_of}
-use Rattle.recovery_laws.proofs.storm_script.put_hits.Goals as goal
+use Rattle.df1_drill.specs.Storm.{hit_of}
+use Rattle.df1_drill.proofs.storm_script.put_hits.Goals as goal
 
 pub loop-hit-preserved : goal.loop-hit-preserved
 loop-hit-preserved c =

@@ -5,9 +5,9 @@ use Rattle.script_parts.specs.declared.script.Script.{Script}
 use Rattle.script_parts.specs.HalfPlayable.{CanBePlayed}
 use Rattle.round_scripts.specs.Rounds.{parts, script_of, setup}
 use Rattle.round_scripts.proofs.Parts.{parts-next}
-use Rattle.recovery_laws.specs.Storm.{round_of, storm_script}
-use Rattle.recovery_laws.proofs.Playing.{storm-playable}
-use Rattle.recovery_laws.proofs.storm_script.storm.Goals as goal
+use Rattle.df1_drill.specs.Storm.{round_of, storm_script}
+use Rattle.df1_drill.proofs.StormPlaying.{storm-playable}
+use Rattle.df1_drill.proofs.storm_script.storm.Goals as goal
 
 pub loop-round-preserved : goal.loop-round-preserved
 loop-round-preserved c =

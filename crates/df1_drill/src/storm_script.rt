@@ -2,7 +2,7 @@
 //! in one of the first four bytes of the body, before one arrives whole.
 ghost use Rattle.std.specs.Prelude.{◌≡◌, ◌≤◌, ◌<◌, ◌^◌, ◌++◌, ℕ, IfOk, OnOk};
 ghost use Rattle.script_parts.specs.HalfPlayable.{CanBePlayed};
-ghost use Rattle.recovery_laws.specs.Storm.{hit_of, hits_of, round_of, storm_script};
+ghost use Rattle.df1_drill.specs.Storm.{hit_of, hits_of, round_of, storm_script};
 
 use df1_base::NoMemory;
 use round_scripts::{
