@@ -6,6 +6,8 @@ mod addresses;
 #[cfg(test)]
 mod envelopes;
 #[cfg(test)]
+mod equal;
+#[cfg(test)]
 mod plc_orders;
 #[cfg(test)]
 mod slc_orders;

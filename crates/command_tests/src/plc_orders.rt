@@ -1,4 +1,5 @@
 //! Tests of orders of known payloads on known tables: their decoding and execution.
+use crate::equal::is;
 use arrayvec::ArrayVec;
 use data_files::{FileSpec, MakeFault, Tables};
 use df1_base::{Code, FileType};
@@ -100,11 +101,12 @@ fn orders_give_their_data(rt: HostRuntime) -> Result<(), Fail> {
     let mut tables = worked_tables(rt.alloc())?;
     for (cmd, payload, data) in rows {
         let mut out = ArrayVec::new();
-        assert_eq!(rt;
+        is(
+            &rt,
             answer(&mut tables, COMPAT, (cmd, payload), &mut out),
-            Code::Done
+            Code::Done,
         );
-        assert_eq!(rt; out.as_slice(), data);
+        is(&rt, out.as_slice(), data);
     }
     Ok(())
 }
@@ -193,12 +195,13 @@ fn orders_change_their_words(rt: HostRuntime) -> Result<(), Fail> {
     for (cmd, payload, file, index, word) in rows {
         let mut tables = worked_tables(rt.alloc())?;
         let mut out = ArrayVec::new();
-        assert_eq!(rt;
+        is(
+            &rt,
             answer(&mut tables, COMPAT, (cmd, payload), &mut out),
-            Code::Done
+            Code::Done,
         );
-        assert!(rt; out.is_empty());
-        assert_eq!(rt; tables.word(file, index), Some(word));
+        is(&rt, out.is_empty(), true);
+        is(&rt, tables.word(file, index), Some(word));
     }
     Ok(())
 }
@@ -359,16 +362,17 @@ fn the_first_test_that_fails_refuses(rt: HostRuntime) -> Result<(), Fail> {
     let before = tables.flat().to_vec(rt.alloc())?;
     for (cmd, payload, code) in UNREAD.iter().chain(&REFUSED) {
         let mut out = ArrayVec::new();
-        assert_eq!(rt;
+        is(
+            &rt,
             answer(&mut tables, COMPAT, (*cmd, payload), &mut out),
-            *code
+            *code,
         );
-        assert!(rt; out.is_empty());
-        assert_eq!(rt; tables.flat(), before.as_slice());
+        is(&rt, out.is_empty(), true);
+        is(&rt, tables.flat(), before.as_slice());
     }
     for (cmd, payload, code) in UNREAD {
         assert!(rt; payload.len() <= 244);
-        assert_eq!(rt; read_plc(cmd, payload).err(), Some(code));
+        is(&rt, read_plc(cmd, payload).err(), Some(code));
     }
     Ok(())
 }
@@ -390,9 +394,13 @@ fn bytes_are_of_the_compatibility_file(rt: HostRuntime) -> Result<(), Fail> {
     let mut tables = worked_tables(rt.alloc())?;
     for (compat, cmd, payload, code) in rows {
         let mut out = ArrayVec::new();
-        assert_eq!(rt; answer(&mut tables, compat, (cmd, payload), &mut out), code);
+        is(
+            &rt,
+            answer(&mut tables, compat, (cmd, payload), &mut out),
+            code,
+        );
     }
-    assert_eq!(rt; tables.word(10, 999), Some(0xABCD));
+    is(&rt, tables.word(10, 999), Some(0xABCD));
     Ok(())
 }
 
@@ -409,14 +417,15 @@ fn a_message_has_room_for_34_sets(rt: HostRuntime) -> Result<(), Fail> {
     let PlcOrder::Change(ref sets) = order else {
         return Err(Fail::from("another order"));
     };
-    assert_eq!(rt; sets.as_slice().len(), 34);
+    is(&rt, sets.as_slice().len(), 34);
     let mut tables = worked_tables(rt.alloc())?;
     let mut out = ArrayVec::new();
-    assert_eq!(rt;
+    is(
+        &rt,
         do_plc(&mut tables, COMPAT, &[], &order, &mut out),
-        Code::Done
+        Code::Done,
     );
-    assert_eq!(rt; tables.word(7, 0), Some(0x12FF));
-    assert_eq!(rt; tables.word(7, 4), Some(0x0003));
+    is(&rt, tables.word(7, 0), Some(0x12FF));
+    is(&rt, tables.word(7, 4), Some(0x0003));
     Ok(())
 }

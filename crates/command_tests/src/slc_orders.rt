@@ -1,4 +1,5 @@
 //! Tests of orders and their effect on worked tables.
+use crate::equal::is;
 use arrayvec::ArrayVec;
 use data_files::{FileSpec, MakeFault, Tables};
 use df1_base::{Code, FileType};
@@ -65,14 +66,15 @@ fn reads_give_the_words(rt: HostRuntime) -> Result<(), Fail> {
     let mut tables = worked_tables(rt.alloc())?;
     let mut out = ArrayVec::new();
     for (payload, data) in rows {
-        assert_eq!(rt; answer(&mut tables, payload, &mut out), Code::Done);
-        assert_eq!(rt; out.as_slice(), data);
+        is(&rt, answer(&mut tables, payload, &mut out), Code::Done);
+        is(&rt, out.as_slice(), data);
     }
-    assert_eq!(rt;
+    is(
+        &rt,
         answer(&mut tables, &[0xA2, 244, 10, 0x89, 0, 0], &mut out),
-        Code::Done
+        Code::Done,
     );
-    assert_eq!(rt; out.len(), 244);
+    is(&rt, out.len(), 244);
     Ok(())
 }
 
@@ -99,11 +101,11 @@ fn writes_change_their_words(rt: HostRuntime) -> Result<(), Fail> {
     let mut tables = worked_tables(rt.alloc())?;
     let mut out = ArrayVec::new();
     for (payload, file, index, word) in rows {
-        assert_eq!(rt; answer(&mut tables, payload, &mut out), Code::Done);
-        assert!(rt; out.is_empty());
-        assert_eq!(rt; tables.word(file, index), Some(word));
+        is(&rt, answer(&mut tables, payload, &mut out), Code::Done);
+        is(&rt, out.is_empty(), true);
+        is(&rt, tables.word(file, index), Some(word));
     }
-    assert_eq!(rt; tables.word(7, 1), Some(0x5678));
+    is(&rt, tables.word(7, 1), Some(0x5678));
     Ok(())
 }
 
@@ -154,9 +156,9 @@ fn the_first_test_that_fails_refuses(rt: HostRuntime) -> Result<(), Fail> {
     let before = tables.flat().to_vec(rt.alloc())?;
     for (payload, code) in rows {
         let mut out = ArrayVec::new();
-        assert_eq!(rt; answer(&mut tables, payload, &mut out), code);
-        assert!(rt; out.is_empty());
-        assert_eq!(rt; tables.flat(), before.as_slice());
+        is(&rt, answer(&mut tables, payload, &mut out), code);
+        is(&rt, out.is_empty(), true);
+        is(&rt, tables.flat(), before.as_slice());
     }
     Ok(())
 }
@@ -165,11 +167,11 @@ fn the_first_test_that_fails_refuses(rt: HostRuntime) -> Result<(), Fail> {
 fn a_masked_write_is_read_with_its_mask(rt: HostRuntime) -> Result<(), Fail> {
     let payload = [0xAB, 2, 7, 0x89, 0, 0, 0xFF, 0x00, 0xCD, 0xAB];
     let order = read_slc(&payload).ok().ok_or("no order")?;
-    assert_eq!(rt; order.fnc, SlcFnc::Masked);
-    assert_eq!(rt; order.mask, 0x00FF);
-    assert_eq!(rt; order.bytes, [0xCD, 0xAB].as_slice());
+    is(&rt, order.fnc, SlcFnc::Masked);
+    is(&rt, order.mask, 0x00FF);
+    is(&rt, order.bytes, [0xCD, 0xAB].as_slice());
     let plain = read_slc(&[0xA2, 2, 7, 0x89, 0, 0]).ok().ok_or("no order")?;
-    assert_eq!(rt; plain.mask, 0xFFFF);
-    assert!(rt; plain.bytes.is_empty());
+    is(&rt, plain.mask, 0xFFFF);
+    is(&rt, plain.bytes.is_empty(), true);
     Ok(())
 }

@@ -1,4 +1,5 @@
 //! Tests of worked tables.
+use crate::equal::is;
 use data_files::{FileSpec, MakeFault, Tables};
 use df1_base::FileType;
 use std::test::Fail;
@@ -35,7 +36,7 @@ fn tables_are_refused_at_their_first_fault(rt: HostRuntime) {
         (&[INTEGERS, FLOATS, none, INTEGERS], MakeFault::Empty(7)),
     ];
     for (specs, fault) in refusals {
-        assert_eq!(rt; Tables::new(rt.alloc(), specs).err(), Some(fault));
+        is(&rt, Tables::new(rt.alloc(), specs).err(), Some(fault));
     }
 }
 
@@ -47,30 +48,30 @@ fn words_are_read_and_set_where_they_are(rt: HostRuntime) -> Result<(), Fail> {
         count: 2,
     };
     let mut tables = Tables::new(rt.alloc(), &[INTEGERS, timers])?;
-    assert_eq!(rt; tables.files(), 2);
-    assert_eq!(rt; tables.spec_at(1), Some(timers));
-    assert_eq!(rt; tables.spec_at(2), None);
-    assert_eq!(rt; tables.spec(9), None);
-    assert!(rt; tables.set(4, 5, 0xABCD));
-    assert!(rt; !tables.set(4, 6, 1));
-    assert_eq!(rt; tables.word(4, 5), Some(0xABCD));
-    assert_eq!(rt; tables.word(7, 5), Some(0));
-    assert_eq!(rt; tables.word(7, 16), None);
+    is(&rt, tables.files(), 2);
+    is(&rt, tables.spec_at(1), Some(timers));
+    is(&rt, tables.spec_at(2), None);
+    is(&rt, tables.spec(9), None);
+    is(&rt, tables.set(4, 5, 0xABCD), true);
+    is(&rt, tables.set(4, 6, 1), false);
+    is(&rt, tables.word(4, 5), Some(0xABCD));
+    is(&rt, tables.word(7, 5), Some(0));
+    is(&rt, tables.word(7, 16), None);
     Ok(())
 }
 
 #[test]
 fn words_lie_file_after_file(rt: HostRuntime) -> Result<(), Fail> {
     let mut tables = Tables::new(rt.alloc(), &[INTEGERS, FLOATS])?;
-    assert_eq!(rt; tables.start(8), Some(16));
-    assert_eq!(rt; tables.start(9), None);
-    assert_eq!(rt; tables.flat().len(), 20);
-    assert!(rt; tables.set_words(8, 2, &[0x1234, 0x5678]));
-    assert!(rt; !tables.set_words(8, 3, &[1, 2]));
-    assert!(rt; !tables.set_words(8, u32::MAX, &[1, 2]));
-    assert_eq!(rt; &tables.flat()[18..], [0x1234u16, 0x5678].as_slice());
+    is(&rt, tables.start(8), Some(16));
+    is(&rt, tables.start(9), None);
+    is(&rt, tables.flat().len(), 20);
+    is(&rt, tables.set_words(8, 2, &[0x1234, 0x5678]), true);
+    is(&rt, tables.set_words(8, 3, &[1, 2]), false);
+    is(&rt, tables.set_words(8, u32::MAX, &[1, 2]), false);
+    is(&rt, &tables.flat()[18..], [0x1234u16, 0x5678].as_slice());
     let last = tables.range(8, 2, 2).unwrap_or(&[]);
-    assert_eq!(rt; last, [0x1234u16, 0x5678].as_slice());
+    is(&rt, last, [0x1234u16, 0x5678].as_slice());
     let ranges = [
         (8, 2, 2, Some(2)),
         (8, 3, 2, None),
@@ -81,7 +82,7 @@ fn words_lie_file_after_file(rt: HostRuntime) -> Result<(), Fail> {
     ];
     for (number, first, count, size) in ranges {
         let part = tables.range(number, first, count);
-        assert_eq!(rt; part.map(|words| words.len()), size);
+        is(&rt, part.map(|words| words.len()), size);
     }
     Ok(())
 }

@@ -1,4 +1,5 @@
 //! Tests of one end with a host that has one message to send and accepts every message.
+use crate::equal::is;
 use arrayvec::ArrayVec;
 use df1_base::{Act, Did, Fate, Host, News, Turn};
 use df1_check::Check;
@@ -151,9 +152,9 @@ pub(crate) fn end_with_embedding() -> End<OneCommand> {
 /// Checks that the end sends these bytes.
 fn gives(rt: &impl Abort, end: &mut End<OneCommand>, bytes: &[u8]) {
     for b in bytes {
-        assert!(rt; !end.quiet());
+        is(rt, end.quiet(), false);
         let given = end.take().map(|out| out.byte);
-        assert_eq!(rt; given, Some(*b));
+        is(rt, given, Some(*b));
     }
 }
 
@@ -170,32 +171,34 @@ fn hears(end: &mut End<OneCommand>, bytes: &[u8]) -> (Act, Option<Did>, News) {
 #[test]
 fn an_ordinary_exchange(rt: HostRuntime) {
     let mut end = end_with_embedding();
-    assert_eq!(rt; end.sending().len(), 0);
+    is(&rt, end.sending().len(), 0);
     gives(&rt, &mut end, &COMMAND_FRAME);
-    assert!(rt; end.quiet());
-    assert_eq!(rt; end.take(), None);
-    assert_eq!(rt; end.sending(), COMMAND.as_slice());
-    assert_eq!(rt;
+    is(&rt, end.quiet(), true);
+    is(&rt, end.take(), None);
+    is(&rt, end.sending(), COMMAND.as_slice());
+    is(
+        &rt,
         hears(&mut end, &[0x10, 0x06]),
-        (Act::PeerAck, None, News::Nothing)
+        (Act::PeerAck, None, News::Nothing),
     );
-    assert_eq!(rt;
+    is(
+        &rt,
         hears(&mut end, &REPLY_FRAME),
-        (Act::Accept, Some(Did::Answered(1)), News::Nothing)
+        (Act::Accept, Some(Did::Answered(1)), News::Nothing),
     );
-    assert_eq!(rt; end.body().len(), 6);
+    is(&rt, end.body().len(), 6);
     gives(&rt, &mut end, &[0x10, 0x06]);
-    assert!(rt; end.quiet());
+    is(&rt, end.quiet(), true);
 }
 
 #[test]
 fn a_response_stands_in_the_frame(rt: HostRuntime) {
     let mut end = end_with_embedding();
     gives(&rt, &mut end, &COMMAND_FRAME[..8]);
-    assert_eq!(rt; hears(&mut end, &REPLY_FRAME).0, Act::Accept);
+    is(&rt, hears(&mut end, &REPLY_FRAME).0, Act::Accept);
     gives(&rt, &mut end, &[0x10, 0x06]);
     gives(&rt, &mut end, &COMMAND_FRAME[8..]);
-    assert_eq!(rt; hears(&mut end, &REPLY_FRAME).0, Act::Repeat);
+    is(&rt, hears(&mut end, &REPLY_FRAME).0, Act::Repeat);
     gives(&rt, &mut end, &[0x10, 0x06]);
 }
 
@@ -204,11 +207,11 @@ fn a_wish_for_an_enq_is_dropped_at_an_ack(rt: HostRuntime) {
     let mut gone = ArrayVec::new();
     let mut end = end_with_embedding();
     gives(&rt, &mut end, &COMMAND_FRAME);
-    assert_eq!(rt; end.on_tick(&mut gone), Turn::Still);
-    assert_eq!(rt; end.on_tick(&mut gone), Turn::Ask);
-    assert!(rt; !end.quiet());
-    assert_eq!(rt; hears(&mut end, &[0x10, 0x06]).0, Act::PeerAck);
-    assert!(rt; end.quiet());
+    is(&rt, end.on_tick(&mut gone), Turn::Still);
+    is(&rt, end.on_tick(&mut gone), Turn::Ask);
+    is(&rt, end.quiet(), false);
+    is(&rt, hears(&mut end, &[0x10, 0x06]).0, Act::PeerAck);
+    is(&rt, end.quiet(), true);
 }
 
 #[test]
@@ -216,15 +219,19 @@ fn a_lost_answer_is_asked_for_and_a_nak_sends_again(rt: HostRuntime) {
     let mut gone = ArrayVec::new();
     let mut end = end_with_embedding();
     gives(&rt, &mut end, &COMMAND_FRAME);
-    assert_eq!(rt; end.on_tick(&mut gone), Turn::Still);
-    assert_eq!(rt; end.on_tick(&mut gone), Turn::Ask);
+    is(&rt, end.on_tick(&mut gone), Turn::Still);
+    is(&rt, end.on_tick(&mut gone), Turn::Ask);
     gives(&rt, &mut end, &[0x10, 0x05]);
-    assert_eq!(rt; hears(&mut end, &[0x10, 0x15]).0, Act::PeerNak);
+    is(&rt, hears(&mut end, &[0x10, 0x15]).0, Act::PeerNak);
     gives(&rt, &mut end, &COMMAND_FRAME);
-    assert_eq!(rt; end.on_tick(&mut gone), Turn::Still);
-    assert_eq!(rt; end.on_tick(&mut gone), Turn::Failed(News::Undelivered(1)));
-    assert!(rt; end.quiet());
+    is(&rt, end.on_tick(&mut gone), Turn::Still);
+    is(
+        &rt,
+        end.on_tick(&mut gone),
+        Turn::Failed(News::Undelivered(1)),
+    );
+    is(&rt, end.quiet(), true);
     end.host_mut().waits = true;
-    assert!(rt; end.host().waits);
+    is(&rt, end.host().waits, true);
     gives(&rt, &mut end, &COMMAND_FRAME);
 }

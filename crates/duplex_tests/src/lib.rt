@@ -4,6 +4,8 @@
 #[cfg(test)]
 mod end;
 #[cfg(test)]
+mod equal;
+#[cfg(test)]
 mod receiver;
 #[cfg(test)]
 mod responses;

@@ -1,4 +1,5 @@
 //! Tests of a receiver's acts on the items that it decodes, beside a host with and without room.
+use crate::equal::is;
 use arrayvec::ArrayVec;
 use df1_base::{Act, Did, Fate, Host, News};
 use df1_check::Check;
@@ -120,12 +121,16 @@ fn a_refused_message_is_accepted_once_there_is_room(rt: HostRuntime) {
     let full = Gate { open: false };
     let open = Gate { open: true };
     let mut receiver = Receiver::new(Check::Bcc);
-    assert_eq!(rt; last_act(&mut receiver, &FRAME, &full), Act::Refuse);
-    assert_eq!(rt; receiver.body(), BODY.as_slice());
-    assert_eq!(rt; last_act(&mut receiver, &FRAME, &open), Act::Accept);
-    assert_eq!(rt; receiver.body(), BODY.as_slice());
-    assert_eq!(rt; last_act(&mut receiver, &[0x10, 0x05], &open), Act::PeerEnq);
-    assert_eq!(rt; last_act(&mut receiver, &FRAME, &full), Act::Repeat);
+    is(&rt, last_act(&mut receiver, &FRAME, &full), Act::Refuse);
+    is(&rt, receiver.body(), BODY.as_slice());
+    is(&rt, last_act(&mut receiver, &FRAME, &open), Act::Accept);
+    is(&rt, receiver.body(), BODY.as_slice());
+    is(
+        &rt,
+        last_act(&mut receiver, &[0x10, 0x05], &open),
+        Act::PeerEnq,
+    );
+    is(&rt, last_act(&mut receiver, &FRAME, &full), Act::Repeat);
 }
 
 #[test]
@@ -144,6 +149,6 @@ fn everything_else_has_its_act(rt: HostRuntime) {
     let open = Gate { open: true };
     for (bytes, act) in rows {
         let mut receiver = Receiver::new(Check::Bcc);
-        assert_eq!(rt; last_act(&mut receiver, bytes, &open), act);
+        is(&rt, last_act(&mut receiver, bytes, &open), act);
     }
 }

@@ -1,4 +1,5 @@
 //! Tests of which byte is sent next, with responses inside frames and without.
+use crate::equal::is;
 use df1_base::{Out, Resp};
 use df1_check::Check;
 use embedded_response::Mouth;
@@ -18,14 +19,14 @@ fn out(byte: u8, last: bool, body: bool) -> Option<Out> {
 // Takes these bytes of the body.
 fn take_body(rt: &impl Abort, mouth: &mut Mouth, bytes: &[u8]) {
     for b in bytes {
-        assert!(rt; mouth.take() == out(*b, false, true));
+        is(rt, mouth.take(), out(*b, false, true));
     }
 }
 
 // Takes these bytes without marks.
 fn take_plain(rt: &impl Abort, mouth: &mut Mouth, bytes: &[u8]) {
     for b in bytes {
-        assert!(rt; mouth.take() == out(*b, false, false));
+        is(rt, mouth.take(), out(*b, false, false));
     }
 }
 
@@ -39,10 +40,10 @@ fn a_response_stands_in_the_frame_with_embedding(rt: HostRuntime) {
     take_plain(&rt, &mut mouth, &[0x10, 0x06]);
     take_body(&rt, &mut mouth, &[0x06, 0x00, 0x01, 0x00, 0x00, 0x55]);
     take_plain(&rt, &mut mouth, &[0x10, 0x03]);
-    assert!(rt; mouth.in_frame());
-    assert!(rt; mouth.take() == out(0xA3, true, false));
-    assert!(rt; mouth.idle());
-    assert!(rt; mouth.take() == None);
+    is(&rt, mouth.in_frame(), true);
+    is(&rt, mouth.take(), out(0xA3, true, false));
+    is(&rt, mouth.idle(), true);
+    is(&rt, mouth.take(), None);
 }
 
 #[test]
@@ -54,10 +55,10 @@ fn a_response_waits_for_the_frames_end_without_embedding(rt: HostRuntime) {
     mouth.offer(Resp::Ack);
     take_body(&rt, &mut mouth, &[0x06, 0x00, 0x01, 0x00, 0x00, 0x55]);
     take_plain(&rt, &mut mouth, &[0x10, 0x03]);
-    assert!(rt; mouth.take() == out(0xA3, true, false));
-    assert!(rt; !mouth.in_frame());
+    is(&rt, mouth.take(), out(0xA3, true, false));
+    is(&rt, mouth.in_frame(), false);
     take_plain(&rt, &mut mouth, &[0x10, 0x06]);
-    assert!(rt; mouth.idle());
+    is(&rt, mouth.idle(), true);
 }
 
 #[test]
@@ -71,5 +72,5 @@ fn an_enq_comes_after_the_last_response(rt: HostRuntime) {
     mouth.ask();
     mouth.unask();
     take_plain(&rt, &mut mouth, &[0x10, 0x15]);
-    assert!(rt; mouth.idle());
+    is(&rt, mouth.idle(), true);
 }

@@ -1,4 +1,5 @@
 //! Tests of messages that are delivered and given up, at small limits.
+use crate::equal::is;
 use df1_base::Fate;
 use duplex_sender::{Limits, Phase, SendTurn, Sender};
 
@@ -13,16 +14,16 @@ fn a_message_is_asked_about_once_and_then_given_up(rt: HostRuntime) {
     });
     sender.load(&BODY);
     sender.sent_last();
-    assert_eq!(rt; sender.on_tick(), SendTurn::Still);
-    assert_eq!(rt; sender.on_tick(), SendTurn::Ask);
-    assert_eq!(rt; sender.on_tick(), SendTurn::Still);
-    assert_eq!(rt; sender.on_tick(), SendTurn::Failed);
-    assert_eq!(rt; sender.phase(), Phase::Idle);
+    is(&rt, sender.on_tick(), SendTurn::Still);
+    is(&rt, sender.on_tick(), SendTurn::Ask);
+    is(&rt, sender.on_tick(), SendTurn::Still);
+    is(&rt, sender.on_tick(), SendTurn::Failed);
+    is(&rt, sender.phase(), Phase::Idle);
     sender.load(&BODY);
     sender.sent_last();
-    assert_eq!(rt; sender.on_nak(), None);
+    is(&rt, sender.on_nak(), None);
     sender.sent_last();
-    assert_eq!(rt; sender.on_nak(), Some(Fate::Undelivered));
+    is(&rt, sender.on_nak(), Some(Fate::Undelivered));
 }
 
 #[test]
@@ -33,14 +34,14 @@ fn limits_of_zero_give_a_message_up_at_once(rt: HostRuntime) {
         max_enqs: 0,
     });
     sender.load(&BODY);
-    assert_eq!(rt; sender.on_ack(), None);
+    is(&rt, sender.on_ack(), None);
     sender.sent_last();
-    assert_eq!(rt; sender.body(), BODY.as_slice());
-    assert_eq!(rt; sender.on_nak(), Some(Fate::Undelivered));
+    is(&rt, sender.body(), BODY.as_slice());
+    is(&rt, sender.on_nak(), Some(Fate::Undelivered));
     sender.load(&BODY);
     sender.sent_last();
-    assert_eq!(rt; sender.on_tick(), SendTurn::Failed);
+    is(&rt, sender.on_tick(), SendTurn::Failed);
     sender.load(&BODY);
     sender.sent_last();
-    assert_eq!(rt; sender.on_ack(), Some(Fate::Delivered));
+    is(&rt, sender.on_ack(), Some(Fate::Delivered));
 }

@@ -1,5 +1,6 @@
 //! Tests of an end over ports.
 use crate::end::{COMMAND_FRAME, REPLY_FRAME, end_with_embedding};
+use crate::equal::is;
 use df1_base::{BytesIn, BytesOut, FeedPort, PortMem, Signal};
 use duplex_end::{Served, serve};
 use std::alloc::Global;
@@ -61,8 +62,12 @@ fn what_is_given_is_put_until_the_port_stops(rt: HostRuntime) -> Result<(), Fail
     for case in &cases(rt.alloc())? {
         let mut port = PortMem::new(rt.alloc(), case.signals, 99, case.fail_next, case.fail_put)?;
         let mut end = end_with_embedding();
-        assert_eq!(rt; serve(&mut port, &mut end), case.served);
-        assert!(rt; port.held() == COMMAND_FRAME.get(..case.put).unwrap_or(&[]));
+        is(&rt, serve(&mut port, &mut end), case.served);
+        is(
+            &rt,
+            port.held(),
+            COMMAND_FRAME.get(..case.put).unwrap_or(&[]),
+        );
     }
     Ok(())
 }
@@ -78,11 +83,11 @@ fn a_raw_line_is_answered_at_each_byte(rt: HostRuntime) -> Result<(), Fail> {
     let sink = BytesOut::new(rt.alloc(), 99, 3, &[])?;
     let mut port = FeedPort::new(source, sink, false);
     let mut end = end_with_embedding();
-    assert_eq!(rt; serve(&mut port, &mut end), Served::Ended);
+    is(&rt, serve(&mut port, &mut end), Served::Ended);
     let (_, sink) = port.into_parts();
     let mut wire = Vec::new(rt.alloc());
     wire.extend_from_slice(&COMMAND_FRAME)?;
     wire.extend_from_slice(&[0x10, 0x06, 0x10, 0x06])?;
-    assert!(rt; sink.held() == wire.as_slice());
+    is(&rt, sink.held(), wire.as_slice());
     Ok(())
 }

@@ -1,4 +1,5 @@
 //! A test that a script that is cut before its `end` is complete is refused.
+use crate::equal::is;
 use df1_base::{BytesIn, BytesOut};
 use df1_shelf::ShelfMem;
 use df1_tool::run;
@@ -83,9 +84,9 @@ fn a_script_that_is_cut_is_refused(rt: HostRuntime) -> Result<(), Fail> {
                 BytesOut::new(rt.alloc(), 4000, 7, &[])?,
                 BytesOut::new(rt.alloc(), 200, 200, &[])?,
             );
-            assert_eq!(rt; ran.status, 3);
-            assert_eq!(rt; ran.out.held(), out.as_bytes());
-            assert_eq!(rt; ran.note.held(), note.as_bytes());
+            is(&rt, ran.status, 3);
+            is(&rt, ran.out.held(), out.as_bytes());
+            is(&rt, ran.note.held(), note.as_bytes());
         }
         before.push_str(text)?;
         told.push_str(whole)?;

@@ -1,4 +1,5 @@
 //! A test in which each read of a run in turn fails.
+use crate::equal::is;
 use crate::runs::{CHECK, DISSECT, Failing, ISSUE, POLLED, REPLAY, Run};
 use std::process::Abort;
 use std::test::Fail;
@@ -13,10 +14,18 @@ fn each_read_fails<R: Abort + AllocGlobal>(rt: &R, of: &Run) -> Result<(), Fail>
             note: 0,
         };
         let ran = of.ran(rt.alloc(), failing)?;
-        assert_eq!(rt; ran.status, 4);
-        assert_eq!(rt; ran.out.held(), of.written(rt.alloc(), taken)?.as_slice());
-        assert_eq!(rt; ran.note.held(), b"df1: input cannot be read\n".as_slice());
-        assert_eq!(rt; ran.input.left(), input.get(taken..).unwrap_or(&[]));
+        is(rt, ran.status, 4);
+        is(
+            rt,
+            ran.out.held(),
+            of.written(rt.alloc(), taken)?.as_slice(),
+        );
+        is(
+            rt,
+            ran.note.held(),
+            b"df1: input cannot be read\n".as_slice(),
+        );
+        is(rt, ran.input.left(), input.get(taken..).unwrap_or(&[]));
     }
     Ok(())
 }

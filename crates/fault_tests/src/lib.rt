@@ -5,6 +5,8 @@
 #[cfg(test)]
 mod cut;
 #[cfg(test)]
+mod equal;
+#[cfg(test)]
 mod inputs;
 #[cfg(test)]
 mod outputs;

@@ -1,4 +1,5 @@
 //! A test in which each write of a run in turn fails, and each write of its note.
+use crate::equal::is;
 use crate::runs::{CHECK, DISSECT, Failing, ISSUE, POLLED, REPLAY, Run, VECTORS};
 use std::process::Abort;
 use std::test::Fail;
@@ -11,9 +12,9 @@ fn nothing_fails<R: Abort + AllocGlobal>(rt: &R, of: &Run) -> Result<(), Fail> {
         note: 0,
     };
     let ran = of.ran(rt.alloc(), failing)?;
-    assert_eq!(rt; ran.status, of.status);
-    assert_eq!(rt; ran.out.held(), of.all(rt.alloc())?.as_slice());
-    assert_eq!(rt; ran.note.held(), of.note.as_bytes());
+    is(rt, ran.status, of.status);
+    is(rt, ran.out.held(), of.all(rt.alloc())?.as_slice());
+    is(rt, ran.note.held(), of.note.as_bytes());
     Ok(())
 }
 
@@ -27,11 +28,12 @@ fn each_write_fails<R: Abort + AllocGlobal>(rt: &R, of: &Run) -> Result<(), Fail
             note: 0,
         };
         let ran = of.ran(rt.alloc(), failing)?;
-        assert_eq!(rt; ran.status, 5);
-        assert_eq!(rt; ran.out.held(), all.get(..count).unwrap_or(&[]));
-        assert_eq!(rt;
+        is(rt, ran.status, 5);
+        is(rt, ran.out.held(), all.get(..count).unwrap_or(&[]));
+        is(
+            rt,
             ran.note.held(),
-            b"df1: output cannot be written\n".as_slice()
+            b"df1: output cannot be written\n".as_slice(),
         );
     }
     Ok(())
@@ -56,9 +58,9 @@ fn where_a_write_of_the_outcomes_fails_the_status_tells_it(rt: HostRuntime) -> R
             note: count as u64 + 1,
         };
         let ran = ISSUE.ran(rt.alloc(), failing)?;
-        assert_eq!(rt; ran.status, 5);
-        assert_eq!(rt; ran.out.held(), ISSUE.all(rt.alloc())?.as_slice());
-        assert_eq!(rt; ran.note.held(), note.get(..count).unwrap_or(&[]));
+        is(&rt, ran.status, 5);
+        is(&rt, ran.out.held(), ISSUE.all(rt.alloc())?.as_slice());
+        is(&rt, ran.note.held(), note.get(..count).unwrap_or(&[]));
     }
     Ok(())
 }

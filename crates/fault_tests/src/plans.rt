@@ -1,4 +1,5 @@
 //! Tests of a shelf that fails, and of a plan that is too long.
+use crate::equal::is;
 use df1_base::{BytesIn, BytesOut};
 use df1_shelf::ShelfMem;
 use df1_tool::run;
@@ -30,10 +31,10 @@ fn served<R: Abort + AllocGlobal>(
         BytesOut::new(rt.alloc(), 100, 7, &[])?,
         BytesOut::new(rt.alloc(), 200, 200, &[])?,
     );
-    assert_eq!(rt; ran.status, status);
-    assert_eq!(rt; ran.out.held(), b"".as_slice());
-    assert_eq!(rt; ran.note.held(), note.as_bytes());
-    assert_eq!(rt; ran.input.left(), b"\x10\x05".as_slice());
+    is(rt, ran.status, status);
+    is(rt, ran.out.held(), b"".as_slice());
+    is(rt, ran.note.held(), note.as_bytes());
+    is(rt, ran.input.left(), b"\x10\x05".as_slice());
     Ok(())
 }
 

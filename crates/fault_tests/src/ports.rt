@@ -1,4 +1,5 @@
 //! Tests of an end over a port, of which each call of `next` or of `put` in turn fails.
+use crate::equal::is;
 use df1_base::{FileType, PortMem, Signal};
 use df1_check::Check;
 use df1_node::{FileSpec, Node, NodeSetup, Station, Tables};
@@ -67,8 +68,12 @@ fn where_next_fails_all_that_was_given_is_put(rt: HostRuntime) -> Result<(), Fai
     for call in 1..36u64 {
         let put = if call == 35 { 15 } else { 0 };
         let mut port = PortMem::new(rt.alloc(), &signals, 99, &[call], &[])?;
-        assert_eq!(rt; serve(&mut port, &mut end(rt.alloc())?), Served::InFailed);
-        assert_eq!(rt; port.held(), REPLY.get(..put).unwrap_or(&[]));
+        is(
+            &rt,
+            serve(&mut port, &mut end(rt.alloc())?),
+            Served::InFailed,
+        );
+        is(&rt, port.held(), REPLY.get(..put).unwrap_or(&[]));
     }
     Ok(())
 }
@@ -78,8 +83,12 @@ fn where_put_fails_what_was_put_before_stands(rt: HostRuntime) -> Result<(), Fai
     let signals = signals(rt.alloc())?;
     for put in 0..15 {
         let mut port = PortMem::new(rt.alloc(), &signals, 99, &[], &[put as u64 + 1])?;
-        assert_eq!(rt; serve(&mut port, &mut end(rt.alloc())?), Served::OutFailed);
-        assert_eq!(rt; port.held(), REPLY.get(..put).unwrap_or(&[]));
+        is(
+            &rt,
+            serve(&mut port, &mut end(rt.alloc())?),
+            Served::OutFailed,
+        );
+        is(&rt, port.held(), REPLY.get(..put).unwrap_or(&[]));
     }
     Ok(())
 }

@@ -1,16 +1,18 @@
 //! Tests of the checks of known bytes, at once and byte by byte.
+use crate::equal::is;
 use df1_check::{CRC_TABLE, Check, Running, bcc, crc};
 
 #[test]
 fn checks_of_known_bytes(rt: HostRuntime) {
     let message = [0x08, 0x09, 0x06, 0x00, 0x02, 0x04, 0x03];
-    assert_eq!(rt; bcc(&message), 0xE0);
-    assert_eq!(rt; bcc(&[]), 0);
-    assert_eq!(rt; crc(b"123456789"), 0xBB3D);
-    assert_eq!(rt; CRC_TABLE[1], 0xC0C1);
-    assert_eq!(rt;
+    is(&rt, bcc(&message), 0xE0);
+    is(&rt, bcc(&[]), 0);
+    is(&rt, crc(b"123456789"), 0xBB3D);
+    is(&rt, CRC_TABLE[1], 0xC0C1);
+    is(
+        &rt,
         crc(&[0x08, 0x09, 0x06, 0x00, 0x02, 0x04, 0x03, 0x03]),
-        0x4898
+        0x4898,
     );
 }
 
@@ -20,10 +22,10 @@ fn running_checks_of_known_bytes(rt: HostRuntime) {
     for b in [0x08, 0x09, 0x06, 0x00, 0x02, 0x04, 0x03] {
         block.step(b);
     }
-    assert_eq!(rt; block.value(), 0xE0);
+    is(&rt, block.value(), 0xE0);
     let mut cyclic = Running::new(Check::Crc);
     for b in b"123456789" {
         cyclic.step(*b);
     }
-    assert_eq!(rt; cyclic.value(), 0xBB3D);
+    is(&rt, cyclic.value(), 0xBB3D);
 }

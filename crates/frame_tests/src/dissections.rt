@@ -1,5 +1,6 @@
 //! Tests of captures of each side with their text and their counts, and of the names of messages.
 
+use crate::equal::is;
 use df1_base::BytesOut;
 use df1_check::{Check, bcc};
 use df1_dissect::{Dissector, Reader, Side};
@@ -119,19 +120,19 @@ fn each_capture_has_its_text_and_its_counts(rt: HostRuntime) -> Result<(), Fail>
         for byte in capture.bytes {
             assert!(rt; dissector.fed() < LIMIT);
             assert!(rt; reader.fed() < LIMIT);
-            assert!(rt; dissector.feed(*byte, &mut sink).is_ok());
+            is(&rt, dissector.feed(*byte, &mut sink).is_ok(), true);
             reader.hear(*byte);
         }
-        assert!(rt; dissector.finish(&mut sink).is_ok());
-        assert_eq!(rt; sink.held(), capture.text.as_bytes());
+        is(&rt, dissector.finish(&mut sink).is_ok(), true);
+        is(&rt, sink.held(), capture.text.as_bytes());
         let (heard, bad, left) = capture.counts;
-        assert_eq!(rt; dissector.heard(), heard);
-        assert_eq!(rt; dissector.bad(), bad);
-        assert_eq!(rt; dissector.left(), left);
-        assert_eq!(rt; dissector.fed(), capture.bytes.len() as u64);
-        assert_eq!(rt; reader.heard(), heard);
-        assert_eq!(rt; reader.bad(), bad);
-        assert_eq!(rt; reader.left(), left);
+        is(&rt, dissector.heard(), heard);
+        is(&rt, dissector.bad(), bad);
+        is(&rt, dissector.left(), left);
+        is(&rt, dissector.fed(), capture.bytes.len() as u64);
+        is(&rt, reader.heard(), heard);
+        is(&rt, reader.bad(), bad);
+        is(&rt, reader.left(), left);
     }
     Ok(())
 }
@@ -156,9 +157,9 @@ fn hear_in_pieces(
     hear_piece(rt, reader, &[]);
     hear_piece(rt, reader, second);
     let (heard, bad, left) = counts;
-    assert_eq!(rt; reader.heard(), heard);
-    assert_eq!(rt; reader.bad(), bad);
-    assert_eq!(rt; reader.left(), left);
+    is(rt, reader.heard(), heard);
+    is(rt, reader.bad(), bad);
+    is(rt, reader.left(), left);
 }
 
 #[test]
@@ -208,9 +209,9 @@ fn a_long_frame_has_no_body(rt: HostRuntime) -> Result<(), Fail> {
     let mut dissector = Dissector::new(Side::Full, Check::Bcc);
     for byte in &frame {
         assert!(rt; dissector.fed() < LIMIT);
-        assert!(rt; dissector.feed(*byte, &mut sink).is_ok());
+        is(&rt, dissector.feed(*byte, &mut sink).is_ok(), true);
     }
-    assert_eq!(rt; sink.held(), b"0 255 long\n".as_slice());
+    is(&rt, sink.held(), b"0 255 long\n".as_slice());
     Ok(())
 }
 
@@ -218,8 +219,8 @@ fn a_long_frame_has_no_body(rt: HostRuntime) -> Result<(), Fail> {
 fn a_sink_that_fails_holds_a_first_part(rt: HostRuntime) -> Result<(), Fail> {
     let mut sink = BytesOut::new(rt.alloc(), 5, 2, &[])?;
     let mut dissector = Dissector::new(Side::Full, Check::Bcc);
-    assert!(rt; dissector.feed(0x41, &mut sink).is_err());
-    assert_eq!(rt; sink.held(), b"0 0 s".as_slice());
+    is(&rt, dissector.feed(0x41, &mut sink).is_err(), true);
+    is(&rt, sink.held(), b"0 0 s".as_slice());
     Ok(())
 }
 
@@ -312,7 +313,7 @@ fn each_message_has_its_name(rt: HostRuntime) -> Result<(), Fail> {
         let mut dissector = Dissector::new(Side::Full, Check::Bcc);
         for byte in &frame {
             assert!(rt; dissector.fed() < LIMIT);
-            assert!(rt; dissector.feed(*byte, &mut sink).is_ok());
+            is(&rt, dissector.feed(*byte, &mut sink).is_ok(), true);
         }
         assert!(rt; dissector.fed() > 0);
         let mut text = String::from_str(alloc, "0 ")?;
@@ -320,7 +321,7 @@ fn each_message_has_its_name(rt: HostRuntime) -> Result<(), Fail> {
         text.push_str(" good dst=01 src=00 ")?;
         text.push_str(fields)?;
         text.push_str("\n")?;
-        assert_eq!(rt; sink.held(), text.as_bytes());
+        is(&rt, sink.held(), text.as_bytes());
     }
     Ok(())
 }

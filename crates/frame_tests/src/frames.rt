@@ -1,4 +1,5 @@
 //! Tests of frames of either check, decoded and encoded.
+use crate::equal::is;
 use df1_check::Check;
 use df1_frame::{Decoder, Framer, Heard};
 use std::process::Abort;
@@ -8,11 +9,11 @@ fn hear(rt: &impl Abort, decoder: &mut Decoder<250>, bytes: &[u8], wanted: &[(us
     let mut told = 0usize;
     for (place, b) in bytes.iter().enumerate() {
         if let Some(heard) = decoder.feed(*b) {
-            assert!(rt; wanted.get(told).copied() == Some((place + 1, heard)));
+            is(rt, wanted.get(told).copied(), Some((place + 1, heard)));
             told = told.saturating_add(1);
         }
     }
-    assert_eq!(rt; told, wanted.len());
+    is(rt, told, wanted.len());
 }
 
 #[test]
@@ -22,7 +23,11 @@ fn hears_frames_with_either_check(rt: HostRuntime) {
         0x10, 0x02, 0x08, 0x09, 0x06, 0x00, 0x02, 0x04, 0x03, 0x10, 0x03, 0xE0,
     ];
     hear(&rt, &mut block, &bytes, &[(12, Heard::Good)]);
-    assert!(rt; block.body() == [0x08, 0x09, 0x06, 0x00, 0x02, 0x04, 0x03].as_slice());
+    is(
+        &rt,
+        block.body(),
+        [0x08, 0x09, 0x06, 0x00, 0x02, 0x04, 0x03].as_slice(),
+    );
     let mut cyclic = Decoder::<250>::new(Check::Crc);
     let bytes = [
         0x10, 0x02, 0x08, 0x09, 0x06, 0x00, 0x02, 0x04, 0x03, 0x10, 0x03, 0x98, 0x48,
@@ -42,7 +47,11 @@ fn hears_responses_in_frames_and_restarts(rt: HostRuntime) {
         &bytes,
         &[(5, Heard::Ack), (14, Heard::Good)],
     );
-    assert!(rt; decoder.body() == [0x08, 0x09, 0x06, 0x00, 0x02, 0x04, 0x03].as_slice());
+    is(
+        &rt,
+        decoder.body(),
+        [0x08, 0x09, 0x06, 0x00, 0x02, 0x04, 0x03].as_slice(),
+    );
     let bytes = [
         0x10, 0x02, 0x01, 0x10, 0x02, 0x08, 0x09, 0x06, 0x00, 0x02, 0x04, 0x03, 0x10, 0x03, 0xE0,
     ];
@@ -75,41 +84,49 @@ fn frame_of_zeros(rt: &impl Abort, len: u16) -> Option<Heard> {
     for _ in 0..len {
         hear(rt, &mut decoder, &[0x00], &[]);
     }
-    assert!(rt; decoder.held() == usize::from(len.min(250)));
+    is(rt, decoder.held(), usize::from(len.min(250)));
     hear(rt, &mut decoder, &[0x10, 0x03], &[]);
-    assert!(rt; decoder.inside());
+    is(rt, decoder.inside(), true);
     let heard = decoder.feed(0x00);
-    assert!(rt; !decoder.inside());
+    is(rt, decoder.inside(), false);
     heard
 }
 
 #[test]
 fn hears_the_sizes_of_bodies(rt: HostRuntime) {
-    assert!(rt; frame_of_zeros(&rt, 5) == Some(Heard::Short));
-    assert!(rt; frame_of_zeros(&rt, 6) == Some(Heard::Good));
-    assert!(rt; frame_of_zeros(&rt, 250) == Some(Heard::Good));
-    assert!(rt; frame_of_zeros(&rt, 251) == Some(Heard::Long));
+    is(&rt, frame_of_zeros(&rt, 5), Some(Heard::Short));
+    is(&rt, frame_of_zeros(&rt, 6), Some(Heard::Good));
+    is(&rt, frame_of_zeros(&rt, 250), Some(Heard::Good));
+    is(&rt, frame_of_zeros(&rt, 251), Some(Heard::Long));
 }
 
 #[test]
 fn takes_the_bytes_before_a_dle_at_once(rt: HostRuntime) {
     let mut decoder = Decoder::<250>::new(Check::Bcc);
-    assert!(rt; decoder.feed_run(&[0x41, 0x42]) == 2);
-    assert!(rt; decoder.feed_run(&[]) == 0);
+    is(&rt, decoder.feed_run(&[0x41, 0x42]), 2);
+    is(&rt, decoder.feed_run(&[]), 0);
     hear(&rt, &mut decoder, &[0x10], &[]);
-    assert!(rt; decoder.feed_run(&[0x02]) == 0);
+    is(&rt, decoder.feed_run(&[0x02]), 0);
     hear(&rt, &mut decoder, &[0x02], &[]);
-    assert!(rt; decoder.feed_run(&[0x08, 0x09, 0x06]) == 3);
-    assert!(rt; decoder.feed_run(&[0x00, 0x02, 0x04, 0x03, 0x10, 0x03]) == 4);
-    assert!(rt; decoder.feed_run(&[0x10, 0x03]) == 0);
-    assert!(rt; decoder.held() == 7);
+    is(&rt, decoder.feed_run(&[0x08, 0x09, 0x06]), 3);
+    is(
+        &rt,
+        decoder.feed_run(&[0x00, 0x02, 0x04, 0x03, 0x10, 0x03]),
+        4,
+    );
+    is(&rt, decoder.feed_run(&[0x10, 0x03]), 0);
+    is(&rt, decoder.held(), 7);
     hear(&rt, &mut decoder, &[0x10], &[]);
-    assert!(rt; decoder.feed_run(&[0x03, 0xE0]) == 0);
+    is(&rt, decoder.feed_run(&[0x03, 0xE0]), 0);
     hear(&rt, &mut decoder, &[0x03, 0xE0], &[(2, Heard::Good)]);
-    assert!(rt; decoder.feed_run(&[0x10]) == 0);
-    assert!(rt; decoder.body() == [0x08, 0x09, 0x06, 0x00, 0x02, 0x04, 0x03].as_slice());
-    assert!(rt; decoder.feed_run(&[0x41, 0x10]) == 1);
-    assert!(rt; decoder.body().is_empty());
+    is(&rt, decoder.feed_run(&[0x10]), 0);
+    is(
+        &rt,
+        decoder.body(),
+        [0x08, 0x09, 0x06, 0x00, 0x02, 0x04, 0x03].as_slice(),
+    );
+    is(&rt, decoder.feed_run(&[0x41, 0x10]), 1);
+    is(&rt, decoder.body().is_empty(), true);
 }
 
 // Feeds a frame of zero bytes in two runs of these lengths, and returns what is decoded at its last byte.
@@ -119,18 +136,18 @@ fn frame_of_runs(rt: &impl Abort, first: usize, second: usize) -> Option<Heard> 
     assert!(rt; second <= 250);
     let mut decoder = Decoder::<250>::new(Check::Bcc);
     hear(rt, &mut decoder, &[0x10, 0x02], &[]);
-    assert!(rt; decoder.feed_run(&zeros[..first]) == first);
-    assert!(rt; decoder.feed_run(&zeros[..second]) == second);
+    is(rt, decoder.feed_run(&zeros[..first]), first);
+    is(rt, decoder.feed_run(&zeros[..second]), second);
     hear(rt, &mut decoder, &[0x10, 0x03], &[]);
     decoder.feed(0x00)
 }
 
 #[test]
 fn hears_the_sizes_of_bodies_in_two_runs(rt: HostRuntime) {
-    assert!(rt; frame_of_runs(&rt, 0, 5) == Some(Heard::Short));
-    assert!(rt; frame_of_runs(&rt, 200, 50) == Some(Heard::Good));
-    assert!(rt; frame_of_runs(&rt, 200, 51) == Some(Heard::Long));
-    assert!(rt; frame_of_runs(&rt, 250, 1) == Some(Heard::Long));
+    is(&rt, frame_of_runs(&rt, 0, 5), Some(Heard::Short));
+    is(&rt, frame_of_runs(&rt, 200, 50), Some(Heard::Good));
+    is(&rt, frame_of_runs(&rt, 200, 51), Some(Heard::Long));
+    is(&rt, frame_of_runs(&rt, 250, 1), Some(Heard::Long));
 }
 
 // Takes the units of a body's frame, and compares their bytes.
@@ -143,17 +160,17 @@ fn give(rt: &impl Abort, body: &[u8], check: Check, wanted: &[u8]) {
         let Some(unit) = framer.next_unit() else {
             break;
         };
-        assert!(rt; wanted.get(given).copied() == Some(unit.first));
+        is(rt, wanted.get(given).copied(), Some(unit.first));
         given = given.saturating_add(1);
         if unit.second.is_some() {
-            assert!(rt; wanted.get(given).copied() == unit.second);
+            is(rt, wanted.get(given).copied(), unit.second);
             given = given.saturating_add(1);
         }
-        assert!(rt; unit.last == framer.done());
+        is(rt, unit.last, framer.done());
     }
-    assert!(rt; framer.done());
-    assert!(rt; framer.next_unit() == None);
-    assert_eq!(rt; given, wanted.len());
+    is(rt, framer.done(), true);
+    is(rt, framer.next_unit(), None);
+    is(rt, given, wanted.len());
 }
 
 #[test]

@@ -1,4 +1,5 @@
 //! Tests of messages, polls and pairs of a half-duplex line, as each side decodes and sends them.
+use crate::equal::is;
 use df1_check::Check;
 use half_frame::{EOT, HalfFramer, MasterEar, MasterHeard, Sent, SlaveEar, SlaveHeard};
 use std::process::Abort;
@@ -13,11 +14,11 @@ fn slave_hears(
     let mut told = 0usize;
     for (place, b) in bytes.iter().enumerate() {
         if let Some(heard) = ear.feed(*b) {
-            assert!(rt; wanted.get(told).copied() == Some((place + 1, heard)));
+            is(rt, wanted.get(told).copied(), Some((place + 1, heard)));
             told = told.saturating_add(1);
         }
     }
-    assert_eq!(rt; told, wanted.len());
+    is(rt, told, wanted.len());
 }
 
 // Does the same with the master's decoder.
@@ -30,11 +31,11 @@ fn master_hears(
     let mut told = 0usize;
     for (place, b) in bytes.iter().enumerate() {
         if let Some(heard) = ear.feed(*b) {
-            assert!(rt; wanted.get(told).copied() == Some((place + 1, heard)));
+            is(rt, wanted.get(told).copied(), Some((place + 1, heard)));
             told = told.saturating_add(1);
         }
     }
-    assert_eq!(rt; told, wanted.len());
+    is(rt, told, wanted.len());
 }
 
 #[test]
@@ -60,7 +61,7 @@ fn a_slave_hears_messages_and_polls(rt: HostRuntime) {
     let body = [
         0x03, 0x00, 0x0F, 0x00, 0x01, 0x00, 0xAA, 0x02, 0x07, 0x89, 0x00, 0x00, 0x34, 0x12,
     ];
-    assert!(rt; block.body() == body.as_slice());
+    is(&rt, block.body(), body.as_slice());
 }
 
 #[test]
@@ -102,7 +103,7 @@ fn a_slave_hears_messages_that_are_cut_off(rt: HostRuntime) {
         (10, SlaveHeard::Damaged(16)),
     ];
     slave_hears(&rt, &mut ear, &bytes, &wanted);
-    assert!(rt; ear.inside());
+    is(&rt, ear.inside(), true);
     let bytes = [0x04, 0x10, 0x10, 0x41];
     let wanted = [(3, SlaveHeard::Damaged(4)), (4, SlaveHeard::Stray(0x41))];
     slave_hears(&rt, &mut ear, &bytes, &wanted);
@@ -127,10 +128,14 @@ fn the_master_hears_messages_and_pairs(rt: HostRuntime) {
     let bytes = [0x10, 0x04, 0x10, 0x02, 0x00, 0x10, 0x02];
     let wanted = [(2, MasterHeard::Eot), (7, MasterHeard::Damaged)];
     master_hears(&rt, &mut ear, &bytes, &wanted);
-    assert!(rt; ear.inside());
+    is(&rt, ear.inside(), true);
     let bytes = [0x00, 0x03, 0x4F, 0x00, 0x01, 0x00, 0x10, 0x03, 0xAD];
     master_hears(&rt, &mut ear, &bytes, &[(9, MasterHeard::Good)]);
-    assert!(rt; ear.body() == [0x00, 0x03, 0x4F, 0x00, 0x01, 0x00].as_slice());
+    is(
+        &rt,
+        ear.body(),
+        [0x00, 0x03, 0x4F, 0x00, 0x01, 0x00].as_slice(),
+    );
     let bytes = [
         0x10, 0x02, 0x10, 0x06, 0x41, 0x10, 0x06, 0x10, 0x0F, 0x10, 0x05,
     ];
@@ -155,8 +160,8 @@ fn messages_of_zeros(rt: &impl Abort, len: u16) -> (Option<SlaveHeard>, Option<M
         slave_hears(rt, &mut slave, &[0x00], &[]);
         master_hears(rt, &mut master, &[0x00], &[]);
     }
-    assert!(rt; slave.held() == usize::from(len.min(250)));
-    assert!(rt; master.held() == usize::from(len.min(250)));
+    is(rt, slave.held(), usize::from(len.min(250)));
+    is(rt, master.held(), usize::from(len.min(250)));
     slave_hears(rt, &mut slave, &[0x10, 0x03], &[]);
     master_hears(rt, &mut master, &[0x10, 0x03], &[]);
     (slave.feed(0xFD), master.feed(0x00))
@@ -166,49 +171,57 @@ fn messages_of_zeros(rt: &impl Abort, len: u16) -> (Option<SlaveHeard>, Option<M
 fn both_hear_the_sizes_of_bodies(rt: HostRuntime) {
     let right = (Some(SlaveHeard::Addressed(3)), Some(MasterHeard::Good));
     let wrong = (Some(SlaveHeard::Damaged(3)), Some(MasterHeard::Damaged));
-    assert!(rt; messages_of_zeros(&rt, 5) == wrong);
-    assert!(rt; messages_of_zeros(&rt, 6) == right);
-    assert!(rt; messages_of_zeros(&rt, 250) == right);
-    assert!(rt; messages_of_zeros(&rt, 251) == wrong);
+    is(&rt, messages_of_zeros(&rt, 5), wrong);
+    is(&rt, messages_of_zeros(&rt, 6), right);
+    is(&rt, messages_of_zeros(&rt, 250), right);
+    is(&rt, messages_of_zeros(&rt, 251), wrong);
 }
 
 #[test]
 fn both_take_the_bytes_before_a_dle_at_once(rt: HostRuntime) {
     let mut slave = SlaveEar::<250>::new(Check::Bcc);
-    assert!(rt; slave.feed_run(&[0x41, 0x42, 0x10]) == 2);
+    is(&rt, slave.feed_run(&[0x41, 0x42, 0x10]), 2);
     let header = [(5, SlaveHeard::Header(3))];
     slave_hears(&rt, &mut slave, &[0x10, 0x01, 0x03, 0x10, 0x02], &header);
-    assert!(rt; slave.feed_run(&[0x03, 0x00, 0x06, 0x00, 0x01, 0x00]) == 6);
-    assert!(rt; slave.feed_run(&[0x10, 0x03]) == 0);
-    assert!(rt; slave.held() == 6);
+    is(
+        &rt,
+        slave.feed_run(&[0x03, 0x00, 0x06, 0x00, 0x01, 0x00]),
+        6,
+    );
+    is(&rt, slave.feed_run(&[0x10, 0x03]), 0);
+    is(&rt, slave.held(), 6);
     slave_hears(&rt, &mut slave, &[0x10], &[]);
-    assert!(rt; slave.feed_run(&[0x03]) == 0);
+    is(&rt, slave.feed_run(&[0x03]), 0);
     let addressed = [(2, SlaveHeard::Addressed(3))];
     slave_hears(&rt, &mut slave, &[0x03, 0xF3], &addressed);
-    assert!(rt; slave.feed_run(&[0x41]) == 1);
-    assert!(rt; slave.body().is_empty());
+    is(&rt, slave.feed_run(&[0x41]), 1);
+    is(&rt, slave.body().is_empty(), true);
     let mut master = MasterEar::<250>::new(Check::Bcc);
-    assert!(rt; master.feed_run(&[0x41, 0x42, 0x10]) == 2);
+    is(&rt, master.feed_run(&[0x41, 0x42, 0x10]), 2);
     master_hears(&rt, &mut master, &[0x10, 0x02], &[]);
-    assert!(rt; master.feed_run(&[0x00, 0x03, 0x4F]) == 3);
-    assert!(rt; master.feed_run(&[0x00, 0x01, 0x00, 0x10]) == 3);
+    is(&rt, master.feed_run(&[0x00, 0x03, 0x4F]), 3);
+    is(&rt, master.feed_run(&[0x00, 0x01, 0x00, 0x10]), 3);
     let good = [(3, MasterHeard::Good)];
     master_hears(&rt, &mut master, &[0x10, 0x03, 0xAD], &good);
-    assert!(rt; master.feed_run(&[]) == 0);
-    assert!(rt; master.body() == [0x00, 0x03, 0x4F, 0x00, 0x01, 0x00].as_slice());
-    assert!(rt; master.feed_run(&[0x41]) == 1);
-    assert!(rt; master.body().is_empty());
+    is(&rt, master.feed_run(&[]), 0);
+    is(
+        &rt,
+        master.body(),
+        [0x00, 0x03, 0x4F, 0x00, 0x01, 0x00].as_slice(),
+    );
+    is(&rt, master.feed_run(&[0x41]), 1);
+    is(&rt, master.body().is_empty(), true);
 }
 
 // Takes the bytes of a framer, and compares them.
 fn gives(rt: &impl Abort, framer: HalfFramer, wanted: &[u8]) {
     let mut framer = framer;
     for b in wanted {
-        assert!(rt; !framer.done());
-        assert!(rt; framer.next_byte() == Some(*b));
+        is(rt, framer.done(), false);
+        is(rt, framer.next_byte(), Some(*b));
     }
-    assert!(rt; framer.done());
-    assert!(rt; framer.next_byte() == None);
+    is(rt, framer.done(), true);
+    is(rt, framer.next_byte(), None);
 }
 
 #[test]
@@ -252,8 +265,8 @@ fn marks_the_bytes_of_a_body(rt: HostRuntime) {
             byte: *byte,
             of_body: *of_body,
         };
-        assert!(rt; framer.next_sent() == Some(sent));
+        is(&rt, framer.next_sent(), Some(sent));
     }
-    assert!(rt; framer.done());
-    assert!(rt; framer.next_sent() == None);
+    is(&rt, framer.done(), true);
+    is(&rt, framer.next_sent(), None);
 }

@@ -7,6 +7,8 @@ mod checks;
 #[cfg(test)]
 mod dissections;
 #[cfg(test)]
+mod equal;
+#[cfg(test)]
 mod frames;
 #[cfg(test)]
 mod half_frames;

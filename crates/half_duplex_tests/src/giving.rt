@@ -1,4 +1,5 @@
 //! Tests of the bytes that a half-duplex end sends, with their marks.
+use crate::equal::is;
 use df1_base::Out;
 use df1_check::Check;
 use half_frame::HalfFramer;
@@ -12,13 +13,13 @@ fn take_byte(rt: &impl Abort, mouth: &mut HalfMouth, byte: u8, last: bool, body:
         last_of: last.then_some(1),
         body_of: body.then_some(1),
     };
-    assert!(rt; mouth.take() == Some(out));
+    is(rt, mouth.take(), Some(out));
 }
 
 #[test]
 fn a_message_is_marked_with_its_number(rt: HostRuntime) {
     let mut mouth = HalfMouth::new();
-    assert!(rt; mouth.idle());
+    is(&rt, mouth.idle(), true);
     mouth.transmit(HalfFramer::reply(&[0x00, 0x10, 0x4F, 0x00, 0x01, 0x00], Check::Bcc));
     take_byte(&rt, &mut mouth, 0x10, false, false);
     take_byte(&rt, &mut mouth, 0x02, false, false);
@@ -30,10 +31,10 @@ fn a_message_is_marked_with_its_number(rt: HostRuntime) {
     }
     take_byte(&rt, &mut mouth, 0x10, false, false);
     take_byte(&rt, &mut mouth, 0x03, false, false);
-    assert!(rt; !mouth.idle());
+    is(&rt, mouth.idle(), false);
     take_byte(&rt, &mut mouth, 0xA0, true, false);
-    assert!(rt; mouth.idle());
-    assert!(rt; mouth.take() == None);
+    is(&rt, mouth.idle(), true);
+    is(&rt, mouth.take(), None);
 }
 
 #[test]
@@ -43,11 +44,11 @@ fn a_poll_is_no_transmission(rt: HostRuntime) {
     for b in [0x10, 0x05, 0x03, 0xFD] {
         take_byte(&rt, &mut mouth, b, false, false);
     }
-    assert!(rt; mouth.take() == None);
+    is(&rt, mouth.take(), None);
     mouth.transmit(HalfFramer::message(3, &[], Check::Bcc));
     for b in [0x10, 0x01, 0x03, 0x10, 0x02, 0x10, 0x03] {
         take_byte(&rt, &mut mouth, b, false, false);
     }
     take_byte(&rt, &mut mouth, 0xFD, true, false);
-    assert!(rt; mouth.idle());
+    is(&rt, mouth.idle(), true);
 }

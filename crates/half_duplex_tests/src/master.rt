@@ -1,5 +1,6 @@
 //! Tests of a master with a host that has one message to send, for station 3, and accepts every message while it has
 //! room.
+use crate::equal::is;
 use arrayvec::ArrayVec;
 use df1_base::{Act, Did, Fate, Host, News, Out, Turn};
 use df1_check::Check;
@@ -181,12 +182,12 @@ fn master_of_none() -> Master<OneCommand> {
 /// Checks that the master sends these bytes, and then no more.
 pub(crate) fn gives<H: Host + Drop>(rt: &impl Abort, master: &mut Master<H>, bytes: &[u8]) {
     for b in bytes {
-        assert!(rt; !master.quiet());
+        is(rt, master.quiet(), false);
         let given = master.take().map(|out| out.byte);
-        assert_eq!(rt; given, Some(*b));
+        is(rt, given, Some(*b));
     }
-    assert!(rt; master.quiet());
-    assert_eq!(rt; master.take(), None);
+    is(rt, master.quiet(), true);
+    is(rt, master.take(), None);
 }
 
 /// Returns the act at the last of these bytes, with what the host did and answered.
@@ -214,39 +215,44 @@ pub(crate) fn ticks<H: Host + Drop>(master: &mut Master<H>) -> (Turn, usize) {
 #[test]
 fn a_message_that_nobody_acknowledges_is_given_twice(rt: HostRuntime) {
     let mut master = master_of_two(true);
-    assert_eq!(rt; master.sending().len(), 0);
+    is(&rt, master.sending().len(), 0);
     gives(&rt, &mut master, &COMMAND_SENT);
-    assert_eq!(rt; master.sending(), COMMAND.as_slice());
-    assert_eq!(rt; ticks(&mut master), (Turn::Still, 0));
-    assert!(rt; master.quiet());
-    assert_eq!(rt; ticks(&mut master), (Turn::Still, 0));
+    is(&rt, master.sending(), COMMAND.as_slice());
+    is(&rt, ticks(&mut master), (Turn::Still, 0));
+    is(&rt, master.quiet(), true);
+    is(&rt, ticks(&mut master), (Turn::Still, 0));
     gives(&rt, &mut master, &COMMAND_SENT);
-    assert_eq!(rt; ticks(&mut master), (Turn::Still, 0));
-    assert_eq!(rt; ticks(&mut master), (Turn::Failed(News::Undelivered(1)), 0));
-    assert!(rt; master.quiet());
-    assert_eq!(rt; ticks(&mut master), (Turn::Still, 1));
+    is(&rt, ticks(&mut master), (Turn::Still, 0));
+    is(
+        &rt,
+        ticks(&mut master),
+        (Turn::Failed(News::Undelivered(1)), 0),
+    );
+    is(&rt, master.quiet(), true);
+    is(&rt, ticks(&mut master), (Turn::Still, 1));
     gives(&rt, &mut master, &POLL_OF_3);
 }
 
 #[test]
 fn stations_are_polled_in_turn(rt: HostRuntime) {
     let mut master = master_of_two(false);
-    assert_eq!(rt; master.take(), None);
+    is(&rt, master.take(), None);
     for poll in [&POLL_OF_3, &POLL_OF_5, &POLL_OF_3] {
-        assert_eq!(rt; ticks(&mut master), (Turn::Still, 1));
+        is(&rt, ticks(&mut master), (Turn::Still, 1));
         gives(&rt, &mut master, poll.as_slice());
-        assert_eq!(rt;
+        is(
+            &rt,
             hears(&mut master, &EOT),
-            (Act::Nothing, None, News::Nothing)
+            (Act::Nothing, None, News::Nothing),
         );
     }
-    assert_eq!(rt; ticks(&mut master), (Turn::Still, 1));
+    is(&rt, ticks(&mut master), (Turn::Still, 1));
     gives(&rt, &mut master, &POLL_OF_5);
-    assert_eq!(rt; ticks(&mut master), (Turn::Still, 0));
-    assert_eq!(rt; ticks(&mut master), (Turn::Still, 0));
-    assert_eq!(rt; ticks(&mut master), (Turn::Still, 1));
+    is(&rt, ticks(&mut master), (Turn::Still, 0));
+    is(&rt, ticks(&mut master), (Turn::Still, 0));
+    is(&rt, ticks(&mut master), (Turn::Still, 1));
     gives(&rt, &mut master, &POLL_OF_3);
-    assert_eq!(rt; master.sending().len(), 0);
+    is(&rt, master.sending().len(), 0);
 }
 
 #[test]
@@ -260,10 +266,10 @@ fn each_station_has_its_own_filter(rt: HostRuntime) {
         (&POLL_OF_3, &REPLY_OF_3, repeated),
         (&POLL_OF_5, &REPLY_OF_5, repeated),
     ] {
-        assert_eq!(rt; ticks(&mut master), (Turn::Still, 1));
+        is(&rt, ticks(&mut master), (Turn::Still, 1));
         gives(&rt, &mut master, poll.as_slice());
-        assert_eq!(rt; hears(&mut master, reply.as_slice()), told);
-        assert_eq!(rt; master.body().len(), 6);
+        is(&rt, hears(&mut master, reply.as_slice()), told);
+        is(&rt, master.body().len(), 6);
         gives(&rt, &mut master, &ACK);
     }
 }
@@ -273,29 +279,33 @@ fn another_station_is_passed_over_and_a_refusal_is_silent(rt: HostRuntime) {
     let nothing = (Act::Nothing, None, News::Nothing);
     let mut master = master_of_two(false);
     master.host_mut().room = false;
-    assert_eq!(rt; ticks(&mut master), (Turn::Still, 1));
+    is(&rt, ticks(&mut master), (Turn::Still, 1));
     gives(&rt, &mut master, &POLL_OF_3);
-    assert_eq!(rt; hears(&mut master, &REPLY_OF_5), nothing);
-    assert!(rt; master.quiet());
-    assert_eq!(rt;
+    is(&rt, hears(&mut master, &REPLY_OF_5), nothing);
+    is(&rt, master.quiet(), true);
+    is(
+        &rt,
         hears(&mut master, &REPLY_OF_3),
-        (Act::Refuse, None, News::Nothing)
+        (Act::Refuse, None, News::Nothing),
     );
-    assert!(rt; master.quiet());
-    assert_eq!(rt;
+    is(&rt, master.quiet(), true);
+    is(
+        &rt,
         hears(&mut master, &[0x10, 0x02, 0x00, 0x10, 0x41]),
-        (Act::Damaged, None, News::Nothing)
+        (Act::Damaged, None, News::Nothing),
     );
     master.host_mut().room = true;
-    assert_eq!(rt;
+    is(
+        &rt,
         hears(&mut master, &REPLY_OF_3),
-        (Act::Accept, Some(Did::Answered(1)), News::Nothing)
+        (Act::Accept, Some(Did::Answered(1)), News::Nothing),
     );
     gives(&rt, &mut master, &ACK);
-    assert_eq!(rt; hears(&mut master, &REPLY_OF_5), nothing);
-    assert_eq!(rt;
+    is(&rt, hears(&mut master, &REPLY_OF_5), nothing);
+    is(
+        &rt,
         hears(&mut master, &[0x10, 0x02, 0x00, 0x10, 0x41]),
-        nothing
+        nothing,
     );
 }
 
@@ -307,41 +317,45 @@ fn what_comes_while_bytes_are_given_is_passed_over(rt: HostRuntime) {
         last_of: None,
         body_of: None,
     };
-    assert_eq!(rt; master.take(), Some(first));
-    assert_eq!(rt;
+    is(&rt, master.take(), Some(first));
+    is(
+        &rt,
         hears(&mut master, &NAK),
-        (Act::PeerNak, None, News::Nothing)
+        (Act::PeerNak, None, News::Nothing),
     );
-    assert_eq!(rt; ticks(&mut master), (Turn::Still, 0));
-    assert_eq!(rt; ticks(&mut master), (Turn::Still, 0));
+    is(&rt, ticks(&mut master), (Turn::Still, 0));
+    is(&rt, ticks(&mut master), (Turn::Still, 0));
     gives(&rt, &mut master, &COMMAND_SENT[1..]);
-    assert_eq!(rt;
+    is(
+        &rt,
         hears(&mut master, &NAK),
-        (Act::PeerNak, None, News::Nothing)
+        (Act::PeerNak, None, News::Nothing),
     );
     gives(&rt, &mut master, &COMMAND_SENT);
-    assert_eq!(rt;
+    is(
+        &rt,
         hears(&mut master, &ACK),
-        (Act::PeerAck, None, News::Nothing)
+        (Act::PeerAck, None, News::Nothing),
     );
-    assert!(rt; !master.host().is_out);
-    assert_eq!(rt;
+    is(&rt, master.host().is_out, false);
+    is(
+        &rt,
         hears(&mut master, &NAK),
-        (Act::PeerNak, None, News::Nothing)
+        (Act::PeerNak, None, News::Nothing),
     );
-    assert_eq!(rt; master.take(), None);
-    assert_eq!(rt; master.holds(), 0);
+    is(&rt, master.take(), None);
+    is(&rt, master.holds(), 0);
 }
 
 #[test]
 fn no_stations(rt: HostRuntime) {
     let mut master = master_of_none();
-    assert_eq!(rt; ticks(&mut master), (Turn::Still, 0));
-    assert!(rt; !master.quiet());
-    assert_eq!(rt; master.take(), None);
-    assert!(rt; !master.host().is_out);
-    assert_eq!(rt; master.sending().len(), 0);
-    assert_eq!(rt; ticks(&mut master), (Turn::Still, 1));
-    assert!(rt; master.quiet());
-    assert_eq!(rt; master.take(), None);
+    is(&rt, ticks(&mut master), (Turn::Still, 0));
+    is(&rt, master.quiet(), false);
+    is(&rt, master.take(), None);
+    is(&rt, master.host().is_out, false);
+    is(&rt, master.sending().len(), 0);
+    is(&rt, ticks(&mut master), (Turn::Still, 1));
+    is(&rt, master.quiet(), true);
+    is(&rt, master.take(), None);
 }

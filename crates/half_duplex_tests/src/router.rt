@@ -2,6 +2,7 @@
 //! while it has room: alone, call by call, and behind a master.
 ghost use Rattle.df1_base.specs.Host.{IsBody};
 
+use crate::equal::is;
 use crate::master::{
     ACK, COMMAND, OneCommand, POLL_OF_3, gives, hears, host_of, master_over, ticks,
 };
@@ -73,29 +74,29 @@ fn router_of(waits: bool) -> Router<OneCommand> {
 /// Checks that the router answers the call as expected.
 fn answers(rt: &impl Abort, router: &mut Router<OneCommand>, call: Call) {
     match call {
-        Call::Refuses(body) => assert!(rt; !router.has_room(body.bytes())),
+        Call::Refuses(body) => is(rt, router.has_room(body.bytes()), false),
         Call::Takes(body, did) => {
             let body = body.bytes();
             assert!(rt; router.has_room(body));
-            assert_eq!(rt; router.accept(body), did);
+            is(rt, router.accept(body), did);
         }
         Call::Gives(body) => {
             let mut into = ArrayVec::new();
-            assert!(rt; router.ready());
-            assert!(rt; router.next(&mut into));
-            assert_eq!(rt; into.as_slice(), body.bytes());
+            is(rt, router.ready(), true);
+            is(rt, router.next(&mut into), true);
+            is(rt, into.as_slice(), body.bytes());
         }
         Call::GivesNone => {
             let mut into = ArrayVec::new();
-            assert!(rt; !router.ready());
-            assert!(rt; !router.next(&mut into));
-            assert_eq!(rt; into.len(), 0);
+            is(rt, router.ready(), false);
+            is(rt, router.next(&mut into), false);
+            is(rt, into.len(), 0);
         }
-        Call::Told(fate, news) => assert_eq!(rt; router.told(fate), news),
+        Call::Told(fate, news) => is(rt, router.told(fate), news),
         Call::Tick => {
             let mut gone = ArrayVec::new();
             router.tick(&mut gone);
-            assert_eq!(rt; gone.as_slice(), [7].as_slice());
+            is(rt, gone.as_slice(), [7].as_slice());
         }
         Call::Clear => router.clear(),
     }
@@ -139,7 +140,7 @@ fn a_further_body_may_wait_while_one_is_out(rt: HostRuntime) {
     ] {
         answers(&rt, &mut router, call);
     }
-    assert_eq!(rt; router.waiting(), FROM_3_FOR_5.as_slice());
+    is(&rt, router.waiting(), FROM_3_FOR_5.as_slice());
 }
 
 #[test]
@@ -153,26 +154,28 @@ fn room_for_a_carried_body_is_the_routers_own(rt: HostRuntime) {
     ] {
         answers(&rt, &mut router, call);
     }
-    assert!(rt; !router.inner().room);
+    is(&rt, router.inner().room, false);
 }
 
 #[test]
 fn a_master_carries_from_station_to_station(rt: HostRuntime) {
     let mut master = master_over(router_of(false));
-    assert_eq!(rt; ticks(&mut master), (Turn::Still, 1));
+    is(&rt, ticks(&mut master), (Turn::Still, 1));
     gives(&rt, &mut master, &POLL_OF_3);
-    assert_eq!(rt;
+    is(
+        &rt,
         hears(&mut master, &MESSAGE_OF_3),
-        (Act::Accept, Some(Did::Stray), News::Nothing)
+        (Act::Accept, Some(Did::Stray), News::Nothing),
     );
-    assert_eq!(rt; master.host().waiting(), FROM_3_FOR_5.as_slice());
-    assert_eq!(rt; master.take().map(|out| out.byte), Some(0x10));
-    assert_eq!(rt; master.take().map(|out| out.byte), Some(0x06));
+    is(&rt, master.host().waiting(), FROM_3_FOR_5.as_slice());
+    is(&rt, master.take().map(|out| out.byte), Some(0x10));
+    is(&rt, master.take().map(|out| out.byte), Some(0x06));
     gives(&rt, &mut master, &MESSAGE_TO_5);
-    assert_eq!(rt; master.host().waiting().len(), 0);
-    assert_eq!(rt;
+    is(&rt, master.host().waiting().len(), 0);
+    is(
+        &rt,
         hears(&mut master, &ACK),
-        (Act::PeerAck, None, News::Nothing)
+        (Act::PeerAck, None, News::Nothing),
     );
-    assert!(rt; master.quiet());
+    is(&rt, master.quiet(), true);
 }

@@ -1,4 +1,5 @@
 //! Tests of a slave of station 3, over a host that has one reply to hand out and may have room.
+use crate::equal::is;
 use arrayvec::ArrayVec;
 use df1_base::{Act, Did, Fate, Host, News, Out, Step};
 use df1_check::Check;
@@ -168,17 +169,17 @@ fn slave_with_reply(has_room: bool) -> Slave<OneReply> {
 /// Checks that the slave sends these bytes.
 fn gives(rt: &impl Abort, slave: &mut Slave<OneReply>, bytes: &[u8]) {
     for b in bytes {
-        assert!(rt; !slave.quiet());
+        is(rt, slave.quiet(), false);
         let given = slave.take().map(|out| out.byte);
-        assert_eq!(rt; given, Some(*b));
+        is(rt, given, Some(*b));
     }
 }
 
 /// Checks that the slave sends these bytes, and then nothing.
 fn gives_all(rt: &impl Abort, slave: &mut Slave<OneReply>, bytes: &[u8]) {
     gives(rt, slave, bytes);
-    assert!(rt; slave.quiet());
-    assert_eq!(rt; slave.take(), None);
+    is(rt, slave.quiet(), true);
+    is(rt, slave.take(), None);
 }
 
 /// Returns the step at the last of these bytes.
@@ -205,15 +206,16 @@ fn plain(act: Act, news: News) -> Step {
 fn a_reply_is_given_up_after_two_polls_without_an_ack(rt: HostRuntime) {
     let mut slave = slave_with_reply(true);
     let still = plain(Act::Nothing, News::Nothing);
-    assert!(rt; slave.quiet());
+    is(&rt, slave.quiet(), true);
     for _ in 0..2 {
-        assert_eq!(rt; hears(&mut slave, &POLL_3), still);
+        is(&rt, hears(&mut slave, &POLL_3), still);
         gives_all(&rt, &mut slave, &REPLY_MESSAGE);
-        assert_eq!(rt; slave.sending(), REPLY.as_slice());
+        is(&rt, slave.sending(), REPLY.as_slice());
     }
-    assert_eq!(rt;
+    is(
+        &rt,
         hears(&mut slave, &POLL_3),
-        plain(Act::Nothing, News::Dropped)
+        plain(Act::Nothing, News::Dropped),
     );
     gives_all(&rt, &mut slave, &EOT);
 }
@@ -230,7 +232,7 @@ fn each_sending_of_a_reply_is_a_transmission(rt: HostRuntime) {
                 last_of: (place + 1 == REPLY_MESSAGE.len()).then_some(number),
                 body_of: (2..8).contains(&place).then_some(number),
             };
-            assert_eq!(rt; slave.take(), Some(wanted));
+            is(&rt, slave.take(), Some(wanted));
         }
     }
     // A response and EOT are not transmissions.
@@ -241,7 +243,7 @@ fn each_sending_of_a_reply_is_a_transmission(rt: HostRuntime) {
             last_of: None,
             body_of: None,
         };
-        assert_eq!(rt; slave.take(), Some(wanted));
+        is(&rt, slave.take(), Some(wanted));
     }
 }
 
@@ -256,10 +258,10 @@ fn a_command_is_accepted_and_its_repeat_passed_over(rt: HostRuntime) {
         whole: true,
         station: 3,
     };
-    assert_eq!(rt; step, accepted);
-    assert_eq!(rt; slave.body(), COMMAND.as_slice());
+    is(&rt, step, accepted);
+    is(&rt, slave.body(), COMMAND.as_slice());
     gives_all(&rt, &mut slave, &ACK);
-    assert_eq!(rt; hears(&mut slave, &COMMAND_MESSAGE).act, Act::Repeat);
+    is(&rt, hears(&mut slave, &COMMAND_MESSAGE).act, Act::Repeat);
     gives_all(&rt, &mut slave, &ACK);
 }
 
@@ -267,11 +269,11 @@ fn a_command_is_accepted_and_its_repeat_passed_over(rt: HostRuntime) {
 fn a_refused_command_is_refused_again(rt: HostRuntime) {
     let mut slave = slave_with_reply(false);
     for _ in 0..2 {
-        assert_eq!(rt; hears(&mut slave, &COMMAND_MESSAGE).act, Act::Refuse);
+        is(&rt, hears(&mut slave, &COMMAND_MESSAGE).act, Act::Refuse);
         gives_all(&rt, &mut slave, &NAK);
     }
     slave.host_mut().has_room = true;
-    assert_eq!(rt; hears(&mut slave, &COMMAND_MESSAGE).act, Act::Accept);
+    is(&rt, hears(&mut slave, &COMMAND_MESSAGE).act, Act::Accept);
 }
 
 #[test]
@@ -287,19 +289,21 @@ fn a_message_to_another_station_is_heard_and_passed_over(rt: HostRuntime) {
         whole: true,
         station: 5,
     };
-    assert_eq!(rt; hears(&mut slave, &message), passed);
-    assert!(rt; slave.quiet());
+    is(&rt, hears(&mut slave, &message), passed);
+    is(&rt, slave.quiet(), true);
     message[21] = 0x67;
-    assert_eq!(rt;
+    is(
+        &rt,
         hears(&mut slave, &message),
-        plain(Act::Nothing, News::Nothing)
+        plain(Act::Nothing, News::Nothing),
     );
     message[2] = 0x03;
-    assert_eq!(rt;
+    is(
+        &rt,
         hears(&mut slave, &message),
-        plain(Act::Damaged, News::Nothing)
+        plain(Act::Damaged, News::Nothing),
     );
-    assert!(rt; slave.quiet());
+    is(&rt, slave.quiet(), true);
 }
 
 #[test]
@@ -312,17 +316,17 @@ fn an_ack_counts_while_the_wait_is_open(rt: HostRuntime) {
         gives_all(&rt, &mut slave, &REPLY_MESSAGE);
         let _ = hears(&mut slave, closing);
         let _ = hears(&mut slave, &[0x10, 0x03, 0xFB]);
-        assert_eq!(rt; hears(&mut slave, &ACK), acked);
-        assert!(rt; slave.host().is_out);
+        is(&rt, hears(&mut slave, &ACK), acked);
+        is(&rt, slave.host().is_out, true);
     }
     let _ = hears(&mut slave, &POLL_3);
     gives(&rt, &mut slave, &REPLY_MESSAGE[..10]);
     let _ = hears(&mut slave, &POLL_5);
-    assert_eq!(rt; hears(&mut slave, &ACK), acked);
-    assert!(rt; slave.host().is_out);
+    is(&rt, hears(&mut slave, &ACK), acked);
+    is(&rt, slave.host().is_out, true);
     gives_all(&rt, &mut slave, &REPLY_MESSAGE[10..]);
-    assert_eq!(rt; hears(&mut slave, &ACK), acked);
-    assert!(rt; !slave.host().is_out);
+    is(&rt, hears(&mut slave, &ACK), acked);
+    is(&rt, slave.host().is_out, false);
     let _ = hears(&mut slave, &POLL_3);
     gives_all(&rt, &mut slave, &EOT);
 }
@@ -332,14 +336,23 @@ fn what_was_begun_is_given_to_its_end_after_a_reset(rt: HostRuntime) {
     let mut slave = slave_with_reply(true);
     let _ = hears(&mut slave, &POLL_3);
     gives(&rt, &mut slave, &REPLY_MESSAGE[..4]);
-    assert_eq!(rt; hears(&mut slave, &NAK), plain(Act::PeerNak, News::Dropped));
-    assert!(rt; slave.host().was_cleared);
+    is(
+        &rt,
+        hears(&mut slave, &NAK),
+        plain(Act::PeerNak, News::Dropped),
+    );
+    is(&rt, slave.host().was_cleared, true);
     let _ = hears(&mut slave, &POLL_3);
     gives_all(&rt, &mut slave, &REPLY_MESSAGE[4..]);
-    assert_eq!(rt; hears(&mut slave, &ACK), plain(Act::PeerAck, News::Nothing));
-    assert_eq!(rt;
+    is(
+        &rt,
+        hears(&mut slave, &ACK),
+        plain(Act::PeerAck, News::Nothing),
+    );
+    is(
+        &rt,
         hears(&mut slave, &POLL_3),
-        plain(Act::Nothing, News::Nothing)
+        plain(Act::Nothing, News::Nothing),
     );
     gives_all(&rt, &mut slave, &EOT);
 }
@@ -349,7 +362,7 @@ fn a_poll_does_nothing_while_a_response_waits(rt: HostRuntime) {
     let mut slave = slave_with_reply(true);
     let _ = hears(&mut slave, &POLL_3);
     gives(&rt, &mut slave, &REPLY_MESSAGE[..4]);
-    assert_eq!(rt; hears(&mut slave, &COMMAND_MESSAGE).act, Act::Accept);
+    is(&rt, hears(&mut slave, &COMMAND_MESSAGE).act, Act::Accept);
     gives(&rt, &mut slave, &REPLY_MESSAGE[4..]);
     let _ = hears(&mut slave, &POLL_3);
     gives_all(&rt, &mut slave, &ACK);

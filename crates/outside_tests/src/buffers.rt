@@ -1,5 +1,6 @@
 //! Tests of what a buffer writes to its sink, and when.
 
+use crate::equal::is;
 use df1_base::{BytesOut, Failed, Sink, write_all};
 use df1_buffer::Buffered;
 use std::alloc::Global;
@@ -32,7 +33,7 @@ fn bytes_wait_until_4096_are_there_or_until_they_are_flushed(rt: HostRuntime) ->
         (&[1, 8192], true, 8193),
     ];
     for (counts, flushed, held) in rows {
-        assert_eq!(rt; handed_on(rt.alloc(), counts, flushed)?, held);
+        is(&rt, handed_on(rt.alloc(), counts, flushed)?, held);
     }
     Ok(())
 }
@@ -41,10 +42,10 @@ fn bytes_wait_until_4096_are_there_or_until_they_are_flushed(rt: HostRuntime) ->
 fn what_a_sink_that_failed_did_not_take_still_waits(rt: HostRuntime) -> Result<(), Fail> {
     let mut out = BytesOut::new(rt.alloc(), 8, 2, &[2])?;
     let mut buffer = Buffered::new(&mut out);
-    assert_eq!(rt; buffer.write(b"abcde"), Ok(5));
-    assert_eq!(rt; buffer.flush(), Err(Failed));
-    assert_eq!(rt; buffer.write(b"fg"), Ok(2));
-    assert_eq!(rt; buffer.flush(), Ok(()));
-    assert_eq!(rt; out.held(), b"abcdefg".as_slice());
+    is(&rt, buffer.write(b"abcde"), Ok(5));
+    is(&rt, buffer.flush(), Err(Failed));
+    is(&rt, buffer.write(b"fg"), Ok(2));
+    is(&rt, buffer.flush(), Ok(()));
+    is(&rt, out.held(), b"abcdefg".as_slice());
     Ok(())
 }

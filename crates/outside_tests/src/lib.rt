@@ -4,6 +4,8 @@
 #[cfg(test)]
 mod buffers;
 #[cfg(test)]
+mod equal;
+#[cfg(test)]
 mod ports;
 #[cfg(test)]
 mod streams;

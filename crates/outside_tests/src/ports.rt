@@ -1,4 +1,5 @@
 //! Tests of the ports, call by call.
+use crate::equal::is;
 use df1_base::{BytesIn, BytesOut, Failed, FeedPort, Port, PortMem, Signal};
 use std::alloc::Global;
 use std::test::Fail;
@@ -84,10 +85,10 @@ fn an_input_gives_its_signals_in_pieces_of_any_size(rt: HostRuntime) -> Result<(
         for piece in 1..4 {
             let mut port = port_over(rt.alloc(), line.bytes, piece, &[], line.timed)?;
             for signal in line.signals {
-                assert_eq!(rt; port.next(), Ok(*signal));
+                is(&rt, port.next(), Ok(*signal));
             }
             let last = line.signals.last().copied().unwrap_or(Signal::End);
-            assert_eq!(rt; port.next(), Ok(last));
+            is(&rt, port.next(), Ok(last));
         }
     }
     Ok(())
@@ -102,27 +103,27 @@ fn an_input_is_read_only_where_no_signal_is_held(rt: HostRuntime) -> Result<(), 
         Signal::Byte(b'b'),
         Signal::Drain,
     ] {
-        assert_eq!(rt; raw.next(), Ok(signal));
+        is(&rt, raw.next(), Ok(signal));
     }
-    assert_eq!(rt; raw.next(), Err(Failed));
-    assert_eq!(rt; raw.next(), Ok(Signal::End));
+    is(&rt, raw.next(), Err(Failed));
+    is(&rt, raw.next(), Ok(Signal::End));
     // The read that asks for the second byte of a record fails, and the next one returns it.
     let mut timed = port_over(rt.alloc(), &[0, 7, 1, 0], 1, &[2], true)?;
-    assert_eq!(rt; timed.next(), Err(Failed));
-    assert_eq!(rt; timed.next(), Ok(Signal::Byte(7)));
+    is(&rt, timed.next(), Err(Failed));
+    is(&rt, timed.next(), Ok(Signal::Byte(7)));
     let (source, sink) = timed.into_parts();
-    assert_eq!(rt; source.left(), [1, 0].as_slice());
-    assert_eq!(rt; sink.held(), b"".as_slice());
+    is(&rt, source.left(), [1, 0].as_slice());
+    is(&rt, sink.held(), b"".as_slice());
     Ok(())
 }
 
 #[test]
 fn what_is_put_goes_to_the_sink(rt: HostRuntime) -> Result<(), Fail> {
     let mut port = port_over(rt.alloc(), b"", 1, &[], false)?;
-    assert_eq!(rt; port.put(b'a'), Ok(()));
-    assert_eq!(rt; port.put_all(b"bc"), Err(Failed));
+    is(&rt, port.put(b'a'), Ok(()));
+    is(&rt, port.put_all(b"bc"), Err(Failed));
     let (_, sink) = port.into_parts();
-    assert_eq!(rt; sink.held(), b"ab".as_slice());
+    is(&rt, sink.held(), b"ab".as_slice());
     Ok(())
 }
 
@@ -130,16 +131,16 @@ fn what_is_put_goes_to_the_sink(rt: HostRuntime) -> Result<(), Fail> {
 fn a_port_in_memory_gives_its_signals_and_fails_as_told(rt: HostRuntime) -> Result<(), Fail> {
     let signals = [Signal::Byte(5), Signal::Bad(7), Signal::Tick];
     let mut port = PortMem::new(rt.alloc(), &signals, 2, &[2], &[2])?;
-    assert_eq!(rt; port.next(), Ok(Signal::Byte(5)));
-    assert_eq!(rt; port.next(), Err(Failed));
-    assert_eq!(rt; port.next(), Ok(Signal::Bad(7)));
-    assert_eq!(rt; port.next(), Ok(Signal::Bad(7)));
-    assert_eq!(rt; port.put(1), Ok(()));
-    assert_eq!(rt; port.put(2), Err(Failed));
-    assert_eq!(rt; port.put_all(&[3, 4]), Err(Failed));
-    assert_eq!(rt; port.held(), [1, 3].as_slice());
+    is(&rt, port.next(), Ok(Signal::Byte(5)));
+    is(&rt, port.next(), Err(Failed));
+    is(&rt, port.next(), Ok(Signal::Bad(7)));
+    is(&rt, port.next(), Ok(Signal::Bad(7)));
+    is(&rt, port.put(1), Ok(()));
+    is(&rt, port.put(2), Err(Failed));
+    is(&rt, port.put_all(&[3, 4]), Err(Failed));
+    is(&rt, port.held(), [1, 3].as_slice());
     let mut none = PortMem::new(rt.alloc(), &[], 0, &[], &[])?;
-    assert_eq!(rt; none.next(), Ok(Signal::End));
-    assert_eq!(rt; none.put(1), Err(Failed));
+    is(&rt, none.next(), Ok(Signal::End));
+    is(&rt, none.put(1), Err(Failed));
     Ok(())
 }

@@ -1,4 +1,5 @@
 //! Tests of texts with their addresses, and of invalid texts with the first part that is at fault.
+use crate::equal::is;
 use arrayvec::ArrayVec;
 use data_addresses::{Address, AddressFault, read_address, write_address};
 use df1_base::FileType;
@@ -52,14 +53,14 @@ fn texts_are_addresses(rt: HostRuntime) {
             sub,
             bit,
         };
-        assert_eq!(rt; read_address(text), Ok(at));
+        is(&rt, read_address(text), Ok(at));
     }
 }
 
 #[test]
 fn other_texts_tell_their_fault(rt: HostRuntime) {
     for (text, fault) in REFUSED {
-        assert_eq!(rt; read_address(text), Err(fault));
+        is(&rt, read_address(text), Err(fault));
     }
 }
 
@@ -76,6 +77,6 @@ fn addresses_are_told_shortly(rt: HostRuntime) {
     for (text, short) in rows {
         let at = read_address(text).expect(&rt, "an address");
         write_address(&at, &mut told);
-        assert_eq!(rt; told.as_slice(), short);
+        is(&rt, told.as_slice(), short);
     }
 }

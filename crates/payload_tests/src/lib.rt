@@ -4,6 +4,8 @@
 #[cfg(test)]
 mod addresses;
 #[cfg(test)]
+mod equal;
+#[cfg(test)]
 mod payloads;
 #[cfg(test)]
 mod replies;

@@ -1,4 +1,5 @@
 //! Tests of payloads of known bytes, and of the answers of a station to them.
+use crate::equal::is;
 use arrayvec::ArrayVec;
 use command_payloads::{
     PayloadFault, bit_write, echo, logical_read, logical_write, masked_write, read_modify_write,
@@ -23,25 +24,31 @@ fn at(rt: &impl Abort, text: &[u8]) -> Address {
 fn reads_have_their_bytes(rt: HostRuntime) -> Result<(), Fail> {
     let mut into = ArrayVec::new();
     logical_read(false, &at(&rt, b"N7:1"), 1, &mut into)?;
-    assert_eq!(rt; into.as_slice(), [0x0F, 0xA1, 2, 7, 0x89, 1].as_slice());
+    is(&rt, into.as_slice(), [0x0F, 0xA1, 2, 7, 0x89, 1].as_slice());
     logical_read(true, &at(&rt, b"N7:0"), 2, &mut into)?;
-    assert_eq!(rt; into.as_slice(), [0x0F, 0xA2, 4, 7, 0x89, 0, 0].as_slice());
-    word_range_read(&at(&rt, b"N7:0"), 2, &mut into)?;
-    assert_eq!(rt;
+    is(
+        &rt,
         into.as_slice(),
-        [0x0F, 1, 0, 0, 2, 0, 6, 7, 0, 4].as_slice()
+        [0x0F, 0xA2, 4, 7, 0x89, 0, 0].as_slice(),
+    );
+    word_range_read(&at(&rt, b"N7:0"), 2, &mut into)?;
+    is(
+        &rt,
+        into.as_slice(),
+        [0x0F, 1, 0, 0, 2, 0, 6, 7, 0, 4].as_slice(),
     );
     typed_read(&at(&rt, b"F8:0"), 1, &mut into)?;
-    assert_eq!(rt;
+    is(
+        &rt,
         into.as_slice(),
-        [0x0F, 0x68, 0, 0, 1, 0, 6, 8, 0, 1, 0].as_slice()
+        [0x0F, 0x68, 0, 0, 1, 0, 6, 8, 0, 1, 0].as_slice(),
     );
     unprotected_read(0, 1, &mut into)?;
-    assert_eq!(rt; into.as_slice(), [0x01, 0, 0, 2].as_slice());
+    is(&rt, into.as_slice(), [0x01, 0, 0, 2].as_slice());
     echo(&[0xE2], &mut into)?;
-    assert_eq!(rt; into.as_slice(), [0x06, 0, 0xE2].as_slice());
+    is(&rt, into.as_slice(), [0x06, 0, 0xE2].as_slice());
     station_status(&mut into);
-    assert_eq!(rt; into.as_slice(), [0x06, 3].as_slice());
+    is(&rt, into.as_slice(), [0x06, 3].as_slice());
     Ok(())
 }
 
@@ -50,35 +57,40 @@ fn writes_have_their_bytes(rt: HostRuntime) -> Result<(), Fail> {
     let words = [0xABCD];
     let mut into = ArrayVec::new();
     logical_write(false, &at(&rt, b"N7:2"), &words, &mut into)?;
-    assert_eq!(rt;
+    is(
+        &rt,
         into.as_slice(),
-        [0x0F, 0xA9, 2, 7, 0x89, 2, 0xCD, 0xAB].as_slice()
+        [0x0F, 0xA9, 2, 7, 0x89, 2, 0xCD, 0xAB].as_slice(),
     );
     logical_write(true, &at(&rt, b"N7:2"), &words, &mut into)?;
-    assert_eq!(rt;
+    is(
+        &rt,
         into.as_slice(),
-        [0x0F, 0xAA, 2, 7, 0x89, 2, 0, 0xCD, 0xAB].as_slice()
+        [0x0F, 0xAA, 2, 7, 0x89, 2, 0, 0xCD, 0xAB].as_slice(),
     );
     masked_write(&at(&rt, b"N7:0"), 0x00FF, &words, &mut into)?;
-    assert_eq!(rt;
+    is(
+        &rt,
         into.as_slice(),
-        [0x0F, 0xAB, 2, 7, 0x89, 0, 0, 0xFF, 0, 0xCD, 0xAB].as_slice()
+        [0x0F, 0xAB, 2, 7, 0x89, 0, 0, 0xFF, 0, 0xCD, 0xAB].as_slice(),
     );
     word_range_write(&at(&rt, b"T4:1.ACC"), &[7], &mut into)?;
-    assert_eq!(rt;
+    is(
+        &rt,
         into.as_slice(),
-        [0x0F, 0, 0, 0, 1, 0, 0x0E, 4, 1, 2, 7, 0].as_slice()
+        [0x0F, 0, 0, 0, 1, 0, 0x0E, 4, 1, 2, 7, 0].as_slice(),
     );
     typed_write(&at(&rt, b"N7:0"), &[0xABCD, 1], &mut into)?;
-    assert_eq!(rt;
+    is(
+        &rt,
         into.as_slice(),
         [
-            0x0F, 0x67, 0, 0, 2, 0, 6, 7, 0, 0x99, 9, 5, 0x42, 0xCD, 0xAB, 1, 0
+            0x0F, 0x67, 0, 0, 2, 0, 6, 7, 0, 0x99, 9, 5, 0x42, 0xCD, 0xAB, 1, 0,
         ]
-        .as_slice()
+        .as_slice(),
     );
     unprotected_write(2, &words, &mut into)?;
-    assert_eq!(rt; into.as_slice(), [0x08, 2, 0, 0xCD, 0xAB].as_slice());
+    is(&rt, into.as_slice(), [0x08, 2, 0, 0xCD, 0xAB].as_slice());
     Ok(())
 }
 
@@ -86,19 +98,22 @@ fn writes_have_their_bytes(rt: HostRuntime) -> Result<(), Fail> {
 fn bits_have_their_bytes(rt: HostRuntime) -> Result<(), Fail> {
     let mut into = ArrayVec::new();
     read_modify_write(&at(&rt, b"N7:0"), 0x00FF, 0x5600, &mut into);
-    assert_eq!(rt;
+    is(
+        &rt,
         into.as_slice(),
-        [0x0F, 0x26, 6, 7, 0, 0xFF, 0, 0, 0x56].as_slice()
+        [0x0F, 0x26, 6, 7, 0, 0xFF, 0, 0, 0x56].as_slice(),
     );
     bit_write(&at(&rt, b"N7:3/5"), true, &mut into)?;
-    assert_eq!(rt;
+    is(
+        &rt,
         into.as_slice(),
-        [0x0F, 0x26, 6, 7, 3, 0xDF, 0xFF, 0x20, 0].as_slice()
+        [0x0F, 0x26, 6, 7, 3, 0xDF, 0xFF, 0x20, 0].as_slice(),
     );
     bit_write(&at(&rt, b"N7:3/15"), false, &mut into)?;
-    assert_eq!(rt;
+    is(
+        &rt,
         into.as_slice(),
-        [0x0F, 0x26, 6, 7, 3, 0xFF, 0x7F, 0, 0].as_slice()
+        [0x0F, 0x26, 6, 7, 3, 0xFF, 0x7F, 0, 0].as_slice(),
     );
     Ok(())
 }
@@ -109,39 +124,54 @@ fn what_does_not_fit_is_told(rt: HostRuntime) {
     let word = at(&rt, b"N7:0");
     let accumulator = at(&rt, b"T4:1.ACC");
     let words = [0; 119];
-    assert_eq!(rt;
+    is(
+        &rt,
         word_range_read(&word, 0, &mut into),
-        Err(PayloadFault::NoData)
+        Err(PayloadFault::NoData),
     );
-    assert_eq!(rt;
+    is(
+        &rt,
         word_range_read(&word, 123, &mut into),
-        Err(PayloadFault::TooMuchData)
+        Err(PayloadFault::TooMuchData),
     );
-    assert_eq!(rt; word_range_write(&word, &words[..118], &mut into), Ok(()));
-    assert_eq!(rt; into.len(), 245);
-    assert_eq!(rt;
+    is(
+        &rt,
+        word_range_write(&word, &words[..118], &mut into),
+        Ok(()),
+    );
+    is(&rt, into.len(), 245);
+    is(
+        &rt,
         word_range_write(&word, &words, &mut into),
-        Err(PayloadFault::TooMuchData)
+        Err(PayloadFault::TooMuchData),
     );
-    assert_eq!(rt; into.len(), 0);
-    assert_eq!(rt; typed_read(&at(&rt, b"F8:0"), 59, &mut into), Ok(()));
-    assert_eq!(rt;
+    is(&rt, into.len(), 0);
+    is(&rt, typed_read(&at(&rt, b"F8:0"), 59, &mut into), Ok(()));
+    is(
+        &rt,
         typed_read(&at(&rt, b"F8:0"), 60, &mut into),
-        Err(PayloadFault::TooMuchData)
+        Err(PayloadFault::TooMuchData),
     );
-    assert_eq!(rt;
+    is(
+        &rt,
         typed_read(&accumulator, 1, &mut into),
-        Err(PayloadFault::NoType)
+        Err(PayloadFault::NoType),
     );
-    assert_eq!(rt;
+    is(
+        &rt,
         typed_write(&at(&rt, b"F8:0"), &words[..3], &mut into),
-        Err(PayloadFault::HalfElement)
+        Err(PayloadFault::HalfElement),
     );
-    assert_eq!(rt;
+    is(
+        &rt,
         logical_read(false, &accumulator, 1, &mut into),
-        Err(PayloadFault::NoSub)
+        Err(PayloadFault::NoSub),
     );
-    assert_eq!(rt; bit_write(&word, true, &mut into), Err(PayloadFault::NoBit));
+    is(
+        &rt,
+        bit_write(&word, true, &mut into),
+        Err(PayloadFault::NoBit),
+    );
 }
 
 /// Writes the data that a station with N7:0 = 1234 and N7:1 = 5678 answers to `out`, and returns the code.
@@ -171,16 +201,17 @@ fn what_a_station_gives_is_read(rt: HostRuntime) -> Result<(), Fail> {
     let mut command = ArrayVec::new();
     let mut out = ArrayVec::new();
     word_range_read(&first, 2, &mut command)?;
-    assert_eq!(rt; answer(rt.alloc(), &command, &mut out)?, Code::Done);
+    is(&rt, answer(rt.alloc(), &command, &mut out)?, Code::Done);
     let words = words_in(&out).expect(&rt, "words");
-    assert_eq!(rt; words.as_slice(), [0x1234, 0x5678].as_slice());
+    is(&rt, words.as_slice(), [0x1234, 0x5678].as_slice());
     typed_read(&first, 2, &mut command)?;
-    assert_eq!(rt; answer(rt.alloc(), &command, &mut out)?, Code::Done);
+    is(&rt, answer(rt.alloc(), &command, &mut out)?, Code::Done);
     let typed = read_typed(&out).expect(&rt, "typed data");
-    assert_eq!(rt;
+    is(
+        &rt,
         (typed.element.kind, typed.element.size, typed.is_array),
-        (4, 2, true)
+        (4, 2, true),
     );
-    assert_eq!(rt; typed.bytes, [0x34, 0x12, 0x78, 0x56].as_slice());
+    is(&rt, typed.bytes, [0x34, 0x12, 0x78, 0x56].as_slice());
     Ok(())
 }

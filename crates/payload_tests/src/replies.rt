@@ -1,4 +1,5 @@
 //! Tests of replies of known bytes, texts of codes, and values in data.
+use crate::equal::is;
 use logical_address::Param;
 use reply_values::{float_words, floats_in, read_reply, read_typed, status_text, words_in};
 use std::test::Fail;
@@ -13,11 +14,11 @@ fn replies_tell_their_status_and_data(rt: HostRuntime) {
     ];
     for (body, sts, ext, bytes) in rows {
         let reply = read_reply(body).expect(&rt, "a reply");
-        assert_eq!(rt; (reply.sts, reply.ext), (sts, ext));
-        assert_eq!(rt; reply.bytes, bytes);
+        is(&rt, (reply.sts, reply.ext), (sts, ext));
+        is(&rt, reply.bytes, bytes);
     }
-    assert!(rt; read_reply(&[0, 1, 0x4F, 0xF0, 1, 0]).is_none());
-    assert!(rt; read_reply(&[0, 1, 0x4F, 0, 1]).is_none());
+    is(&rt, read_reply(&[0, 1, 0x4F, 0xF0, 1, 0]).is_none(), true);
+    is(&rt, read_reply(&[0, 1, 0x4F, 0, 1]).is_none(), true);
 }
 
 #[test]
@@ -37,25 +38,31 @@ fn codes_have_their_texts(rt: HostRuntime) {
         (0xE0, 0, "see the manual of the controller"),
     ];
     for (sts, ext, text) in rows {
-        assert_eq!(rt; status_text(sts, ext), text);
+        is(&rt, status_text(sts, ext), text);
     }
 }
 
 #[test]
 fn values_are_read_from_data(rt: HostRuntime) -> Result<(), Fail> {
-    assert_eq!(rt;
+    is(
+        &rt,
         words_in(&[0x34, 0x12]).expect(&rt, "words").as_slice(),
-        [0x1234].as_slice()
+        [0x1234].as_slice(),
     );
-    assert!(rt; words_in(&[0x34]).is_none());
+    is(&rt, words_in(&[0x34]).is_none(), true);
     let typed = read_typed(&[0x99, 9, 6, 0x94, 8, 0, 0, 0xC0, 0x3F]).expect(&rt, "typed data");
-    assert_eq!(rt; typed.element, Param { kind: 8, size: 4 });
-    assert_eq!(rt;
+    is(&rt, typed.element, Param { kind: 8, size: 4 });
+    is(
+        &rt,
         floats_in(typed.bytes).expect(&rt, "floats").as_slice(),
-        [0x3FC0_0000].as_slice()
+        [0x3FC0_0000].as_slice(),
     );
-    assert!(rt; floats_in(&[0, 0]).is_none());
-    assert!(rt; read_typed(&[0x99, 9, 5, 0x42, 0x34, 0x12]).is_none());
-    assert_eq!(rt; float_words(0x3FC0_0000), [0, 0x3FC0]);
+    is(&rt, floats_in(&[0, 0]).is_none(), true);
+    is(
+        &rt,
+        read_typed(&[0x99, 9, 5, 0x42, 0x34, 0x12]).is_none(),
+        true,
+    );
+    is(&rt, float_words(0x3FC0_0000), [0, 0x3FC0]);
     Ok(())
 }

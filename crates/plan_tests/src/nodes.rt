@@ -1,5 +1,6 @@
 //! A test of a node that is made by the plan of an end.
 
+use crate::equal::is;
 use df1_base::FileType;
 use df1_node::FileSpec;
 use end_settings::{Key, Setting, Settings};
@@ -33,7 +34,7 @@ fn a_node_has_the_first_words_of_its_plan(rt: HostRuntime) -> Result<(), Fail> {
     let node = node_of(rt.alloc(), &plan)?;
     let tables = node.tables();
     let words = [tables.word(7, 0), tables.word(7, 1), tables.word(7, 2)];
-    assert_eq!(rt; words, [Some(0), Some(0x12AB), None]);
-    assert_eq!(rt; node.initiator().outcome(1), None);
+    is(&rt, words, [Some(0), Some(0x12AB), None]);
+    is(&rt, node.initiator().outcome(1), None);
     Ok(())
 }

@@ -1,5 +1,6 @@
 //! Tests of commands of a plan that ended in each way, and the text of their outcomes.
 
+use crate::equal::is;
 use arrayvec::ArrayVec;
 use df1_base::{BytesOut, Fate, Host};
 use df1_node::Node;
@@ -88,8 +89,12 @@ fn each_outcome_has_its_line(rt: HostRuntime) -> Result<(), Fail> {
             settle(&mut node, end);
         }
         let mut sink = BytesOut::new(alloc, 100, 7, &[])?;
-        assert!(rt; write_outcomes(node.initiator(), &mut sink).is_ok());
-        assert_eq!(rt; sink.held(), text.as_bytes());
+        is(
+            &rt,
+            write_outcomes(node.initiator(), &mut sink).is_ok(),
+            true,
+        );
+        is(&rt, sink.held(), text.as_bytes());
     }
     Ok(())
 }

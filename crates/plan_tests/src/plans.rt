@@ -1,4 +1,5 @@
 //! Tests of plans: their contents, and the cause for each invalid document.
+use crate::equal::is;
 use df1_base::FileType;
 use df1_check::Check;
 use df1_plan::{Plan, read_plan};
@@ -39,13 +40,13 @@ fn each_key_is_read(rt: HostRuntime) {
         plan.end.ack_ticks == 1_000_000 && plan.end.max_naks == 255 && plan.end.max_enqs == 0
     );
     assert!(rt; plan.end.reply_ticks == 33 && plan.end.room == 64 && plan.end.compat == Some(3));
-    assert!(rt; plan.end.block.as_slice() == [0x01, 0xAB].as_slice());
+    is(&rt, plan.end.block.as_slice(), [0x01, 0xAB].as_slice());
     let files = plan.end.files.as_slice();
-    assert!(rt; files.len() == 2);
+    is(&rt, files.len(), 2);
     assert!(rt; files[0].number == 7 && files[0].kind == FileType::Float && files[0].count == 2);
     assert!(rt; files[1].number == 3 && files[1].kind == FileType::Bit && files[1].count == 1000);
     let words = plan.end.words.as_slice();
-    assert!(rt; words.len() == 3);
+    is(&rt, words.len(), 3);
     assert!(rt; words[0].file == 7 && words[0].index == 0 && words[0].value == 0x1234);
     assert!(rt; words[2].file == 7 && words[2].index == 2 && words[2].value == 0x0001);
     let issue = plan.issue.as_slice();
@@ -114,7 +115,11 @@ fn each_refusal_has_its_cause(rt: HostRuntime) {
             "{text}"
         );
     }
-    assert!(rt; cause(&rt, rt.alloc(), [0x23, 0xFF].as_slice()).as_str() == "text");
+    is(
+        &rt,
+        cause(&rt, rt.alloc(), [0x23, 0xFF].as_slice()).as_str(),
+        "text",
+    );
 }
 
 #[test]
@@ -209,7 +214,15 @@ fn entries_are_counted_to_their_limits(rt: HostRuntime) {
     files
         .push_str("[[file]]\nnumber = 256\ntype = \"89\"\ncount = 1\n")
         .expect(&rt, "memory");
-    assert!(rt; cause(&rt, rt.alloc(), files.as_bytes()).as_str() == "file 257");
+    is(
+        &rt,
+        cause(&rt, rt.alloc(), files.as_bytes()).as_str(),
+        "file 257",
+    );
     issue.push_str("\"0600\"]\n").expect(&rt, "memory");
-    assert!(rt; cause(&rt, rt.alloc(), issue.as_bytes()).as_str() == "issue 65536");
+    is(
+        &rt,
+        cause(&rt, rt.alloc(), issue.as_bytes()).as_str(),
+        "issue 65536",
+    );
 }

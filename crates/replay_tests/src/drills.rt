@@ -2,6 +2,7 @@
 
 ghost use Rattle.script_parts.specs.HalfPlayable.{CanBePlayed};
 
+use crate::equal::is;
 use df1_base::Collected;
 use df1_check::crc;
 use df1_drill::{MOST_ROUNDS, drill, drill_script, storm};
@@ -97,10 +98,10 @@ fn a_line_tells_the_replay_of_the_text(rt: HostRuntime) -> Result<(), Fail> {
         assert!(rt; count <= MOST_ROUNDS);
         let line = drill(rt.alloc(), seed, count)?.line();
         let (told, digits) = line.as_slice().split_at(counts.len().min(line.len()));
-        assert_eq!(rt; told, counts.as_bytes());
+        is(&rt, told, counts.as_bytes());
         let text = text_of(rt.alloc(), false, seed, count)?;
         let report = report_of(rt.alloc(), &text)?;
-        assert_eq!(rt; digits, ending(crc(report.bytes())).as_slice());
+        is(&rt, digits, ending(crc(report.bytes())).as_slice());
     }
     Ok(())
 }
@@ -111,7 +112,7 @@ fn a_text_says_the_script_of_its_drill(rt: HostRuntime) -> Result<(), Fail> {
         let made = printed(rt.alloc(), &drill_script(rt.alloc(), seed, 8)?)?;
         let text = text_of(rt.alloc(), false, seed, 8)?;
         let said = report_of(rt.alloc(), &text)?;
-        assert_eq!(rt; made.bytes(), said.bytes());
+        is(&rt, made.bytes(), said.bytes());
     }
     Ok(())
 }
@@ -122,7 +123,7 @@ fn a_text_says_the_script_of_its_storm(rt: HostRuntime) -> Result<(), Fail> {
         let made = printed(rt.alloc(), &storm(rt.alloc(), seed, 8)?)?;
         let text = text_of(rt.alloc(), true, seed, 8)?;
         let said = report_of(rt.alloc(), &text)?;
-        assert_eq!(rt; made.bytes(), said.bytes());
+        is(&rt, made.bytes(), said.bytes());
     }
     Ok(())
 }

@@ -6,6 +6,8 @@ mod cells;
 #[cfg(test)]
 mod drills;
 #[cfg(test)]
+mod equal;
+#[cfg(test)]
 mod rehearsals;
 #[cfg(test)]
 mod replays;

@@ -3,6 +3,7 @@
 ghost use Rattle.std.specs.Prelude.{◌≡◌, ◌≤◌, ◌*◌, ◌/◌, IfOk, length};
 ghost use Rattle.bulk_transfer.specs.Rehearsal.{IsRehearsable};
 
+use crate::equal::is;
 use bulk_orders::{Bulk, put_pull_result, put_push_result};
 use bulk_transfer::{rehearse_pull, rehearse_push};
 use df1_base::BytesOut;
@@ -50,7 +51,7 @@ fn pulls(
     let mut out = BytesOut::new(alloc, 1000, 1000, &[])?;
     print(&rehearsal.report, &mut out)?;
     put_pull_result(&mut out, rehearsal.bulk, rehearsal.words.as_slice())?;
-    assert_eq!(rt; out.held(), wanted.as_bytes());
+    is(rt, out.held(), wanted.as_bytes());
     Ok(())
 }
 
@@ -90,9 +91,9 @@ fn two_orders_read_the_words_in_their_order(rt: HostRuntime) -> Result<(), Fail>
     let mut wanted = [0; 202];
     wanted[..2].copy_from_slice(b"\x34\x12");
     wanted[200..].copy_from_slice(b"\x78\x56");
-    assert_eq!(rt; rehearsal.bulk, Bulk::Whole);
-    assert_eq!(rt; rehearsal.words.as_slice(), wanted.as_slice());
-    assert_eq!(rt; rehearsal.report.deceived, 0);
+    is(&rt, rehearsal.bulk, Bulk::Whole);
+    is(&rt, rehearsal.words.as_slice(), wanted.as_slice());
+    is(&rt, rehearsal.report.deceived, 0);
     Ok(())
 }
 
@@ -100,10 +101,10 @@ fn two_orders_read_the_words_in_their_order(rt: HostRuntime) -> Result<(), Fail>
 fn an_order_that_is_lost_is_missing(rt: HostRuntime) -> Result<(), Fail> {
     let script = script_of(rt.alloc(), LOST_COMMAND)?;
     let read = rehearse_pull(rt.alloc(), &script, 7, 101)?;
-    assert_eq!(rt; read.bulk, Bulk::Missing(2));
-    assert!(rt; read.words.as_slice().is_empty());
+    is(&rt, read.bulk, Bulk::Missing(2));
+    is(&rt, read.words.as_slice().is_empty(), true);
     let written = rehearse_push(rt.alloc(), &script, 7, &[0; 202])?;
-    assert_eq!(rt; written.bulk, Bulk::Missing(2));
+    is(&rt, written.bulk, Bulk::Missing(2));
     Ok(())
 }
 
@@ -115,11 +116,12 @@ fn transfers_that_write_are_printed(rt: HostRuntime) -> Result<(), Fail> {
     let mut out = BytesOut::new(rt.alloc(), 1000, 1000, &[])?;
     print(&rehearsal.report, &mut out)?;
     put_push_result(&mut out, rehearsal.bulk, 1)?;
-    assert_eq!(rt;
+    is(
+        &rt,
         out.held(),
-        "a sent 100201000F0001000000000100060700341210039B\nb exec 01000F00010000000001000607003412\nb sent 1006100200014F0001001003AF\na answered 1 00014F000100\na sent 1006\nb word 7 0 1234\ndeceived 0\npushed 1\n".as_bytes()
+        "a sent 100201000F0001000000000100060700341210039B\nb exec 01000F00010000000001000607003412\nb sent 1006100200014F0001001003AF\na answered 1 00014F000100\na sent 1006\nb word 7 0 1234\ndeceived 0\npushed 1\n".as_bytes(),
     );
-    assert!(rt; rehearsal.words.as_slice().is_empty());
+    is(&rt, rehearsal.words.as_slice().is_empty(), true);
     Ok(())
 }
 
@@ -150,14 +152,14 @@ fn what_a_transfer_came_to_has_its_line(rt: HostRuntime) -> Result<(), Fail> {
     for (bulk, line) in FAULTS {
         let mut out = BytesOut::new(rt.alloc(), 100, 100, &[])?;
         put_pull_result(&mut out, bulk, &[])?;
-        assert_eq!(rt; out.held(), line.as_bytes());
+        is(&rt, out.held(), line.as_bytes());
         let mut out = BytesOut::new(rt.alloc(), 100, 100, &[])?;
         put_push_result(&mut out, bulk, 30)?;
-        assert_eq!(rt; out.held(), line.as_bytes());
+        is(&rt, out.held(), line.as_bytes());
     }
     let mut out = BytesOut::new(rt.alloc(), 100, 100, &[])?;
     put_pull_result(&mut out, Bulk::Whole, b"\xAB\xCD")?;
     put_push_result(&mut out, Bulk::Whole, 30)?;
-    assert_eq!(rt; out.held(), b"pulled ABCD\npushed 30\n".as_slice());
+    is(&rt, out.held(), b"pulled ABCD\npushed 30\n".as_slice());
     Ok(())
 }

@@ -1,5 +1,6 @@
 //! Tests of scripts with the reports of their runs.
 
+use crate::equal::is;
 use df1_base::BytesOut;
 use line_replay::replay;
 use line_script::read_script;
@@ -67,7 +68,7 @@ fn a_command_that_no_poll_fetches_the_reply_of_is_unanswered(rt: HostRuntime) ->
     report.push_str("m unanswered 1\ndeceived 0\n")?;
     let record = played(rt.alloc(), &text)?;
     let out = printed(rt.alloc(), &record)?;
-    assert_eq!(rt; out.held(), report.as_bytes());
+    is(&rt, out.held(), report.as_bytes());
     Ok(())
 }
 
@@ -76,7 +77,7 @@ fn runs_have_their_reports(rt: HostRuntime) -> Result<(), Fail> {
     for (text, report) in RUNS {
         let record = played(rt.alloc(), text)?;
         let out = printed(rt.alloc(), &record)?;
-        assert_eq!(rt; out.held(), report.as_bytes());
+        is(&rt, out.held(), report.as_bytes());
     }
     Ok(())
 }

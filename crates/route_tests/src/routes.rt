@@ -1,6 +1,7 @@
 //! Tests of routes: scripts with their reports, also from an input, and the faults by which a script from an input
 //! isn't run.
 
+use crate::equal::is;
 use df1_base::{BytesIn, BytesOut};
 use half_route::{print_route, read_route, route};
 use line_script::Cause;
@@ -39,11 +40,11 @@ fn reports(
     let made = route(alloc, &script)?;
     let mut out = BytesOut::new(alloc, 1000, 1000, &[])?;
     print_route(&made, &mut out)?;
-    assert_eq!(rt; out.held(), wanted.as_bytes());
+    is(rt, out.held(), wanted.as_bytes());
     let mut input = BytesIn::new(alloc, text.as_bytes(), piece, &[])?;
     let mut out = BytesOut::new(alloc, 1000, 7, &[])?;
-    assert_eq!(rt; route_input(alloc, &mut input, &mut out), Ok(()));
-    assert_eq!(rt; out.held(), wanted.as_bytes());
+    is(rt, route_input(alloc, &mut input, &mut out), Ok(()));
+    is(rt, out.held(), wanted.as_bytes());
     Ok(())
 }
 
@@ -86,8 +87,12 @@ fn nothing_is_written_of_a_route_that_is_not_read_whole(rt: HostRuntime) -> Resu
     for (text, piece, fails, fault) in FAULTS {
         let mut input = BytesIn::new(rt.alloc(), text.as_bytes(), piece, fails)?;
         let mut out = BytesOut::new(rt.alloc(), 1000, 1000, &[])?;
-        assert_eq!(rt; route_input(rt.alloc(), &mut input, &mut out), Err(fault));
-        assert!(rt; out.held().is_empty());
+        is(
+            &rt,
+            route_input(rt.alloc(), &mut input, &mut out),
+            Err(fault),
+        );
+        is(&rt, out.held().is_empty(), true);
     }
     Ok(())
 }
@@ -96,10 +101,11 @@ fn nothing_is_written_of_a_route_that_is_not_read_whole(rt: HostRuntime) -> Resu
 fn of_a_report_whose_output_fails_a_first_part_is_written(rt: HostRuntime) -> Result<(), Fail> {
     let mut input = BytesIn::new(rt.alloc(), CARRIED.as_bytes(), 4096, &[])?;
     let mut out = BytesOut::new(rt.alloc(), 1000, 16, &[2])?;
-    assert_eq!(rt;
+    is(
+        &rt,
         route_input(rt.alloc(), &mut input, &mut out),
-        Err(RunFault::Output)
+        Err(RunFault::Output),
     );
-    assert_eq!(rt; out.held(), b"m sent 100503FD\n".as_slice());
+    is(&rt, out.held(), b"m sent 100503FD\n".as_slice());
     Ok(())
 }

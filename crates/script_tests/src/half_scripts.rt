@@ -1,5 +1,6 @@
 //! Tests of lines with the first that has a flaw, and of one script field by field.
 
+use crate::equal::is;
 use df1_check::Check;
 use end_drafts::{Flaw, StatementFault};
 use half_script::HalfReader;
@@ -159,7 +160,7 @@ fn a_line_has_32_stations_and_a_master_65535_commands(rt: HostRuntime) -> Result
     for (front, last, commands, flaw) in MANY {
         let text = many(rt.alloc(), front, last, commands)?;
         let expected = flaw.map(|(line, flaw)| (line, Some(StatementFault::Flawed(flaw))));
-        assert_eq!(rt; read(rt.alloc(), &text).err(), expected);
+        is(&rt, read(rt.alloc(), &text).err(), expected);
     }
     Ok(())
 }
@@ -173,19 +174,22 @@ fn check_ends<R: Abort>(rt: &R, ends: &[EndPlan]) -> Result<(), Fail> {
     let [m, first, second] = ends else {
         return Err(Fail::new("there are not three ends"));
     };
-    assert_eq!(rt;
+    is(
+        rt,
         (m.who, m.node, m.tns, m.room, m.max_sends),
-        (Who::M, 0, 9, 64, 3)
+        (Who::M, 0, 9, 64, 3),
     );
-    assert_eq!(rt; (m.window, m.per_source), (16, 2));
-    assert_eq!(rt;
+    is(rt, (m.window, m.per_source), (16, 2));
+    is(
+        rt,
         (first.who, first.node, first.room, first.compat),
-        (Who::S(254), 254, 2, None)
+        (Who::S(254), 254, 2, None),
     );
-    assert_eq!(rt; first.block.as_slice(), b"\x01\xfe".as_slice());
-    assert_eq!(rt;
+    is(rt, first.block.as_slice(), b"\x01\xfe".as_slice());
+    is(
+        rt,
         (second.who, second.node, second.max_sends, second.compat),
-        (Who::S(3), 3, 255, Some(7))
+        (Who::S(3), 3, 255, Some(7)),
     );
     let word = WordOf {
         who: Who::S(3),
@@ -193,7 +197,7 @@ fn check_ends<R: Abort>(rt: &R, ends: &[EndPlan]) -> Result<(), Fail> {
         index: 1,
         value: 0x12AB,
     };
-    assert_eq!(rt; second.words.as_slice(), [word].as_slice());
+    is(rt, second.words.as_slice(), [word].as_slice());
     Ok(())
 }
 
@@ -256,19 +260,19 @@ fn bytes_of(event: &Event) -> &[u8] {
 
 /// Compares the events of the script.
 fn check_events<R: Abort>(rt: &R, events: &[Event]) -> Result<(), Fail> {
-    assert_eq!(rt; events.len(), EVENTS.len());
+    is(rt, events.len(), EVENTS.len());
     for (event, (letter, who, to, src, number, bytes)) in events.iter().zip(EVENTS) {
-        assert_eq!(rt; place_of(event), (letter, who, to));
-        assert_eq!(rt; source_of(event), src);
-        assert_eq!(rt; number_of(event), number);
-        assert_eq!(rt; bytes_of(event), bytes);
+        is(rt, place_of(event), (letter, who, to));
+        is(rt, source_of(event), src);
+        is(rt, number_of(event), number);
+        is(rt, bytes_of(event), bytes);
     }
     Ok(())
 }
 
 /// Compares the script.
 fn check_script<R: Abort>(rt: &R, script: &Script) -> Result<(), Fail> {
-    assert_eq!(rt; (script.half, script.check), (true, Check::Crc));
+    is(rt, (script.half, script.check), (true, Check::Crc));
     check_ends(rt, script.ends.as_slice())?;
     check_events(rt, script.events.as_slice())
 }

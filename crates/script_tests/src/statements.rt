@@ -1,5 +1,6 @@
 //! Tests of the words of a line, and of the statement that they make.
 
+use crate::equal::is;
 use df1_base::FileType;
 use end_settings::{Key, Setting};
 use script_statement::{
@@ -16,13 +17,13 @@ fn said(alloc: Global, line: &str) -> Option<Statement> {
 #[test]
 fn blanks_and_tabs_part_words(rt: HostRuntime) {
     let words = first_words(b" set\ta.room  64\r");
-    assert_eq!(rt; words.len(), 3);
-    assert_eq!(rt; words[0], b"set".as_slice());
-    assert_eq!(rt; words[1], b"a.room".as_slice());
-    assert_eq!(rt; words[2], b"64\r".as_slice());
-    assert_eq!(rt; first_words(b"\t ").len(), 0);
-    assert_eq!(rt; first_words(b"word a 7 0 0000 ").len(), 5);
-    assert_eq!(rt; first_words(b"a b c d e f g").len(), 6);
+    is(&rt, words.len(), 3);
+    is(&rt, words[0], b"set".as_slice());
+    is(&rt, words[1], b"a.room".as_slice());
+    is(&rt, words[2], b"64\r".as_slice());
+    is(&rt, first_words(b"\t ").len(), 0);
+    is(&rt, first_words(b"word a 7 0 0000 ").len(), 5);
+    is(&rt, first_words(b"a b c d e f g").len(), 6);
 }
 
 #[test]
@@ -34,8 +35,9 @@ fn a_line_says_its_statement(rt: HostRuntime) -> Result<(), Fail> {
         said(alloc, "ai 0fAA"),
         said(alloc, "set m.block 01Fe"),
     );
-    assert!(rt; matches!(&last, Some(Statement::End)));
-    assert!(rt;
+    is(&rt, matches!(&last, Some(Statement::End)), true);
+    is(
+        &rt,
         matches!(
             &lost,
             Some(Statement::Times {
@@ -43,7 +45,8 @@ fn a_line_says_its_statement(rt: HostRuntime) -> Result<(), Fail> {
                 verb: Verb::Lose,
                 n: Some(7)
             })
-        )
+        ),
+        true,
     );
     assert!(rt;
         matches!(&issued, Some(Statement::Issue { side: EndLetter::A, payload: Some(payload) }) if payload.as_slice() == b"\x0f\xaa".as_slice())
@@ -51,7 +54,7 @@ fn a_line_says_its_statement(rt: HostRuntime) -> Result<(), Fail> {
     assert!(rt;
         matches!(&block, Some(Statement::Setup { end: EndName::Master, line: SetupStatement::Block(Some(bytes)) }) if bytes.as_slice() == b"\x01\xfe".as_slice())
     );
-    assert!(rt; said(alloc, "").is_none());
+    is(&rt, said(alloc, "").is_none(), true);
     Ok(())
 }
 
@@ -111,14 +114,16 @@ fn a_line_gives_bytes_to_a_half_duplex_line(rt: HostRuntime) {
     assert!(rt;
         matches!(&said(alloc, "mi 3 0fAA"), Some(Statement::Half(HalfEvent::Issue { station: 3, payload: Some(bytes) })) if bytes.as_slice() == b"\x0f\xaa".as_slice())
     );
-    assert!(rt;
+    is(
+        &rt,
         matches!(
             &said(alloc, "mi 16 4F00"),
             Some(Statement::Half(HalfEvent::Issue {
                 station: 16,
                 payload: None
             }))
-        )
+        ),
+        true,
     );
     assert!(rt;
         matches!(&said(alloc, "mn 03 10Ff"), Some(Statement::Half(HalfEvent::Foreign { way: Way::ToStation(3), bytes: Some(bytes) })) if bytes.as_slice() == b"\x10\xff".as_slice())
@@ -126,32 +131,38 @@ fn a_line_gives_bytes_to_a_half_duplex_line(rt: HostRuntime) {
     assert!(rt;
         matches!(&said(alloc, "03n 10Ff"), Some(Statement::Half(HalfEvent::Foreign { way: Way::ToMaster(3), bytes: Some(bytes) })) if bytes.as_slice() == b"\x10\xff".as_slice())
     );
-    assert!(rt;
+    is(
+        &rt,
         matches!(
             &said(alloc, "mc 3 0f"),
             Some(Statement::Half(HalfEvent::Alter {
                 way: Way::ToStation(3),
                 mask: Some(15)
             }))
-        )
+        ),
+        true,
     );
-    assert!(rt;
+    is(
+        &rt,
         matches!(
             &said(alloc, "3c F0"),
             Some(Statement::Half(HalfEvent::Alter {
                 way: Way::ToMaster(3),
                 mask: Some(240)
             }))
-        )
+        ),
+        true,
     );
-    assert!(rt;
+    is(
+        &rt,
         matches!(
             &said(alloc, "3c 00"),
             Some(Statement::Half(HalfEvent::Alter {
                 way: Way::ToMaster(3),
                 mask: None
             }))
-        )
+        ),
+        true,
     );
 }
 
@@ -441,7 +452,7 @@ fn type_of(alloc: Global, word: &str) -> Option<Option<FileType>> {
 #[test]
 fn a_type_is_named_letter_for_letter(rt: HostRuntime) {
     for (word, kind) in TYPES {
-        assert_eq!(rt; type_of(rt.alloc(), word), Some(kind));
+        is(&rt, type_of(rt.alloc(), word), Some(kind));
     }
 }
 
@@ -509,7 +520,7 @@ fn a_block_has_1_to_244_bytes(rt: HostRuntime) -> Result<(), Fail> {
         let want = if is_block { Some(pairs) } else { None };
         assert_eq!(rt; block_of(alloc, &digits), Some(want), "at {pairs}");
     }
-    assert_eq!(rt; block_of(alloc, b"0f0"), Some(None));
-    assert_eq!(rt; block_of(alloc, b"on"), Some(None));
+    is(&rt, block_of(alloc, b"0f0"), Some(None));
+    is(&rt, block_of(alloc, b"on"), Some(None));
     Ok(())
 }

@@ -1,5 +1,6 @@
 //! Tests of lines of each kind with their text, and of the report of a run.
 
+use crate::equal::is;
 use df1_base::BytesOut;
 use replay_report::{Line, Record, print, put_line};
 use script_parts::WordOf;
@@ -84,8 +85,8 @@ fn each_line_has_its_text(rt: HostRuntime) -> Result<(), Fail> {
     ];
     for (line, text) in &table {
         let mut sink = BytesOut::new(alloc, 100, 7, &[])?;
-        assert!(rt; put_line(&mut sink, line).is_ok());
-        assert_eq!(rt; sink.held(), text.as_bytes());
+        is(&rt, put_line(&mut sink, line).is_ok(), true);
+        is(&rt, sink.held(), text.as_bytes());
     }
     Ok(())
 }
@@ -119,10 +120,14 @@ fn words_follow_the_lines_and_the_count_comes_last(rt: HostRuntime) -> Result<()
     };
     let text = "a enquiry\na sent 1005\nb word 7 0 1234\n12 word 999 1000 000A\ndeceived 1\n";
     let mut sink = BytesOut::new(alloc, 100, 100, &[])?;
-    assert!(rt; print(&record_of, &mut sink).is_ok());
-    assert_eq!(rt; sink.held(), text.as_bytes());
+    is(&rt, print(&record_of, &mut sink).is_ok(), true);
+    is(&rt, sink.held(), text.as_bytes());
     let mut full = BytesOut::new(alloc, 30, 9, &[])?;
-    assert!(rt; print(&record_of, &mut full).is_err());
-    assert_eq!(rt; full.held(), b"a enquiry\na sent 1005\nb word 7".as_slice());
+    is(&rt, print(&record_of, &mut full).is_err(), true);
+    is(
+        &rt,
+        full.held(),
+        b"a enquiry\na sent 1005\nb word 7".as_slice(),
+    );
     Ok(())
 }

@@ -1,6 +1,7 @@
 //! Tests of texts that are read for a route: those that are refused, each with its first faulty line and its cause, and
 //! those that are accepted.
 
+use crate::equal::is;
 use line_script::{Cause, Profile, ScriptFault, read_profile};
 use std::alloc::AllocError;
 use std::process::Abort;
@@ -104,9 +105,9 @@ const SET: (&str, [(u16, usize); 3]) = (
 fn a_station_has_a_first_tns_and_a_window(rt: HostRuntime) -> Result<(), Fail> {
     let (text, ends) = SET;
     let script = read_profile(rt.alloc(), text.as_bytes(), Profile::Route)?;
-    assert_eq!(rt; script.ends.as_slice().len(), ends.len());
+    is(&rt, script.ends.as_slice().len(), ends.len());
     for (plan, (tns, window)) in script.ends.as_slice().iter().zip(ends) {
-        assert_eq!(rt; (plan.tns, plan.window), (tns, window));
+        is(&rt, (plan.tns, plan.window), (tns, window));
     }
     Ok(())
 }

@@ -1,5 +1,6 @@
 //! Tests of texts with their first faulty line and its cause, and of one script field by field.
 
+use crate::equal::is;
 use data_files::FileSpec;
 use df1_base::FileType;
 use df1_check::Check;
@@ -260,7 +261,7 @@ fn a_fault_is_printed_with_its_line_and_cause(rt: HostRuntime) -> Result<(), Fai
         cause: Cause::NoEnd,
     };
     let text = format!(in rt.alloc(); "{fault}")?;
-    assert_eq!(rt; text.as_str(), "line 2: open");
+    is(&rt, text.as_str(), "line 2: open");
     Ok(())
 }
 
@@ -335,9 +336,10 @@ fn told_at(alloc: Global, start: usize, line: &[u8], ended: bool) -> Option<Line
 #[test]
 fn byte_16777217_ends_the_text(rt: HostRuntime) -> Result<(), Fail> {
     for (start, line, ended, cause) in AT_THE_END {
-        assert_eq!(rt;
+        is(
+            &rt,
             told_at(rt.alloc(), start, line, ended),
-            cause.map(LineFault::Faulty)
+            cause.map(LineFault::Faulty),
         );
     }
     Ok(())
@@ -360,12 +362,13 @@ fn numbers(plan: &EndPlan) -> [u32; 9] {
 
 /// Compares end b of the script below.
 fn check_end_b<R: Abort>(rt: &R, end: &EndPlan) -> Result<(), Fail> {
-    assert_eq!(rt; (end.who, end.embed, end.room), (Who::B, false, 64));
-    assert_eq!(rt; (end.window, end.per_source), (1, 16));
-    assert_eq!(rt; numbers(end), [7, 1, 10, 3, 3, 100, 3, 10, 3]);
-    assert_eq!(rt;
+    is(rt, (end.who, end.embed, end.room), (Who::B, false, 64));
+    is(rt, (end.window, end.per_source), (1, 16));
+    is(rt, numbers(end), [7, 1, 10, 3, 3, 100, 3, 10, 3]);
+    is(
+        rt,
         (end.compat, end.block.as_slice()),
-        (Some(10), b"\x01\xfe".as_slice())
+        (Some(10), b"\x01\xfe".as_slice()),
     );
     let files = [
         FileSpec {
@@ -379,7 +382,7 @@ fn check_end_b<R: Abort>(rt: &R, end: &EndPlan) -> Result<(), Fail> {
             count: 1,
         },
     ];
-    assert_eq!(rt; end.files.as_slice(), files.as_slice());
+    is(rt, end.files.as_slice(), files.as_slice());
     let who = Who::B;
     let words = [
         WordOf {
@@ -395,7 +398,7 @@ fn check_end_b<R: Abort>(rt: &R, end: &EndPlan) -> Result<(), Fail> {
             value: 0xFFFF,
         },
     ];
-    assert_eq!(rt; end.words.as_slice(), words.as_slice());
+    is(rt, end.words.as_slice(), words.as_slice());
     Ok(())
 }
 
@@ -459,32 +462,37 @@ fn bytes_of(event: &Event) -> &[u8] {
 
 /// Compares the events of the script below.
 fn check_events<R: Abort>(rt: &R, events: &[Event]) -> Result<(), Fail> {
-    assert_eq!(rt; events.len(), EVENTS.len());
+    is(rt, events.len(), EVENTS.len());
     for (event, (letter, who, to, src, number, bytes)) in events.iter().zip(EVENTS) {
-        assert_eq!(rt; place_of(event), (letter, who, to));
-        assert_eq!(rt; source_of(event), src);
-        assert_eq!(rt; number_of(event), number);
-        assert_eq!(rt; bytes_of(event), bytes);
+        is(rt, place_of(event), (letter, who, to));
+        is(rt, source_of(event), src);
+        is(rt, number_of(event), number);
+        is(rt, bytes_of(event), bytes);
     }
     Ok(())
 }
 
 /// Compares the script below.
 fn check_script<R: Abort>(rt: &R, script: &Script) -> Result<(), Fail> {
-    assert_eq!(rt; (script.half, script.check), (false, Check::Crc));
+    is(rt, (script.half, script.check), (false, Check::Crc));
     let [a, b] = script.ends.as_slice() else {
         return Err(Fail::new("there are not two ends"));
     };
-    assert_eq!(rt; (a.who, a.embed, a.room, a.compat), (Who::A, true, 2, None));
-    assert_eq!(rt; (a.window, a.per_source), (2, 3));
-    assert_eq!(rt; numbers(a), [0, 1, 10, 3, 3, 100, 3, 10, 3]);
-    assert_eq!(rt;
+    is(
+        rt,
+        (a.who, a.embed, a.room, a.compat),
+        (Who::A, true, 2, None),
+    );
+    is(rt, (a.window, a.per_source), (2, 3));
+    is(rt, numbers(a), [0, 1, 10, 3, 3, 100, 3, 10, 3]);
+    is(
+        rt,
         (
             a.block.as_slice().len(),
             a.files.as_slice().len(),
-            a.words.as_slice().len()
+            a.words.as_slice().len(),
         ),
-        (0, 0, 0)
+        (0, 0, 0),
     );
     check_end_b(rt, b)?;
     check_events(rt, script.events.as_slice())
@@ -510,6 +518,6 @@ fn the_first_line_may_choose_half_duplex(rt: HostRuntime) -> Result<(), Fail> {
         script.ends.as_slice().len(),
         script.events.as_slice().len(),
     );
-    assert_eq!(rt; counts, (true, 3, 2));
+    is(&rt, counts, (true, 3, 2));
     Ok(())
 }

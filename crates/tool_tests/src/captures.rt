@@ -1,4 +1,5 @@
 //! Tests of the commands `dissect` and `check`, over the outside in memory.
+use crate::equal::is;
 use crate::program::{USAGE, words};
 use df1_base::{ByteRun, BytesIn, BytesOut};
 use df1_shelf::ShelfMem;
@@ -147,10 +148,10 @@ fn a_capture_is_heard_to_its_end(rt: HostRuntime) -> Result<(), Fail> {
     for case in &cases {
         for piece in [1, 4096] {
             let ran = ran(rt.alloc(), case, piece)?;
-            assert_eq!(rt; ran.status, case.status);
-            assert_eq!(rt; ran.out.held(), case.out.as_bytes());
-            assert_eq!(rt; ran.note.held(), case.note.as_bytes());
-            assert_eq!(rt; ran.input.left(), b"".as_slice());
+            is(&rt, ran.status, case.status);
+            is(&rt, ran.out.held(), case.out.as_bytes());
+            is(&rt, ran.note.held(), case.note.as_bytes());
+            is(&rt, ran.input.left(), b"".as_slice());
         }
     }
     Ok(())
@@ -224,9 +225,9 @@ fn other_endings_of_a_capture_have_their_status_and_note(rt: HostRuntime) -> Res
     ];
     for case in &cases {
         let ran = ran(rt.alloc(), case, 1)?;
-        assert_eq!(rt; ran.status, case.status);
-        assert_eq!(rt; ran.out.held(), case.out.as_bytes());
-        assert_eq!(rt; ran.note.held(), case.note.as_bytes());
+        is(&rt, ran.status, case.status);
+        is(&rt, ran.out.held(), case.out.as_bytes());
+        is(&rt, ran.note.held(), case.note.as_bytes());
     }
     Ok(())
 }
@@ -251,9 +252,9 @@ fn a_capture_has_at_most_268435456_bytes(rt: HostRuntime) -> Result<(), Fail> {
     ];
     for (count, status, out, note) in cases {
         let ran = ran_over(rt.alloc(), count)?;
-        assert_eq!(rt; ran.status, status);
-        assert_eq!(rt; ran.out.held(), out.as_bytes());
-        assert_eq!(rt; ran.note.held(), note.as_bytes());
+        is(&rt, ran.status, status);
+        is(&rt, ran.out.held(), out.as_bytes());
+        is(&rt, ran.note.held(), note.as_bytes());
     }
     Ok(())
 }

@@ -1,4 +1,5 @@
 //! Tests of the commands `drill` and `storm`, over the outside in memory.
+use crate::equal::is;
 use crate::program::{USAGE, words};
 use df1_base::{BytesIn, BytesOut};
 use df1_check::crc;
@@ -95,10 +96,10 @@ fn a_drill_tells_the_replay_of_its_script_and_leaves_the_input(
     ];
     for (asked, room, status, out, note) in cases {
         let ran = ran(rt.alloc(), asked, "end\n", room)?;
-        assert_eq!(rt; ran.status, status);
-        assert_eq!(rt; ran.out.held(), out.as_bytes());
-        assert_eq!(rt; ran.note.held(), note.as_bytes());
-        assert_eq!(rt; ran.input.left(), b"end\n".as_slice());
+        is(&rt, ran.status, status);
+        is(&rt, ran.out.held(), out.as_bytes());
+        is(&rt, ran.note.held(), note.as_bytes());
+        is(&rt, ran.input.left(), b"end\n".as_slice());
     }
     Ok(())
 }
@@ -125,10 +126,10 @@ fn a_storm_tells_the_replay_of_its_script_and_leaves_the_input(
     ];
     for (asked, room, status, out, note) in cases {
         let ran = ran(rt.alloc(), asked, "end\n", room)?;
-        assert_eq!(rt; ran.status, status);
-        assert_eq!(rt; ran.out.held(), out.as_bytes());
-        assert_eq!(rt; ran.note.held(), note.as_bytes());
-        assert_eq!(rt; ran.input.left(), b"end\n".as_slice());
+        is(&rt, ran.status, status);
+        is(&rt, ran.out.held(), out.as_bytes());
+        is(&rt, ran.note.held(), note.as_bytes());
+        is(&rt, ran.input.left(), b"end\n".as_slice());
     }
     Ok(())
 }
@@ -136,12 +137,13 @@ fn a_storm_tells_the_replay_of_its_script_and_leaves_the_input(
 #[test]
 fn a_hit_is_too_much_where_no_nak_is_allowed(rt: HostRuntime) -> Result<(), Fail> {
     let told = ran(rt.alloc(), &["replay"], GIVEN_UP, 4096)?;
-    assert_eq!(rt; told.status, 0);
-    assert_eq!(rt;
+    is(&rt, told.status, 0);
+    is(
+        &rt,
         told.out.held(),
         concat!(
             "a sent 100201000F000100AA0207890000341210036D\nb damaged\nb sent 1015\na undelivered 1\ndeceived 0\n"
-        ).as_bytes()
+        ).as_bytes(),
     );
     Ok(())
 }

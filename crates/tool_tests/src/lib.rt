@@ -6,6 +6,8 @@ mod captures;
 #[cfg(test)]
 mod drills;
 #[cfg(test)]
+mod equal;
+#[cfg(test)]
 mod program;
 #[cfg(test)]
 mod scripts;

@@ -1,4 +1,5 @@
 //! Tests of the program, over the outside in memory.
+use crate::equal::is;
 use df1_base::{BytesIn, BytesOut, Failed, NoMemory};
 use df1_node::{IssueFault, MakeFault};
 use df1_plan::{PlanFault, PlanKey};
@@ -48,9 +49,9 @@ fn check<R: Abort + AllocGlobal>(rt: &R, case: &Case) -> Result<(), Fail> {
         BytesOut::new(rt.alloc(), case.room, 7, &[])?,
         BytesOut::new(rt.alloc(), 300, 300, &[])?,
     );
-    assert_eq!(rt; ran.status, case.status);
-    assert_eq!(rt; ran.out.held(), case.out.as_bytes());
-    assert_eq!(rt; ran.note.held(), case.note.as_bytes());
+    is(rt, ran.status, case.status);
+    is(rt, ran.out.held(), case.out.as_bytes());
+    is(rt, ran.note.held(), case.note.as_bytes());
     Ok(())
 }
 
@@ -327,8 +328,8 @@ fn plays<R: Abort + AllocGlobal>(rt: &R, script: &str, report: &[&str]) -> Resul
     for part in report {
         expected.push_str(part)?;
     }
-    assert_eq!(rt; ran.status, 0);
-    assert_eq!(rt; ran.out.held(), expected.as_bytes());
+    is(rt, ran.status, 0);
+    is(rt, ran.out.held(), expected.as_bytes());
     Ok(())
 }
 
@@ -373,7 +374,7 @@ fn a_script_of_a_million_bytes_is_played(rt: HostRuntime) -> Result<(), Fail> {
 /// Compares the text of a fault.
 fn says<R: Abort + AllocGlobal, T: Display>(rt: &R, fault: &T, text: &str) -> Result<(), Fail> {
     let told = format!(in rt.alloc(); "{fault}")?;
-    assert_eq!(rt; told.as_str(), text);
+    is(rt, told.as_str(), text);
     Ok(())
 }
 
@@ -494,8 +495,8 @@ fn an_end_issues_65535_commands_and_no_more(rt: HostRuntime) -> Result<(), Fail>
             BytesOut::new(rt.alloc(), 300, 300, &[])?,
             BytesOut::new(rt.alloc(), 300, 300, &[])?,
         );
-        assert_eq!(rt; ran.status, status);
-        assert_eq!(rt; ran.note.held(), note.as_bytes());
+        is(&rt, ran.status, status);
+        is(&rt, ran.note.held(), note.as_bytes());
     }
     Ok(())
 }

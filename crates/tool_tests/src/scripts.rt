@@ -1,4 +1,5 @@
 //! Tests of the commands `route` and `rehearse`, over the outside in memory.
+use crate::equal::is;
 use crate::program::{USAGE, words};
 use df1_base::{BytesIn, BytesOut};
 use df1_shelf::ShelfMem;
@@ -93,9 +94,9 @@ fn check(rt: &impl Abort, alloc: Global, case: &Case) -> Result<(), Fail> {
         BytesOut::new(alloc, case.room, 4096, &[])?,
         BytesOut::new(alloc, 300, 300, &[])?,
     );
-    assert_eq!(rt; ran.status, case.status);
-    assert_eq!(rt; ran.out.held(), case.out.as_bytes());
-    assert_eq!(rt; ran.note.held(), case.note.as_bytes());
+    is(rt, ran.status, case.status);
+    is(rt, ran.out.held(), case.out.as_bytes());
+    is(rt, ran.note.held(), case.note.as_bytes());
     Ok(())
 }
 

@@ -1,4 +1,5 @@
 //! Tests of the commands `serve`, `issue`, `pull` and `push`, over the outside in memory.
+use crate::equal::is;
 use crate::program::{USAGE, words};
 use df1_base::{BytesIn, BytesOut};
 use df1_shelf::ShelfMem;
@@ -146,11 +147,11 @@ fn ran(
 fn check<R: Abort + AllocGlobal>(rt: &R, case: &Case) -> Result<(), Fail> {
     for piece in [1, 4096] {
         let ran = ran(rt.alloc(), case, piece)?;
-        assert_eq!(rt; ran.status, case.status);
-        assert_eq!(rt; ran.out.held(), case.out);
-        assert_eq!(rt; ran.note.held(), case.note.as_bytes());
+        is(rt, ran.status, case.status);
+        is(rt, ran.out.held(), case.out);
+        is(rt, ran.note.held(), case.note.as_bytes());
         if case.status == 0 {
-            assert_eq!(rt; ran.input.left(), b"".as_slice());
+            is(rt, ran.input.left(), b"".as_slice());
         }
     }
     Ok(())
@@ -355,9 +356,9 @@ fn a_service_that_does_not_end_well_tells_why(rt: HostRuntime) -> Result<(), Fai
     ];
     for case in &cases {
         let ran = ran(rt.alloc(), case, 1)?;
-        assert_eq!(rt; ran.status, case.status);
-        assert_eq!(rt; ran.out.held(), case.out);
-        assert_eq!(rt; ran.note.held(), case.note.as_bytes());
+        is(&rt, ran.status, case.status);
+        is(&rt, ran.out.held(), case.out);
+        is(&rt, ran.note.held(), case.note.as_bytes());
     }
     Ok(())
 }
@@ -383,8 +384,8 @@ fn a_plan_has_at_most_1048576_bytes(rt: HostRuntime) -> Result<(), Fail> {
             BytesOut::new(rt.alloc(), 10, 10, &[])?,
             BytesOut::new(rt.alloc(), 300, 300, &[])?,
         );
-        assert_eq!(rt; ran.status, status);
-        assert_eq!(rt; ran.note.held(), note.as_bytes());
+        is(&rt, ran.status, status);
+        is(&rt, ran.note.held(), note.as_bytes());
     }
     Ok(())
 }

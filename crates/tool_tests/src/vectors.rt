@@ -1,4 +1,5 @@
 //! Tests of the command `vectors`, over the outside in memory.
+use crate::equal::is;
 use crate::program::{USAGE, words};
 use df1_base::{BytesIn, BytesOut};
 use df1_shelf::ShelfMem;
@@ -23,10 +24,10 @@ fn the_cases_are_told_and_the_input_is_left(rt: HostRuntime) -> Result<(), Fail>
             BytesOut::new(rt.alloc(), room, 7, &[])?,
             BytesOut::new(rt.alloc(), 300, 300, &[])?,
         );
-        assert_eq!(rt; ran.status, status);
-        assert_eq!(rt; ran.out.held(), out.as_bytes());
-        assert_eq!(rt; ran.note.held(), note.as_bytes());
-        assert_eq!(rt; ran.input.left(), b"end\n".as_slice());
+        is(&rt, ran.status, status);
+        is(&rt, ran.out.held(), out.as_bytes());
+        is(&rt, ran.note.held(), note.as_bytes());
+        is(&rt, ran.input.left(), b"end\n".as_slice());
     }
     Ok(())
 }

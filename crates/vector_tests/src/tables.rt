@@ -3,6 +3,7 @@ ghost use Rattle.std.specs.Prelude.{◌≤◌};
 ghost use Rattle.std.specs.List.{AllByRecursion};
 ghost use Rattle.vector_suite.specs.Vectors.{IsCase};
 
+use crate::equal::is;
 use std::process::Abort;
 use std::test::Fail;
 use vector_suite::{Case, Kind, forty_cases, run_table};
@@ -53,19 +54,20 @@ const WRITE: Case<16> = Case {
 
 #[test]
 fn none_of_the_forty_differs(rt: HostRuntime) -> Result<(), Fail> {
-    assert_eq!(rt; run_table(rt.alloc(), &forty_cases()), Ok(None));
+    is(&rt, run_table(rt.alloc(), &forty_cases()), Ok(None));
     Ok(())
 }
 
 #[test]
 fn the_first_case_that_differs_is_told(rt: HostRuntime) -> Result<(), Fail> {
     let none: [Case<8>; 0] = [];
-    assert_eq!(rt; run_table(rt.alloc(), &none), Ok(None));
-    assert_eq!(rt; run_table(rt.alloc(), &[BCC, BCC]), Ok(None));
-    assert_eq!(rt; run_table(rt.alloc(), &[WRONG, BCC]), Ok(Some(0)));
-    assert_eq!(rt;
+    is(&rt, run_table(rt.alloc(), &none), Ok(None));
+    is(&rt, run_table(rt.alloc(), &[BCC, BCC]), Ok(None));
+    is(&rt, run_table(rt.alloc(), &[WRONG, BCC]), Ok(Some(0)));
+    is(
+        &rt,
         run_table(rt.alloc(), &[BCC, WRONG, BCC, WRONG]),
-        Ok(Some(1))
+        Ok(Some(1)),
     );
     Ok(())
 }
@@ -80,15 +82,15 @@ fn a_reply_that_is_longer_or_shorter_than_wanted_differs(rt: HostRuntime) -> Res
         want_len: 9,
         ..READ
     };
-    assert_eq!(rt; run_table(rt.alloc(), &[READ, longer]), Ok(Some(1)));
-    assert_eq!(rt; run_table(rt.alloc(), &[READ, shorter]), Ok(Some(1)));
+    is(&rt, run_table(rt.alloc(), &[READ, longer]), Ok(Some(1)));
+    is(&rt, run_table(rt.alloc(), &[READ, shorter]), Ok(Some(1)));
     Ok(())
 }
 
 #[test]
 fn each_command_is_answered_by_a_new_station(rt: HostRuntime) -> Result<(), Fail> {
     // The word that is written isn't compared, and isn't read.
-    assert_eq!(rt; run_table(rt.alloc(), &[WRITE, READ]), Ok(None));
+    is(&rt, run_table(rt.alloc(), &[WRITE, READ]), Ok(None));
     Ok(())
 }
 
@@ -99,7 +101,7 @@ fn what_stands_behind_a_text_is_not_compared(rt: HostRuntime) -> Result<(), Fail
         want: [0xE9, 0x55, 0, 0, 0, 0, 0, 0x55],
         ..BCC
     };
-    assert_eq!(rt; run_table(rt.alloc(), &[behind]), Ok(None));
+    is(&rt, run_table(rt.alloc(), &[behind]), Ok(None));
     Ok(())
 }
 
@@ -117,7 +119,7 @@ fn the_longest_frame_is_compared(rt: HostRuntime) -> Result<(), Fail> {
         want_len: 505,
         want,
     };
-    assert_eq!(rt; run_table(rt.alloc(), &[longest]), Ok(None));
+    is(&rt, run_table(rt.alloc(), &[longest]), Ok(None));
     Ok(())
 }
 
@@ -139,7 +141,7 @@ fn table(want_len: usize) -> [Case<1>; 1024]
 
 #[test]
 fn a_table_has_up_to_1024_cases(rt: HostRuntime) -> Result<(), Fail> {
-    assert_eq!(rt; run_table(rt.alloc(), &table(1)), Ok(None));
-    assert_eq!(rt; run_table(rt.alloc(), &table(0)), Ok(Some(0)));
+    is(&rt, run_table(rt.alloc(), &table(1)), Ok(None));
+    is(&rt, run_table(rt.alloc(), &table(0)), Ok(Some(0)));
     Ok(())
 }
