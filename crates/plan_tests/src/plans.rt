@@ -85,6 +85,7 @@ fn each_refusal_has_its_cause(rt: HostRuntime) {
         ("embed = 1", "key embed"),
         ("check = \"BCC\"", "key check"),
         ("block = \"1\"", "key block"),
+        ("block = \"1\"\npeer = 256", "key block"),
         ("compat = 1000", "key compat"),
         ("compat = 7", "key compat"),
         ("compat = 7\ntns = -1", "key tns"),
