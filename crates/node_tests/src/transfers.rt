@@ -124,7 +124,7 @@ fn node_with(rt: &impl Abort, alloc: Global, replies: &[&[u8]]) -> Result<Node, 
     }
     for reply in replies {
         assert!(rt; reply.len() >= 6 && reply.len() <= 250);
-        is(rt, node.has_room(reply), true);
+        assert!(rt; node.has_room(reply));
         node.accept(reply);
     }
     Ok(node)

@@ -103,7 +103,7 @@ fn play(rt: &impl Abort, node: &mut Node, act: &Act) {
         Act::Hold => is(rt, node.next(&mut body), false),
         Act::Take(reply, did) => {
             assert!(rt; reply.len() >= 6 && reply.len() <= 250);
-            is(rt, node.has_room(reply), true);
+            assert!(rt; node.has_room(reply));
             is(rt, node.accept(reply), did);
         }
         Act::Tick(wanted) => {

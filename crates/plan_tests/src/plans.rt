@@ -42,11 +42,11 @@ fn each_key_is_read(rt: HostRuntime) {
     assert!(rt; plan.end.reply_ticks == 33 && plan.end.room == 64 && plan.end.compat == Some(3));
     is(&rt, plan.end.block.as_slice(), [0x01, 0xAB].as_slice());
     let files = plan.end.files.as_slice();
-    is(&rt, files.len(), 2);
+    assert!(rt; files.len() == 2);
     assert!(rt; files[0].number == 7 && files[0].kind == FileType::Float && files[0].count == 2);
     assert!(rt; files[1].number == 3 && files[1].kind == FileType::Bit && files[1].count == 1000);
     let words = plan.end.words.as_slice();
-    is(&rt, words.len(), 3);
+    assert!(rt; words.len() == 3);
     assert!(rt; words[0].file == 7 && words[0].index == 0 && words[0].value == 0x1234);
     assert!(rt; words[2].file == 7 && words[2].index == 2 && words[2].value == 0x0001);
     let issue = plan.issue.as_slice();
