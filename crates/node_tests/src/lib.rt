@@ -4,8 +4,6 @@
 #[cfg(test)]
 mod answers;
 #[cfg(test)]
-mod equal;
-#[cfg(test)]
 mod exchanges;
 #[cfg(test)]
 mod transfers;
