@@ -1,4 +1,5 @@
 //! Tests of what a station answers: a table of commands, each to a fresh station.
+use crate::equal::is;
 use arrayvec::ArrayVec;
 use df1_base::FileType;
 use df1_node::{FileSpec, MakeFault, Station, Tables};
@@ -197,7 +198,7 @@ fn answers_of(
     let (cmd, payload, sts, data, changed) = *answer;
     let mut after = worked_tables(alloc, first)?;
     for (file, index, value) in changed {
-        assert!(rt; after.set(*file, *index, *value));
+        is(rt, after.set(*file, *index, *value), true);
     }
     let mut body = vec![in alloc; 0x01, 0x00, cmd, 0x00, 0x01, 0x00]?;
     body.extend_from_slice(payload)?;

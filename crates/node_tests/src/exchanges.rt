@@ -1,4 +1,5 @@
 //! Tests of worked exchanges.
+use crate::equal::is;
 use arrayvec::ArrayVec;
 use df1_base::{Did, Fate, FileType, Host, News};
 use df1_node::{FileSpec, Initiator, IssueFault, Node, NodeSetup, Outcome, Station, Tables};
@@ -7,24 +8,25 @@ use std::test::Fail;
 #[test]
 fn payloads_are_refused(rt: HostRuntime) {
     let mut initiator = Initiator::new(rt.alloc(), 0, 1, 33);
-    assert_eq!(rt; initiator.issue(1, b""), Err(IssueFault::Empty));
-    assert_eq!(rt; initiator.issue(1, &[0; 246]), Err(IssueFault::TooLong));
-    assert_eq!(rt;
+    is(&rt, initiator.issue(1, b""), Err(IssueFault::Empty));
+    is(&rt, initiator.issue(1, &[0; 246]), Err(IssueFault::TooLong));
+    is(
+        &rt,
         initiator.issue(1, b"\x4F\x00"),
-        Err(IssueFault::NotCommand)
+        Err(IssueFault::NotCommand),
     );
-    assert_eq!(rt; initiator.issue(1, b"\x06\x00"), Ok(1));
+    is(&rt, initiator.issue(1, b"\x06\x00"), Ok(1));
 }
 
 #[test]
 fn after_the_last_command_none_is_issued(rt: HostRuntime) {
     let mut initiator = Initiator::new(rt.alloc(), 0, 1, 33);
     for n in 1..=65535u32 {
-        assert_eq!(rt; initiator.issue(1, b"\x06\x00"), Ok(n));
+        is(&rt, initiator.issue(1, b"\x06\x00"), Ok(n));
     }
-    assert_eq!(rt; initiator.issue(1, b"\x06\x00"), Err(IssueFault::Spent));
-    assert_eq!(rt; initiator.outcome(65535), Some(Outcome::Waiting));
-    assert_eq!(rt; initiator.outcome(65536), None);
+    is(&rt, initiator.issue(1, b"\x06\x00"), Err(IssueFault::Spent));
+    is(&rt, initiator.outcome(65535), Some(Outcome::Waiting));
+    is(&rt, initiator.outcome(65536), None);
 }
 
 const REPLY: &[u8] = b"\x00\x01\x46\x00\x01\x00\x55";
@@ -42,21 +44,22 @@ fn a_reply_answers_its_command_once(rt: HostRuntime) -> Result<(), Fail> {
     };
     let mut node = Node::new(rt.alloc(), setup, Station::new(tables, None, b""))?;
     let mut body = ArrayVec::new();
-    assert_eq!(rt; node.issue(1, b"\x06\x00\x55"), Ok(1));
-    assert!(rt; node.next(&mut body));
-    assert_eq!(rt;
+    is(&rt, node.issue(1, b"\x06\x00\x55"), Ok(1));
+    is(&rt, node.next(&mut body), true);
+    is(
+        &rt,
         body.as_slice(),
-        b"\x01\x00\x06\x00\x01\x00\x00\x55".as_slice()
+        b"\x01\x00\x06\x00\x01\x00\x00\x55".as_slice(),
     );
-    assert!(rt; !node.next(&mut body));
+    is(&rt, node.next(&mut body), false);
     assert!(rt; node.has_room(REPLY));
-    assert_eq!(rt; node.accept(REPLY), Did::Answered(1));
+    is(&rt, node.accept(REPLY), Did::Answered(1));
     assert!(rt; node.has_room(REPLY));
-    assert_eq!(rt; node.accept(REPLY), Did::Stray);
-    assert_eq!(rt; node.told(Fate::Undelivered), News::Nothing);
-    assert_eq!(rt; node.initiator().outcome(1), Some(Outcome::Answered));
-    assert_eq!(rt; node.initiator().reply(1), REPLY);
-    assert_eq!(rt; node.initiator().outcome(2), None);
+    is(&rt, node.accept(REPLY), Did::Stray);
+    is(&rt, node.told(Fate::Undelivered), News::Nothing);
+    is(&rt, node.initiator().outcome(1), Some(Outcome::Answered));
+    is(&rt, node.initiator().reply(1), REPLY);
+    is(&rt, node.initiator().outcome(2), None);
     Ok(())
 }
 
@@ -78,24 +81,25 @@ fn each_reply_stays_as_it_came(rt: HostRuntime) -> Result<(), Fail> {
     let mut body = ArrayVec::new();
     let mut gone = ArrayVec::new();
     for n in 1..=3u32 {
-        assert_eq!(rt; node.issue(1, b"\x06\x00\x55"), Ok(n));
+        is(&rt, node.issue(1, b"\x06\x00\x55"), Ok(n));
     }
     for (n, reply) in (1..).zip(REPLIES) {
-        assert!(rt; node.next(&mut body));
-        assert_eq!(rt; node.accept(reply), Did::Answered(n));
+        is(&rt, node.next(&mut body), true);
+        is(&rt, node.accept(reply), Did::Answered(n));
     }
-    assert!(rt; node.next(&mut body));
-    assert_eq!(rt;
+    is(&rt, node.next(&mut body), true);
+    is(
+        &rt,
         body.as_slice(),
-        b"\x01\x00\x06\x00\x03\x00\x00\x55".as_slice()
+        b"\x01\x00\x06\x00\x03\x00\x00\x55".as_slice(),
     );
     node.tick(&mut gone);
-    assert_eq!(rt; gone.as_slice(), [3].as_slice());
-    assert_eq!(rt; node.issue(1, b"\x06\x00"), Ok(4));
-    assert_eq!(rt; node.initiator().reply(1), REPLIES[0]);
-    assert_eq!(rt; node.initiator().reply(2), REPLIES[1]);
-    assert_eq!(rt; node.initiator().reply(3), b"".as_slice());
-    assert_eq!(rt; node.initiator().reply(4), b"".as_slice());
+    is(&rt, gone.as_slice(), [3].as_slice());
+    is(&rt, node.issue(1, b"\x06\x00"), Ok(4));
+    is(&rt, node.initiator().reply(1), REPLIES[0]);
+    is(&rt, node.initiator().reply(2), REPLIES[1]);
+    is(&rt, node.initiator().reply(3), b"".as_slice());
+    is(&rt, node.initiator().reply(4), b"".as_slice());
     Ok(())
 }
 
@@ -127,8 +131,8 @@ fn a_word_is_set_where_there_is_one(rt: HostRuntime) -> Result<(), Fail> {
     for (file, index, known, words) in &SET_WORDS {
         let tables = Tables::new(rt.alloc(), &[integers])?;
         let mut node = Node::new(rt.alloc(), setup, Station::new(tables, None, b""))?;
-        assert_eq!(rt; node.set_word(*file, *index, 5), *known);
-        assert_eq!(rt; node.tables().flat(), words.as_slice());
+        is(&rt, node.set_word(*file, *index, 5), *known);
+        is(&rt, node.tables().flat(), words.as_slice());
     }
     Ok(())
 }

@@ -4,6 +4,8 @@
 #[cfg(test)]
 mod answers;
 #[cfg(test)]
+mod equal;
+#[cfg(test)]
 mod exchanges;
 #[cfg(test)]
 mod transfers;

@@ -1,6 +1,7 @@
 //! Tests of transfers of whole files: the orders of known transfers, and the result of a transfer, reply by reply.
 ghost use Rattle.std.specs.Prelude.{◌≡◌, ◌≤◌, ◌*◌, ◌/◌, length};
 
+use crate::equal::is;
 use arrayvec::ArrayVec;
 use bulk_orders::{Bulk, confirm, gather, order_count, pull_order, push_order};
 use df1_base::Host;
@@ -16,8 +17,8 @@ fn reads(rt: &impl Abort, file: u16, words: u16, j: u16, wanted: Option<&[u8]>)
 {
     let mut order = ArrayVec::new();
     order.push(0xEE);
-    assert_eq!(rt; pull_order(file, words, j, &mut order), wanted.is_some());
-    assert_eq!(rt; order.as_slice(), wanted.unwrap_or(&[]));
+    is(rt, pull_order(file, words, j, &mut order), wanted.is_some());
+    is(rt, order.as_slice(), wanted.unwrap_or(&[]));
 }
 
 #[test]
@@ -70,8 +71,8 @@ fn writes(rt: &impl Abort, bytes: &[u8], j: u16, wanted: Option<&[u8]>)
 {
     let mut order = ArrayVec::new();
     order.push(0xEE);
-    assert_eq!(rt; push_order(7, bytes, j, &mut order), wanted.is_some());
-    assert_eq!(rt; order.as_slice(), wanted.unwrap_or(&[]));
+    is(rt, push_order(7, bytes, j, &mut order), wanted.is_some());
+    is(rt, order.as_slice(), wanted.unwrap_or(&[]));
 }
 
 #[test]
@@ -98,10 +99,10 @@ fn orders_that_write_have_their_words(rt: HostRuntime) {
 
 #[test]
 fn each_hundred_words_have_an_order(rt: HostRuntime) {
-    assert_eq!(rt; order_count(1), 1);
-    assert_eq!(rt; order_count(100), 1);
-    assert_eq!(rt; order_count(101), 2);
-    assert_eq!(rt; order_count(3000), 30);
+    is(&rt, order_count(1), 1);
+    is(&rt, order_count(100), 1);
+    is(&rt, order_count(101), 2);
+    is(&rt, order_count(3000), 30);
 }
 
 // Returns a node that has handed out two commands, 1 and 2, and has accepted these replies.
@@ -161,7 +162,7 @@ fn a_transfer_tells_the_lowest_fault(rt: HostRuntime) -> Result<(), Fail> {
     ];
     for (replies, wanted) in &cases {
         let node = node_with(&rt, rt.alloc(), replies)?;
-        assert_eq!(rt; confirm(node.initiator(), 200), *wanted);
+        is(&rt, confirm(node.initiator(), 200), *wanted);
     }
     Ok(())
 }
@@ -174,12 +175,12 @@ fn words_stand_in_the_order_of_the_commands(rt: HostRuntime) -> Result<(), Fail>
     let second = b"\x00\x01\x4F\x00\x02\x00\x78\x56";
     let mut words = ArrayVec::new();
     let node = node_with(&rt, rt.alloc(), &[second, &first])?;
-    assert_eq!(rt; gather(node.initiator(), 101, &mut words), Bulk::Whole);
-    assert_eq!(rt; words.len(), 202);
-    assert_eq!(rt; words[0], 0x11);
-    assert_eq!(rt; words[200], 0x78);
-    assert_eq!(rt; words[201], 0x56);
-    assert_eq!(rt; gather(node.initiator(), 102, &mut words), Bulk::Odd(2));
-    assert!(rt; words.is_empty());
+    is(&rt, gather(node.initiator(), 101, &mut words), Bulk::Whole);
+    assert!(rt; words.len() == 202);
+    is(&rt, words[0], 0x11);
+    is(&rt, words[200], 0x78);
+    is(&rt, words[201], 0x56);
+    is(&rt, gather(node.initiator(), 102, &mut words), Bulk::Odd(2));
+    is(&rt, words.is_empty(), true);
     Ok(())
 }

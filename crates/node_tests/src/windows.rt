@@ -1,6 +1,7 @@
 //! Tests of several outstanding commands of several sources: tables of calls of a node and of its answers.
 ghost use Rattle.std.specs.Prelude.{◌≤◌};
 
+use crate::equal::is;
 use arrayvec::ArrayVec;
 use df1_base::{Did, Host};
 use df1_node::{Node, NodeSetup, Station, Tables};
@@ -93,21 +94,21 @@ fn play(rt: &impl Abort, node: &mut Node, act: &Act) {
     let mut gone = ArrayVec::new();
     match *act {
         Act::Issue(source, number) => {
-            assert_eq!(rt; node.issue_from(source, 1, PAYLOAD), Ok(number));
+            is(rt, node.issue_from(source, 1, PAYLOAD), Ok(number));
         }
         Act::Hand(wanted) => {
-            assert!(rt; node.next(&mut body));
-            assert_eq!(rt; body.as_slice(), wanted);
+            is(rt, node.next(&mut body), true);
+            is(rt, body.as_slice(), wanted);
         }
-        Act::Hold => assert!(rt; !node.next(&mut body)),
+        Act::Hold => is(rt, node.next(&mut body), false),
         Act::Take(reply, did) => {
             assert!(rt; reply.len() >= 6 && reply.len() <= 250);
             assert!(rt; node.has_room(reply));
-            assert_eq!(rt; node.accept(reply), did);
+            is(rt, node.accept(reply), did);
         }
         Act::Tick(wanted) => {
             node.tick(&mut gone);
-            assert_eq!(rt; gone.as_slice(), wanted);
+            is(rt, gone.as_slice(), wanted);
         }
     }
 }
