@@ -5,8 +5,8 @@ use Rattle.std.specs.Option.{option_map}
 use Rattle.std.proofs.lemmas.Bool.Decides.{nat_tests}
 use Rattle.data_files.specs.Tables.{faults, fits_compat}
 use Rattle.data_files.specs.declared.make_fault.MakeFault.{MakeFault}
-use Rattle.end_settings.specs.declared.key.Key.{Key}
-use Rattle.end_settings.specs.declared.key.Key.TheVariants.{PerSource, ReplyTicks, Room, Window}
+use Rattle.end_settings.specs.declared.key.EndKey.{EndKey}
+use Rattle.end_settings.specs.declared.key.EndKey.TheVariants.{PerSource, ReplyTicks, Room, Window}
 use Rattle.end_settings.specs.declared.row.Values.{Values}
 use Rattle.end_settings.specs.Rows.{Fits, fitting, least_of, most_of}
 use Rattle.c_ends.specs.declared.code.Code.{Code}
@@ -39,7 +39,7 @@ fits-if : (values : Values) (n : ℕ) (test : Bool) → (nat_le (least_of values
 fits-if values n true e some = (grind (arith, nat_tests), grind (arith, nat_tests))
 fits-if values n false e some = cc
 
-pub value-fits : (key : Key) (answer : Code) (n : ℕ) → value_fault key answer n ≡ None → Fits (values_of key) n
+pub value-fits : (key : EndKey) (answer : Code) (n : ℕ) → value_fault key answer n ≡ None → Fits (values_of key) n
 value-fits key answer n e =
     fits-if (values_of key) n (nat_le (least_of (values_of key)) n && nat_le n (most_of (values_of key))) refl (fits-none (is_some (fitting (values_of key) (Some n))) answer e)
 

@@ -6,7 +6,7 @@ use Rattle.df1_check.specs.declared.Check.{Check as CheckKind}
 use Rattle.df1_check.specs.declared.Check.TheVariants as check
 use Rattle.duplex_end.specs.declared.Setup.{Setup}
 use Rattle.duplex_end.specs.End.{new_end}
-use Rattle.end_settings.specs.declared.key.Key.TheVariants.{AckTicks, MaxEnqs, MaxNaks, MaxResends, MaxSends, PollTicks}
+use Rattle.end_settings.specs.declared.key.EndKey.TheVariants.{AckTicks, MaxEnqs, MaxNaks, MaxResends, MaxSends, PollTicks}
 use Rattle.half_master.specs.declared.MasterSetup.{MasterSetup}
 use Rattle.half_master.specs.Master.{new_master}
 use Rattle.half_slave.specs.declared.SlaveSetup.{SlaveSetup}

@@ -11,7 +11,7 @@ use Rattle.data_files.specs.declared.make_fault.MakeFault.{MakeFault}
 use Rattle.data_files.specs.declared.make_fault.MakeFault.TheVariants as fault
 use Rattle.df1_node.specs.Node.{NodeState}
 use Rattle.df1_node.specs.declared.handed.Handed.TheVariants as handed
-use Rattle.end_settings.specs.declared.key.Key.TheVariants.{PerSource, ReplyTicks, Room, Window}
+use Rattle.end_settings.specs.declared.key.EndKey.TheVariants.{PerSource, ReplyTicks, Room, Window}
 use Rattle.c_ends.specs.declared.code.Code.{Code}
 use Rattle.c_ends.specs.declared.code.Code.TheVariants as code
 use Rattle.c_ends.specs.declared.parts.NodeParts.{NodeParts}

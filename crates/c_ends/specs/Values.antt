@@ -1,8 +1,8 @@
 -- The values that the keys of an end may have in C, and what is told of another.
 use Rattle.std.specs.Prelude.{ℕ, List, ◌==◌, not, Option, None, Some, is_some, if◌then◌else◌}
 use Rattle.std.specs.List.{list_any}
-use Rattle.end_settings.specs.declared.key.Key.{Key}
-use Rattle.end_settings.specs.declared.key.Key.TheVariants.{ReplyTicks}
+use Rattle.end_settings.specs.declared.key.EndKey.{EndKey}
+use Rattle.end_settings.specs.declared.key.EndKey.TheVariants.{ReplyTicks}
 use Rattle.end_settings.specs.declared.row.Values.{Values}
 use Rattle.end_settings.specs.declared.row.Values.TheVariants.{Switch, Number}
 use Rattle.end_settings.specs.Rows.{fitting}
@@ -15,15 +15,15 @@ from_one Switch = Switch
 from_one (Number least most) = Number 1 most
 
 -- those of the key's row, but that a reply may take as few ticks as one, since a tick of the caller's may be as long as he likes
-abbrev pub values_of : Key → Values
+abbrev pub values_of : EndKey → Values
 values_of ReplyTicks = from_one (row_of ReplyTicks).values
 values_of key = (row_of key).values
 
-abbrev pub value_fault : Key → Code → ℕ → Option Code
+abbrev pub value_fault : EndKey → Code → ℕ → Option Code
 value_fault key fault number = if is_some (fitting (values_of key) (Some number)) then None else Some fault
 
 -- the value of a key that is told by this number: that at first where it is 0
-abbrev pub given_or_first : Key → ℕ → ℕ
+abbrev pub given_or_first : EndKey → ℕ → ℕ
 given_or_first key number = if number == 0 then first_of 0 key else number
 
 -- reserved members are 0

@@ -15,7 +15,7 @@ use crate::values::{reserved_fault, value_fault};
 use df1_check::Check;
 use duplex_end::{End, Setup};
 use duplex_sender::Limits;
-use end_settings::Key;
+use end_settings::EndKey;
 use half_master::{Master, MasterSetup};
 use half_slave::{Slave, SlaveSetup};
 use station_router::Router;
@@ -106,9 +106,9 @@ fn duplex_fault(
 ) -> Option<Code>
     ensures { result ≡ duplex_fault link.now node.now files.now words.now block.now }
 {
-    value_fault(Key::AckTicks, Code::BadAckTicks, link.ack_ticks)
-        .or_else(|| value_fault(Key::MaxNaks, Code::BadMaxNaks, link.max_naks))
-        .or_else(|| value_fault(Key::MaxEnqs, Code::BadMaxEnqs, link.max_enqs))
+    value_fault(EndKey::AckTicks, Code::BadAckTicks, link.ack_ticks)
+        .or_else(|| value_fault(EndKey::MaxNaks, Code::BadMaxNaks, link.max_naks))
+        .or_else(|| value_fault(EndKey::MaxEnqs, Code::BadMaxEnqs, link.max_enqs))
         .or_else(|| reserved_fault(&link.reserved))
         .or_else(|| node_fault(node, files, words, block))
 }
@@ -124,9 +124,9 @@ fn master_fault(
 ) -> Option<Code>
     ensures { result ≡ master_fault link.now stations.now node.now files.now words.now block.now }
 {
-    value_fault(Key::AckTicks, Code::BadAckTicks, link.ack_ticks)
-        .or_else(|| value_fault(Key::MaxResends, Code::BadMaxResends, link.max_resends))
-        .or_else(|| value_fault(Key::PollTicks, Code::BadPollTicks, link.poll_ticks))
+    value_fault(EndKey::AckTicks, Code::BadAckTicks, link.ack_ticks)
+        .or_else(|| value_fault(EndKey::MaxResends, Code::BadMaxResends, link.max_resends))
+        .or_else(|| value_fault(EndKey::PollTicks, Code::BadPollTicks, link.poll_ticks))
         .or_else(|| routes_fault(link.routes))
         .or_else(|| reserved_fault(&link.reserved))
         .or_else(|| many_fault(stations))
@@ -144,7 +144,7 @@ fn slave_fault(
 ) -> Option<Code>
     ensures { result ≡ slave_fault link.now node.now files.now words.now block.now }
 {
-    value_fault(Key::MaxSends, Code::BadMaxSends, link.max_sends)
+    value_fault(EndKey::MaxSends, Code::BadMaxSends, link.max_sends)
         .or_else(|| reserved_fault(&link.reserved))
         .or_else(|| number_fault(node.address))
         .or_else(|| node_fault(node, files, words, block))

@@ -2,7 +2,7 @@
 
 ghost use Rattle.std.specs.Prelude.{◌≡◌, None, Some, IfOk};
 ghost use Rattle.data_files.specs.Tables.{fits_compat};
-ghost use Rattle.end_settings.specs.declared.key.Key.TheVariants.{PerSource, Window};
+ghost use Rattle.end_settings.specs.declared.key.EndKey.TheVariants.{PerSource, Window};
 ghost use Rattle.c_ends.specs.Values.{given_or_first};
 ghost use Rattle.c_ends.specs.Parts.{block_fault, compat_fault, compat_of, files_fault, first_node, node_fault, specs_of};
 
@@ -12,7 +12,7 @@ use crate::parts::{FileParts, NodeParts, WordParts};
 use crate::values::{given_or_first, reserved_fault, value_fault};
 use df1_base::{MAX_DATA, NoMemory};
 use df1_node::{Node, NodeSetup, Station};
-use end_settings::Key;
+use end_settings::EndKey;
 use std::alloc::Global;
 
 /// Returns what is out of range of the node behind an end.
@@ -24,10 +24,10 @@ pub(crate) fn node_fault(
 ) -> Option<Code>
     ensures { result ≡ node_fault node.now files.now words.now block.now }
 {
-    value_fault(Key::ReplyTicks, Code::BadReplyTicks, node.reply_ticks)
-        .or_else(|| value_fault(Key::Room, Code::BadRoom, node.room))
-        .or_else(|| value_fault(Key::Window, Code::BadWindow, window_of(node)))
-        .or_else(|| value_fault(Key::PerSource, Code::BadPerSource, per_source_of(node)))
+    value_fault(EndKey::ReplyTicks, Code::BadReplyTicks, node.reply_ticks)
+        .or_else(|| value_fault(EndKey::Room, Code::BadRoom, node.room))
+        .or_else(|| value_fault(EndKey::Window, Code::BadWindow, window_of(node)))
+        .or_else(|| value_fault(EndKey::PerSource, Code::BadPerSource, per_source_of(node)))
         .or_else(|| reserved_fault(&node.reserved))
         .or_else(|| files_fault(node, files, words, block))
 }
@@ -53,14 +53,14 @@ fn files_fault(
 fn window_of(node: &NodeParts) -> u32
     ensures { result ≡ given_or_first Window node.now.window }
 {
-    given_or_first(Key::Window, node.window)
+    given_or_first(EndKey::Window, node.window)
 }
 
 /// Returns how many commands of one source may be outstanding.
 fn per_source_of(node: &NodeParts) -> u32
     ensures { result ≡ given_or_first PerSource node.now.per_source }
 {
-    given_or_first(Key::PerSource, node.per_source)
+    given_or_first(EndKey::PerSource, node.per_source)
 }
 
 /// Returns a code if the compatibility file is no Bit or Integer file.

@@ -5,15 +5,15 @@ ghost use Rattle.std.specs.List.{list_any};
 ghost use Rattle.c_ends.specs.Values.{from_one, given_or_first, reserved_fault, value_fault, values_of as the_values};
 
 use crate::code::Code;
-use end_settings::{Key, Values};
+use end_settings::{EndKey, Values};
 
 /// Returns the values of a key: those of its row, except that a reply may take as few ticks as one, since the caller
 /// chooses the tick period.
-fn values_of(key: Key) -> Values
+fn values_of(key: EndKey) -> Values
     ensures { result ≡ the_values key }
 {
     match key {
-        Key::ReplyTicks => from_one(key.values()),
+        EndKey::ReplyTicks => from_one(key.values()),
         _ => key.values(),
     }
 }
@@ -29,7 +29,7 @@ fn from_one(values: Values) -> Values
 }
 
 /// Returns `fault` if a key may not have this number.
-pub(crate) fn value_fault(key: Key, fault: Code, number: u32) -> Option<Code>
+pub(crate) fn value_fault(key: EndKey, fault: Code, number: u32) -> Option<Code>
     ensures { result ≡ value_fault key fault number }
 {
     match values_of(key).fitting(Some(number)) {
@@ -39,7 +39,7 @@ pub(crate) fn value_fault(key: Key, fault: Code, number: u32) -> Option<Code>
 }
 
 /// Returns the value of a key that is passed as this number: the default value if it is 0.
-pub(crate) fn given_or_first(key: Key, number: u32) -> u32
+pub(crate) fn given_or_first(key: EndKey, number: u32) -> u32
     ensures { result ≡ given_or_first key number }
 {
     if number == 0 {

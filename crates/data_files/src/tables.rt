@@ -56,6 +56,17 @@ impl Tables {
         if let Some(fault) = first_fault(specs) {
             return Err(fault);
         }
+        match Tables::zeroed(alloc, specs) {
+            Ok(tables) => Ok(tables),
+            Err(NoMemory) => Err(MakeFault::NoMemory),
+        }
+    }
+
+    /// Creates tables of files that have no fault, with all words 0. An error is a lack of memory.
+    pub fn zeroed(alloc: Global, specs: &[FileSpec]) -> Result<Tables, NoMemory>
+        requires { faults specs.now ≡ None }
+        ensures { IfOk result (λ tables. tables ≡ fresh specs.now) }
+    {
         let mut directory = BTreeMap::new(alloc);
         let mut start = 0;
         for spec in specs {
@@ -70,18 +81,6 @@ impl Tables {
             directory,
             words,
         })
-    }
-
-    /// Creates tables of files that have no fault, with all words 0. An error is a lack of memory.
-    pub fn zeroed(alloc: Global, specs: &[FileSpec]) -> Result<Tables, NoMemory>
-        requires { faults specs.now ≡ None }
-        ensures { IfOk result (λ tables. tables ≡ fresh specs.now) }
-    {
-        match Tables::new(alloc, specs) {
-            Ok(tables) => Ok(tables),
-            Err(MakeFault::NoMemory) => Err(NoMemory),
-            Err(_) => unreachable!(),
-        }
     }
 
     /// Returns the number of files, at most 256.

@@ -6,8 +6,8 @@ use Rattle.std.specs.List.{list_any}
 use Rattle.data_files.specs.Tables.{faults, fits_compat, has_word}
 use Rattle.data_files.specs.declared.make_fault.MakeFault.{MakeFault}
 use Rattle.data_files.specs.declared.make_fault.MakeFault.TheVariants as make
-use Rattle.end_settings.specs.declared.key.Key.{Key}
-use Rattle.end_settings.specs.declared.key.Key.TheVariants.{AckTicks, MaxEnqs, MaxNaks, MaxResends, MaxSends, PerSource, PollTicks, ReplyTicks, Room, Window}
+use Rattle.end_settings.specs.declared.key.EndKey.{EndKey}
+use Rattle.end_settings.specs.declared.key.EndKey.TheVariants.{AckTicks, MaxEnqs, MaxNaks, MaxResends, MaxSends, PerSource, PollTicks, ReplyTicks, Room, Window}
 use Rattle.end_settings.specs.Rows.{fitting}
 use Rattle.c_ends.specs.declared.code.Code.{Code}
 use Rattle.c_ends.specs.declared.code.Code.TheVariants as code
@@ -44,7 +44,7 @@ pub first-or : (first second : Option Code) → NeverDone first → NeverDone se
 first-or None second never other = other
 first-or (Some fault) second never other = never
 
-value-never : (key : Key) (fault : Code) (number : ℕ) → NeverDone (Some fault) → NeverDone (value_fault key fault number)
+value-never : (key : EndKey) (fault : Code) (number : ℕ) → NeverDone (Some fault) → NeverDone (value_fault key fault number)
 value-never key fault number never = one-unless (is_some (fitting (values_of key) (Some number))) fault never
 
 reserved-never : (reserved : List ℕ) → NeverDone (reserved_fault reserved)

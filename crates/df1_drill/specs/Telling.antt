@@ -20,7 +20,7 @@ abbrev pub storm_line : ℕ → ℕ → List ℕ
 storm_line seed count = run_line (storm_script seed count)
 
 -- the line is written; or the output failed, and a first part of it is written, not all; or there was no memory, and nothing is
-abbrev pub LineEnd : (line : List ℕ) (held held' : Option (List ℕ)) (faults faults' : ℕ) → Result (Unit {0}) DrillFault → Type 0
-LineEnd line held held' faults faults' (Ok done) = Put held held' line × (faults' ≡ faults)
-LineEnd line held held' faults faults' (Err fault.Output) = WroteLess held held' line × Rose faults faults'
-LineEnd line held held' faults faults' (Err fault.NoMemory) = (held' ≡ held) × (faults' ≡ faults)
+abbrev pub LineWritten : (line : List ℕ) (held held' : Option (List ℕ)) (faults faults' : ℕ) → Result (Unit {0}) DrillFault → Type 0
+LineWritten line held held' faults faults' (Ok done) = Put held held' line × (faults' ≡ faults)
+LineWritten line held held' faults faults' (Err fault.Output) = WroteLess held held' line × Rose faults faults'
+LineWritten line held held' faults faults' (Err fault.NoMemory) = (held' ≡ held) × (faults' ≡ faults)

@@ -5,7 +5,7 @@ ghost use Rattle.line_world.specs.Recovery.{Recovers};
 ghost use Rattle.line_world.specs.Runs.{record_of};
 ghost use Rattle.df1_drill.specs.Storm.{storm_script};
 ghost use Rattle.df1_drill.specs.Drill.{drill_script as the_drill};
-ghost use Rattle.df1_drill.specs.Telling.{LineEnd, drill_line, run_line, storm_line};
+ghost use Rattle.df1_drill.specs.Telling.{LineWritten, drill_line, run_line, storm_line};
 
 use crate::drilled::run_tally;
 use crate::script::drill_script;
@@ -38,7 +38,7 @@ pub fn write_drill<K: Sink>(
 ) -> Result<(), DrillFault>
     requires { count ≤ MOST_ROUNDS }
     ensures recovers { Recovers (the_drill seed count) (record_of (the_drill seed count)) }
-    ensures line { LineEnd (drill_line seed count) (K.held out.old) (K.held out.new) (K.faults out.old) (K.faults out.new) result }
+    ensures line { LineWritten (drill_line seed count) (K.held out.old) (K.held out.new) (K.faults out.old) (K.faults out.new) result }
 {
     match drill_script(alloc, seed, count) {
         Ok(script) => write_run(alloc, &script, out),
@@ -56,7 +56,7 @@ pub fn write_storm<K: Sink>(
 ) -> Result<(), DrillFault>
     requires { count ≤ MOST_ROUNDS }
     ensures recovers { Recovers (storm_script seed count) (record_of (storm_script seed count)) }
-    ensures line { LineEnd (storm_line seed count) (K.held out.old) (K.held out.new) (K.faults out.old) (K.faults out.new) result }
+    ensures line { LineWritten (storm_line seed count) (K.held out.old) (K.held out.new) (K.faults out.old) (K.faults out.new) result }
 {
     match storm(alloc, seed, count) {
         Ok(script) => write_run(alloc, &script, out),
@@ -67,7 +67,7 @@ pub fn write_storm<K: Sink>(
 /// Runs a script that can be played, and writes the line that reports the result.
 fn write_run<K: Sink>(alloc: Global, script: &Script, out: &mut K) -> Result<(), DrillFault>
     requires { CanBePlayed script.now }
-    ensures { LineEnd (run_line script.now) (K.held out.old) (K.held out.new) (K.faults out.old) (K.faults out.new) result }
+    ensures { LineWritten (run_line script.now) (K.held out.old) (K.held out.new) (K.faults out.old) (K.faults out.new) result }
 {
     match run_tally(alloc, script) {
         Ok(drilled) => match write_all(out, &drilled.line()) {

@@ -2,8 +2,8 @@
 use Rattle.std.proofs.Common.{◌≡◌, ◌∙◌, ℕ, true, false, List, Option, None, refl, ap, subst, sym, arith}
 use Rattle.std.specs.Prelude.{unwrap_or}
 use Rattle.data_files.specs.Tables.{fits_compat}
-use Rattle.end_settings.specs.declared.key.Key.{Key}
-use Rattle.end_settings.specs.declared.key.Key.TheVariants.{Embed}
+use Rattle.end_settings.specs.declared.key.EndKey.{EndKey}
+use Rattle.end_settings.specs.declared.key.EndKey.TheVariants.{Embed}
 use Rattle.end_settings.specs.Rows.{Fits}
 use Rattle.end_settings.specs.Table.{first_of, row_of}
 use Rattle.end_settings.specs.Given.{chosen, value_of}
@@ -25,11 +25,11 @@ module _ (members : Members) (front : Front) (entries : Entries) (peer : ℕ) (a
   pub none-refused : has_other is_known members ≡ false → fits_compat (specs_of entries.files) front.compat ≡ true → first_cause members ≡ None
   none-refused known fits = compat-first members known at_front.none between.none at_back.none ∙ rw (between.files, at_front.compat, fits) refl
 
-  module _ (given : List (Option ℕ)) (same : (key : Key) → value_of given key ≡ given_at members key) where
-    chosen-is : (key : Key) → chosen given 1 key ≡ unwrap_or (given_at members key) (first_of 1 key)
+  module _ (given : List (Option ℕ)) (same : (key : EndKey) → value_of given key ≡ given_at members key) where
+    chosen-is : (key : EndKey) → chosen given 1 key ≡ unwrap_or (given_at members key) (first_of 1 key)
     chosen-is key = ap (λ (o : Option ℕ). unwrap_or o (first_of 1 key)) (same key)
 
-    chosen-fits : (key : Key) → Fits (row_of key).values (chosen given 1 key)
+    chosen-fits : (key : EndKey) → Fits (row_of key).values (chosen given 1 key)
     chosen-fits key =
         subst (Fits (row_of key).values) (sym (chosen-is key))
         (Fits-unwrap_or (row_of key).values (given_at members key) (first_of 1 key) (given-fits members key) (Fits-first 1 (omega arith) key))

@@ -2,7 +2,7 @@
 use Rattle.std.proofs.Common.{◌≡◌, ℕ, Bool, true, false, cond, Option, Some, None, refl, arith, pos, negsuc}
 use Rattle.std.specs.Option.{option_and_then, option_map}
 use Rattle.std.proofs.lemmas.Bool.Decides.{nat_tests}
-use Rattle.end_settings.specs.declared.key.Key.{Key}
+use Rattle.end_settings.specs.declared.key.EndKey.{EndKey}
 use Rattle.end_settings.specs.declared.row.Values.{Values}
 use Rattle.end_settings.specs.declared.row.Values.TheVariants.{Switch, Number}
 use Rattle.end_settings.specs.Rows.{Fits, IfFits}
@@ -45,5 +45,5 @@ at-fits : (values : Values) (o : Option Data) → IfFits values (option_and_then
 at-fits values None = tt
 at-fits values (Some value) = value-fits values value
 
-pub given-fits : (members : Members) (setting : Key) → IfFits (row_of setting).values (given_at members setting)
+pub given-fits : (members : Members) (setting : EndKey) → IfFits (row_of setting).values (given_at members setting)
 given-fits members setting = at-fits (row_of setting).values (setting_at members setting)

@@ -5,7 +5,7 @@ use Rattle.std.specs.Str.{IsUtf8}
 use Rattle.df1_check.specs.declared.Check.{Check}
 use Rattle.df1_check.specs.declared.Check.TheVariants.{Bcc}
 use Rattle.data_files.specs.Tables.{fits_compat}
-use Rattle.end_settings.specs.declared.key.Key.{Key}
+use Rattle.end_settings.specs.declared.key.EndKey.{EndKey}
 use Rattle.end_settings.specs.Table.{first_of}
 use Rattle.script_statement.specs.declared.who.Who.TheVariants.{A}
 use Rattle.script_parts.specs.Plans.{setting_in}
@@ -106,7 +106,7 @@ first_cause members = first_there (causes members)
 -- the plan says what the table says, key by key; a setting that is left out has its value at first, at the address 1
 pub record Says (members : Members) (plan : Plan) : Type 0 where
   pub end_is : plan.end.who ≡ A
-  pub settings_are : (setting : Key) → setting_in plan.end setting ≡ unwrap_or (given_at members setting) (first_of 1 setting)
+  pub settings_are : (setting : EndKey) → setting_in plan.end setting ≡ unwrap_or (given_at members setting) (first_of 1 setting)
   pub block_is : block members ≡ Ok plan.end.block
   pub check_is : check members ≡ Ok plan.check
   pub compat_is : compat members ≡ Ok plan.end.compat

@@ -2,14 +2,14 @@
 ghost use Rattle.std.specs.Prelude.{◌≡◌};
 ghost use Rattle.df1_plan.specs.Keys.{is_other as the_other, is_setting as the_setting, name_of};
 
-use end_settings::Key;
+use end_settings::EndKey;
 use std::fmt::{Display, Error, Formatter, Write};
 
 /// A key of a plan: a setting of a full-duplex end, or one of the others, which are listed in byte order of their
 /// names.
 #[derive(Clone, Copy, Debug, PartialEq, Eq)]
 pub enum PlanKey {
-    Setting(Key),
+    Setting(EndKey),
     Block,
     Check,
     Compat,
@@ -55,7 +55,7 @@ impl Display for PlanKey {
 pub(crate) fn is_setting(name: &str) -> bool
     ensures { result ≡ the_setting name.now }
 {
-    match Key::named(name.as_bytes()) {
+    match EndKey::named(name.as_bytes()) {
         Some(key) => key.roles().duplex,
         None => false,
     }

@@ -20,7 +20,7 @@ use crate::values::{check_in, hex_in, integer_in, value_at};
 use crate::{Plan, PlanFault, PlanKey};
 use df1_base::MAX_DATA;
 use df1_check::Check;
-use end_settings::{Key, Settings};
+use end_settings::{EndKey, Settings};
 use script_parts::EndPlan;
 use script_statement::{Bytes, Items, Who};
 use std::alloc::Global;
@@ -95,7 +95,7 @@ fn is_known(name: &str) -> bool
 }
 
 /// Returns the values of the keys before `file`, if neither they nor settings before it are refused.
-fn front_of(alloc: Global, table: &Table, refused: Option<Key>) -> Result<Front, PlanFault>
+fn front_of(alloc: Global, table: &Table, refused: Option<EndKey>) -> Result<Front, PlanFault>
     requires { refused ≡ refused_in (table_view table.now) }
     ensures ok { IfOk result (FrontSays (table_view table.now)) }
     ensures refused { IfErr result (λ e. e ≢ PlanFault.NoMemory → first_there (front_causes (table_view table.now)) ≡ Some e) }
@@ -114,7 +114,7 @@ fn front_of(alloc: Global, table: &Table, refused: Option<Key>) -> Result<Front,
 }
 
 /// Returns the files and the commands, if neither they nor settings before them are refused.
-fn entries_of(alloc: Global, table: &Table, refused: Option<Key>) -> Result<Entries, PlanFault>
+fn entries_of(alloc: Global, table: &Table, refused: Option<EndKey>) -> Result<Entries, PlanFault>
     requires { refused ≡ refused_in (table_view table.now) }
     ensures ok { IfOk result (EntriesSay (table_view table.now)) }
     ensures refused { IfErr result (λ e. e ≢ PlanFault.NoMemory → first_there (entry_causes (table_view table.now)) ≡ Some e) }
@@ -127,7 +127,7 @@ fn entries_of(alloc: Global, table: &Table, refused: Option<Key>) -> Result<Entr
 }
 
 /// Returns the address at the key `peer`, if neither it nor a setting is refused.
-fn back_of(table: &Table, refused: Option<Key>) -> Result<u8, PlanFault>
+fn back_of(table: &Table, refused: Option<EndKey>) -> Result<u8, PlanFault>
     requires { refused ≡ refused_in (table_view table.now) }
     ensures ok { IfOk result (BackSays (table_view table.now)) }
     ensures refused { IfErr result (λ e. first_there (back_causes (table_view table.now)) ≡ Some e) }

@@ -1,6 +1,6 @@
 -- What a run of `drill` or `storm` shows, by how it ended.
 use Rattle.std.proofs.Common.{◌≡◌, ℕ, List, Result, Ok, Err, inl, inr, arith}
-use Rattle.df1_drill.specs.Telling.{LineEnd}
+use Rattle.df1_drill.specs.Telling.{LineWritten}
 use Rattle.df1_drill.specs.declared.telling.DrillFault.{DrillFault}
 use Rattle.df1_drill.specs.declared.telling.DrillFault.TheVariants as fault
 use Rattle.df1_tool.specs.Notes.{IsNoted}
@@ -12,7 +12,7 @@ Told before after status (Ok done) = (status ≡ 0) × (after.noted ≡ before.n
 Told before after status (Err why) = (status ≡ status_of_drill why) × IsNoted before.noted after.noted before.note_faults after.note_faults (note_of_drill why)
 
 pub line-ended : (line : List ℕ) (before after : Sinks) (status : ℕ) (ended : Result (Unit {0}) DrillFault) → Told before after status ended
-    → LineEnd line before.held after.held before.out_faults after.out_faults ended → LineRun line before after status
+    → LineWritten line before.held after.held before.out_faults after.out_faults ended → LineRun line before after status
 line-ended line before after status (Ok done) (is, silent, calm) (put, steady) = record {
   statuses = inl is;
   done = λ at. (put, silent, calm);

@@ -10,8 +10,8 @@ use Rattle.data_files.specs.Tables.{faults, fits_compat, has_word, word_count}
 use Rattle.data_files.specs.Words.{holds_words}
 use Rattle.script_statement.specs.declared.who.Who.{Who}
 use Rattle.script_parts.specs.declared.script.WordOf.{WordOf}
-use Rattle.end_settings.specs.declared.key.Key.{Key}
-use Rattle.end_settings.specs.declared.key.Key.TheVariants.{Node}
+use Rattle.end_settings.specs.declared.key.EndKey.{EndKey}
+use Rattle.end_settings.specs.declared.key.EndKey.TheVariants.{Node}
 use Rattle.end_settings.specs.declared.row.Role.{Role}
 use Rattle.end_settings.specs.declared.settings.Setting.{Setting}
 use Rattle.end_settings.specs.Table.{has_key}
@@ -140,8 +140,8 @@ same_commands who end (Word None index value) = refl
 same_commands who end (Word (Some file) index value) = refl
 
 -- a key of a station isn't the address
-no_node : (role : Role) (key : Key) → has_key role Node ≡ false → has_key role key ≡ true → key ≡ Node → ⊥
-no_node role key without has is = let there : has_key role Node ≡ true = subst (λ (k : Key). has_key role k ≡ true) is has in cc
+no_node : (role : Role) (key : EndKey) → has_key role Node ≡ false → has_key role key ≡ true → key ≡ Node → ⊥
+no_node role key without has is = let there : has_key role Node ≡ true = subst (λ (k : EndKey). has_key role k ≡ true) is has in cc
 
 node_kept : (role : Role) (given : List (Option ℕ)) (x : Setting) → has_key role Node ≡ false → has_key role x.key ≡ true → value_of (with_setting given x) Node ≡ value_of given Node
 node_kept role given x without is = value_of-with given x Node (λ o. o ≡ value_of given Node) (λ same. absurd (no_node role x.key without is same)) refl

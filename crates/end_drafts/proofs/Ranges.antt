@@ -5,7 +5,7 @@ use Rattle.std.specs.Str.{bytes_eq}
 use Rattle.std.proofs.lemmas.Bool.{cond_both}
 use Rattle.std.proofs.lemmas.Bool.Decides.{nat_tests}
 use Rattle.df1_base.specs.declared.file_type.FileType.{FileType}
-use Rattle.end_settings.specs.declared.key.Key.{Key}
+use Rattle.end_settings.specs.declared.key.EndKey.{EndKey}
 use Rattle.end_settings.specs.Rows.{IfFits}
 use Rattle.end_settings.specs.Table.{key_named, row_of}
 use Rattle.end_settings.proofs.Fitting.{IfFits-fitting}
@@ -82,7 +82,7 @@ pub IfBetween-within : (least most : ℕ) (o : Option ℕ) → IfBetween least m
 IfBetween-within least most None = tt
 IfBetween-within least most (Some n) = cond_both (nat_le least n && nat_le n most) (Some n) None (IfBetween least most) (bounds least most n) (λ _. tt)
 
-sound_setting : (end : Option EndName) (word : List ℕ) (key : Option Key) → IfSound (set_statement end (option_map (setting_with word) key))
+sound_setting : (end : Option EndName) (word : List ℕ) (key : Option EndKey) → IfSound (set_statement end (option_map (setting_with word) key))
 sound_setting None word key = tt
 sound_setting (Some end) word None = tt
 sound_setting (Some end) word (Some key) = IfFits-fitting (row_of key).values (number_as (row_of key).values word)

@@ -5,7 +5,7 @@ use Rattle.std.specs.Option.{option_map_or}
 use Rattle.data_files.specs.declared.file_spec.FileSpec.{FileSpec}
 use Rattle.data_files.specs.Tables.{word_count}
 use Rattle.data_files.specs.Words.{holds_words}
-use Rattle.end_settings.specs.declared.key.Key.TheVariants.{Node}
+use Rattle.end_settings.specs.declared.key.EndKey.TheVariants.{Node}
 use Rattle.end_settings.specs.declared.row.Role.{Role}
 use Rattle.end_settings.specs.declared.row.Role.TheVariants.{Duplex}
 use Rattle.end_settings.specs.Table.{has_key}

@@ -9,7 +9,7 @@ use crate::given_files::GivenFiles;
 use crate::given_words::GivenWords;
 use data_files::{FileSpec, MAX_FILES};
 use df1_base::NoMemory;
-use end_settings::{Key, Role, Settings};
+use end_settings::{EndKey, Role, Settings};
 use script_parts::{EndPlan, WordOf};
 use script_statement::{Bytes, Items, SetupStatement, Who};
 use std::alloc::Global;
@@ -151,7 +151,7 @@ impl EndDraft {
     pub fn node(&self, standard: u8) -> u8
         ensures { result ≡ the_node self.now standard }
     {
-        self.settings.chosen(Key::Node, standard) as u8
+        self.settings.chosen(EndKey::Node, standard) as u8
     }
 
     /// Returns the declared file that a line names.

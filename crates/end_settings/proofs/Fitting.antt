@@ -4,9 +4,9 @@ use Rattle.std.specs.Prelude.{◌&&◌, unwrap_or}
 use Rattle.std.proofs.lemmas.Bool.{cond_both}
 use Rattle.std.proofs.lemmas.Bool.Decides.{nat_tests}
 use denote.Enum.Bare.{tag_one}
-use Rattle.end_settings.specs.contracts.key.Key.{the_type}
-use Rattle.end_settings.specs.declared.key.Key.{Key}
-use Rattle.end_settings.specs.declared.key.Key.TheVariants.{Node}
+use Rattle.end_settings.specs.contracts.key.EndKey.{the_type}
+use Rattle.end_settings.specs.declared.key.EndKey.{EndKey}
+use Rattle.end_settings.specs.declared.key.EndKey.TheVariants.{Node}
 use Rattle.end_settings.specs.declared.row.Values.{Values}
 use Rattle.end_settings.specs.declared.settings.Setting.{Setting}
 use Rattle.end_settings.specs.Rows.{Fits, IfFits, fitting, least_of, most_of}
@@ -15,7 +15,7 @@ use Rattle.end_settings.specs.Given.{AreFitting, chosen, no_settings, place, val
 
 -- ---- keys and their places
 
-pub place-same : (a b : Key) → place a ≡ place b → a ≡ b
+pub place-same : (a b : EndKey) → place a ≡ place b → a ≡ b
 place-same a b same = tag_one the_type tt a b same
 
 -- the value at a place is the new one or the one before
@@ -26,7 +26,7 @@ after-set (x ∷ given) zero (suc j) value P new old = old
 after-set (x ∷ given) (suc i) zero value P new old = old
 after-set (x ∷ given) (suc i) (suc j) value P new old = after-set given i j value P (λ same. new (ap suc same)) old
 
-pub value_of-with : (given : List (Option ℕ)) (x : Setting) (key : Key) (P : Option ℕ → Type 0) → (x.key ≡ key → P (fitting (row_of x.key).values x.value)) → P (value_of given key) → P (value_of (with_setting given x) key)
+pub value_of-with : (given : List (Option ℕ)) (x : Setting) (key : EndKey) (P : Option ℕ → Type 0) → (x.key ≡ key → P (fitting (row_of x.key).values x.value)) → P (value_of given key) → P (value_of (with_setting given x) key)
 value_of-with given x key P new old = after-set given (place x.key) (place key) (fitting (row_of x.key).values x.value) P (λ same. new (place-same x.key key same)) old
 
 -- ---- values
@@ -48,7 +48,7 @@ pub fitting-same : (values : Values) (o : Option ℕ) → IfFits values o → fi
 fitting-same values None h = refl
 fitting-same values (Some n) h = rw (both-tests (nat_le (least_of values) n) (nat_le n (most_of values)) (grind (arith, nat_tests, h)) (grind (arith, nat_tests, h))) refl
 
-none-at : (key : Key) → IfFits (row_of key).values (value_of no_settings key)
+none-at : (key : EndKey) → IfFits (row_of key).values (value_of no_settings key)
 none-at Node = tt
 none-at other = tt
 
@@ -59,14 +59,14 @@ pub fitting-with : (given : List (Option ℕ)) (x : Setting) → AreFitting give
 fitting-with given x h = record {
   each = λ key.
       value_of-with given x key (IfFits (row_of key).values)
-      (λ same. subst (λ (k : Key). IfFits (row_of k).values (fitting (row_of x.key).values x.value)) same (IfFits-fitting (row_of x.key).values x.value))
+      (λ same. subst (λ (k : EndKey). IfFits (row_of k).values (fitting (row_of x.key).values x.value)) same (IfFits-fitting (row_of x.key).values x.value))
       (h.each key);
 }
 
 -- ---- values at first
 
 -- the value of each key at first is one that it may have
-pub Fits-first : (address : ℕ) → address ≤ 255 → (key : Key) → Fits (row_of key).values (first_of address key)
+pub Fits-first : (address : ℕ) → address ≤ 255 → (key : EndKey) → Fits (row_of key).values (first_of address key)
 Fits-first address few Node = (omega arith, few)
 Fits-first address few other = (omega arith, omega arith)
 
@@ -74,5 +74,5 @@ pub Fits-unwrap_or : (values : Values) (o : Option ℕ) (first : ℕ) → IfFits
 Fits-unwrap_or values None first told at_first = at_first
 Fits-unwrap_or values (Some n) first told at_first = told
 
-pub Fits-chosen : (given : List (Option ℕ)) (address : ℕ) → AreFitting given → address ≤ 255 → (key : Key) → Fits (row_of key).values (chosen given address key)
+pub Fits-chosen : (given : List (Option ℕ)) (address : ℕ) → AreFitting given → address ≤ 255 → (key : EndKey) → Fits (row_of key).values (chosen given address key)
 Fits-chosen given address h few key = Fits-unwrap_or (row_of key).values (value_of given key) (first_of address key) (h.each key) (Fits-first address few key)

@@ -1,8 +1,8 @@
 -- The table of the keys of an end.
 use Rattle.std.specs.Prelude.{ℕ, Bool, true, false, List, [], ◌∷◌, Option, find, codes}
 use Rattle.std.specs.Str.{bytes_eq}
-use Rattle.end_settings.specs.declared.key.Key.{Key}
-use Rattle.end_settings.specs.declared.key.Key.TheVariants.{AckTicks, Embed, MaxEnqs, MaxNaks, MaxResends, MaxSends, Node, PerSource, PollTicks, ReplyTicks, Room, Tns, Window}
+use Rattle.end_settings.specs.declared.key.EndKey.{EndKey}
+use Rattle.end_settings.specs.declared.key.EndKey.TheVariants.{AckTicks, Embed, MaxEnqs, MaxNaks, MaxResends, MaxSends, Node, PerSource, PollTicks, ReplyTicks, Room, Tns, Window}
 use Rattle.end_settings.specs.declared.row.Role.{Role}
 use Rattle.end_settings.specs.declared.row.Roles.{Roles}
 use Rattle.end_settings.specs.declared.row.Values.TheVariants.{Switch, Number}
@@ -33,7 +33,7 @@ station = record { duplex = false; master = false; station = true; routed_statio
 abbrev pub all : Roles
 all = record { duplex = true; master = true; station = true; routed_station = true }
 
-abbrev pub row_of : Key → Row
+abbrev pub row_of : EndKey → Row
 row_of AckTicks = record { name = codes "ack_ticks"; roles = no_station; values = Number 1 1000000; first = Value 10 }
 row_of Embed = record { name = codes "embed"; roles = duplex; values = Switch; first = Value 0 }
 row_of MaxEnqs = record { name = codes "max_enqs"; roles = duplex; values = Number 0 255; first = Value 3 }
@@ -49,17 +49,17 @@ row_of Tns = record { name = codes "tns"; roles = issuers; values = Number 0 655
 row_of Window = record { name = codes "window"; roles = issuers; values = Number 1 16; first = Value 1 }
 
 -- all keys, in the order of the names' bytes
-abbrev pub keys : List Key
+abbrev pub keys : List EndKey
 keys = AckTicks ∷ Embed ∷ MaxEnqs ∷ MaxNaks ∷ MaxResends ∷ MaxSends ∷ Node ∷ PerSource ∷ PollTicks ∷ ReplyTicks ∷ Room ∷ Tns ∷ Window ∷ []
 
 -- an end of this kind has the key
-abbrev pub has_key : Role → Key → Bool
+abbrev pub has_key : Role → EndKey → Bool
 has_key role key = is_of role (row_of key).roles
 
 -- the key of a name
-abbrev pub key_named : List ℕ → Option Key
+abbrev pub key_named : List ℕ → Option EndKey
 key_named name = find (λ key. bytes_eq name (row_of key).name) keys
 
 -- the value of a key at first, of an end that has this address at first
-abbrev pub first_of : ℕ → Key → ℕ
+abbrev pub first_of : ℕ → EndKey → ℕ
 first_of address key = first_in address (row_of key).first

@@ -6,7 +6,7 @@ use crate::row::{First, Roles, Values};
 
 /// A key of an end, in the order of the names' bytes.
 #[derive(Clone, Copy, Debug, PartialEq, Eq)]
-pub enum Key {
+pub enum EndKey {
     /// Ticks until a missing response is asked for, or counts as missing.
     AckTicks,
     /// Whether responses may stand inside messages.
@@ -39,20 +39,20 @@ pub enum Key {
 pub(crate) const COUNT: usize = 13;
 
 /// All keys, in the order of the names' bytes.
-pub const KEYS: [Key; COUNT] = [
-    Key::AckTicks,
-    Key::Embed,
-    Key::MaxEnqs,
-    Key::MaxNaks,
-    Key::MaxResends,
-    Key::MaxSends,
-    Key::Node,
-    Key::PerSource,
-    Key::PollTicks,
-    Key::ReplyTicks,
-    Key::Room,
-    Key::Tns,
-    Key::Window,
+pub const KEYS: [EndKey; COUNT] = [
+    EndKey::AckTicks,
+    EndKey::Embed,
+    EndKey::MaxEnqs,
+    EndKey::MaxNaks,
+    EndKey::MaxResends,
+    EndKey::MaxSends,
+    EndKey::Node,
+    EndKey::PerSource,
+    EndKey::PollTicks,
+    EndKey::ReplyTicks,
+    EndKey::Room,
+    EndKey::Tns,
+    EndKey::Window,
 ];
 
 /// The maximum number of ticks.
@@ -134,7 +134,7 @@ impl Row {
     }
 }
 
-impl Key {
+impl EndKey {
     /// Returns its row of the table.
     fn row(self) -> Row
         ensures name { result.name.now ≡ (row_of self).name }
@@ -143,24 +143,34 @@ impl Key {
         ensures first { result.first ≡ (row_of self).first }
     {
         match self {
-            Key::AckTicks => Row::new("ack_ticks", NO_STATION, number(1, TICKS), First::Value(10)),
-            Key::Embed => Row::new("embed", DUPLEX, Values::Switch, First::Value(0)),
-            Key::MaxEnqs => Row::new("max_enqs", DUPLEX, number(0, 255), First::Value(3)),
-            Key::MaxNaks => Row::new("max_naks", DUPLEX, number(0, 255), First::Value(3)),
-            Key::MaxResends => Row::new("max_resends", MASTER, number(0, 255), First::Value(3)),
-            Key::MaxSends => Row::new("max_sends", STATION, number(1, 255), First::Value(3)),
-            Key::Node => Row::new("node", NO_STATION, number(0, 255), First::Address),
-            Key::PerSource => Row::new("per_source", NO_STATION, number(1, OUT), First::Value(16)),
-            Key::PollTicks => Row::new("poll_ticks", MASTER, number(1, TICKS), First::Value(10)),
-            Key::ReplyTicks => Row::new(
+            EndKey::AckTicks => Row::new(
+                "ack_ticks",
+                NO_STATION,
+                number(1, TICKS),
+                First::Value(10),
+            ),
+            EndKey::Embed => Row::new("embed", DUPLEX, Values::Switch, First::Value(0)),
+            EndKey::MaxEnqs => Row::new("max_enqs", DUPLEX, number(0, 255), First::Value(3)),
+            EndKey::MaxNaks => Row::new("max_naks", DUPLEX, number(0, 255), First::Value(3)),
+            EndKey::MaxResends => Row::new("max_resends", MASTER, number(0, 255), First::Value(3)),
+            EndKey::MaxSends => Row::new("max_sends", STATION, number(1, 255), First::Value(3)),
+            EndKey::Node => Row::new("node", NO_STATION, number(0, 255), First::Address),
+            EndKey::PerSource => Row::new(
+                "per_source",
+                NO_STATION,
+                number(1, OUT),
+                First::Value(16),
+            ),
+            EndKey::PollTicks => Row::new("poll_ticks", MASTER, number(1, TICKS), First::Value(10)),
+            EndKey::ReplyTicks => Row::new(
                 "reply_ticks",
                 NO_STATION,
                 number(33, TICKS),
                 First::Value(100),
             ),
-            Key::Room => Row::new("room", ALL, number(2, 64), First::Value(2)),
-            Key::Tns => Row::new("tns", ISSUERS, number(0, 65_535), First::Value(1)),
-            Key::Window => Row::new("window", ISSUERS, number(1, OUT), First::Value(1)),
+            EndKey::Room => Row::new("room", ALL, number(2, 64), First::Value(2)),
+            EndKey::Tns => Row::new("tns", ISSUERS, number(0, 65_535), First::Value(1)),
+            EndKey::Window => Row::new("window", ISSUERS, number(1, OUT), First::Value(1)),
         }
     }
 
@@ -193,7 +203,7 @@ impl Key {
     }
 
     /// Returns the key of a name.
-    pub fn named(name: &[u8]) -> Option<Key>
+    pub fn named(name: &[u8]) -> Option<EndKey>
         ensures { result ≡ key_named name.now }
     {
         KEYS.iter()

@@ -2,7 +2,7 @@
 ghost use Rattle.std.specs.Prelude.{◌≡◌, Some, map, IsSorted};
 ghost use Rattle.std.specs.Cmp.Lexicographic.{slice_cmp};
 ghost use Rattle.std.specs.Ordering.{nat_cmp};
-ghost use Rattle.end_settings.specs.declared.key.Key.{Key as OneKey};
+ghost use Rattle.end_settings.specs.declared.key.EndKey.{EndKey as OneKey};
 ghost use Rattle.end_settings.specs.Table.{key_named, keys, row_of};
 
 /// Each key is found by its name, so no two have the same name, and all are in the order of the names' bytes.

@@ -7,7 +7,7 @@ mod laws;
 mod row;
 mod settings;
 
-pub use key::{KEYS, Key};
+pub use key::{EndKey, KEYS};
 pub use laws::each_key_has_its_name;
 pub use row::{First, Role, Roles, Values};
 pub use settings::{Setting, Settings};

@@ -4,13 +4,13 @@ ghost use Rattle.end_settings.specs.Rows.{Fits, IfFits};
 ghost use Rattle.end_settings.specs.Table.{row_of};
 ghost use Rattle.end_settings.specs.Given.{chosen as the_chosen, no_settings, value_of, with_setting};
 
-use crate::key::{COUNT, Key};
+use crate::key::{COUNT, EndKey};
 use std::marker::Model;
 
 /// A key, with the value that it is to have: None if what was given is none of its values.
 #[derive(Clone, Copy, Debug, PartialEq, Eq)]
 pub struct Setting {
-    pub key: Key,
+    pub key: EndKey,
     pub value: Option<u32>,
 }
 
@@ -43,7 +43,7 @@ impl Settings {
     }
 
     /// Returns the value that was given to a key.
-    pub fn value(&self, key: Key) -> Option<u32>
+    pub fn value(&self, key: EndKey) -> Option<u32>
         ensures value { result ≡ value_of self.now key }
         ensures fits { IfFits (row_of key).values result }
     {
@@ -59,7 +59,7 @@ impl Settings {
 
     /// Returns the value of a key: the one that was given, otherwise its default, for an end that has this address at
     /// first.
-    pub fn chosen(&self, key: Key, address: u8) -> u32
+    pub fn chosen(&self, key: EndKey, address: u8) -> u32
         ensures value { result ≡ the_chosen self.now address key }
         ensures fits { Fits (row_of key).values result }
     {

@@ -10,8 +10,8 @@ use Rattle.std.proofs.lemmas.List.Elements.{All-cons, All-head, All-map, All-nil
 use Rattle.std.proofs.lemmas.List.Sums.{sum_by-append}
 use Rattle.end_drafts.specs.declared.flaw.Flaw.{Flaw}
 use Rattle.end_drafts.specs.declared.flaw.Flaw.TheVariants as flaw
-use Rattle.end_settings.specs.declared.key.Key.{Key}
-use Rattle.end_settings.specs.declared.key.Key.TheVariants.{Node}
+use Rattle.end_settings.specs.declared.key.EndKey.{EndKey}
+use Rattle.end_settings.specs.declared.key.EndKey.TheVariants.{Node}
 use Rattle.end_settings.specs.declared.row.Role.TheVariants as role
 use Rattle.end_settings.specs.Given.{chosen, value_of}
 use Rattle.end_settings.specs.Table.{has_key, row_of}
@@ -246,7 +246,7 @@ apart_with_line : (d : HalfReader) (line : SetupStatement) → IsSoundLine line 
     → is_declared (numbers d) (node_of (with_line M d.master line) 0) ≡ false
 apart_with_line d (Set x) sound inside named routes old =
     value_of-with d.master.settings x Node (λ o. is_declared (numbers d) (unwrap_or o 0) ≡ false)
-    (λ same. rw (fitting-same (row_of x.key).values x.value sound) (unmet d x.value inside (subst (λ (k : Key). is_stations d k x.value ≡ false) same named) routes))
+    (λ same. rw (fitting-same (row_of x.key).values x.value sound) (unmet d x.value inside (subst (λ (k : EndKey). is_stations d k x.value ≡ false) same named) routes))
     old
 apart_with_line d (Compat None) sound inside named routes old = old
 apart_with_line d (Compat (Some None)) sound inside named routes old = old

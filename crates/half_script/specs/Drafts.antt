@@ -5,8 +5,8 @@ use Rattle.df1_check.specs.declared.Check.TheVariants.{Bcc}
 use Rattle.end_drafts.specs.declared.end_draft.EndDraft.{EndDraft}
 use Rattle.end_drafts.specs.declared.flaw.Flaw.{Flaw}
 use Rattle.end_drafts.specs.declared.flaw.Flaw.TheVariants as flaw
-use Rattle.end_settings.specs.declared.key.Key.{Key}
-use Rattle.end_settings.specs.declared.key.Key.TheVariants.{Node}
+use Rattle.end_settings.specs.declared.key.EndKey.{EndKey}
+use Rattle.end_settings.specs.declared.key.EndKey.TheVariants.{Node}
 use Rattle.end_settings.specs.declared.row.Role.{Role}
 use Rattle.end_settings.specs.declared.row.Role.TheVariants as role
 use Rattle.end_drafts.specs.declared.stage.Stage.{Stage}
@@ -132,7 +132,7 @@ abbrev pub exceeds_at : HalfReader → EndName → SetupStatement → Bool
 exceeds_at d end line = option_map_or (λ draft. exceeds draft line) (draft_at d end) false
 
 -- a master that carries messages would have this address, which is the number of a station
-abbrev pub is_stations : HalfReader → Key → Option ℕ → Bool
+abbrev pub is_stations : HalfReader → EndKey → Option ℕ → Bool
 is_stations d Node (Some node) = d.routes && is_declared (numbers d) node
 is_stations d key value = false
 

@@ -8,7 +8,7 @@ use crate::HalfReader;
 use crate::reader::NODE;
 use crate::stations::STATIONS;
 use end_drafts::{Flaw, Stage};
-use end_settings::{Key, Role};
+use end_settings::{EndKey, Role};
 use script_statement::{EndName, HalfEvent, SetupStatement, Statement, Way};
 
 impl HalfReader {
@@ -135,7 +135,7 @@ impl HalfReader {
     {
         match (end, line) {
             (EndName::Master, SetupStatement::Set(setting)) => match (setting.key, setting.value) {
-                (Key::Node, Some(node)) => self.routes && self.stations.has(node),
+                (EndKey::Node, Some(node)) => self.routes && self.stations.has(node),
                 _ => false,
             },
             _ => false,

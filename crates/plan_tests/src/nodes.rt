@@ -3,7 +3,7 @@
 use crate::equal::is;
 use df1_base::FileType;
 use df1_node::FileSpec;
-use end_settings::{Key, Setting, Settings};
+use end_settings::{EndKey, Setting, Settings};
 use outset::node_of;
 use script_parts::{EndPlan, WordOf};
 use script_statement::{Items, Who};
@@ -26,7 +26,7 @@ fn a_node_has_the_first_words_of_its_plan(rt: HostRuntime) -> Result<(), Fail> {
     })?;
     let mut settings = Settings::new();
     settings.set(Setting {
-        key: Key::Tns,
+        key: EndKey::Tns,
         value: Some(9),
     });
     let block = Items::new(rt.alloc());

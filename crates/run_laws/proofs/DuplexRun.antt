@@ -38,7 +38,7 @@ use Rattle.script_parts.specs.Plans.{first_plan}
 use Rattle.script_parts.specs.Playable.{AreEnds, IsPlanOf, IsPossible, IsPlayable, is_end, is_same_end}
 use Rattle.script_statement.specs.declared.who.Who.{Who}
 use Rattle.script_statement.specs.declared.who.Who.TheVariants.{A, B, M, S}
-use Rattle.end_settings.specs.declared.key.Key.TheVariants.{AckTicks, PerSource, ReplyTicks, Window}
+use Rattle.end_settings.specs.declared.key.EndKey.TheVariants.{AckTicks, PerSource, ReplyTicks, Window}
 use Rattle.run_laws.specs.Bounds.{message_ticks, command_ticks, AreToldIn, AtBothEnds}
 use Rattle.run_laws.specs.Drained.{drained_at, drained_over, drained_with, drained_after, drained_ticks}
 use Rattle.run_laws.proofs.NodeAccount.{known-at, add-times, reply-count}

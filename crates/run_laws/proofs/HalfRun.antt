@@ -13,7 +13,7 @@ use Rattle.each_once.specs.NodeHost.{node_host}
 use Rattle.each_once.specs.Tells.{executed_at, executed_in}
 use Rattle.each_once.proofs.SentAndExecuted.{ExecuteNothing, tick-execute, sent-execute, step-other, step-own, command_at_act}
 use Rattle.each_once.proofs.IssuedCommands.{SameCommands, same-itself, same-both, same-accept, same-told, same-tick, same-next}
-use Rattle.end_settings.specs.declared.key.Key.TheVariants.{AckTicks, PerSource, PollTicks, ReplyTicks, Window}
+use Rattle.end_settings.specs.declared.key.EndKey.TheVariants.{AckTicks, PerSource, PollTicks, ReplyTicks, Window}
 use Rattle.half_frame.specs.declared.heard.MasterHeard.{MasterHeard}
 use Rattle.half_frame.specs.declared.heard.MasterHeard.TheVariants as heard
 use Rattle.half_line.specs.Acts.{LineStationState, HalfState, LinkState, LinkDeed, Issue, Give, Tick, StationGives, OnLane, Deliver, Lose, Alter, Foreign, moved, lane_of, arriving, master_after, master_lines, after_arrival, arrival_lines, after_link_deed, link_lines, step_of, body_heard}

@@ -1,15 +1,15 @@
 -- The plan of an end, by the values of its keys.
 use Rattle.std.specs.Prelude.{ℕ, List, [], Option, None, ◌==◌, if◌then◌else◌}
 use Rattle.data_files.specs.declared.file_spec.FileSpec.{FileSpec}
-use Rattle.end_settings.specs.declared.key.Key.{Key}
-use Rattle.end_settings.specs.declared.key.Key.TheVariants.{AckTicks, Embed, MaxEnqs, MaxNaks, MaxResends, MaxSends, Node, PerSource, PollTicks, ReplyTicks, Room, Tns, Window}
+use Rattle.end_settings.specs.declared.key.EndKey.{EndKey}
+use Rattle.end_settings.specs.declared.key.EndKey.TheVariants.{AckTicks, Embed, MaxEnqs, MaxNaks, MaxResends, MaxSends, Node, PerSource, PollTicks, ReplyTicks, Room, Tns, Window}
 use Rattle.end_settings.specs.Table.{first_of}
 use Rattle.script_statement.specs.declared.who.Who.{Who}
 use Rattle.script_parts.specs.declared.script.EndPlan.{EndPlan}
 use Rattle.script_parts.specs.declared.script.WordOf.{WordOf}
 
 -- the plan of an end whose keys have these values
-abbrev pub plan_with : Who → (Key → ℕ) → Option ℕ → List ℕ → List FileSpec → List WordOf → EndPlan
+abbrev pub plan_with : Who → (EndKey → ℕ) → Option ℕ → List ℕ → List FileSpec → List WordOf → EndPlan
 plan_with who value compat block files words = record {
   who = who;
   embed = value Embed == 1;
@@ -32,7 +32,7 @@ plan_with who value compat block files words = record {
 }
 
 -- the value of a key in a plan
-abbrev pub setting_in : EndPlan → Key → ℕ
+abbrev pub setting_in : EndPlan → EndKey → ℕ
 setting_in plan Embed = if plan.embed then 1 else 0
 setting_in plan Node = plan.node
 setting_in plan Tns = plan.tns

@@ -1,7 +1,7 @@
 -- Scripts whose events can happen: what a script meets that was read.
 use Rattle.std.specs.Prelude.{◌≡◌, ℕ, ◌<◌, ◌≤◌, Bool, true, false, List, [], ◌∷◌, length, count_by, sum_by, All, None, IsTrue}
 use Rattle.data_files.specs.Tables.{faults, fits_compat, has_word}
-use Rattle.end_settings.specs.declared.key.Key.{Key}
+use Rattle.end_settings.specs.declared.key.EndKey.{EndKey}
 use Rattle.end_settings.specs.Rows.{Fits}
 use Rattle.end_settings.specs.Table.{row_of}
 use Rattle.script_statement.specs.declared.who.Who.{Who}
@@ -24,7 +24,7 @@ pub record IsPlanOf (who : Who) (plan : EndPlan) : Type 0 where
   pub end : plan.who ≡ who
   pub files : faults plan.files ≡ None
   pub words : All (λ w. IsTrue (has_word plan.files w.file w.index)) plan.words
-  pub settings : (key : Key) → Fits (row_of key).values (setting_in plan key)
+  pub settings : (key : EndKey) → Fits (row_of key).values (setting_in plan key)
   pub compat : IsTrue (fits_compat plan.files plan.compat)
   pub block : length plan.block ≤ 244
 

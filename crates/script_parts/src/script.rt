@@ -4,7 +4,7 @@ ghost use Rattle.end_settings.specs.Given.{chosen};
 
 use data_files::FileSpec;
 use df1_check::Check;
-use end_settings::{Key, Settings};
+use end_settings::{EndKey, Settings};
 use script_statement::{Bytes, Items, Who};
 
 /// The data files of an end, in the order of their declarations.
@@ -134,19 +134,19 @@ impl EndPlan {
     {
         EndPlan {
             who,
-            embed: settings.chosen(Key::Embed, address) == 1,
-            node: settings.chosen(Key::Node, address) as u8,
-            tns: settings.chosen(Key::Tns, address) as u16,
-            ack_ticks: settings.chosen(Key::AckTicks, address),
-            max_naks: settings.chosen(Key::MaxNaks, address),
-            max_enqs: settings.chosen(Key::MaxEnqs, address),
-            reply_ticks: settings.chosen(Key::ReplyTicks, address),
-            max_resends: settings.chosen(Key::MaxResends, address),
-            poll_ticks: settings.chosen(Key::PollTicks, address),
-            max_sends: settings.chosen(Key::MaxSends, address),
-            room: settings.chosen(Key::Room, address) as usize,
-            window: settings.chosen(Key::Window, address) as usize,
-            per_source: settings.chosen(Key::PerSource, address) as usize,
+            embed: settings.chosen(EndKey::Embed, address) == 1,
+            node: settings.chosen(EndKey::Node, address) as u8,
+            tns: settings.chosen(EndKey::Tns, address) as u16,
+            ack_ticks: settings.chosen(EndKey::AckTicks, address),
+            max_naks: settings.chosen(EndKey::MaxNaks, address),
+            max_enqs: settings.chosen(EndKey::MaxEnqs, address),
+            reply_ticks: settings.chosen(EndKey::ReplyTicks, address),
+            max_resends: settings.chosen(EndKey::MaxResends, address),
+            poll_ticks: settings.chosen(EndKey::PollTicks, address),
+            max_sends: settings.chosen(EndKey::MaxSends, address),
+            room: settings.chosen(EndKey::Room, address) as usize,
+            window: settings.chosen(EndKey::Window, address) as usize,
+            per_source: settings.chosen(EndKey::PerSource, address) as usize,
             compat,
             block,
             files,

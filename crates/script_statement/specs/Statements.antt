@@ -7,7 +7,7 @@ use Rattle.df1_base.specs.declared.file_type.FileType.TheVariants.{Status, Bit, 
 use Rattle.df1_check.specs.declared.Check.{Check}
 use Rattle.df1_check.specs.declared.Check.TheVariants.{Bcc, Crc}
 use Rattle.data_files.specs.declared.file_spec.FileSpec.{FileSpec}
-use Rattle.end_settings.specs.declared.key.Key.{Key}
+use Rattle.end_settings.specs.declared.key.EndKey.{EndKey}
 use Rattle.end_settings.specs.declared.row.Values.{Values}
 use Rattle.end_settings.specs.declared.row.Values.TheVariants.{Switch, Number}
 use Rattle.end_settings.specs.declared.settings.Setting.{Setting}
@@ -65,7 +65,7 @@ number_as Switch word = switch_of word
 number_as (Number least most) word = number_of word
 
 -- a key, with the value that the word is
-abbrev pub setting_with : List ℕ → Key → Setting
+abbrev pub setting_with : List ℕ → EndKey → Setting
 setting_with word key = record { key = key; value = fitting (row_of key).values (number_as (row_of key).values word) }
 
 -- the key of a name and its value: None for another name, and None inside for another value

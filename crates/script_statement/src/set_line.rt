@@ -10,7 +10,7 @@ use crate::statement::{EndName, Statement, end_of, file_number};
 use crate::words::{hex_of, is, is_within, number_of};
 use df1_base::{MAX_DATA, NoMemory};
 use df1_check::Check;
-use end_settings::{Key, Setting, Values};
+use end_settings::{EndKey, Setting, Values};
 use std::alloc::Global;
 
 /// Returns what `set` with a key and a value says, if the key is one.
@@ -148,7 +148,7 @@ fn set_statement(end: Option<EndName>, setting: Option<Setting>) -> Option<State
 fn setting_of(name: &[u8], value: &[u8]) -> Option<Setting>
     ensures { result ≡ the_setting name.now value.now }
 {
-    let key = Key::named(name)?;
+    let key = EndKey::named(name)?;
     let values = key.values();
     Some(Setting {
         key,

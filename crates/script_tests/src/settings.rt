@@ -1,5 +1,5 @@
 //! Tests of the table of keys, and of settings.
-use end_settings::{First, KEYS, Key, Role, Setting, Settings, Values};
+use end_settings::{EndKey, First, KEYS, Role, Setting, Settings, Values};
 
 /// The kinds of end that have each key: a full-duplex end, a master, a station, a station whose master routes messages.
 const ROLES: [(&str, [bool; 4]); 13] = [
@@ -21,7 +21,7 @@ const ROLES: [(&str, [bool; 4]); 13] = [
 #[test]
 fn each_kind_of_end_has_its_keys(rt: HostRuntime) {
     for (name, has) in ROLES {
-        let Some(key) = Key::named(name.as_bytes()) else {
+        let Some(key) = EndKey::named(name.as_bytes()) else {
             panic!(&rt; "no key");
         };
         assert!(rt; key.name() == name, "{name}");
@@ -33,24 +33,24 @@ fn each_kind_of_end_has_its_keys(rt: HostRuntime) {
         ];
         assert!(rt; found == has, "{name}");
     }
-    assert!(rt; KEYS.len() == ROLES.len() && Key::named(b"ack-ticks") == None);
+    assert!(rt; KEYS.len() == ROLES.len() && EndKey::named(b"ack-ticks") == None);
 }
 
 /// The minimum, maximum and default value of each key, for an end whose address is 7.
-const VALUES: [(Key, u32, u32, u32); 13] = [
-    (Key::AckTicks, 1, 1_000_000, 10),
-    (Key::Embed, 0, 1, 0),
-    (Key::MaxEnqs, 0, 255, 3),
-    (Key::MaxNaks, 0, 255, 3),
-    (Key::MaxResends, 0, 255, 3),
-    (Key::MaxSends, 1, 255, 3),
-    (Key::Node, 0, 255, 7),
-    (Key::PerSource, 1, 16, 16),
-    (Key::PollTicks, 1, 1_000_000, 10),
-    (Key::ReplyTicks, 33, 1_000_000, 100),
-    (Key::Room, 2, 64, 2),
-    (Key::Tns, 0, 65_535, 1),
-    (Key::Window, 1, 16, 1),
+const VALUES: [(EndKey, u32, u32, u32); 13] = [
+    (EndKey::AckTicks, 1, 1_000_000, 10),
+    (EndKey::Embed, 0, 1, 0),
+    (EndKey::MaxEnqs, 0, 255, 3),
+    (EndKey::MaxNaks, 0, 255, 3),
+    (EndKey::MaxResends, 0, 255, 3),
+    (EndKey::MaxSends, 1, 255, 3),
+    (EndKey::Node, 0, 255, 7),
+    (EndKey::PerSource, 1, 16, 16),
+    (EndKey::PollTicks, 1, 1_000_000, 10),
+    (EndKey::ReplyTicks, 33, 1_000_000, 100),
+    (EndKey::Room, 2, 64, 2),
+    (EndKey::Tns, 0, 65_535, 1),
+    (EndKey::Window, 1, 16, 1),
 ];
 
 #[test]
@@ -79,5 +79,5 @@ fn each_key_keeps_its_values_alone(rt: HostRuntime) {
             );
         }
     }
-    assert!(rt; Key::Embed.values() == Values::Switch && Key::Node.first() == First::Address);
+    assert!(rt; EndKey::Embed.values() == Values::Switch && EndKey::Node.first() == First::Address);
 }

@@ -2,7 +2,7 @@
 
 use crate::equal::is;
 use df1_base::FileType;
-use end_settings::{Key, Setting};
+use end_settings::{EndKey, Setting};
 use script_statement::{
     EndLetter, EndName, HalfEvent, SetupStatement, Statement, Verb, Way, first_words, statement_of,
 };
@@ -314,97 +314,107 @@ fn a_station_has_a_number_to_254_and_not_16(rt: HostRuntime) {
 }
 
 /// Lines that set something, with the end, the key and the value.
-const SETTINGS: [(&str, EndName, Key, Option<u32>); 20] = [
+const SETTINGS: [(&str, EndName, EndKey, Option<u32>); 20] = [
     (
         "set a.embed off",
         EndName::Known(EndLetter::A),
-        Key::Embed,
+        EndKey::Embed,
         Some(0),
     ),
-    ("set m.node 255", EndName::Master, Key::Node, Some(255)),
-    ("set m.node 256", EndName::Master, Key::Node, None),
+    ("set m.node 255", EndName::Master, EndKey::Node, Some(255)),
+    ("set m.node 256", EndName::Master, EndKey::Node, None),
     (
         "set b.tns 65535",
         EndName::Known(EndLetter::B),
-        Key::Tns,
+        EndKey::Tns,
         Some(65_535),
     ),
     (
         "set m.ack_ticks 1000000",
         EndName::Master,
-        Key::AckTicks,
+        EndKey::AckTicks,
         Some(1_000_000),
     ),
     (
         "set a.max_naks 0",
         EndName::Known(EndLetter::A),
-        Key::MaxNaks,
+        EndKey::MaxNaks,
         Some(0),
     ),
     (
         "set a.max_enqs 255",
         EndName::Known(EndLetter::A),
-        Key::MaxEnqs,
+        EndKey::MaxEnqs,
         Some(255),
     ),
     (
         "set m.reply_ticks 33",
         EndName::Master,
-        Key::ReplyTicks,
+        EndKey::ReplyTicks,
         Some(33),
     ),
     (
         "set m.max_resends 255",
         EndName::Master,
-        Key::MaxResends,
+        EndKey::MaxResends,
         Some(255),
     ),
     (
         "set 3.max_resends 256",
         EndName::Station(3),
-        Key::MaxResends,
+        EndKey::MaxResends,
         None,
     ),
     (
         "set m.poll_ticks 1",
         EndName::Master,
-        Key::PollTicks,
+        EndKey::PollTicks,
         Some(1),
     ),
-    ("set m.poll_ticks 0", EndName::Master, Key::PollTicks, None),
+    (
+        "set m.poll_ticks 0",
+        EndName::Master,
+        EndKey::PollTicks,
+        None,
+    ),
     (
         "set 012.max_sends 255",
         EndName::Station(12),
-        Key::MaxSends,
+        EndKey::MaxSends,
         Some(255),
     ),
     (
         "set 12.max_sends 0",
         EndName::Station(12),
-        Key::MaxSends,
+        EndKey::MaxSends,
         None,
     ),
     (
         "set 999999999.room 2",
         EndName::Station(999_999_999),
-        Key::Room,
+        EndKey::Room,
         Some(2),
     ),
-    ("set m.room 65", EndName::Master, Key::Room, None),
-    ("set m.window 16", EndName::Master, Key::Window, Some(16)),
+    ("set m.room 65", EndName::Master, EndKey::Room, None),
+    ("set m.window 16", EndName::Master, EndKey::Window, Some(16)),
     (
         "set a.window 17",
         EndName::Known(EndLetter::A),
-        Key::Window,
+        EndKey::Window,
         None,
     ),
     (
         "set b.per_source 1",
         EndName::Known(EndLetter::B),
-        Key::PerSource,
+        EndKey::PerSource,
         Some(1),
     ),
-    ("set m.per_source 0", EndName::Master, Key::PerSource, None),
+    (
+        "set m.per_source 0",
+        EndName::Master,
+        EndKey::PerSource,
+        None,
+    ),
 ];
 
 #[test]

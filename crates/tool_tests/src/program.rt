@@ -6,7 +6,7 @@ use df1_plan::{PlanFault, PlanKey};
 use df1_service::ServiceFault;
 use df1_shelf::{FetchFault, ShelfMem};
 use df1_tool::run;
-use end_settings::Key;
+use end_settings::EndKey;
 use line_replay::StreamFault;
 use line_script::{Cause, LineFault, ScriptFault};
 use std::alloc::Global;
@@ -419,7 +419,7 @@ fn faults_of_a_service_have_texts(rt: HostRuntime) -> Result<(), Fail> {
     for (cause, text) in [
         (PlanFault::Text, "text"),
         (PlanFault::UnknownKey, "unknown key"),
-        (PlanFault::Key(PlanKey::Setting(Key::Room)), "key room"),
+        (PlanFault::Key(PlanKey::Setting(EndKey::Room)), "key room"),
         (PlanFault::File(2), "file 2"),
         (PlanFault::Issue(3), "issue 3"),
         (PlanFault::NoMemory, "no memory"),

@@ -5,8 +5,8 @@ use Rattle.std.proofs.lemmas.List.Elements.{All-nil}
 use Rattle.df1_check.specs.Checks.{with_byte}
 use Rattle.df1_frame.specs.Spelling.{check_bytes}
 use Rattle.df1_node.specs.Initiator.{Undelivered}
-use Rattle.end_settings.specs.declared.key.Key.{Key}
-use Rattle.end_settings.specs.declared.key.Key.TheVariants.{AckTicks, Embed, MaxEnqs, MaxNaks, MaxResends, MaxSends, Node, PerSource, PollTicks, ReplyTicks, Room, Tns, Window}
+use Rattle.end_settings.specs.declared.key.EndKey.{EndKey}
+use Rattle.end_settings.specs.declared.key.EndKey.TheVariants.{AckTicks, Embed, MaxEnqs, MaxNaks, MaxResends, MaxSends, Node, PerSource, PollTicks, ReplyTicks, Room, Tns, Window}
 use Rattle.end_settings.specs.Rows.{Fits}
 use Rattle.end_settings.specs.Table.{row_of}
 use Rattle.script_statement.specs.declared.who.Who.TheVariants.{A, B}
@@ -24,7 +24,7 @@ use Rattle.duplex_line.specs.Run.{start, who_of, deeds_of, seen_from, after_even
 use Rattle.duplex_line.proofs.Complete.TickStep.{both}
 use Rattle.duplex_line.proofs.Complete.Witness.{all-possible, is_gentle, gentle-is, prompt_after, prompt-after}
 
-noise-settings : (key : Key) → Fits (row_of key).values (setting_in (record (first_plan A 0) { ack_ticks = 1; max_enqs = 0 }) key)
+noise-settings : (key : EndKey) → Fits (row_of key).values (setting_in (record (first_plan A 0) { ack_ticks = 1; max_enqs = 0 }) key)
 noise-settings AckTicks = (omega arith, omega arith)
 noise-settings MaxEnqs = (omega arith, omega arith)
 noise-settings Embed = Fits-first_plan A 0 (omega arith) Embed

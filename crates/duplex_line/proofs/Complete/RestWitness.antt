@@ -6,8 +6,8 @@ use Rattle.df1_frame.specs.Spelling.{check_bytes}
 use Rattle.df1_node.specs.Initiator.{Undelivered}
 use Rattle.logical_address.specs.Reading.{three_front}
 use Rattle.slc_commands.specs.Order.{fields, spelled_order}
-use Rattle.end_settings.specs.declared.key.Key.{Key}
-use Rattle.end_settings.specs.declared.key.Key.TheVariants.{AckTicks, Embed, MaxEnqs, MaxNaks, MaxResends, MaxSends, Node, PerSource, PollTicks, ReplyTicks, Room, Tns, Window}
+use Rattle.end_settings.specs.declared.key.EndKey.{EndKey}
+use Rattle.end_settings.specs.declared.key.EndKey.TheVariants.{AckTicks, Embed, MaxEnqs, MaxNaks, MaxResends, MaxSends, Node, PerSource, PollTicks, ReplyTicks, Room, Tns, Window}
 use Rattle.end_settings.specs.Rows.{Fits}
 use Rattle.end_settings.specs.Table.{row_of}
 use Rattle.script_statement.specs.declared.who.Who.TheVariants.{A, B}
@@ -23,7 +23,7 @@ use Rattle.duplex_line.specs.Run.{start, state_after, lines_after}
 use Rattle.duplex_line.proofs.Complete.DamagedWitness.{body_hit, is_mild, mild_after, few_after, mild-after, few-after}
 use Rattle.duplex_line.proofs.Complete.Witness.{all-possible, is_gentle, prompt_after, prompt-after}
 
-so-many-naks : (most : ℕ) → most ≤ 255 → (key : Key) → Fits (row_of key).values (setting_in (record (first_plan A 0) { max_naks = most }) key)
+so-many-naks : (most : ℕ) → most ≤ 255 → (key : EndKey) → Fits (row_of key).values (setting_in (record (first_plan A 0) { max_naks = most }) key)
 so-many-naks most few MaxNaks = (omega arith, omega (arith, few))
 so-many-naks most few Window = Fits-first_plan A 0 (omega arith) Window
 so-many-naks most few PerSource = Fits-first_plan A 0 (omega arith) PerSource

@@ -18,7 +18,7 @@ use Rattle.duplex_sender.specs.Sender.{phase_of}
 use Rattle.embedded_response.specs.Giving.{chosen}
 use Rattle.duplex_end.specs.End.{EndState, has_message, holds_message}
 use Rattle.duplex_end.proofs.Reaching.{reached-carries}
-use Rattle.end_settings.specs.declared.key.Key.TheVariants.{PerSource, Window}
+use Rattle.end_settings.specs.declared.key.EndKey.TheVariants.{PerSource, Window}
 use Rattle.script_statement.specs.declared.who.Who.{Who}
 use Rattle.script_statement.specs.declared.who.Who.TheVariants.{A, B}
 use Rattle.script_parts.specs.declared.script.EndPlan.{EndPlan}

@@ -7,8 +7,8 @@ use Rattle.df1_check.specs.Checks.{with_byte}
 use Rattle.df1_frame.specs.Spelling.{check_bytes}
 use Rattle.logical_address.specs.Reading.{three_front}
 use Rattle.slc_commands.specs.Order.{fields, spelled_order}
-use Rattle.end_settings.specs.declared.key.Key.{Key}
-use Rattle.end_settings.specs.declared.key.Key.TheVariants.{AckTicks, Embed, MaxEnqs, MaxNaks, MaxResends, MaxSends, Node, PerSource, PollTicks, ReplyTicks, Room, Tns, Window}
+use Rattle.end_settings.specs.declared.key.EndKey.{EndKey}
+use Rattle.end_settings.specs.declared.key.EndKey.TheVariants.{AckTicks, Embed, MaxEnqs, MaxNaks, MaxResends, MaxSends, Node, PerSource, PollTicks, ReplyTicks, Room, Tns, Window}
 use Rattle.end_settings.specs.Rows.{Fits}
 use Rattle.end_settings.specs.Table.{row_of}
 use Rattle.script_statement.specs.declared.who.Who.TheVariants.{A, B}
@@ -121,7 +121,7 @@ one_write-quiet = refl
 
 -- ---- three commands of two sources
 
-two-settings : (key : Key) → Fits (row_of key).values (setting_in (record (first_plan A 0) { window = 2; per_source = 1 }) key)
+two-settings : (key : EndKey) → Fits (row_of key).values (setting_in (record (first_plan A 0) { window = 2; per_source = 1 }) key)
 two-settings Window = (omega arith, omega arith)
 two-settings PerSource = (omega arith, omega arith)
 two-settings AckTicks = Fits-first_plan A 0 (omega arith) AckTicks

@@ -9,8 +9,8 @@ use Rattle.df1_node.specs.Initiator.{Undelivered}
 use Rattle.half_master.specs.Master as master
 use Rattle.logical_address.specs.Reading.{three_front}
 use Rattle.slc_commands.specs.Order.{fields, spelled_order}
-use Rattle.end_settings.specs.declared.key.Key.{Key}
-use Rattle.end_settings.specs.declared.key.Key.TheVariants.{AckTicks, Embed, MaxEnqs, MaxNaks, MaxResends, MaxSends, Node, PerSource, PollTicks, ReplyTicks, Room, Tns, Window}
+use Rattle.end_settings.specs.declared.key.EndKey.{EndKey}
+use Rattle.end_settings.specs.declared.key.EndKey.TheVariants.{AckTicks, Embed, MaxEnqs, MaxNaks, MaxResends, MaxSends, Node, PerSource, PollTicks, ReplyTicks, Room, Tns, Window}
 use Rattle.end_settings.specs.Rows.{Fits}
 use Rattle.end_settings.specs.Table.{row_of}
 use Rattle.script_statement.specs.declared.who.Who.TheVariants.{M, S}
@@ -129,7 +129,7 @@ noise-answers = refl
 
 -- ---- an answer that leaves the master inside a pair
 
-own-settings : (key : Key) → Fits (row_of key).values (setting_in (record (first_plan M 0) { tns = 186; window = 2; ack_ticks = 2; poll_ticks = 2; max_resends = 0 }) key)
+own-settings : (key : EndKey) → Fits (row_of key).values (setting_in (record (first_plan M 0) { tns = 186; window = 2; ack_ticks = 2; poll_ticks = 2; max_resends = 0 }) key)
 own-settings AckTicks = (omega arith, omega arith)
 own-settings MaxResends = (omega arith, omega arith)
 own-settings PollTicks = (omega arith, omega arith)

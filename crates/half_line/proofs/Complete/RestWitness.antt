@@ -7,8 +7,8 @@ use Rattle.df1_frame.specs.Spelling.{check_bytes}
 use Rattle.df1_node.specs.Initiator.{Undelivered}
 use Rattle.logical_address.specs.Reading.{three_front}
 use Rattle.slc_commands.specs.Order.{fields, spelled_order}
-use Rattle.end_settings.specs.declared.key.Key.{Key}
-use Rattle.end_settings.specs.declared.key.Key.TheVariants.{AckTicks, Embed, MaxEnqs, MaxNaks, MaxResends, MaxSends, Node, PerSource, PollTicks, ReplyTicks, Room, Tns, Window}
+use Rattle.end_settings.specs.declared.key.EndKey.{EndKey}
+use Rattle.end_settings.specs.declared.key.EndKey.TheVariants.{AckTicks, Embed, MaxEnqs, MaxNaks, MaxResends, MaxSends, Node, PerSource, PollTicks, ReplyTicks, Room, Tns, Window}
 use Rattle.end_settings.specs.Rows.{Fits}
 use Rattle.end_settings.specs.Table.{row_of}
 use Rattle.script_statement.specs.declared.who.Who.TheVariants.{M, S}
@@ -26,7 +26,7 @@ use Rattle.half_line.proofs.Complete.Witness.{all, is_gentle_on, prompt_after, p
 
 -- ---- a write that loses a byte can be played
 
-pub quick-settings : (key : Key) → Fits (row_of key).values (setting_in (record (first_plan M 0) { ack_ticks = 1; max_resends = 0 }) key)
+pub quick-settings : (key : EndKey) → Fits (row_of key).values (setting_in (record (first_plan M 0) { ack_ticks = 1; max_resends = 0 }) key)
 quick-settings AckTicks = (omega arith, omega arith)
 quick-settings MaxResends = (omega arith, omega arith)
 quick-settings Embed = Fits-first_plan M 0 (omega arith) Embed
@@ -100,7 +100,7 @@ rested-answered = refl
 
 -- ---- a write whose reply is lost can be played
 
-wide-settings : (key : Key) → Fits (row_of key).values (setting_in (record (first_plan M 0) { poll_ticks = 1; window = 2 }) key)
+wide-settings : (key : EndKey) → Fits (row_of key).values (setting_in (record (first_plan M 0) { poll_ticks = 1; window = 2 }) key)
 wide-settings PollTicks = (omega arith, omega arith)
 wide-settings Window = (omega arith, omega arith)
 wide-settings AckTicks = Fits-first_plan M 0 (omega arith) AckTicks
@@ -115,7 +115,7 @@ wide-settings ReplyTicks = Fits-first_plan M 0 (omega arith) ReplyTicks
 wide-settings Room = Fits-first_plan M 0 (omega arith) Room
 wide-settings Tns = Fits-first_plan M 0 (omega arith) Tns
 
-once-settings : (key : Key) → Fits (row_of key).values (setting_in (record (first_plan (S 3) 3) { max_sends = 1 }) key)
+once-settings : (key : EndKey) → Fits (row_of key).values (setting_in (record (first_plan (S 3) 3) { max_sends = 1 }) key)
 once-settings MaxSends = (omega arith, omega arith)
 once-settings AckTicks = Fits-first_plan (S 3) 3 (omega arith) AckTicks
 once-settings Embed = Fits-first_plan (S 3) 3 (omega arith) Embed

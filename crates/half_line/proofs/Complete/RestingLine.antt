@@ -6,7 +6,7 @@ use Rattle.std.proofs.lemmas.List.{length-map}
 use Rattle.std.proofs.lemmas.List.Elements.{All-head, All-tail}
 use Rattle.std.proofs.lemmas.Option.{get_or_from_slice_get, slice_get_within}
 use Rattle.df1_base.specs.Host.{IsBody}
-use Rattle.end_settings.specs.declared.key.Key.TheVariants.{PerSource, Window}
+use Rattle.end_settings.specs.declared.key.EndKey.TheVariants.{PerSource, Window}
 use Rattle.half_frame.specs.SlaveStanding as call
 use Rattle.half_frame.specs.MasterStanding as answer
 use Rattle.half_mouth.specs.Giving.{is_done}

@@ -7,7 +7,7 @@ use Rattle.std.proofs.lemmas.Bool.{eq-eqb}
 use Rattle.std.proofs.lemmas.List.{length-map}
 use Rattle.std.proofs.lemmas.Option.{slice_get-get_or, get_or_from_slice_get}
 use Rattle.df1_check.specs.declared.Check.{Check}
-use Rattle.end_settings.specs.declared.key.Key.TheVariants.{ReplyTicks}
+use Rattle.end_settings.specs.declared.key.EndKey.TheVariants.{ReplyTicks}
 use Rattle.df1_node.specs.Answer.{StationState}
 use Rattle.df1_node.specs.Initiator.{Issued, Waiting, next_command}
 use Rattle.df1_node.specs.Node.{NodeState, next_body}

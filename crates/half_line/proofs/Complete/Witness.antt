@@ -11,8 +11,8 @@ use Rattle.logical_address.specs.Reading.{three_front}
 use Rattle.slc_commands.specs.Order.{fields, spelled_order}
 use Rattle.script_statement.specs.declared.who.Who.TheVariants.{M, S}
 use Rattle.lane_cells.specs.Cells.{LaneCell}
-use Rattle.end_settings.specs.declared.key.Key.{Key}
-use Rattle.end_settings.specs.declared.key.Key.TheVariants.{AckTicks, Embed, MaxEnqs, MaxNaks, MaxResends, MaxSends, Node, PerSource, PollTicks, ReplyTicks, Room, Tns, Window}
+use Rattle.end_settings.specs.declared.key.EndKey.{EndKey}
+use Rattle.end_settings.specs.declared.key.EndKey.TheVariants.{AckTicks, Embed, MaxEnqs, MaxNaks, MaxResends, MaxSends, Node, PerSource, PollTicks, ReplyTicks, Room, Tns, Window}
 use Rattle.end_settings.specs.Rows.{Fits}
 use Rattle.end_settings.specs.Table.{row_of}
 use Rattle.script_parts.specs.Plans.{first_plan, setting_in}
@@ -170,7 +170,7 @@ polled_write-complete = is-complete polled_write polled_write-playable polled_wr
 
 -- ---- two commands out at two stations
 
-two-settings : (key : Key) → Fits (row_of key).values (setting_in (record (first_plan M 0) { window = 2 }) key)
+two-settings : (key : EndKey) → Fits (row_of key).values (setting_in (record (first_plan M 0) { window = 2 }) key)
 two-settings Window = (omega arith, omega arith)
 two-settings AckTicks = Fits-first_plan M 0 (omega arith) AckTicks
 two-settings Embed = Fits-first_plan M 0 (omega arith) Embed

@@ -6,7 +6,7 @@ use Rattle.std.specs.Option.{option_map}
 use Rattle.std.proofs.lemmas.List.Elements.{All-nil}
 use Rattle.std.proofs.lemmas.Option.{slice_get-map, slice_get-get_or, get_or_from_slice_get, slice_get_within}
 use Rattle.df1_check.specs.declared.Check.{Check}
-use Rattle.end_settings.specs.declared.key.Key.TheVariants.{AckTicks, PollTicks}
+use Rattle.end_settings.specs.declared.key.EndKey.TheVariants.{AckTicks, PollTicks}
 use Rattle.pccc_envelope.specs.Envelope.{is_reply, tns_of}
 use Rattle.df1_node.specs.Answer.{StationState}
 use Rattle.df1_node.specs.Node.{NodeState, holds_bodies}

@@ -1,5 +1,5 @@
 use Rattle.std.proofs.Common.{arith}
-use Rattle.end_settings.specs.declared.key.Key.TheVariants.{AckTicks}
+use Rattle.end_settings.specs.declared.key.EndKey.TheVariants.{AckTicks}
 use Rattle.df1_service.proofs.service.end_of.Goals as goal
 
 pub new-requires : goal.new-requires

@@ -1,4 +1,4 @@
-use Rattle.end_settings.specs.declared.key.Key.TheVariants.{MaxSends}
+use Rattle.end_settings.specs.declared.key.EndKey.TheVariants.{MaxSends}
 use Rattle.half_line.proofs.line_station.side_of.Goals as goal
 
 pub new-slave-requires-clause-sends : goal.new-slave-requires-clause-sends

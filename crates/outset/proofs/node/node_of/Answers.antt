@@ -1,5 +1,5 @@
 use Rattle.std.proofs.Common.{arith}
-use Rattle.end_settings.specs.declared.key.Key.TheVariants.{PerSource, ReplyTicks, Room, Window}
+use Rattle.end_settings.specs.declared.key.EndKey.TheVariants.{PerSource, ReplyTicks, Room, Window}
 use Rattle.outset.proofs.node.node_of.Goals as goal
 
 pub new-requires-clause-room : goal.new-requires-clause-room

@@ -1,6 +1,6 @@
 -- The first state of a script.
 use Rattle.std.proofs.Common.{◌∙◌, subst, sym}
-use Rattle.end_settings.specs.declared.key.Key.TheVariants.{AckTicks, PollTicks}
+use Rattle.end_settings.specs.declared.key.EndKey.TheVariants.{AckTicks, PollTicks}
 use Rattle.half_master.specs.Stations.{AreStations}
 use Rattle.half_line.proofs.Steps.FirstState.{rest-is, half-master, half-stations, half-numbers, half-listed, begins}
 use Rattle.half_line.proofs.world.HalfWorld.over.Goals as goal

@@ -5,7 +5,7 @@ use Rattle.data_files.specs.declared.file_spec.FileSpec.{FileSpec}
 use Rattle.data_files.specs.Directory.{tables_of}
 use Rattle.data_files.specs.Tables.{total_words}
 use Rattle.data_files.proofs.Made.{found-more, tables-fresh, total-more, total-within}
-use Rattle.data_files.proofs.tables.Tables.new.Goals as goal
+use Rattle.data_files.proofs.tables.Tables.zeroed.Goals as goal
 
 nothing : FileSpec
 nothing = record { number = 0; kind = Status; count = 0 }
@@ -26,8 +26,8 @@ loop-spec-preserved c =
           ∙ found-more c.args.specs.now c.loop-spec.spec-index nothing c.loop-spec.start number _ c.loop-spec.invariant.valid c.loop-spec-test.true c.loop-spec.invariant.start (c.loop-spec.invariant.finds number);
     }
 
-pub returns-clause-ok : goal.returns-clause-ok
-returns-clause-ok c =
+pub returns : goal.returns
+returns c =
     let zeros : c.in_ok-words.words.items ≡ replicate c.loop-spec.start 0 = c.in_ok-words.ensures.items_if_clones_equal (λ y e. e) in
     let kept : c.extend_from_slice.new.self.items ≡ c.args.specs.now = c.in_ok-extend_from_slice.ensures.items ∙ ap (λ xs. xs ++ c.args.specs.now) c.new-kept.ensures.items in
     let all : take c.loop-spec.spec-index c.args.specs.now ≡ c.args.specs.now = take_all c.loop-spec.spec-index c.args.specs.now c.loop-spec-test.false in

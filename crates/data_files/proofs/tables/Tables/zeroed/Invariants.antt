@@ -3,7 +3,7 @@ use Rattle.std.specs.Ordering.{nat_cmp}
 use Rattle.std.specs.BTreeMap.{get}
 use Rattle.data_files.specs.Tables.{faults, total_words}
 use Rattle.data_files.specs.Directory.{found}
-use Rattle.data_files.proofs.tables.Tables.new.Given as goal
+use Rattle.data_files.proofs.tables.Tables.zeroed.Given as goal
 
 abbrev pub invariant-loop-spec : goal.invariant-loop-spec
 invariant-loop-spec l =
