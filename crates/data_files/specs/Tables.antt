@@ -89,13 +89,18 @@ zero_entries specs = flat_map (λ spec. placed spec.number 0 (replicate (word_co
 abbrev pub fresh : List FileSpec → DataTables
 fresh specs = record { specs = specs; words = map_of.from_entries (zero_entries specs) }
 
--- what is wrong with a file, where it is known whether an earlier one has its number
+-- what a file is tested for, in order, where it is known whether an earlier one has its number
+abbrev pub tests_of : FileSpec → Bool → List (Bool × MakeFault)
+tests_of spec is_twice = (spec.count == 0, Empty spec.number) ∷ (nat_lt 1000 spec.count, Large spec.number) ∷ (is_twice, Twice spec.number) ∷ []
+
+-- the fault of the first test that finds one
+abbrev pub first_found : List (Bool × MakeFault) → Option MakeFault
+first_found [] = None
+first_found ((is_so, fault) ∷ tests) = if is_so then Some fault else first_found tests
+
+-- what is wrong with a file
 abbrev pub file_fault : FileSpec → Bool → Option MakeFault
-file_fault spec is_twice =
-    if spec.count == 0 then Some (Empty spec.number)
-    else if nat_lt 1000 spec.count then Some (Large spec.number)
-    else if is_twice then Some (Twice spec.number)
-    else None
+file_fault spec is_twice = first_found (tests_of spec is_twice)
 
 -- what is wrong with a file that follows others
 abbrev pub fault_of : List FileSpec → FileSpec → Option MakeFault

@@ -40,7 +40,8 @@ impl Ahead {
     }
 
     /// Returns the byte at this place, 0 or 1, after one read if there are too few bytes. Returns None only at the end
-    /// of the input.
+    /// of the input. It is inlined, since most calls find the byte there.
+    #[inline(always)]
     pub fn peek<S: Source>(&mut self, place: usize, source: &mut S) -> Result<Option<u8>, Failed>
         requires near { place ≤ 1 }
         requires after { place ≤ length self.old }
@@ -84,7 +85,8 @@ impl Ahead {
         self.bytes[self.at..self.end].get(place).copied()
     }
 
-    /// Reads once, when there is at most one byte.
+    /// Reads once, when there is at most one byte. It isn't inlined, since few calls read.
+    #[inline(never)]
     fn refill<S: Source>(&mut self, source: &mut S) -> Result<(), Failed>
         requires { length self.old ≤ 1 }
         ensures took { OnOk result ((more : List ℕ) × Took (S.left source.old) (S.left source.new) more × (self.new ≡ self.old ++ more) × (length more ≤ 4096)

@@ -9,7 +9,6 @@ use std::alloc::Global;
 use std::marker::Model;
 
 /// A sink that holds up to `room` bytes.
-#[derive(Drop)]
 pub struct BytesOut {
     bytes: Vec<u8>,
     room: usize,
@@ -17,6 +16,20 @@ pub struct BytesOut {
     calls: u64,
     fail: Vec<u64>,
     faults: u64,
+}
+
+// By hand, so that whoever drops one proves nothing of its parts.
+impl Drop for BytesOut {
+    fn drop(self) {
+        let BytesOut {
+            bytes: _bytes,
+            room: _,
+            piece: _,
+            calls: _,
+            fail: _fail,
+            faults: _,
+        } = self;
+    }
 }
 
 impl Model for BytesOut {

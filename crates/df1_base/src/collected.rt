@@ -6,10 +6,19 @@ use std::alloc::Global;
 use std::marker::Model;
 
 /// A sink that keeps its bytes in memory, which grows as needed. A growth that is refused is a fault.
-#[derive(Drop)]
 pub struct Collected {
     bytes: Vec<u8>,
     faults: u64,
+}
+
+// By hand, so that whoever drops one proves nothing of its parts.
+impl Drop for Collected {
+    fn drop(self) {
+        let Collected {
+            bytes: _bytes,
+            faults: _,
+        } = self;
+    }
 }
 
 impl Model for Collected {

@@ -10,7 +10,6 @@ use std::alloc::Global;
 use std::marker::Model;
 
 /// A port that returns signals, and then End, and holds up to `room` bytes that were put.
-#[derive(Drop)]
 pub struct PortMem {
     signals: Vec<Signal>,
     at: usize,
@@ -18,6 +17,20 @@ pub struct PortMem {
     calls: u64,
     fail: Vec<u64>,
     faults: u64,
+}
+
+// By hand, so that whoever drops one proves nothing of its parts.
+impl Drop for PortMem {
+    fn drop(self) {
+        let PortMem {
+            signals: _signals,
+            at: _,
+            sink: _sink,
+            calls: _,
+            fail: _fail,
+            faults: _,
+        } = self;
+    }
 }
 
 impl Model for PortMem {

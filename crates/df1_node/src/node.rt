@@ -37,12 +37,23 @@ pub struct NodeSetup {
 }
 
 /// A station and an initiator behind one end.
-#[derive(Drop)]
 pub struct Node {
     station: Station,
     initiator: Initiator,
     replies: HeapCircularBuffer<ArrayVec<u8, 250>>,
     last: Handed,
+}
+
+// By hand, so that whoever drops one proves nothing of its parts.
+impl Drop for Node {
+    fn drop(self) {
+        let Node {
+            station: _station,
+            initiator: _initiator,
+            replies: _replies,
+            last: _,
+        } = self;
+    }
 }
 
 impl Model for Node {

@@ -17,7 +17,6 @@ pub struct PlannedCommand {
 }
 
 /// A plan that was read.
-#[derive(Drop)]
 pub struct Plan {
     /// The check that ends a frame.
     pub check: Check,
@@ -27,4 +26,16 @@ pub struct Plan {
     pub end: EndPlan,
     /// The commands that the end issues, in order, at most 65,535.
     pub issue: Commands,
+}
+
+// By hand, so that whoever drops one proves nothing of its parts.
+impl Drop for Plan {
+    fn drop(self) {
+        let Plan {
+            check: _,
+            peer: _,
+            end: _end,
+            issue: _issue,
+        } = self;
+    }
 }

@@ -17,11 +17,21 @@ struct MemFile {
 }
 
 /// A shelf of files that were added. A fetch of a name that isn't there fails.
-#[derive(Drop)]
 pub struct ShelfMem {
     alloc: Global,
     files: BTreeMap<String, MemFile>,
     pub(crate) faults: u64,
+}
+
+// By hand, so that whoever drops one proves nothing of its parts.
+impl Drop for ShelfMem {
+    fn drop(self) {
+        let ShelfMem {
+            alloc: _,
+            files: _files,
+            faults: _,
+        } = self;
+    }
 }
 
 impl ShelfMem {

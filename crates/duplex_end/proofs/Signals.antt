@@ -1,5 +1,5 @@
 -- An end over one signal of a port after another.
-use Rattle.std.proofs.Common.{◌≡◌, ℕ, zero, suc, Bool, true, false, List, [], ◌∷◌, ◌++◌, map, Option, Some, None, IsNone, refl, ap, sym, subst, ◌∙◌, append_assoc, append-nil}
+use Rattle.std.proofs.Common.{◌≡◌, ℕ, zero, suc, Bool, true, false, List, [], ◌∷◌, ◌++◌, map, Option, Some, None, IsNone, is_none, refl, ap, sym, subst, ◌∙◌, append_assoc, append-nil}
 use Rattle.std.specs.Prelude.{option_to_list}
 use Rattle.std.proofs.lemmas.List.{map-append}
 use Rattle.std.specs.Io.KnownBytes.{Keeps}
@@ -14,6 +14,7 @@ use Rattle.duplex_end.specs.End.{EndState, end_after_byte, end_after_tick, end_a
 use Rattle.duplex_end.specs.Emission.{Letter, Byte, Tick, Take, end_after, end_after_all, emission, given_at, takes}
 use Rattle.duplex_end.specs.Serving.{AreLetters, are_none, are_byte, are_tick, are_take, are_drain, Hears, Serves, BreaksOff, bytes_given}
 use Rattle.duplex_end.proofs.Draining.{quiet-same}
+use Rattle.duplex_end.proofs.Order.{none-is}
 use Rattle.duplex_end.proofs.Runs.{end-more}
 
 end-append : {H : Type 0} (m : Ghosts H) (e : EndState H) (first second : List Letter) → end_after_all m e (first ++ second) ≡ end_after_all m (end_after_all m e first) second
@@ -114,6 +115,13 @@ gives-drain {H} m e last after n bytes last_is given none is =
       },
       given ∙ ap (λ (letters : List Letter). bytes_given m e letters) (sym (append-nil (takes n))),
     )
+
+-- nothing is there before any take
+pub gives-none : {H : Type 0} (m : Ghosts H) (e : EndState H) (bytes : List ℕ) → bytes ≡ [] → is_none (out_at_take m e) ≡ true → Gives m e (signal.Drain ∷ []) e bytes
+gives-none m e bytes given is =
+    let none = none-is (out_at_take m e) is in
+    let nothing : IsNone (out_at_take m e) = rw none refl in
+    gives-drain m e e e zero bytes refl given none (sym (quiet-same m e nothing))
 
 -- ---- one take more
 

@@ -67,13 +67,25 @@ pub struct Setup {
 }
 
 /// One end of a full-duplex link, with the host behind it.
-#[derive(Drop)]
 pub struct End<H: Host + Drop> {
     receiver: Receiver<250>,
     sender: Sender,
     mouth: Mouth,
     sending: ArrayVec<u8, 250>,
     host: H,
+}
+
+// By hand, so that whoever drops one proves nothing of its parts.
+impl<H: Host + Drop> Drop for End<H> {
+    fn drop(self) {
+        let End {
+            receiver: _receiver,
+            sender: _sender,
+            mouth: _mouth,
+            sending: _sending,
+            host: _host,
+        } = self;
+    }
 }
 
 impl<H: Host + Drop> Model for End<H> {

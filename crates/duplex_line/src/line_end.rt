@@ -23,11 +23,21 @@ use std::marker::Model;
 
 /// An end, and the bytes on their way from it to the other end, with memory for what is known of the end of a
 /// transmission.
-#[derive(Drop)]
 pub(crate) struct LineEnd {
     end: End<Node>,
     lane: VecDeque<Cell>,
     spare: Spare,
+}
+
+// By hand, so that whoever drops one proves nothing of its parts.
+impl Drop for LineEnd {
+    fn drop(self) {
+        let LineEnd {
+            end: _end,
+            lane: _lane,
+            spare: _spare,
+        } = self;
+    }
 }
 
 impl Model for LineEnd {

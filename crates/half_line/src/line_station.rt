@@ -26,7 +26,6 @@ use std::collections::VecDeque;
 use std::marker::Model;
 
 /// A station, and the bytes on their way to it and from it.
-#[derive(Drop)]
 pub(crate) struct LineStation {
     /// Its number.
     number: u8,
@@ -35,6 +34,19 @@ pub(crate) struct LineStation {
     from_it: VecDeque<Cell>,
     /// Memory for the next cell that ends a transmission.
     spare: Spare,
+}
+
+// By hand, so that whoever drops one proves nothing of its parts.
+impl Drop for LineStation {
+    fn drop(self) {
+        let LineStation {
+            number: _,
+            slave: _slave,
+            to_it: _to_it,
+            from_it: _from_it,
+            spare: _spare,
+        } = self;
+    }
 }
 
 impl Model for LineStation {

@@ -36,13 +36,25 @@ use std::marker::Model;
 
 /// A master and its stations with their nodes, and the bytes on their way between them. The host of the master is a
 /// node, or a router in front of one. After want of memory the world may only be dropped.
-#[derive(Drop)]
 pub struct HalfWorld<H: MasterHost + Drop> {
     alloc: Global,
     master: Master<H>,
     stations: Vec<LineStation>,
     reported: Reported,
     events: u32,
+}
+
+// By hand, so that whoever drops one proves nothing of its parts.
+impl<H: MasterHost + Drop> Drop for HalfWorld<H> {
+    fn drop(self) {
+        let HalfWorld {
+            alloc: _,
+            master: _master,
+            stations: _stations,
+            reported: _reported,
+            events: _,
+        } = self;
+    }
 }
 
 impl<H: MasterHost + Drop> Model for HalfWorld<H> {
@@ -187,7 +199,13 @@ impl<H: MasterHost + Drop> HalfWorld<H> {
         ensures { IfOk result (λ r. r ≡ record_from (behind H.Host H.MasterHost.own) self.state self.lines) }
     {
         let words = self.words()?;
-        let HalfWorld { reported, .. } = self;
+        let HalfWorld {
+            alloc: _,
+            master: _master,
+            stations: _stations,
+            reported,
+            events: _,
+        } = self;
         Ok(Record {
             lines: reported.lines.into_lines(),
             words,

@@ -73,11 +73,21 @@ impl From<Failed> for StreamFault {
 
 /// A replay of a script that comes byte by byte. It keeps what the lines say except the events, the bytes of the line
 /// that has started, and the world. After a fault it may only be dropped.
-#[derive(Drop)]
 pub struct Replayer {
     alloc: Global,
     text: TextReader,
     world: Option<World>,
+}
+
+// By hand, so that whoever drops one proves nothing of its parts.
+impl Drop for Replayer {
+    fn drop(self) {
+        let Replayer {
+            alloc: _,
+            text: _text,
+            world: _world,
+        } = self;
+    }
 }
 
 impl Model for Replayer {

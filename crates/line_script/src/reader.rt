@@ -35,12 +35,21 @@ pub const LINE: usize = 1024;
 
 /// A reader of the lines of a script, which keeps what they say except the events. After a fault it may only be
 /// dropped.
-#[derive(Drop)]
 pub enum Reader {
     /// Full duplex, also before any line.
     Full(DuplexReader),
     /// Half duplex, after `set mode half` as the first line of a form, or from the first line on.
     Half(HalfReader),
+}
+
+// By hand, so that whoever drops one proves nothing of its parts.
+impl Drop for Reader {
+    fn drop(self) {
+        match self {
+            Reader::Full(_reader) => {}
+            Reader::Half(_reader) => {}
+        }
+    }
 }
 
 impl Reader {

@@ -24,13 +24,25 @@ use std::marker::Model;
 
 /// A reader of a script that comes byte by byte. It keeps what the lines say except the events, and the bytes of the
 /// line that has started. After a fault it may only be dropped.
-#[derive(Drop)]
 pub struct TextReader {
     alloc: Global,
     reader: Reader,
     line: ArrayVec<u8, LINE>,
     number: u32,
     start: usize,
+}
+
+// By hand, so that whoever drops one proves nothing of its parts.
+impl Drop for TextReader {
+    fn drop(self) {
+        let TextReader {
+            alloc: _,
+            reader: _reader,
+            line: _line,
+            number: _,
+            start: _,
+        } = self;
+    }
 }
 
 impl Model for TextReader {

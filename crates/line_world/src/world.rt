@@ -17,12 +17,21 @@ use std::alloc::Global;
 
 /// The ends of a line with their nodes, and the bytes on their way between them: two ends of a full-duplex line, or a
 /// master and its stations. After want of memory it may only be dropped.
-#[derive(Drop)]
 pub enum World {
     /// A full-duplex line between two ends.
     Duplex(DuplexWorld),
     /// A half-duplex line, on which a master polls its stations.
     Polled(HalfWorld<Node>),
+}
+
+// By hand, so that whoever drops one proves nothing of its parts.
+impl Drop for World {
+    fn drop(self) {
+        match self {
+            World::Duplex(_world) => {}
+            World::Polled(_world) => {}
+        }
+    }
 }
 
 impl World {

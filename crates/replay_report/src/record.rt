@@ -37,9 +37,19 @@ pub enum Line {
 }
 
 /// The record of a run: the report's lines, the words that aren't 0 in the end, and the count of deceptions.
-#[derive(Drop)]
 pub struct Record {
     pub lines: Lines,
     pub words: Words,
     pub deceived: u64,
+}
+
+// By hand, so that whoever drops one proves nothing of its parts.
+impl Drop for Record {
+    fn drop(self) {
+        let Record {
+            lines: _lines,
+            words: _words,
+            deceived: _,
+        } = self;
+    }
 }

@@ -156,7 +156,6 @@ impl EndPlan {
 }
 
 /// A script that was read.
-#[derive(Drop)]
 pub struct Script {
     /// Whether the script is half duplex.
     pub half: bool,
@@ -164,4 +163,16 @@ pub struct Script {
     pub check: Check,
     pub ends: Ends,
     pub events: Events,
+}
+
+// By hand, so that whoever drops one proves nothing of its parts.
+impl Drop for Script {
+    fn drop(self) {
+        let Script {
+            half: _,
+            check: _,
+            ends: _ends,
+            events: _events,
+        } = self;
+    }
 }

@@ -37,12 +37,23 @@ use std::marker::Model;
 use std::mem;
 
 /// A host that carries messages from station to station, with the host of all other messages behind it.
-#[derive(Drop)]
 pub struct Router<H: Host + Drop> {
     stations: ArrayVec<u8, 32>,
     waiting: ArrayVec<u8, 250>,
     last: Handed,
     inner: H,
+}
+
+// By hand, so that whoever drops one proves nothing of its parts.
+impl<H: Host + Drop> Drop for Router<H> {
+    fn drop(self) {
+        let Router {
+            stations: _stations,
+            waiting: _waiting,
+            last: _,
+            inner: _inner,
+        } = self;
+    }
 }
 
 impl<H: Host + Drop> Model for Router<H> {

@@ -1,7 +1,7 @@
 use Rattle.std.proofs.Common.{◌≡◌, ◌+◌, ◌≤◌, ◌∷◌, [], ◌++◌, List, ℕ, suc, ◌⊎◌, inl, inr, Some, None, length, sym, ◌∙◌, refl, arith, length-append}
 use Rattle.duplex_end.specs.End.{out_at_take}
 use Rattle.duplex_end.specs.Joined.{most_left}
-use Rattle.duplex_end.proofs.Signals.{gives-drain, end-take, bytes-take}
+use Rattle.duplex_end.proofs.Signals.{gives-drain, gives-none, end-take, bytes-take}
 use Rattle.duplex_end.proofs.serving.drain.Goals as goal
 
 -- one byte more fits, since at the first take at most 511 are left
@@ -29,3 +29,6 @@ returns g c =
     let taken = c.loop-out.invariant.taken in
     let none : out_at_take g.H.Host c.loop-out.end ≡ None = sym c.take.ensures.out ∙ c.in_default.is in
     gives-drain g.H.Host c.args.end.now c.loop-out.end c.take.new.self taken.0 c.loop-out.given.items taken.1 taken.2 none c.take.ensures.state
+
+pub returns-then-quiet : goal.returns-then-quiet
+returns-then-quiet g c = gives-none g.H.Host c.args.end.now c.args.given.now.items c.requires (sym c.quiet.ensures.gives_none ∙ c.if-quiet.true)
