@@ -121,7 +121,9 @@ impl HalfReader {
         self.stations.declared(station).map(Who::S)
     }
 
-    /// Returns the queue of a direction, if its station is declared.
+    /// Returns the queue of a direction, if its station is declared. It is inlined, since most lines of a polled script
+    /// name one.
+    #[inline(always)]
     fn lane(&self, way: Way) -> Option<Lane>
         ensures { result ≡ the_lane (numbers self.now) way }
     {
