@@ -6,7 +6,7 @@ use Rattle.df1_check.specs.Checks.{with_byte}
 use Rattle.df1_frame.specs.Spelling.{check_bytes}
 use Rattle.df1_node.specs.Initiator.{Undelivered}
 use Rattle.end_settings.specs.declared.key.EndKey.{EndKey}
-use Rattle.end_settings.specs.declared.key.EndKey.TheVariants.{AckTicks, Embed, MaxEnqs, MaxNaks, MaxResends, MaxSends, Node, PerSource, PollTicks, ReplyTicks, Room, Tns, Window}
+use Rattle.end_settings.specs.declared.key.EndKey.TheVariants.{AckTicks, MaxEnqs}
 use Rattle.end_settings.specs.Rows.{Fits}
 use Rattle.end_settings.specs.Table.{row_of}
 use Rattle.script_statement.specs.declared.who.Who.TheVariants.{A, B}
@@ -27,17 +27,7 @@ use Rattle.duplex_line.proofs.Complete.Witness.{all-possible, is_gentle, gentle-
 noise-settings : (key : EndKey) → Fits (row_of key).values (setting_in (record (first_plan A 0) { ack_ticks = 1; max_enqs = 0 }) key)
 noise-settings AckTicks = (omega arith, omega arith)
 noise-settings MaxEnqs = (omega arith, omega arith)
-noise-settings Embed = Fits-first_plan A 0 (omega arith) Embed
-noise-settings MaxNaks = Fits-first_plan A 0 (omega arith) MaxNaks
-noise-settings MaxResends = Fits-first_plan A 0 (omega arith) MaxResends
-noise-settings MaxSends = Fits-first_plan A 0 (omega arith) MaxSends
-noise-settings Node = Fits-first_plan A 0 (omega arith) Node
-noise-settings PerSource = Fits-first_plan A 0 (omega arith) PerSource
-noise-settings PollTicks = Fits-first_plan A 0 (omega arith) PollTicks
-noise-settings ReplyTicks = Fits-first_plan A 0 (omega arith) ReplyTicks
-noise-settings Room = Fits-first_plan A 0 (omega arith) Room
-noise-settings Tns = Fits-first_plan A 0 (omega arith) Tns
-noise-settings Window = Fits-first_plan A 0 (omega arith) Window
+noise-settings other = Fits-first_plan A 0 (omega arith) other
 
 pub noise-playable : IsPlayable after_noise
 noise-playable = record {

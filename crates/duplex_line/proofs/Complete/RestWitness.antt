@@ -7,7 +7,7 @@ use Rattle.df1_node.specs.Initiator.{Undelivered}
 use Rattle.logical_address.specs.Reading.{three_front}
 use Rattle.slc_commands.specs.Order.{fields, spelled_order}
 use Rattle.end_settings.specs.declared.key.EndKey.{EndKey}
-use Rattle.end_settings.specs.declared.key.EndKey.TheVariants.{AckTicks, Embed, MaxEnqs, MaxNaks, MaxResends, MaxSends, Node, PerSource, PollTicks, ReplyTicks, Room, Tns, Window}
+use Rattle.end_settings.specs.declared.key.EndKey.TheVariants.{MaxNaks}
 use Rattle.end_settings.specs.Rows.{Fits}
 use Rattle.end_settings.specs.Table.{row_of}
 use Rattle.script_statement.specs.declared.who.Who.TheVariants.{A, B}
@@ -25,18 +25,7 @@ use Rattle.duplex_line.proofs.Complete.Witness.{all-possible, is_gentle, prompt_
 
 so-many-naks : (most : ℕ) → most ≤ 255 → (key : EndKey) → Fits (row_of key).values (setting_in (record (first_plan A 0) { max_naks = most }) key)
 so-many-naks most few MaxNaks = (omega arith, omega (arith, few))
-so-many-naks most few Window = Fits-first_plan A 0 (omega arith) Window
-so-many-naks most few PerSource = Fits-first_plan A 0 (omega arith) PerSource
-so-many-naks most few AckTicks = Fits-first_plan A 0 (omega arith) AckTicks
-so-many-naks most few Embed = Fits-first_plan A 0 (omega arith) Embed
-so-many-naks most few MaxEnqs = Fits-first_plan A 0 (omega arith) MaxEnqs
-so-many-naks most few MaxResends = Fits-first_plan A 0 (omega arith) MaxResends
-so-many-naks most few MaxSends = Fits-first_plan A 0 (omega arith) MaxSends
-so-many-naks most few Node = Fits-first_plan A 0 (omega arith) Node
-so-many-naks most few PollTicks = Fits-first_plan A 0 (omega arith) PollTicks
-so-many-naks most few ReplyTicks = Fits-first_plan A 0 (omega arith) ReplyTicks
-so-many-naks most few Room = Fits-first_plan A 0 (omega arith) Room
-so-many-naks most few Tns = Fits-first_plan A 0 (omega arith) Tns
+so-many-naks most few other = Fits-first_plan A 0 (omega arith) other
 
 -- ---- nothing disturbs the line from there on
 

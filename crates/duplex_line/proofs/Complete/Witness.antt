@@ -8,7 +8,7 @@ use Rattle.df1_frame.specs.Spelling.{check_bytes}
 use Rattle.logical_address.specs.Reading.{three_front}
 use Rattle.slc_commands.specs.Order.{fields, spelled_order}
 use Rattle.end_settings.specs.declared.key.EndKey.{EndKey}
-use Rattle.end_settings.specs.declared.key.EndKey.TheVariants.{AckTicks, Embed, MaxEnqs, MaxNaks, MaxResends, MaxSends, Node, PerSource, PollTicks, ReplyTicks, Room, Tns, Window}
+use Rattle.end_settings.specs.declared.key.EndKey.TheVariants.{PerSource, Window}
 use Rattle.end_settings.specs.Rows.{Fits}
 use Rattle.end_settings.specs.Table.{row_of}
 use Rattle.script_statement.specs.declared.who.Who.TheVariants.{A, B}
@@ -124,17 +124,7 @@ one_write-quiet = refl
 two-settings : (key : EndKey) → Fits (row_of key).values (setting_in (record (first_plan A 0) { window = 2; per_source = 1 }) key)
 two-settings Window = (omega arith, omega arith)
 two-settings PerSource = (omega arith, omega arith)
-two-settings AckTicks = Fits-first_plan A 0 (omega arith) AckTicks
-two-settings Embed = Fits-first_plan A 0 (omega arith) Embed
-two-settings MaxEnqs = Fits-first_plan A 0 (omega arith) MaxEnqs
-two-settings MaxNaks = Fits-first_plan A 0 (omega arith) MaxNaks
-two-settings MaxResends = Fits-first_plan A 0 (omega arith) MaxResends
-two-settings MaxSends = Fits-first_plan A 0 (omega arith) MaxSends
-two-settings Node = Fits-first_plan A 0 (omega arith) Node
-two-settings PollTicks = Fits-first_plan A 0 (omega arith) PollTicks
-two-settings ReplyTicks = Fits-first_plan A 0 (omega arith) ReplyTicks
-two-settings Room = Fits-first_plan A 0 (omega arith) Room
-two-settings Tns = Fits-first_plan A 0 (omega arith) Tns
+two-settings other = Fits-first_plan A 0 (omega arith) other
 
 pub two_sources-playable : IsPlayable two_sources
 two_sources-playable = record {

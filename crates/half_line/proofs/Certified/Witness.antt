@@ -10,7 +10,7 @@ use Rattle.half_master.specs.Master as master
 use Rattle.logical_address.specs.Reading.{three_front}
 use Rattle.slc_commands.specs.Order.{fields, spelled_order}
 use Rattle.end_settings.specs.declared.key.EndKey.{EndKey}
-use Rattle.end_settings.specs.declared.key.EndKey.TheVariants.{AckTicks, Embed, MaxEnqs, MaxNaks, MaxResends, MaxSends, Node, PerSource, PollTicks, ReplyTicks, Room, Tns, Window}
+use Rattle.end_settings.specs.declared.key.EndKey.TheVariants.{AckTicks, MaxResends, PollTicks, Tns, Window}
 use Rattle.end_settings.specs.Rows.{Fits}
 use Rattle.end_settings.specs.Table.{row_of}
 use Rattle.script_statement.specs.declared.who.Who.TheVariants.{M, S}
@@ -135,14 +135,7 @@ own-settings MaxResends = (omega arith, omega arith)
 own-settings PollTicks = (omega arith, omega arith)
 own-settings Tns = (omega arith, omega arith)
 own-settings Window = (omega arith, omega arith)
-own-settings Embed = Fits-first_plan M 0 (omega arith) Embed
-own-settings MaxEnqs = Fits-first_plan M 0 (omega arith) MaxEnqs
-own-settings MaxNaks = Fits-first_plan M 0 (omega arith) MaxNaks
-own-settings MaxSends = Fits-first_plan M 0 (omega arith) MaxSends
-own-settings Node = Fits-first_plan M 0 (omega arith) Node
-own-settings PerSource = Fits-first_plan M 0 (omega arith) PerSource
-own-settings ReplyTicks = Fits-first_plan M 0 (omega arith) ReplyTicks
-own-settings Room = Fits-first_plan M 0 (omega arith) Room
+own-settings other = Fits-first_plan M 0 (omega arith) other
 
 two-distinct : IsDistinct nat_eq (240 ∷ 3 ∷ [])
 unfolding IsDistinct

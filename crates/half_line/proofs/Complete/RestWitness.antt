@@ -8,7 +8,7 @@ use Rattle.df1_node.specs.Initiator.{Undelivered}
 use Rattle.logical_address.specs.Reading.{three_front}
 use Rattle.slc_commands.specs.Order.{fields, spelled_order}
 use Rattle.end_settings.specs.declared.key.EndKey.{EndKey}
-use Rattle.end_settings.specs.declared.key.EndKey.TheVariants.{AckTicks, Embed, MaxEnqs, MaxNaks, MaxResends, MaxSends, Node, PerSource, PollTicks, ReplyTicks, Room, Tns, Window}
+use Rattle.end_settings.specs.declared.key.EndKey.TheVariants.{AckTicks, MaxResends, MaxSends, PollTicks, Window}
 use Rattle.end_settings.specs.Rows.{Fits}
 use Rattle.end_settings.specs.Table.{row_of}
 use Rattle.script_statement.specs.declared.who.Who.TheVariants.{M, S}
@@ -29,17 +29,7 @@ use Rattle.half_line.proofs.Complete.Witness.{all, is_gentle_on, prompt_after, p
 pub quick-settings : (key : EndKey) → Fits (row_of key).values (setting_in (record (first_plan M 0) { ack_ticks = 1; max_resends = 0 }) key)
 quick-settings AckTicks = (omega arith, omega arith)
 quick-settings MaxResends = (omega arith, omega arith)
-quick-settings Embed = Fits-first_plan M 0 (omega arith) Embed
-quick-settings MaxEnqs = Fits-first_plan M 0 (omega arith) MaxEnqs
-quick-settings MaxNaks = Fits-first_plan M 0 (omega arith) MaxNaks
-quick-settings MaxSends = Fits-first_plan M 0 (omega arith) MaxSends
-quick-settings Node = Fits-first_plan M 0 (omega arith) Node
-quick-settings PerSource = Fits-first_plan M 0 (omega arith) PerSource
-quick-settings PollTicks = Fits-first_plan M 0 (omega arith) PollTicks
-quick-settings ReplyTicks = Fits-first_plan M 0 (omega arith) ReplyTicks
-quick-settings Room = Fits-first_plan M 0 (omega arith) Room
-quick-settings Tns = Fits-first_plan M 0 (omega arith) Tns
-quick-settings Window = Fits-first_plan M 0 (omega arith) Window
+quick-settings other = Fits-first_plan M 0 (omega arith) other
 
 pub one-distinct : IsDistinct nat_eq (3 ∷ [])
 unfolding IsDistinct
@@ -103,32 +93,11 @@ rested-answered = refl
 wide-settings : (key : EndKey) → Fits (row_of key).values (setting_in (record (first_plan M 0) { poll_ticks = 1; window = 2 }) key)
 wide-settings PollTicks = (omega arith, omega arith)
 wide-settings Window = (omega arith, omega arith)
-wide-settings AckTicks = Fits-first_plan M 0 (omega arith) AckTicks
-wide-settings Embed = Fits-first_plan M 0 (omega arith) Embed
-wide-settings MaxEnqs = Fits-first_plan M 0 (omega arith) MaxEnqs
-wide-settings MaxNaks = Fits-first_plan M 0 (omega arith) MaxNaks
-wide-settings MaxResends = Fits-first_plan M 0 (omega arith) MaxResends
-wide-settings MaxSends = Fits-first_plan M 0 (omega arith) MaxSends
-wide-settings Node = Fits-first_plan M 0 (omega arith) Node
-wide-settings PerSource = Fits-first_plan M 0 (omega arith) PerSource
-wide-settings ReplyTicks = Fits-first_plan M 0 (omega arith) ReplyTicks
-wide-settings Room = Fits-first_plan M 0 (omega arith) Room
-wide-settings Tns = Fits-first_plan M 0 (omega arith) Tns
+wide-settings other = Fits-first_plan M 0 (omega arith) other
 
 once-settings : (key : EndKey) → Fits (row_of key).values (setting_in (record (first_plan (S 3) 3) { max_sends = 1 }) key)
 once-settings MaxSends = (omega arith, omega arith)
-once-settings AckTicks = Fits-first_plan (S 3) 3 (omega arith) AckTicks
-once-settings Embed = Fits-first_plan (S 3) 3 (omega arith) Embed
-once-settings MaxEnqs = Fits-first_plan (S 3) 3 (omega arith) MaxEnqs
-once-settings MaxNaks = Fits-first_plan (S 3) 3 (omega arith) MaxNaks
-once-settings MaxResends = Fits-first_plan (S 3) 3 (omega arith) MaxResends
-once-settings Node = Fits-first_plan (S 3) 3 (omega arith) Node
-once-settings PerSource = Fits-first_plan (S 3) 3 (omega arith) PerSource
-once-settings PollTicks = Fits-first_plan (S 3) 3 (omega arith) PollTicks
-once-settings ReplyTicks = Fits-first_plan (S 3) 3 (omega arith) ReplyTicks
-once-settings Room = Fits-first_plan (S 3) 3 (omega arith) Room
-once-settings Tns = Fits-first_plan (S 3) 3 (omega arith) Tns
-once-settings Window = Fits-first_plan (S 3) 3 (omega arith) Window
+once-settings other = Fits-first_plan (S 3) 3 (omega arith) other
 
 pub left-playable : IsHalfPlayable after_a_lost_reply
 left-playable = record {

@@ -12,7 +12,7 @@ use Rattle.slc_commands.specs.Order.{fields, spelled_order}
 use Rattle.script_statement.specs.declared.who.Who.TheVariants.{M, S}
 use Rattle.lane_cells.specs.Cells.{LaneCell}
 use Rattle.end_settings.specs.declared.key.EndKey.{EndKey}
-use Rattle.end_settings.specs.declared.key.EndKey.TheVariants.{AckTicks, Embed, MaxEnqs, MaxNaks, MaxResends, MaxSends, Node, PerSource, PollTicks, ReplyTicks, Room, Tns, Window}
+use Rattle.end_settings.specs.declared.key.EndKey.TheVariants.{Node, Window}
 use Rattle.end_settings.specs.Rows.{Fits}
 use Rattle.end_settings.specs.Table.{row_of}
 use Rattle.script_parts.specs.Plans.{first_plan, setting_in}
@@ -172,18 +172,7 @@ polled_write-complete = is-complete polled_write polled_write-playable polled_wr
 
 two-settings : (key : EndKey) → Fits (row_of key).values (setting_in (record (first_plan M 0) { window = 2 }) key)
 two-settings Window = (omega arith, omega arith)
-two-settings AckTicks = Fits-first_plan M 0 (omega arith) AckTicks
-two-settings Embed = Fits-first_plan M 0 (omega arith) Embed
-two-settings MaxEnqs = Fits-first_plan M 0 (omega arith) MaxEnqs
-two-settings MaxNaks = Fits-first_plan M 0 (omega arith) MaxNaks
-two-settings MaxResends = Fits-first_plan M 0 (omega arith) MaxResends
-two-settings MaxSends = Fits-first_plan M 0 (omega arith) MaxSends
-two-settings Node = Fits-first_plan M 0 (omega arith) Node
-two-settings PerSource = Fits-first_plan M 0 (omega arith) PerSource
-two-settings PollTicks = Fits-first_plan M 0 (omega arith) PollTicks
-two-settings ReplyTicks = Fits-first_plan M 0 (omega arith) ReplyTicks
-two-settings Room = Fits-first_plan M 0 (omega arith) Room
-two-settings Tns = Fits-first_plan M 0 (omega arith) Tns
+two-settings other = Fits-first_plan M 0 (omega arith) other
 
 pub two_stations-playable : IsHalfPlayable two_stations
 two_stations-playable = record {
