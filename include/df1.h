@@ -228,8 +228,9 @@ typedef struct df1_duplex {
 /* The link of a half-duplex master. */
 typedef struct df1_master {
     bool crc;             /* a CRC, and not a BCC, ends its messages */
-    uint32_t ack_ticks;   /* ticks that it waits for an ACK, from where the message's last byte was taken: 1 to 1,000,000 */
-    uint32_t max_resends; /* maximum retransmissions of one message before it is given up: 0 to 255 */
+    uint32_t ack_ticks;   /* ticks that it waits for an ACK, from where the message's last byte was taken, until it sends the message
+                           * again or gives it up: 1 to 1,000,000 */
+    uint32_t max_resends; /* maximum retransmissions of one message, after NAKs and timeouts together: 0 to 255 */
     uint32_t poll_ticks;  /* ticks that it waits after a poll, from where its last byte was taken: 1 to 1,000,000. The station's
                            * whole message, of up to 506 bytes, has to come in that time; otherwise another station may be polled
                            * while it still sends */
@@ -324,9 +325,10 @@ enum df1_act {
     DF1_ACT_ACCEPT = 1,   /* a message was accepted */
     DF1_ACT_REPEAT = 2,   /* a message was received again, and is acknowledged again */
     DF1_ACT_REFUSE = 3,   /* there was no room for a message */
-    DF1_ACT_DAMAGED = 4,  /* a frame was damaged */
+    DF1_ACT_DAMAGED = 4,  /* a frame or message was damaged; at a slave only one to its own station, at a master only one that comes
+                           * while it waits after a poll */
     DF1_ACT_FORGOT = 5,   /* a frame was cut off by a new one */
-    DF1_ACT_PEER_ACK = 6, /* DLE ACK */
+    DF1_ACT_PEER_ACK = 6, /* DLE ACK, also one that is ignored, as a master's to another station: df1_end_state shows whose it was */
     DF1_ACT_PEER_NAK = 7, /* DLE NAK */
     DF1_ACT_PEER_ENQ = 8  /* DLE ENQ */
 };
@@ -360,7 +362,8 @@ typedef struct df1_step {
 
 /* What a tick did besides leaving commands unanswered. */
 enum df1_turn_kind {
-    DF1_TURN_STILL = 0, /* nothing to report */
+    DF1_TURN_STILL = 0, /* nothing to report, also where a master sends its message again or begins a poll: df1_end_quiet is false
+                         * then, and `polls` of df1_end_state is set for a poll */
     DF1_TURN_ASK = 1,   /* the end asks for a response by an ENQ */
     DF1_TURN_FAILED = 2 /* it gave up a message; `news` reports which, unless it is a command that has its outcome already */
 };
@@ -405,8 +408,9 @@ uint32_t df1_end_quiet(df1_end *end, bool *quiet);
 /* The state of an end. */
 typedef struct df1_state {
     bool quiet;      /* it has nothing to send now, also where it waits for an ACK */
-    bool holds;      /* a message of its own is under way, neither acknowledged nor given up */
-    bool polls;      /* it is a master that sends a poll, or waits for the answer to one */
+    bool holds;      /* a message of its own was begun, at a slave loaded at a poll, and is neither acknowledged nor given up; a
+                      * reply or a command that only waits doesn't count */
+    bool polls;      /* it is a master that sends a poll, or waits for the answer to one: up to the answer's last byte */
     uint8_t station; /* the station that it polls; 0 if `polls` isn't set */
 } df1_state;
 
@@ -443,7 +447,8 @@ typedef struct df1_given {
 } df1_given;
 
 /* Takes the next bytes to send into the `room` bytes at `into`: as many as there is room for, at most 512, up to the first that
- * ends a frame or message. Take until `quiet` is set. If `room` is 0, no byte is taken. Codes: DF1_NO_HANDLE. */
+ * ends a frame or message. Responses and an ENQ in front of it are in the same run, as the ACK of a command and its reply. Take until
+ * `quiet` is set. If `room` is 0, no byte is taken. Codes: DF1_NO_HANDLE. */
 uint32_t df1_end_take_bytes(df1_end *end, uint8_t *into, size_t room, df1_given *given);
 
 /* ---- Commands that the end issues ---- */
@@ -682,9 +687,9 @@ typedef struct df1_counts {
     uint64_t accepted;   /* those of them that were accepted */
     uint64_t repeated;   /* those that were received again: the other end missed an ACK */
     uint64_t refused;    /* those for which there was no room */
-    uint64_t damaged;    /* frames or messages that were damaged */
+    uint64_t damaged;    /* frames or messages that were damaged, those that DF1_ACT_DAMAGED counts */
     uint64_t cut_off;    /* frames that were cut off by a new one */
-    uint64_t acks;       /* DLE ACK that was received */
+    uint64_t acks;       /* DLE ACK that was received, also one that was ignored */
     uint64_t naks;       /* DLE NAK */
     uint64_t enquiries;  /* DLE ENQ */
     uint64_t sent;       /* frames or messages that were sent, each as often as it was */
