@@ -13,8 +13,8 @@ use Rattle.half_frame.specs.MasterStanding as at_master
 use Rattle.half_frame.proofs.MasterLemmas as by_master
 use Rattle.c_lines.specs.declared.decoder.LineDecoder.{LineDecoder}
 use Rattle.c_lines.specs.declared.decoder.LineDecoder.TheVariants.{Full, OfMaster, OfSlaves}
-use Rattle.c_lines.specs.declared.side.Side.{Side}
-use Rattle.c_lines.specs.declared.side.Side.TheVariants as side
+use Rattle.half_frame.specs.declared.side.Side.{Side}
+use Rattle.half_frame.specs.declared.side.Side.TheVariants as side
 use Rattle.c_lines.specs.Arrived.{IsBody, IsHearing, StandsFor}
 use Rattle.c_lines.specs.Decoders.{after_byte, hearing_at, lent_by, new_decoder}
 use Rattle.c_lines.specs.Hearings.{full_told, master_told, slave_told}

@@ -10,8 +10,8 @@ use Rattle.half_frame.specs.MasterStep as by_master
 use Rattle.c_lines.specs.declared.decoder.LineDecoder.{LineDecoder}
 use Rattle.c_lines.specs.declared.decoder.LineDecoder.TheVariants.{Full, OfMaster, OfSlaves}
 use Rattle.c_lines.specs.declared.hearing.Hearing.{Hearing}
-use Rattle.c_lines.specs.declared.side.Side.{Side}
-use Rattle.c_lines.specs.declared.side.Side.TheVariants as side
+use Rattle.half_frame.specs.declared.side.Side.{Side}
+use Rattle.half_frame.specs.declared.side.Side.TheVariants as side
 use Rattle.c_lines.specs.Hearings.{full_told, master_told, slave_told}
 
 -- one that has heard nothing

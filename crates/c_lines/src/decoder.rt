@@ -2,15 +2,14 @@
 
 ghost use Rattle.std.specs.Prelude.{◌≡◌, ◌≤◌, ◌∷◌, ◌++◌, [], ℕ, List, length};
 ghost use Rattle.df1_check.specs.declared.Check.{Check as CheckKind};
-ghost use Rattle.c_lines.specs.declared.side.Side.{Side as LineSide};
+ghost use Rattle.half_frame.specs.declared.side.Side.{Side as LineSide};
 ghost use Rattle.c_lines.specs.Arrived.{IsBody, IsHearing, StandsFor};
 ghost use Rattle.c_lines.specs.Decoders.{after_byte, hearing_at, lent_by, new_decoder};
 
 use crate::hearing::{Hearing, of_full, of_master, of_slaves};
-use crate::side::Side;
 use df1_check::Check;
 use df1_frame::Decoder;
-use half_frame::{MasterEar, SlaveEar};
+use half_frame::{MasterEar, Side, SlaveEar};
 
 /// A decoder of one side of a line, with room for a body of 250 bytes.
 #[derive(Drop)]

@@ -9,5 +9,5 @@ mod spelling;
 
 pub use decoder::LineDecoder;
 pub use hearing::Hearing;
-pub use side::Side;
+pub use side::side_of;
 pub use spelling::{frame_of, message_of, poll_of, reply_of};

@@ -1,34 +1,28 @@
 //! The sides of a line, by their numbers.
 
 ghost use Rattle.std.specs.Prelude.{◌≡◌};
-ghost use Rattle.c_lines.specs.Sides.{side_number, side_of};
+ghost use Rattle.c_lines.specs.Sides.{side_number, side_of as the_side_of};
 
-/// The side whose bytes are decoded.
-#[derive(Clone, Copy, Debug, PartialEq, Eq)]
-pub enum Side {
-    /// Bytes of an end of a full-duplex line.
-    Full = 0,
-    /// Bytes that the master of a half-duplex line sends, as a slave receives them.
-    Master = 1,
-    /// Bytes that the slaves of a half-duplex line send, as the master receives them.
-    Slave = 2,
-}
+use half_frame::Side;
 
 /// All sides, by their numbers.
 const SIDES: [Side; 3] = [Side::Full, Side::Master, Side::Slave];
 
-impl Side {
-    /// Returns the number of a side.
-    pub fn number(self) -> u32
-        ensures { result ≡ side_number self }
-    {
-        self as u32
+/// Returns the number of a side.
+fn number_of(side: Side) -> u32
+    ensures { result ≡ side_number side }
+{
+    match side {
+        Side::Full => 0,
+        Side::Master => 1,
+        Side::Slave => 2,
     }
+}
 
-    /// Returns the side of a number, and None exactly if there is no such side.
-    pub fn of_number(number: u32) -> Option<Side>
-        ensures { result ≡ side_of number }
-    {
-        SIDES.iter().copied().find(|side| side.number() == number)
-    }
+/// Returns the side of a number: 0 for a full-duplex line, 1 for the bytes of the master of a half-duplex line, and 2
+/// for those of its slaves. None exactly if there is no such side.
+pub fn side_of(number: u32) -> Option<Side>
+    ensures { result ≡ the_side_of number }
+{
+    SIDES.iter().copied().find(|side| number_of(*side) == number)
 }

@@ -7,7 +7,7 @@ use Rattle.df1_frame.specs.Standing.{lent_at}
 use Rattle.half_frame.specs.MasterStanding as at_master
 use Rattle.half_frame.specs.SlaveStanding as at_slave
 use Rattle.c_lines.specs.declared.hearing.Hearing.{Hearing}
-use Rattle.c_lines.specs.declared.side.Side.{Side}
+use Rattle.half_frame.specs.declared.side.Side.{Side}
 use Rattle.c_lines.specs.Arrived.{IsBody, IsHearing}
 use Rattle.c_lines.specs.Decoders.{lent_by}
 use Rattle.c_lines.proofs.Arriving as line

@@ -2,8 +2,8 @@
 use Rattle.std.proofs.Common.{◌≡◌, ◌⊎◌, ℕ, Bool, true, List, [], Option, Some, None, Result, Ok, Err, refl, sym, ap, subst, ◌∙◌, inl, inr}
 use Rattle.std.specs.Prelude.{◌==◌, is_none, IfOk, IfErr, MatchOption, MatchResult}
 use Rattle.std.specs.Option.{option_or, unwrap_or}
-use Rattle.c_lines.specs.declared.side.Side.{Side}
-use Rattle.c_lines.specs.declared.side.Side.TheVariants as side
+use Rattle.half_frame.specs.declared.side.Side.{Side}
+use Rattle.half_frame.specs.declared.side.Side.TheVariants as side
 use Rattle.c_lines.specs.Sides.{side_of}
 use Rattle.c_lines.proofs.Arriving.{new-stands}
 use Rattle.duplex_end.proofs.Arriving as duplex

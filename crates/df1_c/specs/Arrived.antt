@@ -3,8 +3,8 @@ use Rattle.std.specs.Prelude.{◌≡◌, ℕ, List, length}
 use Rattle.std.specs.declared.option.Option.{Option}
 use Rattle.std.specs.declared.option.Option.TheVariants.{Some, None}
 use Rattle.df1_check.specs.declared.Check.{Check}
-use Rattle.c_lines.specs.declared.side.Side.{Side}
-use Rattle.c_lines.specs.declared.side.Side.TheVariants as side
+use Rattle.half_frame.specs.declared.side.Side.{Side}
+use Rattle.half_frame.specs.declared.side.Side.TheVariants as side
 use Rattle.c_lines.specs.Arrived.{IsBody, StandsFor}
 use Rattle.duplex_end.specs.Arrived as duplex
 use Rattle.half_master.specs.Arrived as master

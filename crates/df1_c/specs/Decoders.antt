@@ -4,8 +4,8 @@ use Rattle.std.specs.declared.option.Option.{Option}
 use Rattle.std.specs.declared.option.Option.TheVariants.{Some, None}
 use Rattle.std.specs.Option.{unwrap_or}
 use Rattle.c_lines.specs.declared.hearing.Hearing.{Hearing}
-use Rattle.c_lines.specs.declared.side.Side.{Side}
-use Rattle.c_lines.specs.declared.side.Side.TheVariants as side
+use Rattle.half_frame.specs.declared.side.Side.{Side}
+use Rattle.half_frame.specs.declared.side.Side.TheVariants as side
 use Rattle.c_lines.specs.Decoders as line
 use Rattle.c_lines.specs.Sides.{side_of}
 use Rattle.c_ends.specs.declared.code.Code.{Code}

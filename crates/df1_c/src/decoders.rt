@@ -3,10 +3,10 @@
 ghost use Rattle.std.specs.Prelude.{◌≡◌, ◌∷◌, ◌++◌, [], ℕ, List, length, Some};
 ghost use Rattle.std.specs.Option.{option_map, option_or, unwrap_or};
 ghost use Rattle.df1_check.specs.declared.Check.{Check as CheckKind};
-ghost use Rattle.c_lines.specs.declared.side.Side.{Side as LineSide};
-ghost use Rattle.c_lines.specs.declared.side.Side.TheVariants.{Full};
+ghost use Rattle.half_frame.specs.declared.side.Side.{Side as LineSide};
+ghost use Rattle.half_frame.specs.declared.side.Side.TheVariants.{Full};
 ghost use Rattle.c_lines.specs.Arrived.{IsBody, IsHearing};
-ghost use Rattle.c_lines.specs.Sides.{side_of};
+ghost use Rattle.c_lines.specs.Sides.{side_of as the_side_of};
 ghost use Rattle.c_ends.specs.Code.{code_number};
 ghost use Rattle.c_ends.specs.Links.{check_of};
 ghost use Rattle.c_calls.specs.Answers.{told_of};
@@ -18,7 +18,8 @@ ghost use Rattle.df1_c.specs.Decoders.{after_fed, decoder_code, decoder_freed, h
 use crate::seat::Seat;
 use c_calls::copy;
 use c_ends::{Code, Held, check_of};
-use c_lines::{Hearing, LineDecoder, Side};
+use c_lines::{Hearing, LineDecoder, side_of};
+use half_frame::Side;
 use std::alloc::Global;
 use std::mem::ManuallyDrop;
 
@@ -45,12 +46,12 @@ pub extern "C" fn df1_decoder_make_side(
     decoder: &mut Seat,
 ) -> u32
     ensures made { IsMake (option_or (taken_fault (holding decoder.old)) (side_fault side)) (side_decoder side crc) result (holding decoder.old) (holding decoder.new) }
-    ensures stands { (line_side : LineSide) → side_of side ≡ Some line_side → result ≡ code_number Code.Done → IsDecoderFor line_side (check_of crc) [] (holding decoder.new) }
+    ensures stands { (line_side : LineSide) → the_side_of side ≡ Some line_side → result ≡ code_number Code.Done → IsDecoderFor line_side (check_of crc) [] (holding decoder.new) }
 {
     if !decoder.is_empty() {
         return Code::NoHandle.number();
     }
-    let Some(side) = Side::of_number(side) else {
+    let Some(side) = side_of(side) else {
         return Code::BadSide.number();
     };
     fill(alloc, side, crc, decoder).number()

@@ -12,8 +12,8 @@ use Rattle.df1_check.specs.declared.Check.{Check}
 use Rattle.df1_frame.specs.Grammar.{Nothing as FullNothing}
 use Rattle.half_frame.specs.SlaveGrammar.{Nothing as MasterNothing}
 use Rattle.half_frame.specs.MasterGrammar.{Nothing as SlaveNothing}
-use Rattle.df1_dissect.specs.declared.ear.Side.{Side}
-use Rattle.df1_dissect.specs.declared.ear.Side.TheVariants as side
+use Rattle.half_frame.specs.declared.side.Side.{Side}
+use Rattle.half_frame.specs.declared.side.Side.TheVariants as side
 use Rattle.df1_dissect.specs.Reading.{Reading, StandsFor}
 use Rattle.df1_dissect.specs.Dissection.{HasLines, Dissects}
 use Rattle.df1_dissect.proofs.Sides.{fed-length}

@@ -3,7 +3,7 @@ use Rattle.std.specs.Prelude.{◌≡◌, ℕ, Bool, List, ◌++◌, length, code
 use Rattle.df1_base.specs.Outside.{Rose, Put, WroteLess}
 use Rattle.df1_check.specs.declared.Check.{Check}
 use Rattle.df1_frame.specs.Line.{ReadOff}
-use Rattle.df1_dissect.specs.declared.ear.Side.{Side}
+use Rattle.half_frame.specs.declared.side.Side.{Side}
 use Rattle.df1_dissect.specs.Telling.{Told}
 use Rattle.df1_dissect.specs.Reading.{Reading, StandsFor, Tells, bad_among, grammar_of, unfinished}
 use Rattle.df1_capture.specs.declared.capture.CaptureFault.{CaptureFault}

@@ -5,7 +5,7 @@ use Rattle.df1_base.specs.Outside.{Rose, Took, Put, WroteLess}
 use Rattle.df1_base.specs.Signals.{input_limit}
 use Rattle.df1_base.specs.declared.outside.Failed.{Failed}
 use Rattle.df1_check.specs.declared.Check.{Check}
-use Rattle.df1_dissect.specs.declared.ear.Side.{Side}
+use Rattle.half_frame.specs.declared.side.Side.{Side}
 use Rattle.df1_dissect.specs.Reading.{Reading, StandsFor}
 use Rattle.df1_dissect.specs.Dissection.{HasLines, Dissects}
 use Rattle.df1_capture.specs.declared.capture.CaptureFault.{CaptureFault}

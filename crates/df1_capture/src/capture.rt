@@ -2,7 +2,7 @@
 ghost use Rattle.std.specs.Prelude.{◌≡◌, ◌≤◌, ◌<◌, ◌+◌, ◌++◌, length, drop};
 
 use df1_check::Check;
-use df1_dissect::Side;
+use half_frame::Side;
 use thiserror::Error;
 
 /// The maximum length of a capture, in bytes.

@@ -2,7 +2,7 @@
 //! of the line among them, and of the bytes of an unfinished item.
 ghost use Rattle.std.specs.Prelude.{◌≡◌, ◌≤◌, ◌+◌, [], ℕ, List, length, OnOk};
 ghost use Rattle.df1_check.specs.declared.Check.{Check as CheckKind};
-ghost use Rattle.df1_dissect.specs.declared.ear.Side.{Side as Captured};
+ghost use Rattle.half_frame.specs.declared.side.Side.{Side as Captured};
 ghost use Rattle.df1_dissect.specs.Reading.{StandsFor};
 ghost use Rattle.df1_capture.specs.Counted.{CheckEnd, CountEnd, CountedPiece, ToldCounts, counts_line, is_faulty as the_faulty};
 

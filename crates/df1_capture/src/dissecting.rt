@@ -4,7 +4,7 @@ ghost use Rattle.std.specs.Prelude.{◌≡◌, ◌≤◌, ◌+◌, [], ℕ, List
 ghost use Rattle.arrayvec.specs.ArrayVec.{array_vec_len};
 ghost use Rattle.df1_base.specs.Outside.{Rose, Put, WroteLess};
 ghost use Rattle.df1_check.specs.declared.Check.{Check as CheckKind};
-ghost use Rattle.df1_dissect.specs.declared.ear.Side.{Side as Captured};
+ghost use Rattle.half_frame.specs.declared.side.Side.{Side as Captured};
 ghost use Rattle.df1_dissect.specs.Reading.{StandsFor};
 ghost use Rattle.df1_capture.specs.Dissected.{CloseEnd, DissectEnd, HasHeard, IsMoved, PieceEnd, PutEnd};
 

@@ -14,7 +14,7 @@ use Rattle.half_frame.specs.SlaveStep as slave_step
 use Rattle.half_frame.specs.MasterStanding as master_ear
 use Rattle.half_frame.specs.MasterStep as master_step
 use Rattle.half_frame.specs.Runs.{slave_run_len, master_run_len}
-use Rattle.df1_dissect.specs.declared.ear.Side.{Side}
+use Rattle.half_frame.specs.declared.side.Side.{Side}
 use Rattle.df1_dissect.specs.declared.ear.Ear.{Ear}
 use Rattle.df1_dissect.specs.declared.ear.Ear.TheVariants as ear
 use Rattle.df1_dissect.specs.declared.ear.Turn.{Turn}

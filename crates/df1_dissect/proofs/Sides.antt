@@ -8,8 +8,8 @@ use Rattle.half_frame.specs.SlaveGrammar.{slave_hears, Nothing as MasterNothing}
 use Rattle.half_frame.specs.MasterGrammar.{master_hears, Nothing as SlaveNothing}
 use Rattle.half_frame.proofs.SlaveLemmas.{machine as master_machine}
 use Rattle.half_frame.proofs.MasterLemmas.{machine as slave_machine}
-use Rattle.df1_dissect.specs.declared.ear.Side.{Side}
-use Rattle.df1_dissect.specs.declared.ear.Side.TheVariants as side
+use Rattle.half_frame.specs.declared.side.Side.{Side}
+use Rattle.half_frame.specs.declared.side.Side.TheVariants as side
 use Rattle.df1_dissect.specs.declared.reader.Thing.{Thing}
 use Rattle.df1_dissect.specs.Hearing.{ear_of_none, lent_by}
 use Rattle.df1_dissect.specs.Telling.{Told}

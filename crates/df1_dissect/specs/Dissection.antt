@@ -3,7 +3,7 @@ use Rattle.std.specs.Prelude.{ℕ, ◌+◌, ◌-◌, List, [], ◌∷◌, ◌++�
 use Rattle.std.specs.List.{flat_map}
 use Rattle.df1_check.specs.declared.Check.{Check}
 use Rattle.df1_frame.specs.Line.{ReadOff, spelling}
-use Rattle.df1_dissect.specs.declared.ear.Side.{Side}
+use Rattle.half_frame.specs.declared.side.Side.{Side}
 use Rattle.df1_dissect.specs.declared.kind.Kind.TheVariants as kind
 use Rattle.df1_dissect.specs.Telling.{bytes_of}
 use Rattle.df1_dissect.specs.Lines.{line_text, open_line}

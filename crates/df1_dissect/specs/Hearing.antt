@@ -10,8 +10,8 @@ use Rattle.half_frame.specs.MasterStep as master_step
 use Rattle.df1_dissect.specs.declared.kind.Kind.{Kind}
 use Rattle.df1_dissect.specs.declared.ear.Ear.{Ear}
 use Rattle.df1_dissect.specs.declared.ear.Ear.TheVariants as ear
-use Rattle.df1_dissect.specs.declared.ear.Side.{Side}
-use Rattle.df1_dissect.specs.declared.ear.Side.TheVariants as side
+use Rattle.half_frame.specs.declared.side.Side.{Side}
+use Rattle.half_frame.specs.declared.side.Side.TheVariants as side
 use Rattle.df1_dissect.specs.declared.ear.Turn.{Turn}
 use Rattle.df1_dissect.specs.declared.ear.Turn.TheVariants as turn
 use Rattle.df1_dissect.specs.Kinds.{full_kind, master_kind, slave_kind, is_response}

@@ -10,8 +10,8 @@ use Rattle.half_frame.specs.SlaveStanding as slave_ear
 use Rattle.half_frame.specs.MasterStanding as master_ear
 use Rattle.df1_dissect.specs.declared.ear.Ear.{Ear}
 use Rattle.df1_dissect.specs.declared.ear.Ear.TheVariants as ear
-use Rattle.df1_dissect.specs.declared.ear.Side.{Side}
-use Rattle.df1_dissect.specs.declared.ear.Side.TheVariants as side
+use Rattle.half_frame.specs.declared.side.Side.{Side}
+use Rattle.half_frame.specs.declared.side.Side.TheVariants as side
 use Rattle.df1_dissect.specs.Kinds.{is_bad}
 use Rattle.df1_dissect.specs.Telling.{Told, Telling, told_from, bytes_of}
 use Rattle.df1_dissect.specs.FullItems.{full_telling}

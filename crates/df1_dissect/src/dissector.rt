@@ -5,7 +5,7 @@ ghost use Rattle.arrayvec.specs.ArrayVec.{array_vec_len};
 ghost use Rattle.df1_base.specs.Outside.{Rose, Put, WroteLess, WrotePart, Later};
 ghost use Rattle.df1_check.specs.declared.Check.{Check as CheckKind};
 ghost use Rattle.df1_frame.specs.Line.{ReadOff};
-ghost use Rattle.df1_dissect.specs.declared.ear.Side.{Side as Captured};
+ghost use Rattle.half_frame.specs.declared.side.Side.{Side as Captured};
 ghost use Rattle.df1_dissect.specs.Reading.{StandsFor, Tells, bad_among, grammar_of, unfinished};
 ghost use Rattle.df1_dissect.specs.Telling.{Told};
 ghost use Rattle.df1_dissect.specs.Lines.{line_text, open_line};
@@ -13,12 +13,12 @@ ghost use Rattle.df1_dissect.specs.Dissection.{Dissects, HasLines, lines_at, lin
 ghost use Rattle.df1_dissect.specs.Runs.{after};
 ghost use Rattle.df1_dissect.specs.Step.{next, with_body};
 
-use crate::ear::Side;
 use crate::line::{ROOM, append_line, append_open_line, append_strays};
 use crate::reader::{Reader, Thing};
 use arrayvec::ArrayVec;
 use df1_base::{DLE, Failed, MAX_BODY, Sink, write_all};
 use df1_check::Check;
+use half_frame::Side;
 use std::marker::Model;
 
 /// The buffer size for collected lines, in bytes.

@@ -8,18 +8,7 @@ use crate::kind::{Kind, full_kind, master_kind, slave_kind};
 use df1_base::MAX_BODY;
 use df1_check::Check;
 use df1_frame::Decoder;
-use half_frame::{MasterEar, SlaveEar};
-
-/// Whose bytes are captured.
-#[derive(Clone, Copy, Debug, PartialEq, Eq)]
-pub enum Side {
-    /// One direction of a full-duplex line.
-    Full,
-    /// The master's bytes of a half-duplex line.
-    Master,
-    /// The slaves' bytes of a half-duplex line.
-    Slave,
-}
+use half_frame::{MasterEar, Side, SlaveEar};
 
 /// The decoder of a side.
 #[derive(Drop)]

@@ -1,11 +1,11 @@
 //! Laws of the dissection of every list of bytes, and two captures with their text. The functions do nothing.
 ghost use Rattle.std.specs.Prelude.{◌≡◌, ℕ, List, [], ◌∷◌, ◌++◌, codes};
 ghost use Rattle.df1_check.specs.declared.Check.TheVariants as checks;
-ghost use Rattle.df1_dissect.specs.declared.ear.Side.TheVariants as sides;
+ghost use Rattle.half_frame.specs.declared.side.Side.TheVariants as sides;
 ghost use Rattle.df1_dissect.specs.Dissection.{Dissects};
 
-use crate::ear::Side;
 use df1_check::Check;
+use half_frame::Side;
 
 /// Every list of bytes has exactly one text.
 pub fn one_dissection(side: Side, check: Check)

@@ -19,7 +19,6 @@ mod line;
 mod reader;
 
 pub use dissector::{CollectedLines, Dissector, LINE, LINES};
-pub use ear::Side;
 pub use kind::Kind;
 pub use laws::{one_dissection, worked_captures};
 pub use reader::{Reader, Thing};

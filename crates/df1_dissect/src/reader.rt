@@ -2,7 +2,7 @@
 ghost use Rattle.std.specs.Prelude.{◌≡◌, ◌≤◌, ◌<◌, ◌-◌, ℕ, List, [], ◌+◌, ◌++◌, ◌∷◌, length, take};
 ghost use Rattle.df1_check.specs.declared.Check.{Check as CheckKind};
 ghost use Rattle.df1_frame.specs.Line.{ReadOff};
-ghost use Rattle.df1_dissect.specs.declared.ear.Side.{Side as Captured};
+ghost use Rattle.half_frame.specs.declared.side.Side.{Side as Captured};
 ghost use Rattle.df1_dissect.specs.Hearing.{lent_by};
 ghost use Rattle.df1_dissect.specs.Telling.{Told};
 ghost use Rattle.df1_dissect.specs.Reading.{StandsFor, Tells, bad_among, grammar_of, unfinished};
@@ -10,10 +10,11 @@ ghost use Rattle.df1_dissect.specs.Step.{bad_with, heard_with, next, start_after
 ghost use Rattle.df1_dissect.specs.Runs.{after};
 ghost use Rattle.df1_dissect.specs.Dissection.{lines_in, stray_lines};
 
-use crate::ear::{Ear, Side, Turn};
+use crate::ear::{Ear, Turn};
 use crate::kind::Kind;
 use df1_base::{DLE, MAX_BODY};
 use df1_check::Check;
+use half_frame::Side;
 use std::marker::Model;
 
 /// A thing that has a line. Offsets count the bytes of the capture from 0.

@@ -3,7 +3,7 @@ use Rattle.std.proofs.Common.{◌≡◌, ◌⊎◌, ◌∙◌, ◌≤◌, ◌<�
 use Rattle.std.proofs.lemmas.Bool.{le-ltb, lt-ltb}
 use Rattle.df1_base.specs.Signals.{input_limit}
 use Rattle.df1_check.specs.declared.Check.{Check}
-use Rattle.df1_dissect.specs.declared.ear.Side.{Side}
+use Rattle.half_frame.specs.declared.side.Side.{Side}
 use Rattle.df1_capture.specs.declared.capture.CaptureFault.{CaptureFault}
 use Rattle.df1_capture.specs.declared.capture.CaptureFault.TheVariants as fault
 use Rattle.df1_capture.specs.Captures.{IsOver, IsWhole}

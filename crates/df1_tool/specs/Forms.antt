@@ -11,8 +11,8 @@ use Rattle.df1_tool.specs.declared.form.Rounds.{Rounds}
 use Rattle.df1_capture.specs.declared.capture.Capture.{Capture}
 use Rattle.df1_check.specs.declared.Check.{Check}
 use Rattle.df1_check.specs.declared.Check.TheVariants.{Bcc, Crc}
-use Rattle.df1_dissect.specs.declared.ear.Side.{Side}
-use Rattle.df1_dissect.specs.declared.ear.Side.TheVariants.{Full, Master, Slave}
+use Rattle.half_frame.specs.declared.side.Side.{Side}
+use Rattle.half_frame.specs.declared.side.Side.TheVariants.{Full, Master, Slave}
 use Rattle.df1_service.specs.Service.{NoCommands, PlanCommands, PullOrders, PushOrders, Serving}
 
 -- what the last word of `serve` asks for

@@ -8,8 +8,8 @@ use crate::number::{number_within, short_within};
 use crate::refusal::Refusal;
 use df1_capture::Capture;
 use df1_check::Check;
-use df1_dissect::Side;
 use df1_drill::MOST_ROUNDS;
+use half_frame::Side;
 
 /// The highest number of a data file.
 const MOST_FILE: u16 = 999;

@@ -3,7 +3,8 @@
 use crate::equal::is;
 use df1_base::BytesOut;
 use df1_check::{Check, bcc};
-use df1_dissect::{Dissector, Reader, Side};
+use df1_dissect::{Dissector, Reader};
+use half_frame::Side;
 use std::alloc::{AllocError, Global};
 use std::process::Abort;
 use std::test::Fail;

@@ -14,6 +14,7 @@ mod framer;
 mod heard;
 mod master_ear;
 mod master_laws;
+mod side;
 mod slave_ear;
 mod slave_laws;
 mod text;
@@ -25,6 +26,7 @@ pub use master_laws::{
     heard_in_a_run_at_the_master, heard_stays_at_the_master, one_split_at_the_master,
     pair_round_trip_at_the_master, reply_round_trip, worked_replies,
 };
+pub use side::Side;
 pub use slave_ear::SlaveEar;
 pub use slave_laws::{
     heard_in_a_run_at_a_slave, heard_stays_at_a_slave, message_round_trip, one_split_at_a_slave,

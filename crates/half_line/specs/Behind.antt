@@ -5,8 +5,8 @@ use Rattle.df1_node.specs.Node.{NodeState}
 use Rattle.station_router.specs.Router.{RouterState, is_carried, with_inner}
 use Rattle.station_router.specs.Router as router
 use Rattle.each_once.specs.NodeHost.{node_host}
-use Rattle.half_line.specs.declared.master_host.MasterHost as master_host
-use Rattle.half_line.specs.contracts.master_host.NodeMasterHost.TheImpl as plain
+use Rattle.station_router.specs.declared.master_host.MasterHost as master_host
+use Rattle.station_router.specs.contracts.master_host.NodeMasterHost.TheImpl as plain
 
 -- what it means as a host; the node within, and the host with another node; and whether the host carries a body to a station
 pub record Behind (H : Type 0) : Type 1 where

@@ -12,7 +12,6 @@ ghost use Rattle.script_parts.specs.HalfPlayable.{IsHalfPossible, half_count_of}
 use crate::line_station::LineStation;
 use crate::link::{self, deliver, intrude, lose};
 use crate::master::{self, issue, pass};
-use crate::master_host::MasterHost;
 use crate::reported::Reported;
 use crate::way::way_from;
 use df1_base::NoMemory;
@@ -20,6 +19,7 @@ use half_master::Master;
 use replay_report::Page;
 use script_parts::Event;
 use script_statement::Who;
+use station_router::MasterHost;
 use std::alloc::Global;
 
 /// Performs an event at the master.

@@ -27,7 +27,6 @@ pub mod laws;
 mod line_station;
 mod link;
 mod master;
-mod master_host;
 pub mod once_law;
 mod reported;
 mod setup;
@@ -36,6 +35,5 @@ mod way;
 pub mod wire_law;
 mod world;
 
-pub use master_host::MasterHost;
 pub use way::Way;
 pub use world::HalfWorld;

@@ -11,7 +11,6 @@ ghost use Rattle.half_line.specs.Acts.{LaneDeed, Lose, Alter, joined, side_moved
 ghost use Rattle.half_line.specs.Run.{first_side, tables_of};
 ghost use Rattle.half_line.specs.Plays.{side_issued};
 
-use crate::master_host::issue_in_name;
 use crate::setup::slave_setup;
 use crate::way::Way;
 use df1_base::{NoMemory, Out, Step};
@@ -21,6 +20,7 @@ use half_slave::Slave;
 use lane_cells::{Cell, Spare};
 use outset::node_of;
 use script_parts::EndPlan;
+use station_router::MasterHost;
 use std::alloc::Global;
 use std::collections::VecDeque;
 use std::marker::Model;
@@ -153,7 +153,7 @@ impl LineStation {
         requires { issue_fault self.old.slave.host.initiator payload.now ≡ None }
         ensures { OnOk result (self.new ≡ side_issued self.old dst payload.now) }
     {
-        issue_in_name(self.slave.host_mut(), None, dst, payload)
+        MasterHost::issue(self.slave.host_mut(), None, dst, payload)
     }
 
     /// Returns the initiator of the node.

@@ -9,7 +9,6 @@ ghost use Rattle.half_line.specs.Steps.{after_link_deeds, link_lines_over, link_
 ghost use Rattle.half_line.specs.Plays.{most_events};
 
 use crate::line_station::LineStation;
-use crate::master_host::MasterHost;
 use crate::reported::Reported;
 use crate::way::Way;
 use df1_base::{Act, Did, NoMemory};
@@ -18,6 +17,7 @@ use lane_cells::{Cell, is_deceived, is_station_deceived};
 use replay_report::Page;
 use report_lines::{tell_act, tell_news, tell_routed};
 use script_statement::{Bytes, Who};
+use station_router::MasterHost;
 use std::alloc::Global;
 
 /// Sends up to `n` bytes of the station of this number, and reports them if there is at least one.

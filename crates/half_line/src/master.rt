@@ -10,13 +10,13 @@ ghost use Rattle.half_line.specs.Acts.{LineStationState, Give, Tick, half_state,
 ghost use Rattle.half_line.specs.Steps.{after_master_deeds, master_bytes_over, master_lines_over};
 
 use crate::line_station::LineStation;
-use crate::master_host::MasterHost;
 use arrayvec::ArrayVec;
 use df1_base::{NoMemory, Out};
 use half_master::Master;
 use replay_report::Page;
 use report_lines::{tell_gone, tell_turn};
 use script_statement::{Bytes, Who};
+use station_router::MasterHost;
 use std::alloc::Global;
 
 /// Lets the master issue a command with the SRC `src`, or with its own address if that is None. The payload has 1 to

@@ -16,7 +16,6 @@ ghost use Rattle.half_line.specs.Plays.{IsNext, MayIssueAt, begun, begun_with, i
 
 use crate::deal::{deal_at_master, deal_at_station};
 use crate::line_station::{LineStation, side_of};
-use crate::master_host::MasterHost;
 use crate::reported::Reported;
 use crate::setup::master_setup;
 use crate::way::station_between;
@@ -30,7 +29,7 @@ use replay_report::{Page, Record, print_lines};
 use report_lines::push_all;
 use script_parts::{EndPlan, Event, Script, Words};
 use script_statement::Who;
-use station_router::Router;
+use station_router::{MasterHost, Router};
 use std::alloc::Global;
 use std::marker::Model;
 

@@ -1,4 +1,5 @@
-//! A router, which stands between a master and its host and carries messages from station to station.
+//! A router, which stands between a master and its host and carries messages from station to station; and the host of a
+//! master, which contains a node, with a router in front of it or without one.
 //!
 //! A body is carried if DST, its first byte, is the number of one of the stations; every other body is the inner
 //! host's. A carried body waits until it is handed out, and one may wait at a time: a master polls its stations only
@@ -29,10 +30,12 @@ ghost use Rattle.station_router.specs.Router.{new_router, with_inner, is_carried
 ghost use Rattle.station_router.specs.contracts.Router.{the_row};
 
 mod handed;
+mod master_host;
 
 use crate::handed::Handed;
 use arrayvec::ArrayVec;
 use df1_base::{Did, Fate, Host, News};
+pub use master_host::MasterHost;
 use std::marker::Model;
 use std::mem;
 

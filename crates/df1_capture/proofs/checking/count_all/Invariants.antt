@@ -1,7 +1,7 @@
 -- What was taken is heard.
 use Rattle.std.proofs.Common.{◌≡◌, ◌-◌, ◌≤◌, []}
 use Rattle.df1_check.specs.declared.Check.{Check}
-use Rattle.df1_dissect.specs.declared.ear.Side.{Side}
+use Rattle.half_frame.specs.declared.side.Side.{Side}
 use Rattle.df1_dissect.specs.Reading.{StandsFor}
 use Rattle.df1_capture.proofs.Counting.{SoFar}
 use Rattle.df1_capture.proofs.checking.count_all.Given as goal

@@ -1,7 +1,7 @@
 -- What was taken is heard, and its lines are written.
 use Rattle.std.proofs.Common.{◌≡◌, ◌-◌, ◌≤◌, []}
 use Rattle.df1_check.specs.declared.Check.{Check}
-use Rattle.df1_dissect.specs.declared.ear.Side.{Side}
+use Rattle.half_frame.specs.declared.side.Side.{Side}
 use Rattle.df1_dissect.specs.Reading.{StandsFor}
 use Rattle.df1_capture.proofs.HeardSoFar.{SoFar}
 use Rattle.df1_capture.proofs.dissecting.dissect_all.Given as goal

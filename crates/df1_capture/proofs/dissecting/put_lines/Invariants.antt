@@ -1,7 +1,7 @@
 -- The bytes so far are heard, and what of their lines isn't written waits.
 use Rattle.std.proofs.Common.{◌≡◌, ◌≤◌, ℕ, ◌+◌, ◌-◌, List, ◌++◌, length, take}
 use Rattle.df1_check.specs.declared.Check.{Check}
-use Rattle.df1_dissect.specs.declared.ear.Side.{Side}
+use Rattle.half_frame.specs.declared.side.Side.{Side}
 use Rattle.df1_capture.specs.Dissected.{HasHeard}
 use Rattle.df1_capture.proofs.HeardSoFar.{Waiting}
 use Rattle.df1_capture.proofs.dissecting.put_lines.Given as goal

@@ -5,9 +5,9 @@ ghost use Rattle.std.specs.Prelude.{◌≡◌, None, OnOk, unwrap_or};
 ghost use Rattle.df1_node.specs.Initiator.{issue_fault};
 ghost use Rattle.df1_node.specs.Node.{after_node_issue};
 
+use crate::Router;
 use df1_base::{Host, NoMemory};
 use df1_node::{IssueFault, Node};
-use station_router::Router;
 
 /// A host that contains a node, which executes and issues the commands. It may carry messages from station to station.
 pub trait MasterHost: Host {
@@ -87,7 +87,7 @@ impl<H: MasterHost + Drop> MasterHost for Router<H> {
 
 /// Lets a node issue a command with the SRC `src`, or with its own address if that is None. The payload has 1 to 245
 /// bytes, bit 6 of its CMD is clear, and the node has issued fewer than 65,535 commands.
-pub(crate) fn issue_in_name(
+fn issue_in_name(
     node: &mut Node,
     src: Option<u8>,
     dst: u8,
