@@ -180,7 +180,7 @@ below m n h = grind (arith, nat_tests)
 is-below : (m n : ℕ) → nat_lt m n ≡ true → m < n
 is-below m n e = grind (arith, nat_tests)
 
-out-count : (cs : List Issued) (q : Queue) → IsQueue cs q → length q.out.items ≡ count_out cs
+pub out-count : (cs : List Issued) (q : Queue) → IsQueue cs q → length q.out.items ≡ count_out cs
 out-count cs q is = ap length is.out ∙ sym (count-places out_now cs)
 
 pub next-full : (s : InitiatorState) (q : Queue) → IsQueue s.issued q → s.window ≤ length q.out.items → None ≡ next_place s

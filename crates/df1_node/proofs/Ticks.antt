@@ -1,5 +1,6 @@
 -- A tick, for one command after another of those that are out.
-use Rattle.std.proofs.Common.{◌≡◌, ◌<◌, ◌≤◌, ℕ, suc, zero, ◌+◌, ◌-◌, ◌∙◌, Bool, true, false, cond, List, [], ◌∷◌, ◌++◌, map, filter, length, take, drop, find, remove, Some, refl, sym, ap, arith, slice_get, nat_lt}
+use Rattle.std.proofs.Common.{◌≡◌, ◌<◌, ◌≤◌, ℕ, suc, zero, ◌+◌, ◌-◌, ◌∙◌, Bool, true, false, cond, List, [], ◌∷◌, ◌++◌, map, filter, length, take, drop, find, remove, Some, refl, sym, ap, arith, slice_get, nat_lt, not, ◌==◌}
+use Rattle.std.proofs.lemmas.Bool.Decides.{nat_tests}
 use Rattle.std.specs.Option.{option_map_or}
 use Rattle.df1_node.specs.declared.queue.Queue.{Queue}
 use Rattle.df1_node.specs.Initiator.{Standing, Waiting, Out, Answered, Undelivered, Unanswered, Issued, is_waiting, is_out, is_settled, restated, ticked, is_last_tick, unanswered_from, all_ticked}
@@ -192,3 +193,25 @@ find-past f (q ∷ ps) (suc k) p at e = find-past f ps k p at e
 
 pub find-skip : (f : ℕ → Bool) (ps : List ℕ) (k p : ℕ) → slice_get ps k ≡ Some p → f p ≡ false → find f (drop (k + 1) ps) ≡ find f (drop k ps)
 find-skip f ps k p at e = (let more : k + 1 ≡ suc k = omega arith in ap (λ n. find f (drop n ps)) more) ∙ find-past f ps k p at e
+
+-- ---- none is out
+
+is-some : (n : ℕ) → (suc n == 0) ≡ false
+is-some n = grind (arith, nat_tests)
+
+first-below : (n : ℕ) → nat_lt 0 (suc n) ≡ true
+first-below n = grind (arith, nat_tests)
+
+pub some-left : (n : ℕ) → not (n == 0) ≡ nat_lt 0 n
+some-left zero = refl
+some-left (suc n) = ap not (is-some n) ∙ sym (first-below n)
+
+none-left : (ps : List ℕ) → not (length ps == 0) ≡ false → ps ≡ []
+none-left [] none = refl
+none-left (p ∷ ps) none = absurd (let some : true ≡ false = sym (ap not (is-some (length ps))) ∙ none in let f : ⊥ = cc in f)
+
+pub none-ticked : (cs : List Issued) (q : Queue) → IsQueue cs q → not (length q.out.items == 0) ≡ false → all_ticked cs ≡ cs
+none-ticked cs q is none = sym (tick_out cs) ∙ ap (λ ps. tick_places ps cs) (sym is.out ∙ none-left q.out.items none)
+
+pub none-gone : (cs : List Issued) (q : Queue) → IsQueue cs q → not (length q.out.items == 0) ≡ false → unanswered_from 1 cs ≡ []
+none-gone cs q is none = gone_out cs ∙ ap (λ ps. map (λ p. p + 1) (filter (last_at cs) ps)) (sym is.out ∙ none-left q.out.items none)

@@ -5,11 +5,11 @@
 //! step searches all of them. A clearing starts at the first waiting command, so it reaches each command at most once.
 //! The bytes of bodies and replies are appended to one buffer; space for a command's reply is reserved with the
 //! command.
-ghost use Rattle.std.specs.Prelude.{◌≡◌, ℕ, ◌+◌, ◌*◌, ◌≤◌, ◌<◌, [], ◌++◌, ◌∷◌, length, map, All, IfOk, IfErr, OnOk, OnErr, Err, IfSome, MatchOption, is_some, option_and_then, ◌==◌, IfNone, IsSome, IsTrue, if◌then◌else◌, vec_len, vec_capacity, slice_index, slice_get, remove, position, unwrap_or};
+ghost use Rattle.std.specs.Prelude.{◌≡◌, ℕ, ◌+◌, ◌*◌, ◌≤◌, ◌<◌, [], ◌++◌, ◌∷◌, length, map, All, IfOk, IfErr, OnOk, OnErr, Err, IfSome, MatchOption, is_some, option_and_then, ◌==◌, false, nat_lt, IfNone, IsSome, IsTrue, if◌then◌else◌, vec_len, vec_capacity, slice_index, slice_get, remove, position, unwrap_or};
 ghost use Rattle.std.specs.Int.{bit_at};
 ghost use Rattle.df1_base.specs.Host.{IsBody};
 ghost use Rattle.pccc_envelope.specs.Envelope.{is_reply, spelling};
-ghost use Rattle.df1_node.specs.Initiator.{InitiatorState, after_give_up, after_hand_out, after_issue, after_reply, all_cleared, all_ticked, answered_place, is_out_at, is_waiting, unanswered_from, issue_fault, next_issued, outcome_of, reply_of, next_command, next_place};
+ghost use Rattle.df1_node.specs.Initiator.{InitiatorState, after_give_up, after_hand_out, after_issue, after_reply, all_cleared, all_ticked, answered_place, count_out, is_out_at, is_waiting, unanswered_from, issue_fault, next_issued, outcome_of, reply_of, next_command, next_place};
 ghost use Rattle.df1_node.specs.Initiator.{Waiting};
 ghost use Rattle.df1_node.specs.Commands.{AreCommands, all_issued, kept_at, cleared_from, ticked_at};
 ghost use Rattle.df1_node.specs.Together.{HasRoomFor, IsPayload, after_all, together_fault};
@@ -188,6 +188,15 @@ impl Initiator {
             Some(command) => command.state.accepted(&self.bytes),
             None => &[],
         }
+    }
+
+    /// Returns whether a command is outstanding: it was handed out, and may still be answered. While none is, a tick
+    /// changes nothing, and no command is unanswered from it on.
+    pub fn has_outstanding(&self) -> bool
+        ensures out { result ≡ nat_lt 0 (count_out self.now.issued) }
+        ensures still { result ≡ false → (all_ticked self.now.issued ≡ self.now.issued) × (unanswered_from 1 self.now.issued ≡ []) }
+    {
+        !self.queue.out.is_empty()
     }
 
     /// Returns whether there is a command to hand out.

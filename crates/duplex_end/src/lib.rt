@@ -32,7 +32,8 @@ ghost use Rattle.df1_frame.specs.Grammar.{full_duplex};
 ghost use Rattle.df1_frame.specs.Standing.{lent};
 ghost use Rattle.duplex_receiver.specs.Receiver.{body_at};
 ghost use Rattle.embedded_response.specs.Giving.{chosen, take};
-ghost use Rattle.duplex_end.specs.End.{holds_message, new_end, with_host, end_after_byte, step_at_byte, answered, answer_of, end_after_tick, turn_at_tick, gone_at_tick, next_place, begun_next, given_next, end_after_take, out_at_take};
+ghost use Rattle.duplex_sender.specs.Sender.{phase_of};
+ghost use Rattle.duplex_end.specs.End.{holds_message, is_waiting, new_end, with_host, end_after_byte, step_at_byte, answered, answer_of, end_after_tick, turn_at_tick, gone_at_tick, next_place, begun_next, given_next, end_after_take, out_at_take};
 ghost use Rattle.duplex_end.specs.Joined.{most_left};
 ghost use Rattle.duplex_end.specs.Arrived.{StandsFor, HearsWhole};
 ghost use Rattle.duplex_end.specs.contracts.End.{the_row};
@@ -213,6 +214,17 @@ impl<H: Host + Drop> End<H> {
         ensures { result.now ≡ self.now.sending }
     {
         &self.sending
+    }
+
+    /// Returns whether it waits for the response to a message that it has sent. While it doesn't, a tick changes nothing
+    /// but its host.
+    pub fn is_waiting(&self) -> bool
+        ensures { result ≡ is_waiting (phase_of self.now.sender) }
+    {
+        match self.sender.phase() {
+            Phase::Waiting => true,
+            Phase::Idle | Phase::Sending => false,
+        }
     }
 
     /// Returns whether it has a message of its host that was neither acknowledged nor given up.

@@ -178,7 +178,7 @@ fn intrude(
     Ok(())
 }
 
-/// Lets `n` ticks pass.
+/// Lets `n` ticks pass. Those from which on none counts are passed over at once.
 #[inline(never)]
 fn pass(who: Who, near: &mut LineEnd, n: u32, lines: &mut Page) -> Result<(), NoMemory>
     ensures near { OnOk result (near.new ≡ near_over near.old (replicate n Tick)) }
@@ -186,6 +186,9 @@ fn pass(who: Who, near: &mut LineEnd, n: u32, lines: &mut Page) -> Result<(), No
 {
     let mut gone = ArrayVec::new();
     for _ in 0..n {
+        if !near.counts_ticks() {
+            return Ok(());
+        }
         tick(who, near, &mut gone, lines)?;
     }
     Ok(())

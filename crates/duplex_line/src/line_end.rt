@@ -1,12 +1,13 @@
 //! An end of the line with its node, and the queue of the bytes that it sent.
 
-ghost use Rattle.std.specs.Prelude.{◌≡◌, [], ◌++◌, IfOk, OnOk, None, slice_get};
+ghost use Rattle.std.specs.Prelude.{◌≡◌, [], ◌++◌, IfOk, OnOk, None, false, slice_get};
 ghost use Rattle.duplex_receiver.specs.Receiver.{body_at};
 ghost use Rattle.df1_node.specs.Initiator.{issue_fault};
 ghost use Rattle.duplex_end.specs.End.{turn_at_tick, gone_at_tick, out_at_take};
+ghost use Rattle.script_statement.specs.declared.who.Who.{Who};
 ghost use Rattle.script_parts.specs.Playable.{IsPlanOf};
 ghost use Rattle.each_once.specs.NodeHost.{node_host};
-ghost use Rattle.duplex_line.specs.Acts.{after_issue, after_take, after_leaving, after_alter, after_cell, after_tick, byte_taken, step_of, taken};
+ghost use Rattle.duplex_line.specs.Acts.{after_issue, after_take, after_leaving, after_alter, after_cell, after_tick, tick_lines, byte_taken, step_of, taken};
 ghost use Rattle.duplex_line.specs.Run.{first_side, tables_of};
 
 use arrayvec::ArrayVec;
@@ -135,6 +136,14 @@ impl LineEnd {
         ensures { result.now ≡ body_at self.now.end.receiver }
     {
         self.end.body()
+    }
+
+    /// Returns whether a tick counts: the end waits for a response, or a command for its reply. While none does, a tick
+    /// changes nothing, and nothing is reported of it.
+    pub fn counts_ticks(&self) -> bool
+        ensures { result ≡ false → (after_tick self.now ≡ self.now) × ((who : Who) → tick_lines who self.now ≡ []) }
+    {
+        self.end.is_waiting() || self.initiator().has_outstanding()
     }
 
     /// Lets a tick pass. `gone` is replaced by the commands that are unanswered from this tick on.

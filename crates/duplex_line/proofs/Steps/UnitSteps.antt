@@ -39,3 +39,10 @@ gives-none deed none (suc n) s = ap (λ (bytes : List ℕ). bytes ++ given_over 
 pub still : (deed : Deed) (s : LineEndState) → near_after s deed ≡ s → (n : ℕ) → near_over s (replicate n deed) ≡ s
 still deed s same zero = refl
 still deed s same (suc n) = ap (λ (t : LineEndState). near_over t (replicate n deed)) same ∙ still deed s same n
+
+pub still-silent : (who : Who) (deed : Deed) (s : LineEndState) → near_after s deed ≡ s → near_lines who s deed ≡ [] → (n : ℕ) → near_lines_over who s (replicate n deed) ≡ []
+still-silent who deed s same none zero = refl
+still-silent who deed s same none (suc n) =
+    ap (λ (lines : List Line). lines ++ near_lines_over who (near_after s deed) (replicate n deed)) none
+    ∙ ap (λ (t : LineEndState). near_lines_over who t (replicate n deed)) same
+    ∙ still-silent who deed s same none n
