@@ -301,11 +301,16 @@ typedef struct df1_word {
  * 244 bytes.
  *
  * Each call fills an empty handle with an end to which nothing has happened yet. If several parts are out of range, the code is
- * that of the first of these: the handle (DF1_NO_HANDLE if it isn't empty), the link's members in their order, for a master its
- * stations (DF1_TOO_MANY_STATIONS, then the first that is bad or listed twice), for a slave its number, the node's reply_ticks,
- * room, window, per_source and reserved members, the files (DF1_TOO_MANY_FILES, then the first of the wrong type, then the first
- * that is empty, large, or there twice), compat, the words (DF1_NO_WORD), the block. DF1_NO_MEMORY comes only if all of them are in
- * range. */
+ * that of the first of these:
+ * - the handle (DF1_NO_HANDLE if it isn't empty);
+ * - the link's members in their order;
+ * - for a master its stations (DF1_TOO_MANY_STATIONS, then the first that is bad or listed twice), for a slave its number;
+ * - the node's reply_ticks, room, window, per_source and reserved members;
+ * - the files (DF1_TOO_MANY_FILES, then the first of the wrong type, then the first that is empty, large, or there twice);
+ * - compat;
+ * - the words (DF1_NO_WORD);
+ * - the block.
+ * DF1_NO_MEMORY comes only if all of them are in range. */
 uint32_t df1_duplex_make(const df1_duplex *link, const df1_node *node, const df1_file *files, size_t file_count,
                          const df1_word *words, size_t word_count, const uint8_t *block, size_t block_length, df1_end *end);
 uint32_t df1_master_make(const df1_master *link, const uint8_t *stations, size_t station_count, const df1_node *node,

@@ -78,20 +78,20 @@ pub fn after_rest_all_is_well()
     ensures { (script : Script) (front rest : List Event) → IsHalfPlayable script → IsCalmAfter script front rest → IsWellAfter script front (record_of script) }
 {}
 
-/// A law: an answer certifies the stations of a polled line. If from some state on no byte on its way to a station is
-/// lost, altered or foreign, and a command that the master hadn't handed out there is reported as answered, then from
-/// that answer on, as long as this is so, no station's decoder is inside an item where nothing is under way. Nothing is
-/// asked of what was before that state, except of bytes still on their way to a station; nor of the ticks, nor of the
+/// A law: an answer certifies the stations of a polled line. From some state on let no byte on its way to a station be
+/// lost, altered or foreign, and let a command that the master hadn't handed out there be reported as answered. Then
+/// from that answer on, as long as this is so, no station's decoder is inside an item where nothing is under way. Nothing
+/// is asked of what was before that state, except of bytes still on their way to a station; nor of the ticks, nor of the
 /// bytes that go to the master (manual topic: half-duplex protocol).
 pub fn an_answer_certifies_the_stations()
     ensures { (script : Script) (front middle more rest : List Event) (n : ℕ) → IsHalfPlayable script → IsAnsweredAfter script front middle more rest n
         → AreCertified (state_after plain_node (start script) (front ++ (middle ++ more))) }
 {}
 
-/// A law: on a line with one station an answer certifies the master's own decoder too. If no byte is lost, altered or
-/// foreign from a quiet state on, and a command is answered that the master hadn't handed out there, then from that
-/// answer on, as long as this is so, the line is at rest wherever nothing is under way, the master waits for nothing and
-/// no reply is left at the station, if no end was deceived so far, also before that state.
+/// A law: on a line with one station an answer certifies the master's own decoder too. From a quiet state on let no byte
+/// be lost, altered or foreign, and let a command be answered that the master hadn't handed out there. Let no end have
+/// been deceived so far, also before that state. Then from that answer on, as long as this is so, the line is at rest
+/// wherever nothing is under way, the master waits for nothing and no reply is left at the station.
 pub fn an_answer_certifies_a_line_with_one_station()
     ensures { (script : Script) (front middle more rest : List Event) (n : ℕ) → IsHalfPlayable script → IsAnsweredAlone script front middle more rest n
         → IsCertified (state_after plain_node (start script) (front ++ (middle ++ more))) }
@@ -108,9 +108,9 @@ pub fn after_an_answer_all_is_well()
         → GoesOnCalmly script (front ++ (middle ++ more)) rest → IsWellAfter script (front ++ (middle ++ more)) (record_of script) }
 {}
 
-/// A law: the premises of the three laws above are met, and their
-/// conclusions aren't empty, if a lone DLE arrived at a station. The line isn't at rest then; a first write is lost, a
-/// second one is executed and answered, and so is a third one.
+/// A law: the premises of the three laws above are met, and their conclusions aren't empty, if a lone DLE arrived at a
+/// station. The line isn't at rest then; a first write is lost, a second one is executed and answered, and so is a third
+/// one.
 #[tactic(auto, unfolding(crate::specs::Run::record_of))]
 pub fn a_write_certifies_a_polled_line_after_noise()
     ensures playable { IsHalfPlayable after_a_stray_dle }
@@ -124,8 +124,8 @@ pub fn a_write_certifies_a_polled_line_after_noise()
 {}
 
 /// A law: with a second station the premises of `after_an_answer_all_is_well` are met too, that on the master's decoder
-/// among them, by the same noise and writes, a poll of the other station between the answer and the state, and an echo
-/// of that station from there on, which is answered.
+/// among them. They are by the same noise and writes, a poll of the other station between the answer and the state, and
+/// an echo of that station from there on, which is answered.
 #[tactic(auto, unfolding(crate::specs::Run::record_of))]
 pub fn a_write_certifies_two_stations_after_noise()
     ensures playable { IsHalfPlayable noise_beside_another }

@@ -90,8 +90,12 @@ impl HalfReader {
         self.master.node(NODE)
     }
 
-    /// Returns whether a number, a word or a length is out of its range, the station is the 33rd, a master that carries
-    /// messages would get a station's address, or a compatibility file is of another type than bit or integer.
+    /// Returns whether something that a line says is out of its range:
+    ///
+    /// - a number, a word or a length;
+    /// - a station, as the 33rd;
+    /// - the address of a master that carries messages, as that of a station;
+    /// - the type of a compatibility file, as another than bit or integer.
     fn is_out_of_range(&self, statement: &Statement) -> bool
         ensures { result ≡ the_range_test self.now statement.now }
     {

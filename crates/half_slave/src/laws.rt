@@ -97,8 +97,8 @@ pub fn transmissions_are_counted<H: Host>()
     ensures running { (past : Past) (s : SlaveState H) → Came H.Host past s → AreSendingsOf (transmissions past.events) (handed_out past.events) }
 {}
 
-/// Whatever a slave received, and also if its host was changed, it sent whole messages of its transmissions, in order,
-/// each with a right check, and ACKs, NAKs and EOTs, and at the end perhaps a part of one of these. The master
+/// What a slave sent, whatever it received, and also if its host was changed: whole messages of its transmissions, in
+/// order, each with a right check, and ACKs, NAKs and EOTs. At the end there may be a part of one of these. The master
 /// decodes nothing else in it. What happened and was sent over the signals of a new slave is such a past.
 pub fn what_is_given_is_df1<H: Host>()
     ensures wire { (past : Past) (s : SlaveState H) → Came H.Host past s → IsGivenBySlave s.setup.check (handed_out past.events) (bytes_given past.gave) }
