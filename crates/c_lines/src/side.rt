@@ -24,5 +24,8 @@ fn number_of(side: Side) -> u32
 pub fn side_of(number: u32) -> Option<Side>
     ensures { result ≡ the_side_of number }
 {
-    SIDES.iter().copied().find(|side| number_of(*side) == number)
+    SIDES
+        .iter()
+        .copied()
+        .find(|side| number_of(*side) == number)
 }

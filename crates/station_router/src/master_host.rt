@@ -87,12 +87,7 @@ impl<H: MasterHost + Drop> MasterHost for Router<H> {
 
 /// Lets a node issue a command with the SRC `src`, or with its own address if that is None. The payload has 1 to 245
 /// bytes, bit 6 of its CMD is clear, and the node has issued fewer than 65,535 commands.
-fn issue_in_name(
-    node: &mut Node,
-    src: Option<u8>,
-    dst: u8,
-    payload: &[u8],
-) -> Result<(), NoMemory>
+fn issue_in_name(node: &mut Node, src: Option<u8>, dst: u8, payload: &[u8]) -> Result<(), NoMemory>
     requires { issue_fault node.old.initiator payload.now ≡ None }
     ensures { OnOk result (node.new ≡ after_node_issue node.old (unwrap_or src node.old.initiator.node) dst payload.now) }
 {
