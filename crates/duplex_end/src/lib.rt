@@ -216,8 +216,7 @@ impl<H: Host + Drop> End<H> {
         &self.sending
     }
 
-    /// Returns whether it waits for the response to a message that it has sent. While it doesn't, a tick changes nothing
-    /// but its host.
+    /// Returns whether it waits for the response to a message that it has sent (manual topic: full-duplex protocol).
     pub fn is_waiting(&self) -> bool
         ensures { result ≡ is_waiting (phase_of self.now.sender) }
     {

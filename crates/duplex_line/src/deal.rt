@@ -178,7 +178,7 @@ fn intrude(
     Ok(())
 }
 
-/// Lets `n` ticks pass. Those from which on none counts are passed over at once.
+/// Lets `n` ticks pass. From the first on that doesn't count, they are passed over at once.
 #[inline(never)]
 fn pass(who: Who, near: &mut LineEnd, n: u32, lines: &mut Page) -> Result<(), NoMemory>
     ensures near { OnOk result (near.new ≡ near_over near.old (replicate n Tick)) }

@@ -1,9 +1,10 @@
 //! An end of the line with its node, and the queue of the bytes that it sent.
 
-ghost use Rattle.std.specs.Prelude.{◌≡◌, [], ◌++◌, IfOk, OnOk, None, false, slice_get};
+ghost use Rattle.std.specs.Prelude.{◌≡◌, [], ◌++◌, ◌||◌, IfOk, OnOk, None, false, nat_lt, slice_get};
 ghost use Rattle.duplex_receiver.specs.Receiver.{body_at};
-ghost use Rattle.df1_node.specs.Initiator.{issue_fault};
-ghost use Rattle.duplex_end.specs.End.{turn_at_tick, gone_at_tick, out_at_take};
+ghost use Rattle.duplex_sender.specs.Sender.{phase_of};
+ghost use Rattle.df1_node.specs.Initiator.{count_out, issue_fault};
+ghost use Rattle.duplex_end.specs.End.{is_waiting, turn_at_tick, gone_at_tick, out_at_take};
 ghost use Rattle.script_statement.specs.declared.who.Who.{Who};
 ghost use Rattle.script_parts.specs.Playable.{IsPlanOf};
 ghost use Rattle.each_once.specs.NodeHost.{node_host};
@@ -138,10 +139,11 @@ impl LineEnd {
         self.end.body()
     }
 
-    /// Returns whether a tick counts: the end waits for a response, or a command for its reply. While none does, a tick
-    /// changes nothing, and nothing is reported of it.
+    /// Returns whether a tick counts: the end waits for a response, or a command for its reply. While neither does, a
+    /// tick changes nothing, and nothing is reported of it.
     pub fn counts_ticks(&self) -> bool
-        ensures { result ≡ false → (after_tick self.now ≡ self.now) × ((who : Who) → tick_lines who self.now ≡ []) }
+        ensures counts { result ≡ is_waiting (phase_of self.now.end.sender) || nat_lt 0 (count_out self.now.end.host.initiator.issued) }
+        ensures still { result ≡ false → (after_tick self.now ≡ self.now) × ((who : Who) → tick_lines who self.now ≡ []) }
     {
         self.end.is_waiting() || self.initiator().has_outstanding()
     }

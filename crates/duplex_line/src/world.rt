@@ -86,7 +86,8 @@ impl DuplexWorld {
 
     /// Performs an event that may happen, at the end a or b, which issues at most 65,535 commands; the sum of the
     /// events, with this one, is at most 5,000,000. Takes, deliveries and losses end at the first that has nothing to
-    /// do. Losing and altering take no memory. It is inlined, since an event may be one byte alone.
+    /// do, and ticks at the first that doesn't count. Losing and altering take no memory. It is inlined, since an event
+    /// may be one byte alone.
     #[inline(always)]
     pub fn step(&mut self, event: &Event) -> Result<(), NoMemory>
         requires { IsNext self.old event.now }

@@ -172,8 +172,10 @@ fn hears(end: &mut End<OneCommand>, bytes: &[u8]) -> (Act, Option<Did>, News) {
 fn an_ordinary_exchange(rt: HostRuntime) {
     let mut end = end_with_embedding();
     is(&rt, end.sending().len(), 0);
+    is(&rt, end.is_waiting(), false);
     gives(&rt, &mut end, &COMMAND_FRAME);
     is(&rt, end.quiet(), true);
+    is(&rt, end.is_waiting(), true);
     is(&rt, end.take(), None);
     is(&rt, end.sending(), COMMAND.as_slice());
     is(
@@ -181,6 +183,7 @@ fn an_ordinary_exchange(rt: HostRuntime) {
         hears(&mut end, &[0x10, 0x06]),
         (Act::PeerAck, None, News::Nothing),
     );
+    is(&rt, end.is_waiting(), false);
     is(
         &rt,
         hears(&mut end, &REPLY_FRAME),

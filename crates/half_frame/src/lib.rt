@@ -8,6 +8,8 @@
 //! What a slave decodes of the master's bytes, and what the master decodes of the slaves', are two grammars: every list
 //! of bytes splits in exactly one way into items of each and an unfinished front of one. Inside a message a pair that
 //! starts an item ends the message as damaged, and starts that item.
+//!
+//! A reader of captured bytes names the side of the line that they come from, `Side`; full duplex is one of the three.
 #![tactic(auto)]
 
 mod framer;

@@ -3,7 +3,7 @@
 /// Whose bytes are decoded (manual topics: full-duplex protocol, half-duplex protocol).
 #[derive(Clone, Copy, Debug, PartialEq, Eq)]
 pub enum Side {
-    /// One direction of a full-duplex line.
+    /// The bytes of one end of a full-duplex line.
     Full,
     /// The master's bytes of a half-duplex line, as a slave receives them.
     Master,

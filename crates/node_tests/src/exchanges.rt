@@ -45,15 +45,18 @@ fn a_reply_answers_its_command_once(rt: HostRuntime) -> Result<(), Fail> {
     let mut node = Node::new(rt.alloc(), setup, Station::new(tables, None, b""))?;
     let mut body = ArrayVec::new();
     is(&rt, node.issue(1, b"\x06\x00\x55"), Ok(1));
+    is(&rt, node.initiator().has_outstanding(), false);
     is(&rt, node.next(&mut body), true);
     is(
         &rt,
         body.as_slice(),
         b"\x01\x00\x06\x00\x01\x00\x00\x55".as_slice(),
     );
+    is(&rt, node.initiator().has_outstanding(), true);
     is(&rt, node.next(&mut body), false);
     assert!(rt; node.has_room(REPLY));
     is(&rt, node.accept(REPLY), Did::Answered(1));
+    is(&rt, node.initiator().has_outstanding(), false);
     assert!(rt; node.has_room(REPLY));
     is(&rt, node.accept(REPLY), Did::Stray);
     is(&rt, node.told(Fate::Undelivered), News::Nothing);

@@ -34,7 +34,7 @@ pub trait MasterHost: Host {
         requires { issue_fault (node self.old).initiator payload.now ≡ None }
         ensures { OnOk result (self.new ≡ with_node self.old (after_node_issue (node self.old) (unwrap_or src (node self.old).initiator.node) dst payload.now)) };
 
-    /// Returns whether the host carries a body to a station: DST, its first byte, is the number of one (manual topic:
+    /// Returns whether the host carries a body to a station instead of handing it to the node (manual topic:
     /// addressing).
     fn carries(&self, body: &[u8]) -> bool
         ensures { result ≡ carries self.now body.now };

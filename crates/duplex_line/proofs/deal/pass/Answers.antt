@@ -15,11 +15,11 @@ loop-preserved c =
 
 pub returns-then-not-counts_ticks-clause-near : goal.returns-then-not-counts_ticks-clause-near
 returns-then-not-counts_ticks-clause-near c =
-    let idle = c.counts_ticks.ensures c.if-not-counts_ticks.true in
+    let idle = c.counts_ticks.ensures.still c.if-not-counts_ticks.true in
     sym (still Tick c.loop.near idle.0 (c.args.n - c.loop.counter)) ∙ c.loop.invariant.near
 
 pub returns-then-not-counts_ticks-clause-lines : goal.returns-then-not-counts_ticks-clause-lines
 returns-then-not-counts_ticks-clause-lines c =
-    let idle = c.counts_ticks.ensures c.if-not-counts_ticks.true in
+    let idle = c.counts_ticks.ensures.still c.if-not-counts_ticks.true in
     let silent = still-silent c.args.who Tick c.loop.near idle.0 (idle.1 c.args.who) (c.args.n - c.loop.counter) in
     sym (append-nil c.loop.lines) ∙ ap (λ (lines : List Line). c.loop.lines ++ lines) (sym silent) ∙ c.loop.invariant.lines
